@@ -1,0 +1,87 @@
+-- The numbers of the refusal table, and of the reasons for standing aside. Success is 0.
+-- Assumes nothing.
+use Prim.Native.Nat.{ℕ}
+
+-- a lent buffer is not of the stated length
+abbrev pub badBuffer : ℕ
+badBuffer = 1
+
+-- a block is not 512 bytes, or a file not 1 to 86 blocks
+abbrev pub badLength : ℕ
+badLength = 2
+
+-- the letters are not SAB1
+abbrev pub badLetters : ℕ
+badLetters = 3
+
+-- a sum differs
+abbrev pub badSum : ℕ
+badSum = 4
+
+-- a unit above 7 in a header, a count above 6, an unused place that is not zero
+abbrev pub badHeader : ℕ
+badHeader = 5
+
+-- another archive
+abbrev pub otherArchive : ℕ
+otherArchive = 6
+
+-- a record or wish is malformed
+abbrev pub malformed : ℕ
+malformed = 7
+
+-- a number is not its unit's next, or seen is above the held counts
+abbrev pub notNext : ℕ
+notNext = 8
+
+-- seen is not closed
+abbrev pub notClosed : ℕ
+notClosed = 9
+
+-- a held identity with other bytes
+abbrev pub otherBytes : ℕ
+otherBytes = 10
+
+-- a 513th record
+abbrev pub fullLog : ℕ
+fullLog = 11
+
+-- the object is absent
+abbrev pub noObject : ℕ
+noObject = 12
+
+-- the folder is absent
+abbrev pub noFolder : ℕ
+noFolder = 13
+
+-- the folder of a make is a trace, or the object of a store is a folder
+abbrev pub wrongKind : ℕ
+wrongKind = 14
+
+-- the label is already in that folder
+abbrev pub labelHeld : ℕ
+labelHeld = 15
+
+-- the folder to remove has entries
+abbrev pub notEmpty : ℕ
+notEmpty = 16
+
+-- a last contents or label record is unseen; only a reason for standing aside
+abbrev pub unseenChange : ℕ
+unseenChange = 17
+
+-- the named record does not stand aside
+abbrev pub notAside : ℕ
+notAside = 18
+
+-- the lent log is not sound
+abbrev pub unsoundLog : ℕ
+unsoundLog = 19
+
+-- a file's blocks disagree, or its ranks do not rise
+abbrev pub badFile : ℕ
+badFile = 20
+
+-- a call's own unit is above 7
+abbrev pub badUnit : ℕ
+badUnit = 21
