@@ -1,0 +1,112 @@
+-- Rank, the records of a log, closure, and the sound log.
+-- Assumes nothing.
+use Prim.Native.Nat.{ℕ, zero, suc, _+_, _-_, _*_}
+use mathlib.Core.Bool.{Bool, true, false, cond, _&&_}
+use mathlib.Core.Option.{Option, none, some}
+use mathlib.Core.List.{List, [], _∷_, _++_}
+use lib.Dec.{ltb, leb, eqb}
+use lib.ListN.{getD, length, take, drop}
+use Rattle.model.specs.Numbers.{malformed, notNext, notClosed, badFile}
+use Rattle.model.specs.Bytes.{blank, padded, joined}
+use Rattle.model.specs.Vector.{covers}
+use Rattle.model.specs.Record.{Rec, unit, num, seen, seenVector, wellFormed}
+
+-- ---- rank
+
+-- f 0 + .. + f (n - 1)
+abbrev pub sumTo : ℕ → (ℕ → ℕ) → ℕ
+sumTo zero f = 0
+sumTo (suc n) f = sumTo n f + f n
+
+-- the sum of the eight seen counts, then the unit number: units are below 8
+unfoldable pub rank : Rec → ℕ
+rank r = 8 * sumTo 8 (seen r) + unit r
+
+-- r put in by rank, behind what ranks no higher
+unfoldable pub insert : Rec → List Rec → List Rec
+insert r [] = r ∷ []
+insert r (x ∷ l) = cond (ltb (rank r) (rank x)) (r ∷ x ∷ l) (x ∷ insert r l)
+
+-- ---- what a list of records holds
+
+-- how many records of unit u there are
+unfoldable pub count : ℕ → List Rec → ℕ
+count u [] = 0
+count u (r ∷ l) = cond (eqb (unit r) u) (suc (count u l)) (count u l)
+
+-- the record counts of the first n units
+unfoldable pub countsTo : List Rec → ℕ → List ℕ
+countsTo l zero = []
+countsTo l (suc n) = countsTo l n ++ (count n l ∷ [])
+
+-- the record counts
+unfoldable pub vectorOf : List Rec → List ℕ
+vectorOf l = countsTo l 8
+
+-- the record u.c
+unfoldable pub byId : ℕ → ℕ → List Rec → Option Rec
+byId u c [] = none
+byId u c (r ∷ l) = cond (eqb (unit r) u && eqb (num r) c) (some r) (byId u c l)
+
+-- ---- a record beside those held
+
+-- the number is one above the held records of its unit
+unfoldable pub isNext : List Rec → Rec → Bool
+isNext l r = eqb (num r) (suc (count (unit r) l))
+
+-- seen is within the held counts
+unfoldable pub isWithin : List Rec → Rec → Bool
+isWithin l r = covers (vectorOf l) (seenVector r)
+
+unfoldable pub allTo : ℕ → (ℕ → Bool) → Bool
+allTo zero p = true
+allTo (suc n) p = allTo n p && p n
+
+-- the seen of the record s is nowhere above that of r
+unfoldable pub nowhereAbove : Rec → Option Rec → Bool
+nowhereAbove r none = true
+nowhereAbove r (some s) = covers (seenVector r) (seenVector s)
+
+-- for each unit u with count c above 0, the seen of record u.c is nowhere above it
+unfoldable pub isClosed : List Rec → Rec → Bool
+isClosed l r = allTo 8 (λ u. cond (eqb (seen r u) 0) true (nowhereAbove r (byId u (seen r u) l)))
+
+-- ranks above the record just before; the records before stand last first
+unfoldable pub rises : List Rec → Rec → Bool
+rises [] r = true
+rises (s ∷ l) r = ltb (rank s) (rank r)
+
+-- ---- a sound log
+
+-- the first of 7, 20, 8 and 9 that holds of a record behind others, or 0; the records before stand last first
+unfoldable pub recordFault : List Rec → Rec → ℕ
+recordFault pre r =
+    cond (wellFormed r)
+    (cond (rises pre r)
+    (cond (isNext pre r && isWithin pre r)
+    (cond (isClosed pre r) 0 notClosed)
+    notNext)
+    badFile)
+    malformed
+
+-- well formed and closed, in rising rank, each number next, each seen within the counts before it
+unfoldable pub soundAfter : List Rec → List Rec → Bool
+soundAfter pre [] = true
+soundAfter pre (r ∷ l) = eqb (recordFault pre r) 0 && soundAfter (r ∷ pre) l
+
+-- the records of up to n places of 80 bytes, up to the first place that is all zero
+unfoldable pub recordsIn : ℕ → List ℕ → List Rec
+recordsIn zero b = []
+recordsIn (suc n) b = cond (blank (take 80 b)) [] (take 80 b ∷ recordsIn n (drop 80 b))
+
+-- the records of a lent log
+unfoldable pub recordsOf : List ℕ → List Rec
+recordsOf b = recordsIn 512 b
+
+-- the records are sound and the unused places are zero
+unfoldable pub soundLog : List ℕ → Bool
+soundLog b = soundAfter [] (recordsOf b) && blank (drop (80 * length (recordsOf b)) b)
+
+-- the 40,960 bytes of a log
+unfoldable pub logBytes : List Rec → List ℕ
+logBytes l = padded 40960 (joined l)

@@ -1,0 +1,152 @@
+-- What each entry point answers and leaves, for every refusal and for success: what the contracts cite.
+-- Assumes nothing.
+use Prim.Native.Nat.{ℕ, zero, suc, _+_, _-_, _*_}
+use mathlib.Core.Bool.{Bool, true, false, cond, _&&_}
+use mathlib.Core.Option.{Option, none, some}
+use mathlib.Core.List.{List, [], _∷_, _++_}
+use lib.Dec.{ltb, leb, eqb}
+use lib.ListN.{getD, length, take, drop, replicate}
+use Rattle.model.specs.Numbers.{badBuffer, badLength, otherArchive, malformed, notNext, notClosed, otherBytes, fullLog, unsoundLog, badUnit}
+use Rattle.model.specs.Bytes.{two, blank, sameBytes, part, padded}
+use Rattle.model.specs.Vector.{vectorBytes}
+use Rattle.model.specs.Record.{Rec, unit, num, wellFormed}
+use Rattle.model.specs.Log.{insert, count, vectorOf, byId, isNext, isWithin, isClosed, recordsOf, soundLog, logBytes}
+use Rattle.model.specs.Replay.{Verdict, fits, aside, judge, replay}
+use Rattle.model.specs.Table.{tableBytes}
+use Rattle.model.specs.Block.{blockOf, blockFault, archiveIn, blockRecords}
+use Rattle.model.specs.File.{headerOf, blockCount, fileOf}
+
+-- the number and place answered, the log left, the block, file or tree table lent for writing as it is left, the count of
+-- blocks returned
+pub record Outcome : Type 0 where
+  pub number : ℕ
+  pub place : ℕ
+  pub log : List ℕ
+  pub lent : List ℕ
+  pub blocks : ℕ
+
+abbrev pub outcome : ℕ → ℕ → List ℕ → List ℕ → ℕ → Outcome
+outcome n p log lent k = record { number = n; place = p; log = log; lent = lent; blocks = k }
+
+-- a refusal at place 0: all is left as it was
+abbrev pub refusal : ℕ → List ℕ → List ℕ → Outcome
+refusal n log lent = outcome n 0 log lent 0
+
+-- ---- starting
+
+unfoldable pub startOf : ℕ → List ℕ → Outcome
+startOf u log =
+    cond (eqb (length log) 40960)
+    (cond (leb u 7) (outcome 0 0 (replicate 40960 0) [] 0) (refusal badUnit log []))
+    (refusal badBuffer log [])
+
+-- ---- the checks 1, 21 and 19 come first; `ok` says that the other lent buffers have their stated lengths
+
+unfoldable pub guarded : ℕ → List ℕ → List ℕ → Bool → Outcome → Outcome
+guarded u log lent ok o =
+    cond (eqb (length log) 40960 && ok)
+    (cond (leb u 7) (cond (soundLog log) o (refusal unsoundLog log lent)) (refusal badUnit log lent))
+    (refusal badBuffer log lent)
+
+-- ---- acting
+
+-- the wish with the next number and the held vector
+unfoldable pub stamped : ℕ → List Rec → List ℕ → Rec
+stamped u l w = take 2 w ++ (two (suc (count u l)) ++ (vectorBytes (vectorOf l) ++ drop 20 w))
+
+-- a wish of the own unit, number and seen zero, well formed once stamped
+unfoldable pub wishFits : ℕ → List Rec → List ℕ → Bool
+wishFits u l w = eqb (getD w 0 0) u && (blank (part w 2 18) && wellFormed (stamped u l w))
+
+unfoldable pub reasonOf : Verdict → ℕ
+reasonOf fits = 0
+reasonOf (aside n k) = n
+
+-- 7, 11, then the reason under which the record would stand aside; 0 if it fits
+unfoldable pub actNumber : ℕ → List Rec → List ℕ → ℕ
+actNumber u l w =
+    cond (wishFits u l w)
+    (cond (ltb (length l) 512) (reasonOf (judge (stamped u l w) (replay l))) fullLog)
+    malformed
+
+unfoldable pub acted : ℕ → List ℕ → List ℕ → ℕ → Outcome
+acted u log w zero = outcome 0 0 (logBytes (recordsOf log ++ (stamped u (recordsOf log) w ∷ []))) [] 0
+acted u log w (suc n) = refusal (suc n) log []
+
+unfoldable pub actOf : ℕ → List ℕ → List ℕ → Outcome
+actOf u log w = guarded u log [] (eqb (length w) 80) (acted u log w (actNumber u (recordsOf log) w))
+
+-- ---- handing out
+
+-- the records that the vector v lacks
+unfoldable pub lacking : List ℕ → List Rec → List Rec
+lacking v [] = []
+lacking v (r ∷ l) = cond (ltb (getD v (unit r) 0) (num r)) (r ∷ lacking v l) (lacking v l)
+
+unfoldable pub handBlock : ℕ → ℕ → List Rec → List ℕ → List ℕ
+handBlock archive u l v = blockOf (headerOf archive u 0 l) (take 6 (lacking v l))
+
+unfoldable pub handOf : ℕ → ℕ → List ℕ → List ℕ → List ℕ → Outcome
+handOf archive u log v lent =
+    guarded u log lent (eqb (length lent) 512) (outcome 0 0 log (handBlock archive u (recordsOf log) v) 0)
+
+-- ---- writing a file
+
+unfoldable pub writeOf : ℕ → ℕ → List ℕ → List ℕ → Outcome
+writeOf archive u log lent =
+    guarded u log lent (eqb (length lent) 44032)
+    (outcome 0 0 log (padded 44032 (fileOf archive u (recordsOf log))) (blockCount (length (recordsOf log))))
+
+-- ---- taking
+
+-- a refusal, or the log afterwards
+pub data Took : Type 0 where
+  refused : ℕ → Took
+  taken : List Rec → Took
+
+unfoldable pub takeNew : List Rec → Rec → Took
+takeNew l r =
+    cond (isNext l r && isWithin l r)
+    (cond (isClosed l r)
+    (cond (ltb (length l) 512) (taken (insert r l)) (refused fullLog))
+    (refused notClosed))
+    (refused notNext)
+
+-- a held record must be equal, a new one next
+unfoldable pub takeHeld : Option Rec → List Rec → Rec → Took
+takeHeld none l r = takeNew l r
+takeHeld (some s) l r = cond (sameBytes s r) (taken l) (refused otherBytes)
+
+unfoldable pub takeOne : List Rec → Rec → Took
+takeOne l r = cond (wellFormed r) (takeHeld (byId (unit r) (num r) l) l r) (refused malformed)
+
+-- one record after another; earlier records of the block count as held
+unfoldable pub takeAll : List Rec → List Rec → Took
+takeAll l [] = taken l
+takeAll l (r ∷ rs) = elim (takeOne l r) [ refused n ↦ refused n | taken m ↦ takeAll m rs ]
+
+-- the first of 2 to 6 that holds of a block, or 0
+unfoldable pub givenFault : ℕ → List ℕ → ℕ
+givenFault archive b =
+    cond (eqb (length b) 512)
+    (cond (eqb (blockFault b) 0) (cond (eqb (archiveIn b) archive) 0 otherArchive) (blockFault b))
+    badLength
+
+unfoldable pub tookAll : List ℕ → Took → Outcome
+tookAll log (refused n) = refusal n log []
+tookAll log (taken m) = outcome 0 0 (logBytes m) [] 0
+
+unfoldable pub tookBlock : List ℕ → List ℕ → ℕ → Outcome
+tookBlock log b zero = tookAll log (takeAll (recordsOf log) (blockRecords b))
+tookBlock log b (suc n) = refusal (suc n) log []
+
+unfoldable pub takeOf : ℕ → ℕ → List ℕ → List ℕ → Outcome
+takeOf archive u log b = guarded u log [] true (tookBlock log b (givenFault archive b))
+
+-- ---- showing the tree
+
+unfoldable pub showOf : List ℕ → List ℕ → Outcome
+showOf log lent =
+    cond (eqb (length log) 40960 && eqb (length lent) 43012)
+    (cond (soundLog log) (outcome 0 0 log (tableBytes (replay (recordsOf log))) 0) (refusal unsoundLog log lent))
+    (refusal badBuffer log lent)

@@ -1,0 +1,223 @@
+-- Replay: the tree and the asides that records leave, taken one by one from any tree on.
+-- Assumes nothing.
+use Prim.Native.Nat.{ℕ, zero, suc, _/_, _%_}
+use mathlib.Core.Bool.{Bool, true, false, cond, not, _&&_, _||_}
+use mathlib.Core.Option.{Option, none, some}
+use mathlib.Core.List.{List, [], _∷_, _++_}
+use lib.Dec.{ltb, leb, eqb}
+use Rattle.model.specs.Numbers.{noObject, noFolder, wrongKind, labelHeld, notEmpty, unseenChange, notAside}
+use Rattle.model.specs.Bytes.{sameBytes}
+use Rattle.model.specs.Record.{Rec, root, seen, op, selfOf, objectOf, folderOf, dateBytes, labelOf, markOf}
+
+-- an entry of the tree. One that was removed keeps its row, with kind 0, and is absent
+pub record Entry : Type 0 where
+  pub made : ℕ  -- its identity, that of its making record
+  pub kind : ℕ  -- 1 folder, 2 trace, 0 removed
+  pub inside : ℕ  -- the identity of its folder
+  pub label : List ℕ  -- that of the last label record
+  pub contents : ℕ  -- the last contents record
+  pub date : List ℕ  -- the date of that record
+  pub mark : List ℕ  -- the content mark of that record
+  pub naming : ℕ  -- the last label record
+
+-- a record that stands aside
+pub record Aside : Type 0 where
+  pub who : ℕ
+  pub reason : ℕ
+  pub marked : ℕ  -- the entry that the reason marks; 0 for none
+  pub isOpen : Bool  -- no settle that names it has fitted
+
+-- the entries by rank of their makers, and the asides by rank
+pub record Tree : Type 0 where
+  pub entries : List Entry
+  pub asides : List Aside
+
+-- the root alone
+unfoldable pub emptyTree : Tree
+emptyTree = record { entries = []; asides = [] }
+
+-- a record fits, or stands aside under a reason that marks an entry
+pub data Verdict : Type 0 where
+  fits : Verdict
+  aside : ℕ → ℕ → Verdict
+
+-- ---- looking up
+
+unfoldable pub isPresent : Entry → Bool
+isPresent e = not (eqb (e .kind) 0)
+
+-- equal labels
+unfoldable pub sameLabel : List ℕ → List ℕ → Bool
+sameLabel a b = sameBytes a b
+
+-- the entry k, unless it is absent
+unfoldable pub entryOf : ℕ → List Entry → Option Entry
+entryOf k [] = none
+entryOf k (e ∷ l) = cond (eqb (e .made) k && isPresent e) (some e) (entryOf k l)
+
+unfoldable pub isIn : ℕ → Entry → Bool
+isIn f e = isPresent e && eqb (e .inside) f
+
+-- the holder of a label in a folder
+unfoldable pub holderOf : ℕ → List ℕ → List Entry → Option Entry
+holderOf f t [] = none
+holderOf f t (e ∷ l) = cond (isIn f e && sameLabel (e .label) t) (some e) (holderOf f t l)
+
+unfoldable pub hasEntries : ℕ → List Entry → Bool
+hasEntries f [] = false
+hasEntries f (e ∷ l) = isIn f e || hasEntries f l
+
+unfoldable pub standsAside : ℕ → List Aside → Bool
+standsAside k [] = false
+standsAside k (a ∷ l) = eqb (a .who) k || standsAside k l
+
+-- the number of the record k is above the count in what r has seen
+unfoldable pub unseen : Rec → ℕ → Bool
+unseen r k = ltb (seen r (k % 8)) (k / 8)
+
+-- ---- the reasons, in the order written
+
+-- the label is free in the folder, or 15 marks its holder
+unfoldable pub freeLabel : Option Entry → Verdict
+freeLabel none = fits
+freeLabel (some h) = aside labelHeld (h .made)
+
+unfoldable pub judgeMakeIn : Rec → List Entry → Option Entry → Verdict
+judgeMakeIn r es none = aside noFolder 0
+judgeMakeIn r es (some f) =
+    cond (eqb (f .kind) 1) (freeLabel (holderOf (folderOf r) (labelOf r) es)) (aside wrongKind (f .made))
+
+unfoldable pub judgeMake : Rec → List Entry → Verdict
+judgeMake r es =
+    cond (eqb (folderOf r) root) (freeLabel (holderOf root (labelOf r) es)) (judgeMakeIn r es (entryOf (folderOf r) es))
+
+unfoldable pub judgeStore : Rec → Option Entry → Verdict
+judgeStore r none = aside noObject 0
+judgeStore r (some e) =
+    cond (eqb (e .kind) 1) (aside wrongKind (e .made))
+    (cond (unseen r (e .contents)) (aside unseenChange (e .made)) fits)
+
+unfoldable pub judgeRemove : Rec → List Entry → Option Entry → Verdict
+judgeRemove r es none = aside noObject 0
+judgeRemove r es (some e) =
+    cond (eqb (e .kind) 1 && hasEntries (e .made) es) (aside notEmpty (e .made))
+    (cond (unseen r (e .contents) || unseen r (e .naming)) (aside unseenChange (e .made)) fits)
+
+unfoldable pub judgeRename : Rec → List Entry → Option Entry → Verdict
+judgeRename r es none = aside noObject 0
+judgeRename r es (some e) =
+    cond (unseen r (e .naming)) (aside unseenChange (e .made)) (freeLabel (holderOf (e .inside) (labelOf r) es))
+
+unfoldable pub judgeSettle : Rec → List Aside → Verdict
+judgeSettle r l = cond (standsAside (objectOf r) l) fits (aside notAside 0)
+
+-- by operation: 1 make folder, 2 make trace, 3 store, 4 remove, 5 rename, 6 settle
+unfoldable pub judge : Rec → Tree → Verdict
+judge r t =
+    cond (leb (op r) 2) (judgeMake r (t .entries))
+    (cond (eqb (op r) 3) (judgeStore r (entryOf (objectOf r) (t .entries)))
+    (cond (eqb (op r) 4) (judgeRemove r (t .entries) (entryOf (objectOf r) (t .entries)))
+    (cond (eqb (op r) 5) (judgeRename r (t .entries) (entryOf (objectOf r) (t .entries)))
+    (judgeSettle r (t .asides)))))
+
+-- ---- what a record that fits does
+
+unfoldable pub newEntry : Rec → Entry
+newEntry r =
+    record {
+      made = selfOf r;
+      kind = op r;
+      inside = folderOf r;
+      label = labelOf r;
+      contents = selfOf r;
+      date = dateBytes r;
+      mark = markOf r;
+      naming = selfOf r;
+    }
+
+unfoldable pub stored : Rec → Entry → Entry
+stored r e =
+    record {
+      made = e .made;
+      kind = e .kind;
+      inside = e .inside;
+      label = e .label;
+      contents = selfOf r;
+      date = dateBytes r;
+      mark = markOf r;
+      naming = e .naming;
+    }
+
+unfoldable pub renamed : Rec → Entry → Entry
+renamed r e =
+    record {
+      made = e .made;
+      kind = e .kind;
+      inside = e .inside;
+      label = labelOf r;
+      contents = e .contents;
+      date = e .date;
+      mark = e .mark;
+      naming = selfOf r;
+    }
+
+unfoldable pub removed : Entry → Entry
+removed e =
+    record {
+      made = e .made;
+      kind = 0;
+      inside = e .inside;
+      label = e .label;
+      contents = e .contents;
+      date = e .date;
+      mark = e .mark;
+      naming = e .naming;
+    }
+
+-- the entry k is changed
+unfoldable pub changed : (Entry → Entry) → ℕ → List Entry → List Entry
+changed f k [] = []
+changed f k (e ∷ l) = cond (eqb (e .made) k && isPresent e) (f e ∷ l) (e ∷ changed f k l)
+
+-- the aside k is settled
+unfoldable pub settled : ℕ → List Aside → List Aside
+settled k [] = []
+settled k (a ∷ l) =
+    cond (eqb (a .who) k) (record { who = a .who; reason = a .reason; marked = a .marked; isOpen = false } ∷ l) (a ∷ settled k l)
+
+unfoldable pub effect : Rec → Tree → Tree
+effect r t =
+    cond (leb (op r) 2) (record { entries = t .entries ++ (newEntry r ∷ []); asides = t .asides })
+    (cond (eqb (op r) 3) (record { entries = changed (stored r) (objectOf r) (t .entries); asides = t .asides })
+    (cond (eqb (op r) 4) (record { entries = changed removed (objectOf r) (t .entries); asides = t .asides })
+    (cond (eqb (op r) 5) (record { entries = changed (renamed r) (objectOf r) (t .entries); asides = t .asides })
+    (record { entries = t .entries; asides = settled (objectOf r) (t .asides) }))))
+
+-- ---- the fold
+
+unfoldable pub apply : Verdict → Rec → Tree → Tree
+apply fits r t = effect r t
+apply (aside n k) r t =
+    record { entries = t .entries; asides = t .asides ++ (record { who = selfOf r; reason = n; marked = k; isOpen = true } ∷ []) }
+
+unfoldable pub step : Tree → Rec → Tree
+step t r = apply (judge r t) r t
+
+unfoldable pub replayFrom : Tree → List Rec → Tree
+replayFrom t [] = t
+replayFrom t (r ∷ l) = replayFrom (step t r) l
+
+-- the records of a log in rank order, from the root alone on
+unfoldable pub replay : List Rec → Tree
+replay l = replayFrom emptyTree l
+
+-- ---- what is shown
+
+-- an entry is disputed while an open aside marks it
+unfoldable pub isDisputed : ℕ → List Aside → Bool
+isDisputed k [] = false
+isDisputed k (a ∷ l) = (a .isOpen && eqb (a .marked) k) || isDisputed k l
+
+unfoldable pub presentOnes : List Entry → List Entry
+presentOnes [] = []
+presentOnes (e ∷ l) = cond (isPresent e) (e ∷ presentOnes l) (presentOnes l)
