@@ -1,0 +1,304 @@
+-- The bench examples of document 01, and some of the same kind, as rows of one table.
+-- Assumes nothing.
+use Prim.Native.Nat.{ℕ, zero, suc, _+_, _*_, _/_, _%_}
+use mathlib.Core.Bool.{Bool, true, false, cond, not, _&&_, _||_}
+use mathlib.Core.List.{List, [], _∷_, _++_}
+use lib.Dec.{leb, eqb}
+use lib.ListN.{length, replicate}
+use Rattle.model.specs.Bytes.{two, sameBytes, padded}
+use Rattle.model.specs.Vector.{compareOf, vectorBytes}
+use Rattle.model.specs.Date.{isDate}
+use Rattle.model.specs.Record.{Rec, identity, root, wellFormed}
+use Rattle.model.specs.Log.{soundAfter}
+use Rattle.model.specs.Replay.{Entry, Aside, Tree, replay, presentOnes, isDisputed}
+use Rattle.model.specs.Table.{identityBytes}
+use Rattle.model.specs.File.{blockCount}
+use Rattle.model.specs.Outcome.{Took, refused, taken, takeAll}
+
+infix 90 _·_
+-- the identity unit.number
+abbrev pub _·_ : ℕ → ℕ → ℕ
+u · n = identity u n
+
+-- ---- a record from its fields
+
+pub record Fields : Type 0 where
+  pub self : ℕ
+  pub does : ℕ  -- the operation
+  pub saw : List ℕ  -- seen of the units 0, 1 and on; 0 of the rest
+  pub object : ℕ
+  pub folder : ℕ
+  pub year : ℕ
+  pub month : ℕ
+  pub day : ℕ
+  pub text : List ℕ  -- the label without its zeros
+  pub mark : List ℕ  -- the mark without its last zeros
+
+unfoldable pub encode : Fields → Rec
+encode f =
+    (f .self % 8 ∷ f .does ∷ two (f .self / 8))
+    ++ (vectorBytes (f .saw)
+    ++ (identityBytes (f .object)
+    ++ (identityBytes (f .folder)
+    ++ (two (f .year) ++ ((f .month ∷ f .day ∷ []) ++ (padded 32 (f .text) ++ padded 16 (f .mark)))))))
+
+-- a record of a day in March 2025
+unfoldable pub march : ℕ → ℕ → ℕ → List ℕ → ℕ → ℕ → List ℕ → List ℕ → Rec
+march day o k s object folder t m =
+    encode (record {
+      self = k;
+      does = o;
+      saw = s;
+      object = object;
+      folder = folder;
+      year = 2025;
+      month = 3;
+      day = day;
+      text = t;
+      mark = m;
+    })
+
+-- each is given its day, identity and seen; a make then its folder and label, the others their object
+unfoldable pub makesFolder : ℕ → ℕ → List ℕ → ℕ → List ℕ → Rec
+makesFolder day k s f t = march day 1 k s root f t []
+
+unfoldable pub makesTrace : ℕ → ℕ → List ℕ → ℕ → List ℕ → Rec
+makesTrace day k s f t = march day 2 k s root f t (replicate 16 k)
+
+unfoldable pub stores : ℕ → ℕ → List ℕ → ℕ → Rec
+stores day k s o = march day 3 k s o root [] (replicate 16 k)
+
+unfoldable pub removes : ℕ → ℕ → List ℕ → ℕ → Rec
+removes day k s o = march day 4 k s o root [] []
+
+unfoldable pub renames : ℕ → ℕ → List ℕ → ℕ → List ℕ → Rec
+renames day k s o t = march day 5 k s o root t []
+
+unfoldable pub settles : ℕ → ℕ → List ℕ → ℕ → Rec
+settles day k s o = march day 6 k s o root [] []
+
+-- ---- what a tree shows
+
+-- an entry: its identity, label, last contents record and last label record, and whether it is disputed
+abbrev pub Shown : Type 0
+Shown = ℕ × List ℕ × ℕ × ℕ × Bool
+
+-- an aside: its record, reason and marked entry, and whether it is open
+abbrev pub Standing : Type 0
+Standing = ℕ × ℕ × ℕ × Bool
+
+unfoldable pub sameFlag : Bool → Bool → Bool
+sameFlag true b = b
+sameFlag false b = not b
+
+unfoldable pub showsEntries : List Aside → List Entry → List Shown → Bool
+showsEntries s [] [] = true
+showsEntries s [] (x ∷ xs) = false
+showsEntries s (e ∷ l) [] = false
+showsEntries s (e ∷ l) (x ∷ xs) =
+    (eqb (e .made) (x .0)
+    && (sameBytes (e .label) (padded 32 (x .1))
+    && (eqb (e .contents) (x .2) && (eqb (e .naming) (x .3) && sameFlag (isDisputed (e .made) s) (x .4)))))
+    && showsEntries s l xs
+
+unfoldable pub showsAsides : List Aside → List Standing → Bool
+showsAsides [] [] = true
+showsAsides [] (x ∷ xs) = false
+showsAsides (a ∷ l) [] = false
+showsAsides (a ∷ l) (x ∷ xs) =
+    (eqb (a .who) (x .0) && (eqb (a .reason) (x .1) && (eqb (a .marked) (x .2) && sameFlag (a .isOpen) (x .3))))
+    && showsAsides l xs
+
+-- the records are a sound log, and their replay shows these entries and asides
+unfoldable pub shows : List Rec → List Shown → List Standing → Bool
+shows l es ss =
+    soundAfter [] l
+    && (showsEntries (replay l .asides) (presentOnes (replay l .entries)) es && showsAsides (replay l .asides) ss)
+
+-- ---- the rows
+
+pub data Row : Type 0 where
+  -- two vectors, and the answer of their comparison
+  vectors : List ℕ → List ℕ → ℕ → Row
+  -- year, month, day, and whether this is a date
+  date : ℕ → ℕ → ℕ → Bool → Row
+  -- a record, and whether it is well formed
+  formed : Rec → Bool → Row
+  -- the records of a log, and the entries and asides that it shows
+  tree : List Rec → List Shown → List Standing → Row
+  -- the records of a log, those of a block that it takes, and what it shows afterwards
+  takes : List Rec → List Rec → List Shown → List Standing → Row
+  -- the records of a log, those of a block, and the number under which the block is refused
+  refuses : List Rec → List Rec → ℕ → Row
+  -- how many records, and how many blocks their file has
+  blocks : ℕ → ℕ → Row
+
+unfoldable pub showsTaken : Took → List Shown → List Standing → Bool
+showsTaken (refused n) es ss = false
+showsTaken (taken m) es ss = shows m es ss
+
+unfoldable pub isRefused : Took → ℕ → Bool
+isRefused (refused n) k = eqb n k
+isRefused (taken m) k = false
+
+unfoldable pub right : Row → Bool
+right (vectors a b n) = eqb (compareOf a b) n
+right (date y m d b) = sameFlag (isDate y m d) b
+right (formed r b) = sameFlag (wellFormed r) b
+right (tree l es ss) = shows l es ss
+right (takes l rs es ss) = soundAfter [] l && showsTaken (takeAll l rs) es ss
+right (refuses l rs n) = soundAfter [] l && isRefused (takeAll l rs) n
+right (blocks n k) = eqb (blockCount n) k
+
+unfoldable pub allRight : List Row → Bool
+allRight [] = true
+allRight (r ∷ l) = right r && allRight l
+
+-- ---- the table
+
+-- the labels "A", "B" and "C"
+abbrev pub A : List ℕ
+A = 65 ∷ []
+
+abbrev pub B : List ℕ
+B = 66 ∷ []
+
+abbrev pub C : List ℕ
+C = 67 ∷ []
+
+-- the rows that document 01 stars
+unfoldable pub starred : List Row
+starred =
+    vectors (2 ∷ 1 ∷ 1 ∷ 0 ∷ 0 ∷ 0 ∷ 0 ∷ 0 ∷ []) (1 ∷ 2 ∷ 1 ∷ 0 ∷ 0 ∷ 0 ∷ 0 ∷ 0 ∷ []) 3
+    ∷ vectors (2 ∷ 2 ∷ 2 ∷ 0 ∷ 0 ∷ 0 ∷ 0 ∷ 0 ∷ []) (2 ∷ 2 ∷ 2 ∷ 0 ∷ 0 ∷ 0 ∷ 0 ∷ 0 ∷ []) 0
+    ∷ vectors (2 ∷ 1 ∷ 0 ∷ 0 ∷ 0 ∷ 0 ∷ 0 ∷ 0 ∷ []) (1 ∷ 1 ∷ 0 ∷ 0 ∷ 0 ∷ 0 ∷ 0 ∷ 0 ∷ []) 1
+    ∷ date 2000 2 29 true
+    ∷ date 2100 2 29 false
+    -- after 0.1 makes a trace: stores 0.2 and 1.1
+    ∷ tree (makesTrace 3 (0 · 1) [] root A ∷ stores 4 (0 · 2) (1 ∷ []) (0 · 1) ∷ stores 5 (1 · 1) (1 ∷ []) (0 · 1) ∷ [])
+    ((0 · 1, A, 0 · 2, 0 · 1, true) ∷ [])
+    ((1 · 1, 17, 0 · 1, true) ∷ [])
+    -- 0.2 store, 1.1 remove: the trace stays
+    ∷ tree (makesTrace 3 (0 · 1) [] root A ∷ stores 4 (0 · 2) (1 ∷ []) (0 · 1) ∷ removes 5 (1 · 1) (1 ∷ []) (0 · 1) ∷ [])
+    ((0 · 1, A, 0 · 2, 0 · 1, true) ∷ [])
+    ((1 · 1, 17, 0 · 1, true) ∷ [])
+    -- 0.2 remove, 1.1 store
+    ∷ tree (makesTrace 3 (0 · 1) [] root A ∷ removes 4 (0 · 2) (1 ∷ []) (0 · 1) ∷ stores 5 (1 · 1) (1 ∷ []) (0 · 1) ∷ [])
+    []
+    ((1 · 1, 12, 0, true) ∷ [])
+    -- after 0.1 makes a folder: 0.2 removes it, 1.1 makes inside
+    ∷ tree (makesFolder 3 (0 · 1) [] root A ∷ removes 4 (0 · 2) (1 ∷ []) (0 · 1) ∷ makesTrace 5 (1 · 1) (1 ∷ []) (0 · 1) B ∷ [])
+    []
+    ((1 · 1, 13, 0, true) ∷ [])
+    -- 0.2 makes inside, 1.1 removes it
+    ∷ tree (makesFolder 3 (0 · 1) [] root A ∷ makesTrace 4 (0 · 2) (1 ∷ []) (0 · 1) B ∷ removes 5 (1 · 1) (1 ∷ []) (0 · 1) ∷ [])
+    ((0 · 1, A, 0 · 1, 0 · 1, true) ∷ (0 · 2, B, 0 · 2, 0 · 2, false) ∷ [])
+    ((1 · 1, 16, 0 · 1, true) ∷ [])
+    -- unit 1 alone made 1.1 "A"; it takes 0.1 "A", of a later day, and now 1.1 stands aside
+    ∷ tree (makesTrace 3 (1 · 1) [] root A ∷ []) ((1 · 1, A, 1 · 1, 1 · 1, false) ∷ []) []
+    ∷ takes (makesTrace 3 (1 · 1) [] root A ∷ []) (makesTrace 9 (0 · 1) [] root A ∷ [])
+    ((0 · 1, A, 0 · 1, 0 · 1, true) ∷ [])
+    ((1 · 1, 15, 0 · 1, true) ∷ [])
+    ∷ []
+
+-- more of the rules, one by one
+unfoldable pub further : List Row
+further =
+    date 1989 12 31 false
+    ∷ date 1990 1 1 true
+    ∷ date 2199 12 31 true
+    ∷ date 2200 1 1 false
+    ∷ date 2024 2 29 true
+    ∷ date 2023 2 29 false
+    ∷ date 2025 4 31 false
+    ∷ date 2025 13 1 false
+    -- 512 records: 86 blocks; none: one block
+    ∷ blocks 512 86
+    ∷ blocks 6 1
+    ∷ blocks 7 2
+    ∷ blocks 0 1
+    -- a label of 32 bytes; of 33 it is no record
+    ∷ formed (march 3 1 (0 · 1) [] root root (replicate 32 65) []) true
+    ∷ formed (march 3 1 (0 · 1) [] root root (replicate 32 65) A) false
+    -- no label, and a label with a space last
+    ∷ formed (march 3 1 (0 · 1) [] root root [] []) false
+    ∷ formed (march 3 1 (0 · 1) [] root root (65 ∷ 32 ∷ []) []) false
+    -- a record does not name itself, and not the root as object
+    ∷ formed (stores 3 (0 · 2) (1 ∷ []) (0 · 2)) false
+    ∷ formed (removes 3 (0 · 2) (1 ∷ []) root) false
+    -- the listing of document 01: a folder, and two traces of one label in it
+    ∷ tree (makesFolder 3 (0 · 1) [] root A ∷ makesTrace 4 (0 · 2) (1 ∷ []) (0 · 1) B ∷ makesTrace 5 (1 · 1) (1 ∷ []) (0 · 1) B ∷ [])
+    ((0 · 1, A, 0 · 1, 0 · 1, false) ∷ (0 · 2, B, 0 · 2, 0 · 2, true) ∷ [])
+    ((1 · 1, 15, 0 · 2, true) ∷ [])
+    -- a make in a trace, and a store into a folder
+    ∷ tree (makesTrace 3 (0 · 1) [] root A ∷ makesFolder 3 (0 · 2) (1 ∷ []) (0 · 1) B ∷ [])
+    ((0 · 1, A, 0 · 1, 0 · 1, true) ∷ [])
+    ((0 · 2, 14, 0 · 1, true) ∷ [])
+    ∷ tree (makesFolder 3 (0 · 1) [] root A ∷ stores 3 (0 · 2) (1 ∷ []) (0 · 1) ∷ [])
+    ((0 · 1, A, 0 · 1, 0 · 1, true) ∷ [])
+    ((0 · 2, 14, 0 · 1, true) ∷ [])
+    -- a rename, and a make under the label that it left
+    ∷ tree (makesTrace 3 (0 · 1) [] root A ∷ renames 3 (0 · 2) (1 ∷ []) (0 · 1) B ∷ makesTrace 3 (0 · 3) (2 ∷ []) root A ∷ [])
+    ((0 · 1, B, 0 · 1, 0 · 2, false) ∷ (0 · 3, A, 0 · 3, 0 · 3, false) ∷ [])
+    []
+    -- a rename to the entry's own label
+    ∷ tree (makesFolder 3 (0 · 1) [] root A ∷ renames 3 (0 · 2) (1 ∷ []) (0 · 1) A ∷ [])
+    ((0 · 1, A, 0 · 1, 0 · 1, true) ∷ [])
+    ((0 · 2, 15, 0 · 1, true) ∷ [])
+    -- a rename to a held label; a second rename that has not seen the first, to the same held label
+    ∷ tree (makesTrace 3 (0 · 1) [] root A ∷ makesTrace 3 (0 · 2) (1 ∷ []) root B ∷ renames 3 (0 · 3) (2 ∷ []) (0 · 1) B ∷ [])
+    ((0 · 1, A, 0 · 1, 0 · 1, false) ∷ (0 · 2, B, 0 · 2, 0 · 2, true) ∷ [])
+    ((0 · 3, 15, 0 · 2, true) ∷ [])
+    ∷ tree (makesTrace 3 (0 · 1) [] root A ∷ renames 3 (0 · 2) (1 ∷ []) (0 · 1) B ∷ renames 3 (1 · 1) (1 ∷ []) (0 · 1) B ∷ [])
+    ((0 · 1, B, 0 · 1, 0 · 2, true) ∷ [])
+    ((1 · 1, 17, 0 · 1, true) ∷ [])
+    -- a store asks only about contents, a rename only about the label, a remove about both
+    ∷ tree (makesTrace 3 (0 · 1) [] root A ∷ renames 3 (0 · 2) (1 ∷ []) (0 · 1) B ∷ stores 3 (1 · 1) (1 ∷ []) (0 · 1) ∷ [])
+    ((0 · 1, B, 1 · 1, 0 · 2, false) ∷ [])
+    []
+    ∷ tree (makesTrace 3 (0 · 1) [] root A ∷ stores 3 (0 · 2) (1 ∷ []) (0 · 1) ∷ renames 3 (1 · 1) (1 ∷ []) (0 · 1) B ∷ [])
+    ((0 · 1, B, 0 · 2, 1 · 1, false) ∷ [])
+    []
+    ∷ tree (makesTrace 3 (0 · 1) [] root A ∷ renames 3 (0 · 2) (1 ∷ []) (0 · 1) B ∷ removes 3 (1 · 1) (1 ∷ []) (0 · 1) ∷ [])
+    ((0 · 1, B, 0 · 1, 0 · 2, true) ∷ [])
+    ((1 · 1, 17, 0 · 1, true) ∷ [])
+    -- a remove of a folder with entries and an unseen rename: 16 comes before 17
+    ∷ tree (makesFolder 3 (0 · 1) [] root A ∷ renames 3 (0 · 2) (1 ∷ []) (0 · 1) C ∷ removes 3 (1 · 1) (1 ∷ []) (0 · 1) ∷ makesTrace 3 (0 · 3) (2 ∷ []) (0 · 1) B ∷ removes 3 (1 · 2) (1 ∷ 1 ∷ []) (0 · 1) ∷ [])
+    ((0 · 1, C, 0 · 1, 0 · 2, true) ∷ (0 · 3, B, 0 · 3, 0 · 3, false) ∷ [])
+    ((1 · 1, 17, 0 · 1, true) ∷ (1 · 2, 16, 0 · 1, true) ∷ [])
+    -- a settle of a record that acted
+    ∷ tree (makesTrace 3 (0 · 1) [] root A ∷ settles 3 (0 · 2) (1 ∷ []) (0 · 1) ∷ [])
+    ((0 · 1, A, 0 · 1, 0 · 1, false) ∷ [])
+    ((0 · 2, 18, 0, true) ∷ [])
+    -- a settle, and the entry is no longer disputed
+    ∷ tree (makesTrace 3 (0 · 1) [] root A ∷ makesTrace 3 (1 · 1) [] root A ∷ settles 3 (0 · 2) (1 ∷ 1 ∷ []) (1 · 1) ∷ [])
+    ((0 · 1, A, 0 · 1, 0 · 1, false) ∷ [])
+    ((1 · 1, 15, 0 · 1, false) ∷ [])
+    -- a second settle fits and changes nothing; a settle of a settle that fitted stands aside
+    ∷ tree (makesTrace 3 (0 · 1) [] root A ∷ makesTrace 3 (1 · 1) [] root A ∷ settles 3 (0 · 2) (1 ∷ 1 ∷ []) (1 · 1) ∷ settles 3 (1 · 2) (2 ∷ 1 ∷ []) (1 · 1) ∷ settles 3 (0 · 3) (2 ∷ 2 ∷ []) (0 · 2) ∷ [])
+    ((0 · 1, A, 0 · 1, 0 · 1, false) ∷ [])
+    ((1 · 1, 15, 0 · 1, false) ∷ (0 · 3, 18, 0, true) ∷ [])
+    -- a settle of a settle that stands aside
+    ∷ tree (makesTrace 3 (0 · 1) [] root A ∷ settles 3 (0 · 2) (1 ∷ []) (0 · 1) ∷ settles 3 (0 · 3) (2 ∷ []) (0 · 2) ∷ [])
+    ((0 · 1, A, 0 · 1, 0 · 1, false) ∷ [])
+    ((0 · 2, 18, 0, false) ∷ [])
+    -- of two open asides that mark one entry, one is settled: still disputed
+    ∷ tree (makesTrace 3 (0 · 1) [] root A ∷ makesTrace 3 (1 · 1) [] root A ∷ makesTrace 3 (2 · 1) [] root A ∷ settles 3 (0 · 2) (1 ∷ 1 ∷ 1 ∷ []) (1 · 1) ∷ [])
+    ((0 · 1, A, 0 · 1, 0 · 1, true) ∷ [])
+    ((1 · 1, 15, 0 · 1, false) ∷ (2 · 1, 15, 0 · 1, true) ∷ [])
+    -- the marked entry is removed, and still stands in what the aside marks
+    ∷ tree (makesTrace 3 (0 · 1) [] root A ∷ makesTrace 3 (1 · 1) [] root A ∷ removes 3 (0 · 2) (1 ∷ 1 ∷ []) (0 · 1) ∷ [])
+    []
+    ((1 · 1, 15, 0 · 1, true) ∷ [])
+    -- a block whose record is held, one whose seen is covered but not closed, one with a gap, one with a held identity
+    ∷ takes (makesTrace 3 (0 · 1) [] root A ∷ []) (makesTrace 3 (0 · 1) [] root A ∷ stores 3 (0 · 2) (1 ∷ []) (0 · 1) ∷ [])
+    ((0 · 1, A, 0 · 2, 0 · 1, false) ∷ [])
+    []
+    ∷ refuses (makesTrace 3 (0 · 1) [] root A ∷ makesTrace 3 (1 · 1) (1 ∷ []) root B ∷ []) (makesTrace 3 (2 · 1) (0 ∷ 1 ∷ []) root C ∷ []) 9
+    ∷ refuses (makesTrace 3 (0 · 1) [] root A ∷ []) (stores 3 (0 · 3) (2 ∷ []) (0 · 1) ∷ []) 8
+    ∷ refuses (makesTrace 3 (0 · 1) [] root A ∷ []) (makesTrace 4 (0 · 1) [] root A ∷ []) 10
+    ∷ refuses [] (makesTrace 3 (0 · 1) [] root (32 ∷ []) ∷ []) 7
+    ∷ []
+
+unfoldable pub table : List Row
+table = starred ++ further
