@@ -1,0 +1,116 @@
+//! Blocks: header, six record places, two sums.
+
+use crate::bytes::{all_zero, get16, get32, put16, put32};
+use crate::record::Record;
+use crate::vector::Vector;
+use crate::{BLOCK, PER_BLOCK, RECORD};
+
+pub type Block = [u8; BLOCK];
+
+const LETTERS: [u8; 4] = *b"SAB1";
+const FIRST_RECORD: usize = 28;
+const SUMS: usize = 508;
+const MODULUS: u32 = 65_521;
+
+/// The header fields of a block.
+#[derive(Clone, Copy, PartialEq, Eq)]
+pub struct Header {
+    pub archive: u32,
+    pub unit: u8,
+    pub vector: Vector,
+}
+
+/// The two sums over the 254 words before them. The totals fit 32 bits, so the
+/// remainders are taken once.
+#[inline]
+pub fn sums(block: &Block) -> (u16, u16) {
+    let (words, _) = block.as_chunks::<2>();
+    let (mut first, mut second) = (0u32, 0u32);
+    for word in &words[..SUMS / 2] {
+        first += u16::from_le_bytes(*word) as u32;
+        second += first;
+    }
+    ((first % MODULUS) as u16, (second % MODULUS) as u16)
+}
+
+/// The place of a record in its block.
+#[inline(always)]
+fn record_at(i: usize) -> usize {
+    FIRST_RECORD + RECORD * i
+}
+
+/// A record of a block.
+#[inline(always)]
+pub fn record(block: &Block, i: usize) -> &Record {
+    let (records, _) = block[FIRST_RECORD..SUMS].as_chunks();
+    &records[i]
+}
+
+/// The bytes of a block's records.
+#[inline(always)]
+pub fn records(block: &Block) -> &[u8] {
+    &block[FIRST_RECORD..record_at(count(block))]
+}
+
+#[inline(always)]
+pub fn count(block: &Block) -> usize {
+    block[9] as usize
+}
+
+#[inline(always)]
+pub fn place(block: &Block) -> usize {
+    get16(block, 10) as usize
+}
+
+#[inline(always)]
+pub fn header(block: &Block) -> Header {
+    Header {
+        archive: get32(block, 4),
+        unit: block[8],
+        vector: Vector::read(block, 12),
+    }
+}
+
+/// The first of 3, 4 and 5 that holds, or 0.
+#[inline]
+pub fn fault(block: &Block) -> u8 {
+    if block[..4] != LETTERS {
+        return 3;
+    }
+    let (first, second) = sums(block);
+    if get16(block, SUMS) != first || get16(block, SUMS + 2) != second {
+        return 4;
+    }
+    let count = count(block);
+    if block[8] > 7 || count > PER_BLOCK || !all_zero(&block[record_at(count)..SUMS]) {
+        return 5;
+    }
+    0
+}
+
+/// Writes a block's header, whose records stand, and its sums.
+#[inline]
+pub fn finish(block: &mut Block, header: &Header, count: usize, place: usize) {
+    block[..4].copy_from_slice(&LETTERS);
+    put32(block, 4, header.archive);
+    block[8] = header.unit;
+    block[9] = count as u8;
+    put16(block, 10, place as u16);
+    header.vector.write(block, 12);
+    block[record_at(count)..].fill(0);
+    let (first, second) = sums(block);
+    put16(block, SUMS, first);
+    put16(block, SUMS + 2, second);
+}
+
+/// Lays a record into its place in a block.
+#[inline(always)]
+pub fn put_record(block: &mut Block, i: usize, record: &Record) {
+    block[record_at(i)..record_at(i + 1)].copy_from_slice(record);
+}
+
+/// Lays six or fewer records into a block.
+#[inline(always)]
+pub fn put_records(block: &mut Block, records: &[Record]) {
+    block[FIRST_RECORD..record_at(records.len())].copy_from_slice(records.as_flattened());
+}

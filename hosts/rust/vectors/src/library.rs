@@ -1,0 +1,152 @@
+//! An implementation under test: the entry points, and what follows from them.
+
+/// A call's no: the number of the refusal table and the block's place.
+#[derive(Clone, Copy, Debug, PartialEq, Eq)]
+pub struct Refusal {
+    pub number: u8,
+    pub place: u8,
+}
+
+pub type Answer<T> = Result<T, Refusal>;
+
+/// What a file says of itself.
+#[derive(Clone, Copy, Debug, PartialEq, Eq)]
+pub struct Head {
+    pub archive: u32,
+    pub unit: u8,
+    pub records: u16,
+    pub vector: [u16; 8],
+}
+
+/// The entry points. Those that answer an `Option` are run beside what follows
+/// from the others, where an implementation offers them.
+pub trait Library {
+    fn start(&self, log: &mut [u8], archive: u32, unit: u8) -> Answer<()>;
+    fn act(&self, log: &mut [u8], archive: u32, unit: u8, wish: &[u8]) -> Answer<()>;
+    fn hand_out(
+        &self,
+        log: &[u8],
+        archive: u32,
+        unit: u8,
+        asked: &[u16; 8],
+        block: &mut [u8],
+    ) -> Answer<()>;
+    fn take(&self, log: &mut [u8], archive: u32, unit: u8, block: &[u8]) -> Answer<()>;
+    fn write_file(&self, log: &[u8], archive: u32, unit: u8, file: &mut [u8]) -> Answer<u16>;
+    fn read_file(&self, log: &mut [u8], file: &[u8]) -> Answer<Head>;
+    fn show(&self, log: &[u8], tree: &mut [u8]) -> Answer<()>;
+    fn compare(&self, first: &[u16; 8], second: &[u16; 8]) -> u8;
+
+    fn listing(&self, _file: &[u8]) -> Option<Vec<u8>> {
+        None
+    }
+    fn is_date(&self, _year: u16, _month: u8, _day: u8) -> Option<bool> {
+        None
+    }
+    fn well_formed(&self, _record: &[u8; 80]) -> Option<bool> {
+        None
+    }
+    fn sums(&self, _block: &[u8; 512]) -> Option<(u16, u16)> {
+        None
+    }
+    fn sound(&self, _log: &[u8]) -> Option<bool> {
+        None
+    }
+}
+
+/// The entry points of a crate that has them by these names.
+macro_rules! entry_points {
+    ($library:ident) => {
+        fn start(&self, log: &mut [u8], archive: u32, unit: u8) -> Answer<()> {
+            $library::start(log, archive, unit).map_err(refusal)
+        }
+        fn act(&self, log: &mut [u8], archive: u32, unit: u8, wish: &[u8]) -> Answer<()> {
+            $library::act(log, archive, unit, wish).map_err(refusal)
+        }
+        fn hand_out(
+            &self,
+            log: &[u8],
+            archive: u32,
+            unit: u8,
+            asked: &[u16; 8],
+            block: &mut [u8],
+        ) -> Answer<()> {
+            $library::hand_out(log, archive, unit, asked, block).map_err(refusal)
+        }
+        fn take(&self, log: &mut [u8], archive: u32, unit: u8, block: &[u8]) -> Answer<()> {
+            $library::take(log, archive, unit, block).map_err(refusal)
+        }
+        fn write_file(&self, log: &[u8], archive: u32, unit: u8, file: &mut [u8]) -> Answer<u16> {
+            $library::write_file(log, archive, unit, file).map_err(refusal)
+        }
+        fn read_file(&self, log: &mut [u8], file: &[u8]) -> Answer<Head> {
+            let $library::Head {
+                archive,
+                unit,
+                records,
+                vector,
+            } = $library::read_file(log, file).map_err(refusal)?;
+            Ok(Head {
+                archive,
+                unit,
+                records,
+                vector,
+            })
+        }
+        fn show(&self, log: &[u8], tree: &mut [u8]) -> Answer<()> {
+            $library::show(log, tree).map_err(refusal)
+        }
+        fn compare(&self, first: &[u16; 8], second: &[u16; 8]) -> u8 {
+            $library::compare(first, second)
+        }
+    };
+}
+
+/// The plain Rust implementation.
+pub mod plain_rust {
+    use super::{Answer, Head, Library, Refusal};
+
+    pub struct Plain;
+
+    fn refusal(plain::Refusal { number, place }: plain::Refusal) -> Refusal {
+        Refusal { number, place }
+    }
+
+    impl Library for Plain {
+        entry_points!(plain);
+
+        fn listing(&self, file: &[u8]) -> Option<Vec<u8>> {
+            let mut out = [0; plain::LISTING];
+            let len = plain::listing(file, &mut out);
+            Some(out[..len].to_vec())
+        }
+        fn is_date(&self, year: u16, month: u8, day: u8) -> Option<bool> {
+            Some(plain::is_date(year, month, day))
+        }
+        fn well_formed(&self, record: &[u8; 80]) -> Option<bool> {
+            Some(plain::well_formed(record))
+        }
+        fn sums(&self, block: &[u8; 512]) -> Option<(u16, u16)> {
+            Some(plain::sums(block))
+        }
+        fn sound(&self, log: &[u8]) -> Option<bool> {
+            Some(plain::sound(log))
+        }
+    }
+}
+
+/// The static library.
+#[cfg(feature = "static")]
+pub mod static_library {
+    use super::{Answer, Head, Library, Refusal};
+
+    pub struct Static;
+
+    fn refusal(limp::Refusal { number, place }: limp::Refusal) -> Refusal {
+        Refusal { number, place }
+    }
+
+    impl Library for Static {
+        entry_points!(limp);
+    }
+}

@@ -1,0 +1,202 @@
+//! Call lists: eight logs, one call a line.
+
+use crate::library::{Answer, Library};
+use crate::tree;
+use crate::words::{Fault, Words, bytes, hash};
+
+const LOG: usize = 40_960;
+
+/// The eight logs of a list.
+pub struct Slots([Vec<u8>; 8]);
+
+impl Slots {
+    pub fn empty() -> Slots {
+        Slots(std::array::from_fn(|_| vec![0; LOG]))
+    }
+}
+
+/// The number and the place as they are written: only these have a place.
+fn answer<T>(answer: &Answer<T>) -> [String; 2] {
+    match answer {
+        Ok(_) => ["0".to_string(), "-".to_string()],
+        Err(refusal) => {
+            let place = match refusal.number {
+                2..=11 | 20 => refusal.place.to_string(),
+                _ => "-".to_string(),
+            };
+            [refusal.number.to_string(), place]
+        }
+    }
+}
+
+/// The lent bytes are as they were.
+fn kept(what: &str, after: &[u8], before: &[u8]) -> Result<(), Fault> {
+    if after == before {
+        Ok(())
+    } else {
+        Err(format!("refused, but the {what} changed"))
+    }
+}
+
+/// Runs one call; `shown` are the lines behind it that tell a tree.
+pub fn call(
+    library: &dyn Library,
+    slots: &mut Slots,
+    line: &str,
+    shown: &[&str],
+) -> Result<(), Fault> {
+    let mut words = Words::of(line);
+    let name = words.word()?;
+    let slot: usize = words.number()?;
+    let own = slots.0.get_mut(slot).ok_or("no such slot")?;
+    if name == "end" {
+        return end(own, words);
+    }
+    let lent = words.word()?;
+    if lent == "@" {
+        call_on(library, own, name, words, shown)
+    } else {
+        call_on(library, &mut bytes(lent)?, name, words, shown)
+    }
+}
+
+fn call_on(
+    library: &dyn Library,
+    log: &mut [u8],
+    name: &str,
+    mut words: Words,
+    shown: &[&str],
+) -> Result<(), Fault> {
+    if name == "show" {
+        return show(library, log, words, shown);
+    }
+    if !shown.is_empty() {
+        return Err("lines of a tree behind another call".to_string());
+    }
+    let archive = words.number()?;
+    let unit = words.number()?;
+    let before = log.to_vec();
+    let mut came: Vec<String> = Vec::new();
+    match name {
+        "start" => {
+            words.equals()?;
+            came.extend(answer(&library.start(log, archive, unit)));
+        }
+        "act" => {
+            let wish = words.bytes()?;
+            words.equals()?;
+            came.extend(answer(&library.act(log, archive, unit, &wish)));
+        }
+        "take" => {
+            let block = words.bytes()?;
+            words.equals()?;
+            came.extend(answer(&library.take(log, archive, unit, &block)));
+        }
+        "handout" => {
+            let asked = words.vector()?;
+            let lent = words.lent()?;
+            words.equals()?;
+            let mut block = lent.clone();
+            let given = library.hand_out(log, archive, unit, &asked, &mut block);
+            came.extend(answer(&given));
+            came.push(hash(log));
+            if given.is_err() {
+                kept("block", &block, &lent)?;
+                came.push("-".to_string());
+            } else {
+                came.push(written(words.word_ahead(3)?, &block)?);
+            }
+        }
+        "write" => {
+            let lent = words.lent()?;
+            words.equals()?;
+            let mut file = lent.clone();
+            let count = library.write_file(log, archive, unit, &mut file);
+            came.extend(answer(&count));
+            came.push(hash(log));
+            if let Ok(count) = count {
+                came.extend([count.to_string(), hash(&file)]);
+            } else {
+                kept("file", &file, &lent)?;
+                came.extend(["-".to_string(), "-".to_string()]);
+            }
+        }
+        _ => return Err(format!("no call {name}")),
+    }
+    if came.len() == 2 {
+        came.push(hash(log));
+    }
+    if came[0] != "0" || matches!(name, "handout" | "write") {
+        kept("log", log, &before)?;
+    }
+    words.expect(&came)
+}
+
+/// A block as the list writes it: the expected word itself if it tells the same
+/// bytes.
+fn written(expected: &str, block: &[u8]) -> Result<String, Fault> {
+    if bytes(expected).is_ok_and(|bytes| bytes == block) {
+        return Ok(expected.to_string());
+    }
+    let hex: String = block.iter().map(|byte| format!("{byte:02x}")).collect();
+    Ok(format!("{}:{}", block.len(), hex))
+}
+
+fn show(
+    library: &dyn Library,
+    log: &mut [u8],
+    mut words: Words,
+    shown: &[&str],
+) -> Result<(), Fault> {
+    words.equals()?;
+    let before = log.to_vec();
+    let lent: Vec<u8> = (0..tree::TREE).map(|i| (7 + 31 * i) as u8).collect();
+    let mut table = lent.clone();
+    let given = library.show(log, &mut table);
+    kept("log", log, &before)?;
+    let mut came = answer(&given).to_vec();
+    came.push(hash(log));
+    if given.is_err() {
+        kept("tree", &table, &lent)?;
+        came.extend(["-".to_string(), "-".to_string()]);
+        words.expect(&came)?;
+        return if shown.is_empty() {
+            Ok(())
+        } else {
+            Err("refused, but a tree expected".into())
+        };
+    }
+    let lines = tree::lines(&table)?;
+    came.extend([
+        lines.entries.len().to_string(),
+        lines.asides.len().to_string(),
+    ]);
+    words.expect(&came)?;
+    let lines: Vec<&String> = lines.entries.iter().chain(&lines.asides).collect();
+    if lines.len() != shown.len() {
+        return Err(format!(
+            "{} lines expected, {} came",
+            shown.len(),
+            lines.len()
+        ));
+    }
+    for (expected, came) in shown.iter().zip(lines) {
+        if expected != came {
+            return Err(format!("'{expected}' expected, '{came}' came"));
+        }
+    }
+    Ok(())
+}
+
+/// The slot's record counts and hash at the end of a list.
+fn end(log: &[u8], mut words: Words) -> Result<(), Fault> {
+    let vector = words.vector()?;
+    let mut counts = [0u16; 8];
+    for record in log.chunks(80).take_while(|record| record[2..4] != [0, 0]) {
+        counts[(record[0] & 7) as usize] += 1;
+    }
+    if counts != vector {
+        return Err(format!("counts {vector:?} expected, {counts:?} came"));
+    }
+    words.expect(&[hash(log)])
+}
