@@ -1,0 +1,144 @@
+-- When one vector covers another, and what a comparison answers.
+-- Assumes nothing.
+use Prim.Native.Nat.{ℕ, zero, suc, _+_, _≤_, _<_}
+use native.Mathlib.Nat.{le-antisymm}
+use native.Mathlib.Numerals.{add-one}
+use native.Mathlib.Omega.{arith}
+use mathlib.Core.Path.{_≡_, refl, sym, ap, _∙_}
+use mathlib.Core.Logic.{⊎-elim}
+use mathlib.Core.Bool.{Bool, true, false, cond, _&&_}
+use mathlib.Core.List.{List}
+use lib.Dec.{leb}
+use lib.ListN.{getD, length}
+use lib.Seq.{ext-getD}
+use borrow.Author.Tests.{le-leb, leb-true}
+use Rattle.model.specs.Vector.{coversTo, covers, compareOf}
+use Rattle.octets.proofs.Numbers.{lt-or-ge, and-true, true-and, test-false}
+
+-- ---- covering is count by count
+
+pub coversTo-at : (a b : List ℕ) (n : ℕ) → coversTo a b n ≡ true → (u : ℕ) → u < n → getD b u 0 ≤ getD a u 0
+unfolding coversTo
+coversTo-at a b zero e u h = absurd (omega arith)
+coversTo-at a b (suc n) e u h =
+    let (p, q) = and-true (coversTo a b n) (leb (getD b n 0) (getD a n 0)) e in
+    ⊎-elim
+    (λ k. coversTo-at a b n p u k)
+    (λ k. let m : u ≡ n = omega arith in rw m (leb-true (getD b n 0) (getD a n 0) q))
+    (lt-or-ge u n)
+
+pub all-coversTo : (a b : List ℕ) (n : ℕ) → ((u : ℕ) → u < n → getD b u 0 ≤ getD a u 0) → coversTo a b n ≡ true
+unfolding coversTo
+all-coversTo a b zero h = refl
+all-coversTo a b (suc n) h =
+    true-and
+    (coversTo a b n)
+    (leb (getD b n 0) (getD a n 0))
+    (all-coversTo a b n (λ u k. h u (omega arith)))
+    (le-leb (getD b n 0) (getD a n 0) (h n (omega arith)))
+
+pub covers-at : (a b : List ℕ) → covers a b ≡ true → (u : ℕ) → u < 8 → getD b u 0 ≤ getD a u 0
+unfolding covers
+covers-at a b e u h = coversTo-at a b 8 e u h
+
+pub all-covers : (a b : List ℕ) → ((u : ℕ) → u < 8 → getD b u 0 ≤ getD a u 0) → covers a b ≡ true
+unfolding covers
+all-covers a b h = all-coversTo a b 8 h
+
+-- one smaller count is enough to fail
+pub less-fails : (a b : List ℕ) (u : ℕ) → u < 8 → getD a u 0 < getD b u 0 → covers a b ≡ false
+less-fails a b u h k = test-false (covers a b) (λ e. let m = covers-at a b e u h in omega arith)
+
+pub covers-refl : (a : List ℕ) → covers a a ≡ true
+covers-refl a = all-covers a a (λ u h. omega arith)
+
+pub covers-trans : (a b c : List ℕ) → covers a b ≡ true → covers b c ≡ true → covers a c ≡ true
+covers-trans a b c p q = all-covers a c (λ u h. omega (arith, covers-at a b p u h, covers-at b c q u h))
+
+pub covers-antisym : (a b : List ℕ) → length a ≡ 8 → length b ≡ 8 → covers a b ≡ true → covers b a ≡ true → a ≡ b
+covers-antisym a b m n p q = ext-getD 0 a b (m ∙ sym n) (λ u h. omega (arith, covers-at a b p u (omega arith), covers-at b a q u (omega arith)))
+
+-- vectors whose counts differ alike cover alike
+pub covers-same : (a b c d : List ℕ) → ((u : ℕ) → u < 8 → (getD b u 0 ≤ getD a u 0) → getD d u 0 ≤ getD c u 0)
+    → covers a b ≡ true → covers c d ≡ true
+covers-same a b c d f e = all-covers c d (λ u h. f u h (covers-at a b e u h))
+
+-- ---- what the loop of `covers` is asked, over plain values
+
+module _ (a b : List ℕ) (u : ℕ) where
+  pub covers-next : coversTo a b u ≡ true → getD b u 0 ≤ getD a u 0 → coversTo a b (u + 1) ≡ true
+  unfolding coversTo
+  covers-next e h = rw (add-one, e, le-leb (getD b u 0) (getD a u 0) h)
+
+  pub covers-fails : u < 8 → getD a u 0 < getD b u 0 → false ≡ covers a b
+  covers-fails h k = sym (less-fails a b u h k)
+
+  pub covers-ends : u ≤ 8 → 8 ≤ u → coversTo a b u ≡ true → true ≡ covers a b
+  unfolding covers
+  covers-ends h k e = let n : u ≡ 8 = omega arith in sym (rw n at e)
+
+-- ---- the four answers
+
+-- the answer to what the two tests say
+abbrev pub answer : Bool → Bool → ℕ
+answer g l = cond g (cond l 0 1) (cond l 2 3)
+
+module _ (a b : List ℕ) where
+  pub answer-is : (g l : Bool) → covers a b ≡ g → covers b a ≡ l → compareOf a b ≡ answer g l
+  unfolding compareOf
+  answer-is g l p q = rw (p, q)
+
+  -- from the two tests, as the code has them
+  pub identical : (g l : Bool) → g ≡ covers a b → l ≡ covers b a → g ≡ true → l ≡ true → 0 ≡ compareOf a b
+  identical g l p q e f = sym (answer-is true true (sym p ∙ e) (sym q ∙ f))
+
+  pub first : (g l : Bool) → g ≡ covers a b → l ≡ covers b a → g ≡ true → l ≡ false → 1 ≡ compareOf a b
+  first g l p q e f = sym (answer-is true false (sym p ∙ e) (sym q ∙ f))
+
+  pub second : (g l : Bool) → g ≡ covers a b → l ≡ covers b a → g ≡ false → l ≡ true → 2 ≡ compareOf a b
+  second g l p q e f = sym (answer-is false true (sym p ∙ e) (sym q ∙ f))
+
+  pub neither : (g l : Bool) → g ≡ covers a b → l ≡ covers b a → g ≡ false → l ≡ false → 3 ≡ compareOf a b
+  neither g l p q e f = sym (answer-is false false (sym p ∙ e) (sym q ∙ f))
+
+-- an answer tells both tests
+read-0 : (g l : Bool) → answer g l ≡ 0 → (g ≡ true) × (l ≡ true)
+read-0 true true e = (refl, refl)
+read-0 true false e = absurd (omega arith)
+read-0 false true e = absurd (omega arith)
+read-0 false false e = absurd (omega arith)
+
+read-1 : (g l : Bool) → answer g l ≡ 1 → (g ≡ true) × (l ≡ false)
+read-1 true true e = absurd (omega arith)
+read-1 true false e = (refl, refl)
+read-1 false true e = absurd (omega arith)
+read-1 false false e = absurd (omega arith)
+
+read-2 : (g l : Bool) → answer g l ≡ 2 → (g ≡ false) × (l ≡ true)
+read-2 true true e = absurd (omega arith)
+read-2 true false e = absurd (omega arith)
+read-2 false true e = (refl, refl)
+read-2 false false e = absurd (omega arith)
+
+read-3 : (g l : Bool) → answer g l ≡ 3 → (g ≡ false) × (l ≡ false)
+read-3 true true e = absurd (omega arith)
+read-3 true false e = absurd (omega arith)
+read-3 false true e = absurd (omega arith)
+read-3 false false e = (refl, refl)
+
+module _ (a b : List ℕ) where
+  pub said-0 : compareOf a b ≡ 0 → (covers a b ≡ true) × (covers b a ≡ true)
+  unfolding compareOf
+  said-0 e = read-0 (covers a b) (covers b a) e
+
+  pub said-1 : compareOf a b ≡ 1 → (covers a b ≡ true) × (covers b a ≡ false)
+  unfolding compareOf
+  said-1 e = read-1 (covers a b) (covers b a) e
+
+  pub said-2 : compareOf a b ≡ 2 → (covers a b ≡ false) × (covers b a ≡ true)
+  unfolding compareOf
+  said-2 e = read-2 (covers a b) (covers b a) e
+
+  pub said-3 : compareOf a b ≡ 3 → (covers a b ≡ false) × (covers b a ≡ false)
+  unfolding compareOf
+  said-3 e = read-3 (covers a b) (covers b a) e

@@ -1,0 +1,3 @@
+pub mod Dominance
+pub mod InBytes
+pub mod Claims

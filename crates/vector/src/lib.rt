@@ -1,0 +1,93 @@
+// Version vectors: eight counts, one for each unit.
+ghost use mathlib.Core.Path.{_≡_};
+ghost use Prim.Native.Nat.{_+_, _≤_, _<_};
+ghost use lib.ListN.{length, getD, set, replicate};
+ghost use Rattle.model.specs.Bytes.{putAt};
+ghost use Rattle.model.specs.Vector.{covers, compareOf, vectorAt, vectorBytes};
+use octets::le16;
+use octets::put16;
+
+pub struct Vector {
+    pub counts: [u16; 8],
+}
+
+// What a comparison says: 0 identical, 1 the first dominates, 2 the second dominates, 3 both ahead.
+pub struct Comparison {
+    pub answer: u8,
+}
+
+// Every count of a is at least that of b.
+pub fn covers(a: Vector, b: Vector) -> bool
+    ensures { λ r. ⌜ r ≡ covers (a .counts) (b .counts) ⌝ }
+{
+    let mut u: usize = 0;
+    while u < 8 {
+        if a.counts[u] < b.counts[u] {
+            return false;
+        }
+        u += 1;
+    }
+    true
+}
+
+// How two vectors stand to each other.
+pub fn compare(a: Vector, b: Vector) -> Comparison
+    ensures { λ r. ⌜ r .answer ≡ compareOf (a .counts) (b .counts) ⌝ }
+{
+    if covers(a, b) {
+        if covers(b, a) {
+            return Comparison { answer: 0 };
+        }
+        return Comparison { answer: 1 };
+    }
+    if covers(b, a) {
+        return Comparison { answer: 2 };
+    }
+    Comparison { answer: 3 }
+}
+
+// The vector that stands at a place.
+pub fn vector_at(s: &[u8], at: usize) -> Vector
+    requires { ⌜ at + 16 ≤ length (now s) ⌝ }
+    ensures { λ r. ⌜ r .counts ≡ vectorAt (now (s .entry)) at ⌝ }
+{
+    Vector {
+        counts: [
+            le16(s, at),
+            le16(s, at + 2),
+            le16(s, at + 4),
+            le16(s, at + 6),
+            le16(s, at + 8),
+            le16(s, at + 10),
+            le16(s, at + 12),
+            le16(s, at + 14),
+        ],
+    }
+}
+
+// A vector is written, eight counts of two bytes.
+pub fn put_vector(dst: &mut [u8], at: usize, v: Vector)
+    requires { ⌜ at + 16 ≤ length (now dst) ⌝ }
+    ensures { λ _. ⌜ now (dst .exit) ≡ putAt (now (dst .entry)) at (vectorBytes (v .counts)) ⌝ }
+{
+    for u in 0..8 {
+        put16(dst, at + 2 * u, v.counts[u]);
+    }
+}
+
+// The vector of nothing.
+pub fn zero_vector() -> Vector
+    ensures { λ r. ⌜ r .counts ≡ replicate 8 0 ⌝ }
+{
+    Vector { counts: [0; 8] }
+}
+
+// One record more of a unit.
+pub fn bump(v: Vector, u: usize) -> Vector
+    requires { ⌜ (u < 8) × (getD (v .counts) u 0 < 65535) ⌝ }
+    ensures { λ r. ⌜ r .counts ≡ set (v .counts) u (getD (v .counts) u 0 + 1) ⌝ }
+{
+    let mut counts = v.counts;
+    counts[u] = counts[u] + 1;
+    Vector { counts }
+}
