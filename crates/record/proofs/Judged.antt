@@ -1,0 +1,161 @@
+-- What the code that judges a record is asked at each way out, over plain values.
+-- Assumes nothing.
+use Prim.Native.Nat.{ℕ, suc, _+_, _-_, _*_, _≤_, _<_}
+use native.Mathlib.Omega.{arith}
+use mathlib.Core.Path.{_≡_, refl, sym, ap, _∙_}
+use mathlib.Core.Bool.{Bool, true, false, cond, not, _&&_, _||_}
+use mathlib.Core.List.{List}
+use lib.Dec.{leb, eqb}
+use lib.ListN.{getD, length, take, drop}
+use borrow.Author.Tests.{eq-eqb, ne-eqb, le-leb, lt-leb, not-true, not-false}
+use Rattle.model.specs.Bytes.{word, blank, part}
+use Rattle.model.specs.Date.{isDate}
+use Rattle.model.specs.Record.{Rec, unit, op, num, seen, labelOf, isLabel, usesObject, usesFolder, usesLabel, usesMark, unused, names, headFits, objectFits, folderFits, dateFits, labelFits, markFits, wellFormed}
+
+-- ---- which fields an operation uses
+
+module _ (o : ℕ) where
+  pub make-label : o ≤ 2 → leb o 2 ≡ usesLabel o
+  unfolding usesLabel
+  make-label h = rw (le-leb o 2 h)
+
+  pub other-label : 2 < o → eqb o 5 ≡ usesLabel o
+  unfolding usesLabel
+  other-label h = rw (lt-leb o 2 h)
+
+  pub make-mark : o ≡ 2 → eqb o 2 ≡ usesMark o
+  unfolding usesMark
+  make-mark h = rw (eq-eqb o 2 h)
+
+  pub other-mark : (o ≡ 2 → ⊥) → eqb o 3 ≡ usesMark o
+  unfolding usesMark
+  other-mark h = rw (ne-eqb o 2 h)
+
+-- ---- a named identity
+
+module _ (r : Rec) (at : ℕ) where
+  pub unit-above : 7 < getD r at 0 → false ≡ names r at
+  unfolding names
+  unit-above a = rw (lt-leb (getD r at 0) 7 a)
+
+  pub byte-used : getD r at 0 ≤ 7 → (getD r (at + 1) 0 ≡ 0 → ⊥) → false ≡ names r at
+  unfolding names
+  byte-used a b = rw (le-leb (getD r at 0) 7 a, ne-eqb (getD r (at + 1) 0) 0 b)
+
+  module _ {n : ℕ} (a : getD r at 0 ≤ 7) (b : getD r (at + 1) 0 ≡ 0) (e : n ≡ word r (at + 2)) where
+    pub number-none : n < 1 → false ≡ names r at
+    unfolding names
+    number-none h = rw (le-leb (getD r at 0) 7 a, eq-eqb (getD r (at + 1) 0) 0 b, ← e, lt-leb 1 n h)
+
+    pub number-seen : {s : ℕ} → 1 ≤ n → s ≡ word r (4 + 2 * getD r at 0) → leb n s ≡ names r at
+    unfolding names seen
+    number-seen h f = rw (le-leb (getD r at 0) 7 a, eq-eqb (getD r (at + 1) 0) 0 b, ← e, le-leb 1 n h, ← f)
+
+-- ---- unit, operation and number
+
+module _ (r : Rec) where
+  pub head-unit : 7 < getD r 0 0 → false ≡ headFits r
+  unfolding headFits unit
+  head-unit a = rw (lt-leb (getD r 0 0) 7 a)
+
+  module _ (a : getD r 0 0 ≤ 7) where
+    pub head-no-op : getD r 1 0 < 1 → false ≡ headFits r
+    unfolding headFits unit op
+    head-no-op b = rw (le-leb (getD r 0 0) 7 a, lt-leb 1 (getD r 1 0) b)
+
+    pub head-op-above : 1 ≤ getD r 1 0 → 6 < getD r 1 0 → false ≡ headFits r
+    unfolding headFits unit op
+    head-op-above b d = rw (le-leb (getD r 0 0) 7 a, le-leb 1 (getD r 1 0) b, lt-leb (getD r 1 0) 6 d)
+
+    module _ {n : ℕ} (b : 1 ≤ getD r 1 0) (d : getD r 1 0 ≤ 6) (e : n ≡ word r 2) where
+      pub head-number : n < 1 → false ≡ headFits r
+      unfolding headFits unit op num
+      head-number h = rw (le-leb (getD r 0 0) 7 a, le-leb 1 (getD r 1 0) b, le-leb (getD r 1 0) 6 d, ← e, lt-leb 1 n h)
+
+      pub head-seen : {s : ℕ} → 1 ≤ n → s ≡ word r (4 + 2 * getD r 0 0) → eqb s (n - 1) ≡ headFits r
+      unfolding headFits unit op num seen
+      head-seen h f = rw (le-leb (getD r 0 0) 7 a, le-leb 1 (getD r 1 0) b, le-leb (getD r 1 0) 6 d, ← e, le-leb 1 n h, ← f)
+
+-- ---- the fields; u is the test whether the operation uses the field, b what the field's own test says
+
+module _ (r : Rec) {u : Bool} where
+  pub object-used : {b : Bool} → u ≡ usesObject (getD r 1 0) → u ≡ true → b ≡ names r 20 → b ≡ objectFits r
+  unfolding objectFits op
+  object-used e h f = rw (← e, h, f)
+
+  pub object-unused : {b : Bool} → u ≡ usesObject (getD r 1 0) → u ≡ false → b ≡ blank (take 4 (drop 20 r)) → b ≡ objectFits r
+  unfolding objectFits op unused part
+  object-unused e h f = rw (← e, h, f)
+
+  pub label-used : {b : Bool} → u ≡ usesLabel (getD r 1 0) → u ≡ true → b ≡ isLabel (take 32 (drop 32 r)) → b ≡ labelFits r
+  unfolding labelFits op labelOf part
+  label-used e h f = rw (← e, h, f)
+
+  pub label-unused : {b : Bool} → u ≡ usesLabel (getD r 1 0) → u ≡ false → b ≡ blank (take 32 (drop 32 r)) → b ≡ labelFits r
+  unfolding labelFits op unused part
+  label-unused e h f = rw (← e, h, f)
+
+  pub mark-used : u ≡ usesMark (getD r 1 0) → u ≡ true → true ≡ markFits r
+  unfolding markFits op
+  mark-used e h = rw (← e, h)
+
+  pub mark-unused : {b : Bool} → u ≡ usesMark (getD r 1 0) → u ≡ false → b ≡ blank (take 16 (drop 64 r)) → b ≡ markFits r
+  unfolding markFits op unused part
+  mark-unused e h f = rw (← e, h, f)
+
+pub date-used : (r : Rec) {b : Bool} {y : ℕ} → y ≡ word r 28 → b ≡ isDate y (getD r 30 0) (getD r 31 0) → b ≡ dateFits r
+unfolding dateFits
+date-used r e f = rw (f, e)
+
+module _ (r : Rec) {z : Bool} (e : z ≡ blank (take 4 (drop 24 r))) where
+  pub folder-zero : z ≡ true → true ≡ folderFits r
+  unfolding folderFits unused part
+  folder-zero h = rw (← e, h) (sym (go (usesFolder (op r))))
+    where
+      go : (t : Bool) → cond t true true ≡ true
+      go true = refl
+      go false = refl
+
+  module _ {u : Bool} (h : z ≡ false) (f : u ≡ usesFolder (getD r 1 0)) where
+    pub folder-unused : not u ≡ true → false ≡ folderFits r
+    unfolding folderFits op unused part
+    folder-unused g = rw (← f, not-true u g, ← e, h)
+
+    pub folder-used : {b : Bool} → not u ≡ false → b ≡ names r 24 → b ≡ folderFits r
+    unfolding folderFits op unused part
+    folder-used g k = rw (← f, not-false u g, ← e, h, k)
+
+-- ---- well formed
+
+pub other-length : (r : Rec) → (length r ≡ 80 → ⊥) → false ≡ wellFormed r
+unfolding wellFormed
+other-length r n = rw (ne-eqb (length r) 80 n)
+
+module _ (r : Rec) {h : Bool} (n : length r ≡ 80) (eh : h ≡ headFits r) where
+  pub bad-head : not h ≡ true → false ≡ wellFormed r
+  unfolding wellFormed
+  bad-head f = rw (eq-eqb (length r) 80 n, ← eh, not-true h f)
+
+  module _ {o : Bool} (gh : not h ≡ false) (eo : o ≡ objectFits r) where
+    pub bad-object : not o ≡ true → false ≡ wellFormed r
+    unfolding wellFormed
+    bad-object f = rw (eq-eqb (length r) 80 n, ← eh, not-false h gh, ← eo, not-true o f)
+
+    module _ {p : Bool} (go : not o ≡ false) (ep : p ≡ folderFits r) where
+      pub bad-folder : not p ≡ true → false ≡ wellFormed r
+      unfolding wellFormed
+      bad-folder f = rw (eq-eqb (length r) 80 n, ← eh, not-false h gh, ← eo, not-false o go, ← ep, not-true p f)
+
+      module _ {d : Bool} (gp : not p ≡ false) (ed : d ≡ dateFits r) where
+        pub bad-date : not d ≡ true → false ≡ wellFormed r
+        unfolding wellFormed
+        bad-date f = rw (eq-eqb (length r) 80 n, ← eh, not-false h gh, ← eo, not-false o go, ← ep, not-false p gp, ← ed, not-true d f)
+
+        module _ {l : Bool} (gd : not d ≡ false) (el : l ≡ labelFits r) where
+          pub bad-label : not l ≡ true → false ≡ wellFormed r
+          unfolding wellFormed
+          bad-label f = rw (eq-eqb (length r) 80 n, ← eh, not-false h gh, ← eo, not-false o go, ← ep, not-false p gp, ← ed, not-false d gd, ← el, not-true l f)
+
+          pub mark-last : {m : Bool} → not l ≡ false → m ≡ markFits r → m ≡ wellFormed r
+          unfolding wellFormed
+          mark-last gl em = rw (eq-eqb (length r) 80 n, ← eh, not-false h gh, ← eo, not-false o go, ← ep, not-false p gp, ← ed, not-false d gd, ← el, not-false l gl, em)

@@ -1,0 +1,18 @@
+use Rattle.record.proofs.Judged.{make-label, other-label}
+use borrow.Author.Needs.{needs}
+use native.Mathlib.Omega.{arith}
+use Rattle.record.proofs.uses_label.Statement.{statement}
+use Rattle.record.proofs.uses_label.Tie as tie
+use Rattle.record.proofs.uses_label.Reads as reads
+use Rattle.record.proofs.uses_label.Lts as lts
+
+-- src/lib.rt:29:1
+returns : tie.Need-returns
+returns c = search (make-label)
+
+-- src/lib.rt:29:1
+returns-2 : tie.Need-returns-2
+returns-2 c = search (other-label)
+
+pub uses-label-spec : {M : Type 1} → statement M
+uses-label-spec = tie.close (tie.spec returns returns-2)
