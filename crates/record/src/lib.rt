@@ -2,12 +2,39 @@
 ghost use mathlib.Core.Path.{_≡_};
 ghost use Prim.Native.Nat.{_+_, _≤_, _<_};
 ghost use lib.ListN.{length};
-ghost use Rattle.model.specs.Record.{usesObject, usesFolder, usesLabel, usesMark, names, headFits, objectFits, folderFits, dateFits, labelFits, markFits, wellFormed};
+ghost use Rattle.model.specs.Record.{unit, num, seenVector, usesObject, usesFolder, usesLabel, usesMark, names, headFits, objectFits, folderFits, dateFits, labelFits, markFits, wellFormed};
 ghost use Rattle.model.specs.Log.{rank};
 use octets::is_blank;
 use octets::le16;
 use octets::wide32;
 use octets::wider;
+use vector::Vector;
+
+// ---- the fields
+
+// The unit that made the record.
+pub fn unit_of(rec: &[u8]) -> u8
+    requires { ⌜ length (now rec) ≡ 80 ⌝ }
+    ensures { λ r. ⌜ r ≡ unit (now (rec .entry)) ⌝ }
+{
+    rec[0]
+}
+
+// The record's number among those of its unit.
+pub fn number_of(rec: &[u8]) -> u16
+    requires { ⌜ length (now rec) ≡ 80 ⌝ }
+    ensures { λ r. ⌜ r ≡ num (now (rec .entry)) ⌝ }
+{
+    le16(rec, 2)
+}
+
+// The maker's vector just before.
+pub fn seen_vector(rec: &[u8]) -> Vector
+    requires { ⌜ length (now rec) ≡ 80 ⌝ }
+    ensures { λ r. ⌜ r .counts ≡ seenVector (now (rec .entry)) ⌝ }
+{
+    vector::vector_at(rec, 4)
+}
 
 // ---- which fields an operation uses
 
