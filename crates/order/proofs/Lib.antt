@@ -1,0 +1,13 @@
+pub mod Formed
+pub mod Sums
+pub mod Members
+pub mod Counts
+pub mod Insert
+pub mod Same
+pub mod Ids
+pub mod Tests
+pub mod Act
+pub mod Take
+pub mod Lacking
+pub mod Seen
+pub mod Claims
