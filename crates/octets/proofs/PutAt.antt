@@ -1,16 +1,16 @@
 -- What a writing leaves: putAt d at s is d with the bytes s in the place of as many from a place on.
 -- Assumes nothing.
-use Prim.Native.Nat.{ℕ, zero, suc, _+_, _-_, _≤_, _<_}
+use Prim.Native.Nat.{ℕ, suc, _+_, _-_, _≤_, _<_}
 use native.Mathlib.Numerals.{add-one}
 use native.Mathlib.Nat.{zero-add, add-zero, add-assoc, sub-zero}
 use native.Mathlib.Omega.{arith}
-use mathlib.Core.Path.{_≡_, refl, sym, ap, ap₂, _∙_}
+use mathlib.Core.Path.{_≡_, sym, ap₂, _∙_}
 use mathlib.Core.List.{List, [], _∷_, _++_, append-assoc, append-nil}
 use lib.ListN.{getD, List·getD-append, take-append-drop, length, take, drop, set, replicate, length-append, length-take, length-drop, length-replicate}
 use borrow.Rule.Slice.PartMut.{putMid, post-is}
-use lib.Seq.{take-suc, set-at, set-split, length-take-le, getD-take, getD-drop, getD-append-add, take-append-le, drop-append-le, take-append-add, take-take, drop-at, take-at, drop-append-add, take-append-seam, drop-append-seam, drop-drop, paste, sets, sets-eq, take-length, drop-length}
+use lib.Seq.{take-suc, set-at, set-split, length-take-le, getD-take, getD-drop, take-append-le, drop-append-le, take-append-add, take-take, drop-at, take-at, drop-append-add, take-append-seam, drop-append-seam, drop-drop, paste, sets, sets-eq, take-length, drop-length}
 use Rattle.model.specs.Bytes.{part, putAt, padded}
-use Rattle.octets.proofs.Parts.{part-length, part-cons, part-around, part-front, part-middle, part-behind, part-take, part-drop, drop-replicate}
+use Rattle.octets.proofs.Parts.{part-length, part-cons, part-around, part-front, part-take, part-drop, drop-replicate}
 
 -- ---- a writing, as code leaves it
 
@@ -135,6 +135,15 @@ part-put-after d at s i n h g =
     let l = sym (part-drop (putAt d at s) (at + length s) (i - (at + length s)) n) in
     let r = part-drop d (at + length s) (i - (at + length s)) n in
     rw e (l ∙ rw (drop-put d at s g) r)
+
+-- lists that agree before and behind the writing
+pub put-alike : (m d : List ℕ) (at : ℕ) (s : List ℕ) → take at m ≡ take at d → drop (at + length s) m ≡ drop (at + length s) d → putAt m at s ≡ putAt d at s
+unfolding putAt
+put-alike m d at s p q = rw (p, q)
+
+-- what is written over what was written
+pub put-again : (d : List ℕ) (at : ℕ) (s t : List ℕ) → at ≤ length d → length s ≡ length t → putAt (putAt d at s) at t ≡ putAt d at t
+put-again d at s t h e = put-alike (putAt d at s) d at t (take-put d at s h) (rw e at (drop-put d at s h))
 
 -- ---- a writing into one of two lists laid end to end
 

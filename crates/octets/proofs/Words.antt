@@ -1,14 +1,14 @@
 -- Numbers of 16 and 32 bits in bytes.
 -- Assumes nothing.
-use Prim.Native.Nat.{ℕ, zero, suc, _+_, _-_, _*_, _/_, _%_, _≤_, _<_}
+use Prim.Native.Nat.{ℕ, _+_, _*_, _/_, _%_, _≤_, _<_}
 use native.Mathlib.Nat.{add-zero, add-assoc}
 use native.Mathlib.Omega.{arith}
-use mathlib.Core.Path.{_≡_, refl, sym, ap, ap₂, _∙_}
-use mathlib.Core.List.{List, [], _∷_, _++_}
+use mathlib.Core.Path.{_≡_, ap, _∙_}
+use mathlib.Core.List.{List, _++_}
 use lib.ListN.{getD, length, take, drop, List·getD-append}
 use lib.Seq.{getD-append-add, getD-take, getD-drop}
 use Rattle.model.specs.Bytes.{word, long, two, four, part, putAt}
-use Rattle.octets.proofs.Parts.{getD-part}
+use Rattle.octets.proofs.Parts.{getD-part, part-cons, part-none}
 use Rattle.octets.proofs.PutAt.{getD-before, getD-inside, getD-after, put-more}
 
 -- ---- the number is read back
@@ -20,6 +20,16 @@ word-two n r = omega arith
 pub long-four : (n : ℕ) (r : List ℕ) → long (four n ++ r) 0 ≡ n
 unfolding long word
 long-four n r = omega arith
+
+-- the bytes of the number at a place are those that stand there
+pub two-word : (s : List ℕ) (i : ℕ) → getD s i 0 < 256 → i + 1 < length s → two (word s i) ≡ part s i 2
+unfolding word
+two-word s i b h =
+    let x = getD s i 0 in
+    let y = getD s (i + 1) 0 in
+    let q : (x + 256 * y) / 256 ≡ y = omega arith in
+    let r : (x + 256 * y) % 256 ≡ x = omega arith in
+    rw (q, r, part-cons s i 1 (omega arith), part-cons s (i + 1) 0 h, part-none)
 
 -- the bytes of a 32-bit number are those of its two halves
 pub four-two : (n : ℕ) → two (n % 65536) ++ two (n / 65536) ≡ four n

@@ -1,19 +1,20 @@
 -- A vector in bytes: written and read back.
 -- Assumes nothing.
-use Prim.Native.Nat.{ℕ, zero, suc, _+_, _*_, _/_, _%_, _≤_, _<_}
+use Prim.Native.Nat.{ℕ, zero, suc, _+_, _*_, _≤_, _<_}
 use native.Mathlib.Nat.{add-zero, add-assoc}
 use native.Mathlib.Numerals.{add-one}
 use native.Mathlib.Omega.{arith}
-use mathlib.Core.Path.{_≡_, refl, sym, ap, _∙_}
+use mathlib.Core.Path.{_≡_, refl, sym, _∙_}
 use mathlib.Core.Logic.{⊎-elim}
 use mathlib.Core.List.{List, [], _∷_, _++_}
 use lib.ListN.{getD, length, List·getD-append, length-append}
-use lib.Seq.{getD-append-add, getD-at, ext-getD}
+use lib.Seq.{getD-at, ext-getD}
 use Rattle.model.specs.Bytes.{word, two, part, putAt}
 use Rattle.model.specs.Vector.{countsAt, vectorAt, countBytes, vectorBytes}
 use Rattle.octets.proofs.Numbers.{lt-or-ge}
+use Rattle.octets.proofs.Parts.{part-none, part-split}
 use Rattle.octets.proofs.PutAt.{put-more}
-use Rattle.octets.proofs.Words.{word-bound, word-two, word-part, word-front, word-behind, word-put-before, word-put-inside, word-put-after}
+use Rattle.octets.proofs.Words.{word-bound, word-two, two-word, word-part, word-front, word-behind, word-put-before, word-put-inside, word-put-after}
 
 -- ---- the counts that stand at a place
 
@@ -114,6 +115,19 @@ vector-put-back d at v n h =
     let l = vectorBytes-length v in
     sym (is-vectorAt v (putAt d at (vectorBytes v)) at n (λ u k.
     sym (word-put-inside d at (vectorBytes v) (2 * u) (omega arith) (omega arith) ∙ vectorBytes-word v u k)))
+
+-- what was read is what stands there
+countBytes-back : (b : List ℕ) (at n : ℕ) → n ≤ 8 → at + 16 ≤ length b → ((j : ℕ) → getD b j 0 < 256) → countBytes (vectorAt b at) n ≡ part b at (2 * n)
+unfolding countBytes
+countBytes-back b at zero k h s = sym (part-none b at)
+countBytes-back b at (suc n) k h s =
+    let e : 2 * suc n ≡ 2 * n + 2 = omega arith in
+    rw (countBytes-back b at n (omega arith) h s, vectorAt-getD b at n (omega arith), two-word b (at + 2 * n) (s (at + 2 * n)) (omega arith), e)
+    (sym (part-split b at (2 * n) 2))
+
+pub vectorBytes-back : (b : List ℕ) (at : ℕ) → at + 16 ≤ length b → ((j : ℕ) → getD b j 0 < 256) → vectorBytes (vectorAt b at) ≡ part b at 16
+unfolding vectorBytes
+vectorBytes-back b at h s = countBytes-back b at 8 (omega arith) h s
 
 -- ---- what the loop of `put_vector` is asked
 

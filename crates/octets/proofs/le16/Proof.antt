@@ -1,5 +1,4 @@
 use Rattle.model.specs.Bytes.{word}
-use native.Mathlib.Omega.{arith}
 use borrow.Author.Needs.{needs}
 use Rattle.octets.proofs.le16.Statement.{statement}
 use Rattle.octets.proofs.le16.Tie as tie

@@ -1,5 +1,4 @@
 use Rattle.model.specs.Bytes.{long}
-use native.Mathlib.Omega.{arith}
 use borrow.Author.Needs.{needs}
 use Rattle.octets.proofs.le32.Statement.{statement}
 use Rattle.octets.proofs.le32.Tie as tie

@@ -1,5 +1,4 @@
 use Rattle.vector.proofs.Dominance.{identical, first, second, neither}
-use native.Mathlib.Omega.{arith}
 use borrow.Author.Needs.{needs}
 use Rattle.vector.proofs.compare.Statement.{statement}
 use Rattle.vector.proofs.compare.Tie as tie

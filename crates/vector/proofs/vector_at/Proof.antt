@@ -1,5 +1,4 @@
 use Rattle.vector.proofs.InBytes.{vectorAt-flat}
-use native.Mathlib.Omega.{arith}
 use borrow.Author.Needs.{needs}
 use Rattle.vector.proofs.vector_at.Statement.{statement}
 use Rattle.vector.proofs.vector_at.Tie as tie
