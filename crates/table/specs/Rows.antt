@@ -1,0 +1,90 @@
+-- The rows of a tree table: the entry or the aside that the bytes of a row show, and the table while records are replayed.
+-- Assumes nothing.
+use Prim.Native.Nat.{ℕ, zero, suc, _+_, _-_, _*_, _≤_, _<_}
+use mathlib.Core.Path.{_≡_}
+use mathlib.Core.Bool.{Bool, true, false, cond}
+use mathlib.Core.Option.{Option, none, some}
+use mathlib.Core.List.{List, [], _∷_, _++_}
+use lib.Dec.{ltb, eqb}
+use lib.ListN.{getD, length}
+use Rattle.model.specs.Bytes.{part, padded, putAt}
+use Rattle.model.specs.Record.{Rec, identityAt, selfOf, dateBytes, labelOf, markOf}
+use Rattle.model.specs.Replay.{Entry, Aside, Tree, isDisputed}
+use Rattle.model.specs.Table.{identityBytes, entryRows, asideRows}
+
+-- the entry in the 72 bytes at a place
+unfoldable pub entryIn : List ℕ → ℕ → Entry
+entryIn b at =
+    record {
+      made = identityAt b (at + 4);
+      kind = getD b at 0;
+      inside = identityAt b (at + 8);
+      label = part b (at + 24) 32;
+      contents = identityAt b (at + 12);
+      date = part b (at + 20) 4;
+      mark = part b (at + 56) 16;
+      naming = identityAt b (at + 16);
+    }
+
+-- the aside in the 12 bytes at a place
+unfoldable pub asideIn : List ℕ → ℕ → Aside
+asideIn b at =
+    record { who = identityAt b at; reason = getD b (at + 4) 0; marked = identityAt b (at + 8); isOpen = eqb (getD b (at + 5) 0) 1 }
+
+-- the entries in the n rows from row i on
+unfoldable pub entriesFrom : List ℕ → ℕ → ℕ → List Entry
+entriesFrom b i zero = []
+entriesFrom b i (suc n) = entryIn b (4 + 72 * i) ∷ entriesFrom b (suc i) n
+
+-- the asides in the n rows from row i on
+unfoldable pub asidesFrom : List ℕ → ℕ → ℕ → List Aside
+asidesFrom b i zero = []
+asidesFrom b i (suc n) = asideIn b (36868 + 12 * i) ∷ asidesFrom b (suc i) n
+
+-- the tree in the first n rows of entries and the first m rows of asides
+unfoldable pub treeIn : List ℕ → ℕ → ℕ → Tree
+treeIn b n m = record { entries = entriesFrom b 0 n; asides = asidesFrom b 0 m }
+
+-- the entry in row i of n; none for a row behind them
+unfoldable pub rowIn : List ℕ → ℕ → ℕ → Option Entry
+rowIn b n i = cond (ltb i n) (some (entryIn b (4 + 72 * i))) none
+
+-- the flag of an entry that the asides dispute, or not
+abbrev pub flagOf : List Aside → Entry → ℕ
+flagOf s e = cond (isDisputed (e .made) s) 1 0
+
+-- a table of 43,012 bytes with rows for entries, those disputed by s with their flag, and rows for asides; the counts are zero
+unfoldable pub flagged : List Aside → List Entry → List Aside → List ℕ
+flagged s es l = (0 ∷ 0 ∷ 0 ∷ 0 ∷ []) ++ (padded 36864 (entryRows s es) ++ padded 6144 (asideRows l))
+
+-- the table while records are replayed: a row for every entry ever made, in order of making, and no flags
+unfoldable pub workBytes : Tree → List ℕ
+workBytes t = flagged [] (t .entries) (t .asides)
+
+-- an identity of unit 0 to 7 and number 1 to 512
+pub record InRange (k : ℕ) : Type 0 where
+  pub low : 8 ≤ k
+  pub high : k < 4104
+
+-- an entry that a row holds: its identity in range, its fields of their lengths
+pub record Proper (e : Entry) : Type 0 where
+  pub range : InRange (e .made)
+  pub date-long : length (e .date) ≡ 4
+  pub label-long : length (e .label) ≡ 32
+  pub mark-long : length (e .mark) ≡ 16
+
+abbrev pub AllProper : List Entry → Type 0
+AllProper [] = Unit {0}
+AllProper (e ∷ l) = Proper e × AllProper l
+
+-- a record that stands aside, not settled yet
+unfoldable pub newAside : ℕ → ℕ → ℕ → Aside
+newAside k n m = record { who = k; reason = n; marked = m; isOpen = true }
+
+-- the row of an entry after a store
+unfoldable pub storedRow : List ℕ → Rec → List ℕ
+storedRow row r = putAt (putAt (putAt row 12 (identityBytes (selfOf r))) 20 (dateBytes r)) 56 (markOf r)
+
+-- the row of an entry after a rename
+unfoldable pub renamedRow : List ℕ → Rec → List ℕ
+renamedRow row r = putAt (putAt row 16 (identityBytes (selfOf r))) 24 (labelOf r)
