@@ -14,7 +14,7 @@ use Rattle.model.specs.Replay.{Entry, Aside, newEntry, stored, renamed, removed
 use Rattle.model.specs.Table.{identityBytes, entryRow, asideRow}
 use Rattle.octets.proofs.Parts.{part-length, part-split}
 use Rattle.octets.proofs.PutAt.{put-whole, put-in-front, put-in-back, put-more, length-put, sets-put}
-use Rattle.table.specs.Rows.{newAside, storedRow, renamedRow, InRange, Proper}
+use Rattle.table.specs.Rows.{newAside, newRow, storedRow, renamedRow, InRange, Proper}
 
 -- a field in the place of another of its length
 pub put-field : (p f q x : List ℕ) (n : ℕ) → length p ≡ n → length x ≡ length f → putAt (p ++ (f ++ q)) n x ≡ p ++ (x ++ q)
@@ -91,33 +91,22 @@ module _ (r : Rec) (n : length r ≡ 80) where
       put-two head (identityBytes (e .naming)) (e .date) (e .label) (e .mark) x (labelOf r) 16 24 refl refl (omega arith) (label-length ∙ sym w)
 
   -- a whole row, its fields written one after another
-  pub new-row : (row m : List ℕ) → length row ≡ 72
-      → m ≡ putAt
-      (putAt
-      (putAt
-      (putAt (putAt (putAt row 0 (op r ∷ 0 ∷ 0 ∷ 0 ∷ [])) 4 (identityBytes (selfOf r))) 8 (identityBytes (folderOf r)))
-      12
-      (identityBytes (selfOf r)))
-      16
-      (identityBytes (selfOf r)))
-      20
-      (part r 28 52)
-      → m ≡ entryRow 0 (newEntry r)
-  unfolding entryRow newEntry identityBytes
-  new-row row m h e =
-      let a : List ℕ = op r ∷ 0 ∷ 0 ∷ 0 ∷ [] in
+  pub new-row : (row : List ℕ) → length row ≡ 72 → newRow row r ≡ entryRow 0 (newEntry r)
+  unfolding newRow entryRow newEntry identityBytes
+  new-row row h =
+      let head : List ℕ = op r ∷ 0 ∷ 0 ∷ 0 ∷ [] in
       let x : List ℕ = identityBytes (selfOf r) in
       let y : List ℕ = identityBytes (folderOf r) in
-      let p1 = put-more row 0 a x (omega arith) in
-      let p2 = put-more row 0 (a ++ x) y (omega arith) in
-      let p3 = put-more row 0 (a ++ (x ++ y)) x (omega arith) in
-      let p4 = put-more row 0 (a ++ (x ++ (y ++ x))) x (omega arith) in
-      let p5 = put-more row 0 (a ++ (x ++ (y ++ (x ++ x)))) (dateBytes r ++ (labelOf r ++ markOf r)) (omega arith) in
+      let p1 = put-more row 0 head x (omega arith) in
+      let p2 = put-more row 0 (head ++ x) y (omega arith) in
+      let p3 = put-more row 0 (head ++ (x ++ y)) x (omega arith) in
+      let p4 = put-more row 0 (head ++ (x ++ (y ++ x))) x (omega arith) in
+      let p5 = put-more row 0 (head ++ (x ++ (y ++ (x ++ x)))) (dateBytes r ++ (labelOf r ++ markOf r)) (omega arith) in
       let z = dateBytes r ++ (labelOf r ++ markOf r) in
-      let w = a ++ (x ++ (y ++ (x ++ (x ++ z)))) in
+      let w = head ++ (x ++ (y ++ (x ++ (x ++ z)))) in
       let k : length w ≡ length row =
-        omega (arith, length-append (dateBytes r) (labelOf r ++ markOf r), length-append (labelOf r) (markOf r), date-length, label-length, mark-length) in
-      e ∙ rw (fields, p1, p2, p3, p4, p5) (put-whole row w k)
+      omega (arith, length-append (dateBytes r) (labelOf r ++ markOf r), length-append (labelOf r) (markOf r), date-length, label-length, mark-length) in
+      rw (fields, p1, p2, p3, p4, p5) (put-whole row w k)
 
   pub new-proper : InRange (selfOf r) → Proper (newEntry r)
   unfolding newEntry
@@ -141,16 +130,19 @@ remove-entry d e = refl
 
 -- ---- the rows of asides
 
-pub aside-written : (row m : List ℕ) (k n j : ℕ) → length row ≡ 12
-    → m ≡ putAt (putAt (putAt row 0 (identityBytes k)) 4 (n ∷ 1 ∷ 0 ∷ 0 ∷ [])) 8 (identityBytes j) → m ≡ asideRow (newAside k n j)
+pub aside-written : (row a b m : List ℕ) (k n j : ℕ) → length row ≡ 12
+    → a ≡ putAt row 0 (identityBytes k)
+    → b ≡ putAt a 4 (n ∷ 1 ∷ 0 ∷ 0 ∷ [])
+    → m ≡ putAt b 8 (identityBytes j)
+    → m ≡ asideRow (newAside k n j)
 unfolding asideRow newAside identityBytes
-aside-written row m k n j h e =
+aside-written row a b m k n j h ha hb hm =
     let x : List ℕ = identityBytes k in
     let y : List ℕ = n ∷ 1 ∷ 0 ∷ 0 ∷ [] in
     let z : List ℕ = identityBytes j in
     let p1 = put-more row 0 x y (omega arith) in
     let p2 = put-more row 0 (x ++ y) z (omega arith) in
-    e ∙ rw (p1, p2) (put-whole row (x ++ (y ++ z)) (sym h))
+    hm ∙ rw (hb, ha, p1, p2) (put-whole row (x ++ (y ++ z)) (sym h))
 
 -- an aside that is settled
 abbrev pub settledOne : Aside → Aside

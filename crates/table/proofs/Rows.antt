@@ -28,15 +28,36 @@ identity-behind p q i = rw (getD-append-add p q i 0, add-assoc (length p) i 2, w
 pub entry-behind : (p q : List ℕ) (i : ℕ) → entryIn (p ++ q) (length p + i) ≡ entryIn q i
 unfolding entryIn
 entry-behind p q i =
-    rw (add-assoc (length p) i 4, add-assoc (length p) i 8, add-assoc (length p) i 12, add-assoc (length p) i 16, add-assoc (length p) i 20,
-    add-assoc (length p) i 24, add-assoc (length p) i 56, identity-behind p q (i + 4), identity-behind p q (i + 8), identity-behind p q (i + 12),
-    identity-behind p q (i + 16), getD-append-add p q i 0, part-behind p q (i + 24) 32, part-behind p q (i + 20) 4, part-behind p q (i + 56) 16)
+    rw (
+      add-assoc (length p) i 4,
+      add-assoc (length p) i 8,
+      add-assoc (length p) i 12,
+      add-assoc (length p) i 16,
+      add-assoc (length p) i 20,
+      add-assoc (length p) i 24,
+      add-assoc (length p) i 56,
+      identity-behind p q (i + 4),
+      identity-behind p q (i + 8),
+      identity-behind p q (i + 12),
+      identity-behind p q (i + 16),
+      getD-append-add p q i 0,
+      part-behind p q (i + 24) 32,
+      part-behind p q (i + 20) 4,
+      part-behind p q (i + 56) 16,
+    )
 
 pub aside-behind : (p q : List ℕ) (i : ℕ) → asideIn (p ++ q) (length p + i) ≡ asideIn q i
 unfolding asideIn
 aside-behind p q i =
-    rw (add-assoc (length p) i 4, add-assoc (length p) i 5, add-assoc (length p) i 8, identity-behind p q i, identity-behind p q (i + 8),
-    getD-append-add p q (i + 4) 0, getD-append-add p q (i + 5) 0)
+    rw (
+      add-assoc (length p) i 4,
+      add-assoc (length p) i 5,
+      add-assoc (length p) i 8,
+      identity-behind p q i,
+      identity-behind p q (i + 8),
+      getD-append-add p q (i + 4) 0,
+      getD-append-add p q (i + 5) 0,
+    )
 
 -- ---- one row
 
@@ -106,8 +127,8 @@ entries-back s (e ∷ l) p q i n h =
     let row = entryRow (flagOf s e) e in
     let rest = entryRows s l in
     let a : entryIn (p ++ ((row ++ rest) ++ q)) (4 + 72 * i) ≡ e =
-      (rw (add-zero (length p), n) at (entry-behind p ((row ++ rest) ++ q) 0))
-      ∙ rw (append-assoc row rest q) (row-back (flagOf s e) e (rest ++ q) (h .0)) in
+    (rw (add-zero (length p), n) at (entry-behind p ((row ++ rest) ++ q) 0))
+    ∙ rw (append-assoc row rest q) (row-back (flagOf s e) e (rest ++ q) (h .0)) in
     let m : length (p ++ row) ≡ 4 + 72 * suc i = omega (arith, length-append p row, row-length (flagOf s e) e (h .0)) in
     let b = rw (append-assoc p row (rest ++ q), ← append-assoc row rest q) at (entries-back s l (p ++ row) q (suc i) m (h .1)) in
     λ j. a j ∷ b j
@@ -119,7 +140,7 @@ asides-back (x ∷ l) p q i n =
     let row = asideRow x in
     let rest = asideRows l in
     let a : asideIn (p ++ ((row ++ rest) ++ q)) (36868 + 12 * i) ≡ x =
-      (rw (add-zero (length p), n) at (aside-behind p ((row ++ rest) ++ q) 0)) ∙ rw (append-assoc row rest q) (aside-back x (rest ++ q)) in
+    (rw (add-zero (length p), n) at (aside-behind p ((row ++ rest) ++ q) 0)) ∙ rw (append-assoc row rest q) (aside-back x (rest ++ q)) in
     let m : length (p ++ row) ≡ 36868 + 12 * suc i = omega (arith, length-append p row, aside-row-length x) in
     let b = rw (append-assoc p row (rest ++ q), ← append-assoc row rest q) at (asides-back l (p ++ row) q (suc i) m) in
     λ j. a j ∷ b j

@@ -90,8 +90,12 @@ module _ (s : List Aside) (es : List Entry) (l : List Aside) (fit : AllProper es
   pub flagged-long : length l ≤ 512 → length (flagged s es l) ≡ 43012
   unfolding flagged
   flagged-long n =
-      omega (arith, length-append (padded 36864 (entryRows s es)) (padded 6144 (asideRows l)), rows-long,
-      length-padded 6144 (asideRows l) (omega (arith, aside-rows-length l)))
+      omega (
+        arith,
+        length-append (padded 36864 (entryRows s es)) (padded 6144 (asideRows l)),
+        rows-long,
+        length-padded 6144 (asideRows l) (omega (arith, aside-rows-length l)),
+      )
 
   in-entries : (at : ℕ) (x : List ℕ) → at + length x ≤ 36864
       → putAt (flagged s es l) (4 + at) x ≡ head ++ (putAt (padded 36864 (entryRows s es)) at x ++ padded 6144 (asideRows l))

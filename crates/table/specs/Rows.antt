@@ -8,7 +8,7 @@ use mathlib.Core.List.{List, [], _∷_, _++_}
 use lib.Dec.{ltb, eqb}
 use lib.ListN.{getD, length}
 use Rattle.model.specs.Bytes.{part, padded, putAt}
-use Rattle.model.specs.Record.{Rec, identityAt, selfOf, dateBytes, labelOf, markOf}
+use Rattle.model.specs.Record.{Rec, op, identityAt, selfOf, folderOf, dateBytes, labelOf, markOf}
 use Rattle.model.specs.Replay.{Entry, Aside, Tree, isDisputed}
 use Rattle.model.specs.Table.{identityBytes, entryRows, asideRows}
 
@@ -80,6 +80,20 @@ AllProper (e ∷ l) = Proper e × AllProper l
 -- a record that stands aside, not settled yet
 unfoldable pub newAside : ℕ → ℕ → ℕ → Aside
 newAside k n m = record { who = k; reason = n; marked = m; isOpen = true }
+
+-- the row of a new entry, field by field
+unfoldable pub newRow : List ℕ → Rec → List ℕ
+newRow row r =
+    putAt
+    (putAt
+    (putAt
+    (putAt (putAt (putAt row 0 (op r ∷ 0 ∷ 0 ∷ 0 ∷ [])) 4 (identityBytes (selfOf r))) 8 (identityBytes (folderOf r)))
+    12
+    (identityBytes (selfOf r)))
+    16
+    (identityBytes (selfOf r)))
+    20
+    (part r 28 52)
 
 -- the row of an entry after a store
 unfoldable pub storedRow : List ℕ → Rec → List ℕ

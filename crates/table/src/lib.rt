@@ -1,13 +1,11 @@
 // Rows of the tree table in bytes: what a row holds, read field by field, and rows written.
 ghost use mathlib.Core.Path.{_≡_};
-ghost use mathlib.Core.Bool.{true};
 ghost use Prim.Native.Nat.{_+_, _*_, _≤_, _<_};
-ghost use lib.ListN.{length, set};
+ghost use lib.ListN.{length};
 ghost use Rattle.model.specs.Bytes.{putAt};
-ghost use Rattle.model.specs.Record.{identityAt, selfOf, objectOf, folderOf, op};
-ghost use Rattle.model.specs.Replay.{newEntry};
-ghost use Rattle.model.specs.Table.{identityBytes, entryRow, asideRow};
-ghost use Rattle.table.specs.Rows.{entryIn, asideIn, newAside, storedRow, renamedRow, InRange};
+ghost use Rattle.model.specs.Record.{identityAt, selfOf, objectOf, folderOf};
+ghost use Rattle.model.specs.Table.{identityBytes, asideRow};
+ghost use Rattle.table.specs.Rows.{entryIn, newAside, newRow, storedRow, renamedRow};
 
 // How many rows of entries and of asides a table has.
 pub struct Size {
@@ -100,7 +98,7 @@ pub fn naming_at(table: &[u8], i: usize) -> u32
 // The row of the entry that a make record makes.
 pub fn fill_row(row: &mut [u8], rec: &[u8])
     requires { ⌜ (length (now row) ≡ 72) × (length (now rec) ≡ 80) × (selfOf (now rec) < 524288) × (folderOf (now rec) < 524288) ⌝ }
-    ensures { λ _. ⌜ now (row .exit) ≡ entryRow 0 (newEntry (now (rec .entry))) ⌝ }
+    ensures { λ _. ⌜ now (row .exit) ≡ newRow (now (row .entry)) (now (rec .entry)) ⌝ }
 {
     let me = self_of(rec);
     let head = [rec[1], 0u8, 0u8, 0u8];

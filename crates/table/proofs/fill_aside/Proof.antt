@@ -1,3 +1,4 @@
+use Rattle.table.proofs.Fields.{aside-written}
 use native.Mathlib.Omega.{arith}
 use borrow.Author.Needs.{needs}
 use Rattle.table.proofs.fill_aside.Statement.{statement}
@@ -29,7 +30,7 @@ same-length c = search needs
 
 -- src/lib.rt:135:1
 returns : tie.Need-returns
-returns c = search needs
+returns c = search (aside-written)
 
 pub fill-aside-spec : {M : Type 1} → statement M
 fill-aside-spec =

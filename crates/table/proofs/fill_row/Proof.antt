@@ -1,3 +1,6 @@
+use Rattle.table.specs.Rows.{newRow}
+use Rattle.model.specs.Record.{op}
+use Rattle.model.specs.Bytes.{part}
 use native.Mathlib.Omega.{arith}
 use borrow.Author.Needs.{needs}
 use Rattle.table.proofs.fill_row.Statement.{statement}
@@ -67,7 +70,8 @@ same-length c = search needs
 
 -- src/lib.rt:101:1
 returns : tie.Need-returns
-returns c = search needs
+unfolding newRow op part
+returns c = cc
 
 pub fill-row-spec : {M : Type 1} → statement M
 fill-row-spec =

@@ -1,3 +1,4 @@
+use Rattle.model.specs.Record.{folderOf}
 use native.Mathlib.Omega.{arith}
 use borrow.Author.Needs.{needs}
 use Rattle.table.proofs.folder_of.Statement.{statement}
@@ -12,7 +13,8 @@ identity-at-requires c κs = search needs
 
 -- src/lib.rt:43:1
 returns : tie.Need-returns
-returns c = search needs
+unfolding folderOf
+returns c = cc
 
 pub folder-of-spec : {M : Type 1} → statement M
 folder-of-spec = tie.close (tie.spec identity-at-requires returns)

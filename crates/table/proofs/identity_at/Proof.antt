@@ -1,3 +1,4 @@
+use Rattle.model.specs.Record.{identity, identityAt}
 use native.Mathlib.Omega.{arith}
 use borrow.Author.Needs.{needs}
 use Rattle.table.proofs.identity_at.Statement.{statement}
@@ -38,7 +39,8 @@ add-result c = search needs
 
 -- src/lib.rt:19:1
 returns : tie.Need-returns
-returns c = search needs
+unfolding identityAt identity
+returns c = cc
 
 pub identity-at-spec : {M : Type 1} → statement M
 identity-at-spec =

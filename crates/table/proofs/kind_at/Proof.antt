@@ -1,3 +1,5 @@
+use mathlib.Core.Path.{refl}
+use Rattle.table.specs.Rows.{entryIn}
 use native.Mathlib.Omega.{arith}
 use borrow.Author.Needs.{needs}
 use Rattle.table.proofs.kind_at.Statement.{statement}
@@ -19,7 +21,8 @@ shared-slice-read-result c = search needs
 
 -- src/lib.rt:61:1
 returns : tie.Need-returns
-returns c = search needs
+unfolding entryIn
+returns c = refl
 
 pub kind-at-spec : {M : Type 1} → statement M
 kind-at-spec = tie.close (tie.spec mul-result add-result shared-slice-read-result returns)

@@ -1,3 +1,4 @@
+use Rattle.table.specs.Rows.{entryIn}
 use native.Mathlib.Omega.{arith}
 use borrow.Author.Needs.{needs}
 use Rattle.table.proofs.naming_at.Statement.{statement}
@@ -24,7 +25,8 @@ identity-at-requires c κs = search needs
 
 -- src/lib.rt:93:1
 returns : tie.Need-returns
-returns c = search needs
+unfolding entryIn
+returns c = cc
 
 pub naming-at-spec : {M : Type 1} → statement M
 naming-at-spec =

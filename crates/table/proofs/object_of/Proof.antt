@@ -1,3 +1,4 @@
+use Rattle.model.specs.Record.{objectOf}
 use native.Mathlib.Omega.{arith}
 use borrow.Author.Needs.{needs}
 use Rattle.table.proofs.object_of.Statement.{statement}
@@ -12,7 +13,8 @@ identity-at-requires c κs = search needs
 
 -- src/lib.rt:35:1
 returns : tie.Need-returns
-returns c = search needs
+unfolding objectOf
+returns c = cc
 
 pub object-of-spec : {M : Type 1} → statement M
 object-of-spec = tie.close (tie.spec identity-at-requires returns)

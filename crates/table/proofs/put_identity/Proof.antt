@@ -1,3 +1,5 @@
+use Rattle.table.proofs.Fields.{identity-put}
+use lib.ListN.{length-set}
 use native.Mathlib.Omega.{arith}
 use borrow.Author.Needs.{needs}
 use Rattle.table.proofs.put_identity.Statement.{statement}
@@ -20,7 +22,7 @@ add-dst c = search needs
 
 -- src/lib.rt:56:5
 slice-write-dst-2 : tie.Need-slice-write-dst-2
-slice-write-dst-2 c = search needs
+slice-write-dst-2 c = simp length-set (omega arith)
 
 -- src/lib.rt:57:24
 add-put16 : tie.Need-add-put16
@@ -32,15 +34,15 @@ cast-put16 c = search needs
 
 -- src/lib.rt:57:5
 put16-requires : tie.Need-put16-requires
-put16-requires c κs = search needs
+put16-requires c κs = simp length-set (omega arith)
 
 -- src/lib.rt:51:1
 same-length : tie.Need-same-length
-same-length c = search needs
+same-length c = omega (arith, simp length-set at (c .before .before .put16 .kept .0))
 
 -- src/lib.rt:51:1
 returns : tie.Need-returns
-returns c = search needs
+returns c = search (identity-put)
 
 pub put-identity-spec : {M : Type 1} → statement M
 put-identity-spec =

@@ -1,3 +1,6 @@
+use Rattle.model.specs.Bytes.{part}
+use Rattle.table.specs.Rows.{renamedRow}
+use Rattle.model.specs.Record.{labelOf}
 use native.Mathlib.Omega.{arith}
 use borrow.Author.Needs.{needs}
 use Rattle.table.proofs.rename_row.Statement.{statement}
@@ -38,7 +41,8 @@ same-length c = search needs
 
 -- src/lib.rt:126:1
 returns : tie.Need-returns
-returns c = search needs
+unfolding renamedRow labelOf part
+returns c = cc
 
 pub rename-row-spec : {M : Type 1} → statement M
 rename-row-spec =

@@ -1,3 +1,4 @@
+use Rattle.model.specs.Record.{selfOf, identityAt, unit, num}
 use native.Mathlib.Omega.{arith}
 use borrow.Author.Needs.{needs}
 use Rattle.table.proofs.self_of.Statement.{statement}
@@ -12,7 +13,8 @@ identity-at-requires c κs = search needs
 
 -- src/lib.rt:27:1
 returns : tie.Need-returns
-returns c = search needs
+unfolding selfOf identityAt unit num
+returns c = cc
 
 pub self-of-spec : {M : Type 1} → statement M
 self-of-spec = tie.close (tie.spec identity-at-requires returns)

@@ -1,3 +1,6 @@
+use Rattle.model.specs.Bytes.{part}
+use Rattle.table.specs.Rows.{storedRow}
+use Rattle.model.specs.Record.{dateBytes, markOf}
 use native.Mathlib.Omega.{arith}
 use borrow.Author.Needs.{needs}
 use Rattle.table.proofs.store_row.Statement.{statement}
@@ -54,7 +57,8 @@ same-length c = search needs
 
 -- src/lib.rt:116:1
 returns : tie.Need-returns
-returns c = search needs
+unfolding storedRow dateBytes markOf part
+returns c = cc
 
 pub store-row-spec : {M : Type 1} → statement M
 store-row-spec =
