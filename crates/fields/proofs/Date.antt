@@ -3,11 +3,12 @@
 use Prim.Native.Nat.{ℕ, _%_, _≤_, _<_}
 use native.Mathlib.Omega.{arith}
 use mathlib.Core.Path.{_≡_, refl, sym, ap, _∙_}
-use mathlib.Core.Bool.{Bool, true, false, not}
+use mathlib.Core.Bool.{Bool, true, false, cond, not, _&&_}
 use mathlib.Core.Logic.{_⊎_, inl, inr, ⊎-elim}
 use lib.Dec.{leb, eqb}
 use borrow.Author.Tests.{eq-eqb, ne-eqb, le-leb, lt-leb}
 use Rattle.model.specs.Date.{isLeap, daysOf, isDate}
+use Rattle.fields.specs.RealDate.{Short}
 
 -- ---- leap years
 
@@ -24,13 +25,11 @@ module _ (y : ℕ) where
   unfolding isLeap
   not-four a = rw (ne-eqb (y % 4) 0 a)
 
--- ---- the days of a month, by the tests that the match makes
+-- ---- the days of a month
 
-abbrev Short : ℕ → Type 0
-Short m = (m ≡ 4) ⊎ ((m ≡ 6) ⊎ ((m ≡ 9) ⊎ (m ≡ 11)))
-
-abbrev Long : ℕ → Type 0
-Long m = (m ≡ 1) ⊎ ((m ≡ 3) ⊎ ((m ≡ 5) ⊎ ((m ≡ 10) ⊎ (m ≡ 12))))
+-- the months that the match of `days` looks up one by one in its last range
+abbrev Key : ℕ → Type 0
+Key m = (m ≡ 1) ⊎ ((m ≡ 3) ⊎ ((m ≡ 5) ⊎ ((m ≡ 10) ⊎ (m ≡ 12))))
 
 module _ (y m : ℕ) where
   pub february-leap : {r : Bool} → m ≡ 2 → r ≡ isLeap y → r ≡ true → 29 ≡ daysOf y m
@@ -45,29 +44,36 @@ module _ (y m : ℕ) where
   unfolding daysOf
   short-month = ⊎-elim (λ e. rw e) (⊎-elim (λ e. rw e) (⊎-elim (λ e. rw e) (λ e. rw e)))
 
-  pub long-month : Long m → 31 ≡ daysOf y m
+  pub other-month : (m ≡ 2 → ⊥) → (Short m → ⊥) → cond (leb 1 m && leb m 12) 31 0 ≡ daysOf y m
   unfolding daysOf
-  long-month = ⊎-elim (λ e. rw e) (⊎-elim (λ e. rw e) (⊎-elim (λ e. rw e) (⊎-elim (λ e. rw e) (λ e. rw e))))
+  other-month n s =
+      rw (ne-eqb m 2 n, ne-eqb m 4 (λ e. s (inl e)), ne-eqb m 6 (λ e. s (inr (inl e))), ne-eqb m 9 (λ e. s (inr (inr (inl e)))), ne-eqb m 11 (λ e. s (inr (inr (inr e)))))
 
-  pub july-august : (m ≡ 2 → ⊥) → (Short m → ⊥) → 1 ≤ m → m < 9 → (Long m → ⊥) → 31 ≡ daysOf y m
-  unfolding daysOf
-  july-august n2 s lo hi l =
-      rw (ne-eqb m 2 n2, ne-eqb m 4 (λ e. s (inl e)), ne-eqb m 6 (λ e. s (inr (inl e))), ne-eqb m 9 (omega arith), ne-eqb m 11 (omega arith), le-leb 1 m lo, le-leb m 12 (omega arith))
+  pub long-month : (m ≡ 2 → ⊥) → (Short m → ⊥) → 1 ≤ m → m ≤ 12 → 31 ≡ daysOf y m
+  long-month n s lo hi = rw (le-leb 1 m lo, le-leb m 12 hi) at (other-month n s)
+
+  -- the tests by which the match finds its way; behind single months a range is looked up by the keys that are left
+  not-short-below : m < 1 → Short m → ⊥
+  not-short-below h = ⊎-elim (λ e. omega arith) (⊎-elim (λ e. omega arith) (⊎-elim (λ e. omega arith) (λ e. omega arith)))
 
   pub before-months : m < 1 → 0 ≡ daysOf y m
-  unfolding daysOf
-  before-months h =
-      rw (ne-eqb m 2 (omega arith), ne-eqb m 4 (omega arith), ne-eqb m 6 (omega arith), ne-eqb m 9 (omega arith), ne-eqb m 11 (omega arith), lt-leb 1 m h)
+  before-months h = rw (lt-leb 1 m h) at (other-month (omega arith) (not-short-below h))
 
-  pub behind-months : (Short m → ⊥) → 9 ≤ m → (Long m → ⊥) → 0 ≡ daysOf y m
-  unfolding daysOf
-  behind-months s lo l =
+  pub behind-months : (m ≡ 2 → ⊥) → (Short m → ⊥) → 9 ≤ m → (Key m → ⊥) → 0 ≡ daysOf y m
+  behind-months n s lo k =
       let n9 : m ≡ 9 → ⊥ = λ e. s (inr (inr (inl e))) in
-      let n10 : m ≡ 10 → ⊥ = λ e. l (inr (inr (inr (inl e)))) in
+      let n10 : m ≡ 10 → ⊥ = λ e. k (inr (inr (inr (inl e)))) in
       let n11 : m ≡ 11 → ⊥ = λ e. s (inr (inr (inr e))) in
-      let n12 : m ≡ 12 → ⊥ = λ e. l (inr (inr (inr (inr e)))) in
+      let n12 : m ≡ 12 → ⊥ = λ e. k (inr (inr (inr (inr e)))) in
       let h : 12 < m = omega arith in
-      rw (ne-eqb m 2 (omega arith), ne-eqb m 4 (omega arith), ne-eqb m 6 (omega arith), ne-eqb m 9 n9, ne-eqb m 11 n11, le-leb 1 m (omega arith), lt-leb m 12 h)
+      rw (le-leb 1 m (omega arith), lt-leb m 12 h) at (other-month n s)
+
+  pub key-month : Key m → 31 ≡ daysOf y m
+  unfolding daysOf
+  key-month = ⊎-elim (λ e. rw e) (⊎-elim (λ e. rw e) (⊎-elim (λ e. rw e) (⊎-elim (λ e. rw e) (λ e. rw e))))
+
+  pub july-august : (m ≡ 2 → ⊥) → (Short m → ⊥) → 1 ≤ m → m < 9 → 31 ≡ daysOf y m
+  july-august n s lo hi = long-month n s lo (omega arith)
 
 -- ---- a date
 

@@ -1,2 +1,3 @@
 pub mod Date
 pub mod Label
+pub mod Claims

@@ -1,7 +1,7 @@
 use Prim.Native.Nat.{ℕ, _<_, _≤_}
 use mathlib.Core.Path.{_≡_}
 use mathlib.Core.Logic.{inl, inr, ⊎-elim}
-use Rattle.fields.proofs.Date.{february-leap, february, short-month, long-month, july-august, before-months, behind-months}
+use Rattle.fields.proofs.Date.{february-leap, february, short-month, key-month, july-august, before-months, behind-months}
 use native.Mathlib.Omega.{arith}
 use borrow.Author.Needs.{needs}
 use Rattle.fields.proofs.days.Statement.{statement}
@@ -36,7 +36,7 @@ returns-5 c = search (behind-months)
 
 -- src/lib.rt:16:1
 returns-6 : tie.Need-returns-6
-returns-6 c = search (long-month)
+returns-6 c = search (key-month)
 
 -- src/lib.rt:16:1
 returns-7 : tie.Need-returns-7

@@ -1,0 +1,2 @@
+pub mod RealDate
+pub mod Label
