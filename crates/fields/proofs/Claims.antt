@@ -15,16 +15,13 @@ use Rattle.model.specs.Date.{isLeap, daysOf, isDate}
 use Rattle.model.specs.Record.{textLength, printable, isLabel}
 use Rattle.octets.proofs.Numbers.{eq-or-ne, and-true, true-and, test-false, bool-cases}
 use Rattle.octets.proofs.Compare.{blank-getD}
+use Rattle.fields.proofs.Tests.{or-true, zeros-blank}
 use Rattle.fields.proofs.Date.{february-leap, february, short-month, other-month, long-month}
 use Rattle.fields.specs.RealDate.{Leap, Short, HasDay, RealDate}
 use Rattle.fields.specs.RealDate.HasDay.{of-28, of-29, of-30, of-31}
 use Rattle.fields.specs.Label.{Label}
 
 -- ---- leap years
-
-or-true : (a b : Bool) → (a || b) ≡ true → (a ≡ true) ⊎ (b ≡ true)
-or-true true b e = inl refl
-or-true false b e = inr e
 
 leap-means : (y : ℕ) → isLeap y ≡ true → Leap y
 unfolding isLeap
@@ -146,11 +143,6 @@ all-printable [] f g = refl
 all-printable (x ∷ t) f g =
     rw (le-leb 32 x (f 0 (omega arith)), le-leb x 126 (g 0 (omega arith))) (all-printable t (λ i k. f (suc i) (omega arith)) (λ i k. g (suc i) (omega arith)))
 
-pub zeros-blank : (b : List ℕ) → ((i : ℕ) → getD b i 0 ≡ 0) → blank b ≡ true
-unfolding blank
-zeros-blank [] f = refl
-zeros-blank (x ∷ b) f = rw (eq-eqb x 0 (f 0)) (zeros-blank b (λ i. f (suc i)))
-
 module _ (t : List ℕ) where
   pub label-means : isLabel t ≡ true → Label t
   unfolding isLabel
@@ -170,7 +162,7 @@ module _ (t : List ℕ) where
         range-to = λ i h. rw (getD-take n t i 0 h) at (printable-at (take n t) b i (omega arith) .1);
         first = eqb-false (getD t 0 0) 32 (not-true (eqb (getD t 0 0) 32) c);
         last = eqb-false (getD t (n - 1) 0) 32 (not-true (eqb (getD t (n - 1) 0) 32) d);
-        zeros = λ i h. let m : n + (i - n) ≡ i = omega arith in rw m at (sym (getD-drop n t (i - n) 0) ∙ blank-getD (drop n t) (i - n) z)
+        zeros = λ i h. let m : n + (i - n) ≡ i = omega arith in rw m at (sym (getD-drop n t (i - n) 0) ∙ blank-getD (drop n t) (i - n) z);
       }
 
   pub a-label : Label t → isLabel t ≡ true

@@ -1,3 +1,4 @@
+pub mod Tests
 pub mod Date
 pub mod Label
 pub mod Claims

@@ -1,2 +1,5 @@
 pub mod Judged
 pub mod Ranks
+pub mod Seen
+pub mod Fields
+pub mod Claims
