@@ -1,0 +1,33 @@
+use Rattle.block.proofs.Written.{seals}
+use native.Mathlib.Omega.{arith}
+use borrow.Author.Needs.{needs}
+use Rattle.block.proofs.seal.Statement.{statement}
+use Rattle.block.proofs.seal.Tie as tie
+use Rattle.block.proofs.seal.Reads as reads
+use Rattle.block.proofs.seal.Lts as lts
+use Rattle.block.proofs.block_sums.Reads as block-sums-reads
+use Rattle.octets.proofs.put16.Reads as put16-reads
+
+-- src/lib.rt:139:9
+block-sums-requires : tie.Need-block-sums-requires
+block-sums-requires c κs = search needs
+
+-- src/lib.rt:140:5
+put16-requires : tie.Need-put16-requires
+put16-requires c κs = search needs
+
+-- src/lib.rt:141:5
+put16-requires-2 : tie.Need-put16-requires-2
+put16-requires-2 c κs = search needs
+
+-- src/lib.rt:135:1
+same-length : tie.Need-same-length
+same-length c = search needs
+
+-- src/lib.rt:135:1
+returns : tie.Need-returns
+returns c = search (seals)
+
+pub seal-spec : {M : Type 1} → statement M
+seal-spec =
+    tie.close (tie.spec block-sums-requires put16-requires put16-requires-2 same-length returns)
