@@ -1,10 +1,10 @@
 // The block of 512 bytes: its two sums, its fields, its checks, and how it is written.
 ghost use mathlib.Core.Path.{_≡_};
+ghost use mathlib.Core.List.{[], _++_};
 ghost use Prim.Native.Nat.{_+_, _*_, _≤_, _<_};
 ghost use lib.ListN.{length, take};
 ghost use Rattle.model.specs.Bytes.{sameBytes, putAt, padded};
 ghost use Rattle.model.specs.Block.{letters, firstTo, secondTo, headBytes, sealed, blockOf, countIn, archiveIn, senderIn, placeIn, vectorIn, sumsHold, headerHolds, blockFault};
-
 use octets::is_blank;
 use octets::le16;
 use octets::le32;
@@ -13,6 +13,13 @@ use octets::put16;
 use octets::put32;
 use octets::same;
 use octets::wider;
+use vector::Vector;
+use vector::put_vector;
+use vector::vector_at;
+
+pub struct Block {
+    pub bytes: [u8; 512],
+}
 
 pub struct Sums {
     pub first: u16,
@@ -43,7 +50,10 @@ pub fn block_sums(b: &[u8]) -> Sums
         k -= 1;
         i += 1;
     }
-    Sums { first: (first % 65521) as u16, second: (second % 65521) as u16 }
+    Sums {
+        first: (first % 65521) as u16,
+        second: (second % 65521) as u16,
+    }
 }
 
 // The letters SAB1 stand first.
@@ -98,6 +108,14 @@ pub fn place_in(b: &[u8]) -> u16
     le16(b, 10)
 }
 
+// The sender's vector.
+pub fn vector_in(b: &[u8]) -> Vector
+    requires { ⌜ length (now b) ≡ 512 ⌝ }
+    ensures { λ r. ⌜ r .counts ≡ vectorIn (now (b .entry)) ⌝ }
+{
+    vector_at(b, 12)
+}
+
 // A unit of 0 to 7, a count of 0 to 6, and zeros in the unused record places.
 pub fn header_holds(b: &[u8]) -> bool
     requires { ⌜ length (now b) ≡ 512 ⌝ }
@@ -131,6 +149,19 @@ pub fn block_fault(b: &[u8]) -> u8
     0
 }
 
+// The first 28 bytes are written.
+pub fn put_header(dst: &mut [u8], archive: u32, unit: u8, count: u8, place: u16, v: Vector)
+    requires { ⌜ length (now dst) ≡ 512 ⌝ }
+    ensures { λ _. ⌜ now (dst .exit) ≡ putAt (now (dst .entry)) 0 (headBytes (record { archive = archive; sender = unit; place = place; vector = v .counts }) count) ⌝ }
+{
+    let pair = [unit, count];
+    put(dst, 0, b"SAB1");
+    put32(dst, 4, archive);
+    put(dst, 8, &pair);
+    put16(dst, 10, place);
+    put_vector(dst, 12, v);
+}
+
 // The sums are written behind the 254 words.
 pub fn seal(dst: &mut [u8])
     requires { ⌜ length (now dst) ≡ 512 ⌝ }
@@ -139,4 +170,26 @@ pub fn seal(dst: &mut [u8])
     let s = block_sums(dst);
     put16(dst, 508, s.first);
     put16(dst, 510, s.second);
+}
+
+// A block of no records.
+pub fn empty_block(archive: u32, unit: u8, place: u16, v: Vector) -> Block
+    ensures { λ r. ⌜ r .bytes ≡ blockOf (record { archive = archive; sender = unit; place = place; vector = v .counts }) [] ⌝ }
+{
+    let mut bytes = [0u8; 512];
+    put_header(&mut bytes, archive, unit, 0, place, v);
+    seal(&mut bytes);
+    Block { bytes }
+}
+
+// A block of records that lie one behind another.
+pub fn block_of(archive: u32, unit: u8, count: u8, place: u16, v: Vector, recs: &[u8]) -> Block
+    requires { ⌜ length (now recs) ≤ 480 ⌝ }
+    ensures { λ r. ⌜ r .bytes ≡ sealed (headBytes (record { archive = archive; sender = unit; place = place; vector = v .counts }) count ++ padded 480 (now (recs .entry))) ⌝ }
+{
+    let mut bytes = [0u8; 512];
+    put_header(&mut bytes, archive, unit, count, place, v);
+    put(&mut bytes, 28, recs);
+    seal(&mut bytes);
+    Block { bytes }
 }

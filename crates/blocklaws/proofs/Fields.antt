@@ -1,21 +1,16 @@
--- The lengths of a block's fields, and the vector and the records that stand in it.
+-- The lengths of a block's parts, and the records that stand in it.
 -- Assumes nothing.
-use Prim.Native.Nat.{ℕ, zero, suc, _+_, _-_, _*_, _≤_, _<_}
+use Prim.Native.Nat.{ℕ, suc, _+_, _-_, _*_, _≤_}
 use native.Mathlib.Omega.{arith}
-use native.Mathlib.Nat.{add-assoc, add-zero}
-use mathlib.Core.Path.{_≡_, refl, sym, ap, _∙_}
-use mathlib.Core.Logic.{_⊎_, inl, inr, ⊎-elim}
-use mathlib.Core.List.{List, [], _∷_, _++_, append-assoc, append-nil}
-use lib.ListN.{getD, length, take, length-append}
-use lib.Seq.{take-suc, take-all}
-use Rattle.model.specs.Bytes.{word, two, four, part, padded, joined}
-use Rattle.model.specs.Vector.{countsAt, vectorAt, countBytes, vectorBytes}
+use mathlib.Core.Path.{_≡_, refl, ap}
+use mathlib.Core.List.{List, [], _∷_, _++_, append-assoc}
+use lib.ListN.{length, length-append}
+use Rattle.model.specs.Bytes.{two, padded, joined}
 use Rattle.model.specs.Record.{Rec}
-use Rattle.model.specs.Block.{Header, letters, headBytes, bodyBytes, sealed, blockOf, firstTo, secondTo, recordAt, recordsFrom}
-use Rattle.octets.proofs.Numbers.{lt-or-ge}
+use Rattle.model.specs.Block.{Header, headBytes, bodyBytes, sealed, blockOf, firstTo, secondTo, recordAt, recordsFrom}
+use Rattle.vector.proofs.InBytes.{vectorBytes-length}
 use Rattle.octets.proofs.Parts.{part-middle}
 use Rattle.octets.proofs.PutAt.{length-padded}
-use Rattle.octets.proofs.Words.{word-front, word-behind, word-two, word-at}
 
 -- ---- records laid end to end
 
@@ -45,49 +40,11 @@ records-back (x ∷ l) p r i z e =
     rw (append-assoc p x (joined l ++ r)) at (records-back l (p ++ x) r (suc i) (z .1) n) in
     rw (b, here, rest)
 
--- ---- the vector
-
-pub length-counts : (v : List ℕ) (n : ℕ) → length (countBytes v n) ≡ 2 * n
-unfolding countBytes
-length-counts v zero = refl
-length-counts v (suc n) = omega (arith, length-append (countBytes v n) (two (getD v n 0)), length-counts v n)
-
-pub length-vector : (v : List ℕ) → length (vectorBytes v) ≡ 16
-unfolding vectorBytes
-length-vector v = length-counts v 8
-
--- a count where it stands
-word-counts : (v : List ℕ) (n k : ℕ) (r : List ℕ) → k < n → word (countBytes v n ++ r) (2 * k) ≡ getD v k 0
-unfolding countBytes
-word-counts v zero k r h = absurd (omega arith)
-word-counts v (suc n) k r h =
-    let e : (countBytes v n ++ two (getD v n 0)) ++ r ≡ countBytes v n ++ (two (getD v n 0) ++ r) = append-assoc (countBytes v n) (two (getD v n 0)) r in
-    let m = length-counts v n in
-    rw e (⊎-elim
-    (λ (g : k < n). word-counts v n k (two (getD v n 0) ++ r) g)
-    (λ (g : n ≤ k).
-    let q : k ≡ n = omega arith in
-    rw q (rw m at (word-at (countBytes v n) (getD v n 0) r)))
-    (lt-or-ge k n))
-
-counts-back : (v p r : List ℕ) (n : ℕ) → n ≤ 8 → n ≤ length v → countsAt (p ++ (vectorBytes v ++ r)) (length p) n ≡ take n v
-unfolding countsAt vectorBytes
-counts-back v p r zero h g = refl
-counts-back v p r (suc n) h g =
-    let w : word (p ++ (countBytes v 8 ++ r)) (length p + 2 * n) ≡ getD v n 0 =
-    word-behind p (countBytes v 8 ++ r) (2 * n) ∙ word-counts v 8 n r (omega arith) in
-    rw (counts-back v p r n (omega arith) (omega arith), w, take-suc v n 0 (omega arith))
-
--- the vector is read back
-pub vector-back : (v p r : List ℕ) → length v ≡ 8 → vectorAt (p ++ (vectorBytes v ++ r)) (length p) ≡ v
-unfolding vectorAt
-vector-back v p r e = counts-back v p r 8 (omega arith) (omega arith) ∙ take-all 8 v (omega arith)
-
 -- ---- header, body and block
 
 pub length-head : (h : Header) (n : ℕ) → length (headBytes h n) ≡ 28
 unfolding headBytes
-length-head h n = omega (arith, length-vector (h .vector))
+length-head h n = omega (arith, vectorBytes-length (h .vector))
 
 pub length-body : (h : Header) (l : List Rec) → Sized l → length l ≤ 6 → length (bodyBytes h l) ≡ 508
 unfolding bodyBytes

@@ -16,7 +16,8 @@ use Rattle.octets.proofs.Parts.{part-middle}
 use Rattle.octets.proofs.PutAt.{length-padded}
 use Rattle.octets.proofs.Words.{word-at, long-at}
 use Rattle.octets.proofs.Compare.{same-refl, blank-zeros}
-use Rattle.blocklaws.proofs.Fields.{Sized, length-joined, records-back, vector-back, length-head, length-body, length-block}
+use Rattle.vector.proofs.InBytes.{vector-back}
+use Rattle.blocklaws.proofs.Fields.{Sized, length-joined, records-back, length-head, length-body, length-block}
 use Rattle.blocklaws.proofs.Sums.{sealed-holds}
 
 -- header, records' places and sums, end to end
@@ -63,7 +64,7 @@ module _ (h : Header) (l : List Rec) where
       let v = vectorBytes (h .vector) in
       let t : List ℕ = two (firstTo (bodyBytes h l) 254) ++ two (secondTo (bodyBytes h l) 254) in
       let p : List ℕ = letters ++ (four (h .archive) ++ ((h .sender ∷ length l ∷ []) ++ two (h .place))) in
-      rw (append-assoc v (padded 480 (joined l)) t) (vector-back (h .vector) p (padded 480 (joined l) ++ t) e)
+      rw (append-assoc v (padded 480 (joined l)) t) (vector-back p (h .vector) (padded 480 (joined l) ++ t) e)
 
 -- a block of at most six records of 80 bytes, sent by a unit of 0 to 7
 module _ (h : Header) (l : List Rec) (z : Sized l) (k : length l ≤ 6) where

@@ -15,7 +15,7 @@ has-letters-requires c κs = search needs
 
 -- src/lib.rt:123:9
 returns : tie.Need-returns
-returns c = search (bad-letters, bad-sum, bad-header, no-fault)
+returns c = search (bad-letters)
 
 -- src/lib.rt:125:9
 sums-hold-requires : tie.Need-sums-hold-requires
@@ -23,7 +23,7 @@ sums-hold-requires c κs = search needs
 
 -- src/lib.rt:126:9
 returns-2 : tie.Need-returns-2
-returns-2 c = search (bad-letters, bad-sum, bad-header, no-fault)
+returns-2 c = search (bad-sum)
 
 -- src/lib.rt:128:9
 header-holds-requires : tie.Need-header-holds-requires
@@ -31,11 +31,11 @@ header-holds-requires c κs = search needs
 
 -- src/lib.rt:129:9
 returns-3 : tie.Need-returns-3
-returns-3 c = search (bad-letters, bad-sum, bad-header, no-fault)
+returns-3 c = search (bad-header)
 
 -- src/lib.rt:118:1
 returns-4 : tie.Need-returns-4
-returns-4 c = search (bad-letters, bad-sum, bad-header, no-fault)
+returns-4 c = search (no-fault)
 
 pub block-fault-spec : {M : Type 1} → statement M
 block-fault-spec =

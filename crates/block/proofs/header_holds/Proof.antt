@@ -15,7 +15,7 @@ sender-in-requires c κs = search needs
 
 -- src/lib.rt:107:9
 returns : tie.Need-returns
-returns c = search (bad-sender, bad-count, unused-decides)
+returns c = search (bad-sender)
 
 -- src/lib.rt:109:9
 count-in-requires : tie.Need-count-in-requires
@@ -23,7 +23,7 @@ count-in-requires c κs = search needs
 
 -- src/lib.rt:111:9
 returns-2 : tie.Need-returns-2
-returns-2 c = search (bad-sender, bad-count, unused-decides)
+returns-2 c = search (bad-count)
 
 -- src/lib.rt:113:24
 cast-at : tie.Need-cast-at
@@ -55,7 +55,7 @@ is-blank-requires c κs = search needs
 
 -- src/lib.rt:102:1
 returns-3 : tie.Need-returns-3
-returns-3 c = search (bad-sender, bad-count, unused-decides)
+returns-3 c = search (unused-decides)
 
 pub header-holds-spec : {M : Type 1} → statement M
 header-holds-spec =

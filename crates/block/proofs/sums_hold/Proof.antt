@@ -18,7 +18,7 @@ le16-requires c κs = search needs
 
 -- src/lib.rt:64:9
 returns : tie.Need-returns
-returns c = search (first-off, second-decides)
+returns c = search (first-off)
 
 -- src/lib.rt:66:5
 le16-requires-2 : tie.Need-le16-requires-2
@@ -26,7 +26,7 @@ le16-requires-2 c κs = search needs
 
 -- src/lib.rt:58:1
 returns-2 : tie.Need-returns-2
-returns-2 c = search (first-off, second-decides)
+returns-2 c = search (second-decides)
 
 pub sums-hold-spec : {M : Type 1} → statement M
 sums-hold-spec =
