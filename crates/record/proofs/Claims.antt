@@ -16,7 +16,7 @@ use Rattle.fields.specs.RealDate.{RealDate}
 use Rattle.fields.specs.Label.{Label}
 use Rattle.record.specs.WellFormed.{Zero, Named, Folder, Used, WellFormed}
 use Rattle.record.specs.WellFormed.Used.{make-folder, make-trace, store, remove, rename, settle}
-use Rattle.record.proofs.Fields.{all-judged, zero-is, names-is, head-is, well-length, well-unit, well-op-from, well-op-to, well-number, well-own, well-object, well-no-object, well-folder, well-no-folder, well-label, well-no-label, well-no-mark, well-date}
+use Rattle.record.proofs.Fields.{judged, all-judged, zero-is, names-is, head-is, well-head, well-object, well-no-object, well-folder, well-no-folder, well-label, well-no-label, well-no-mark, well-date}
 
 -- ---- the test holds only of what is well formed
 
@@ -51,8 +51,8 @@ module _ (r : Rec) (e : wellFormed r ≡ true) where
 
   well-used : Used r
   well-used =
-      let lo = well-op-from r e in
-      let hi = well-op-to r e in
+      let lo = well-head r e .op-from in
+      let hi = well-head r e .op-to in
       ⊎-elim used-1 (λ n1.
       ⊎-elim used-2 (λ n2.
       ⊎-elim used-3 (λ n3.
@@ -63,10 +63,10 @@ module _ (r : Rec) (e : wellFormed r ≡ true) where
   pub well-means : WellFormed r
   unfolding dateFits
   well-means = record {
-    size = well-length r e;
-    unit-known = omega (arith, well-unit r e);
-    number = well-number r e;
-    own = well-own r e;
+    size = judged r e .size;
+    unit-known = well-head r e .unit-known;
+    number = well-head r e .number;
+    own = well-head r e .own;
     date = date-means (word r 28) (getD r 30 0) (getD r 31 0) (well-date r e);
     used = well-used;
   }
@@ -168,4 +168,4 @@ folder-root-or-named r e h = ⊎-elim
 
 -- no record names itself
 pub names-not-itself : (r : Rec) (at : ℕ) → wellFormed r ≡ true → Named r at → getD r at 0 ≡ unit r → word r (at + 2) ≡ num r → ⊥
-names-not-itself r at e n u m = omega (arith, rw u at (n .within), well-own r e)
+names-not-itself r at e n u m = omega (arith, rw u at (n .within), well-head r e .own)

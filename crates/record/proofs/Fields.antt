@@ -13,7 +13,7 @@ use Rattle.model.specs.Bytes.{word, blank, part}
 use Rattle.model.specs.Record.{Rec, unit, op, num, seen, labelOf, isLabel, usesObject, usesFolder, usesLabel, usesMark, unused, names, headFits, objectFits, folderFits, dateFits, labelFits, markFits, wellFormed}
 use Rattle.octets.proofs.Numbers.{lt-or-ge, and-true}
 use Rattle.octets.proofs.Parts.{part-length, getD-part}
-use Rattle.octets.proofs.Compare.{blank-getD, not-blank}
+use Rattle.octets.proofs.Compare.{blank-getD}
 use Rattle.fields.proofs.Tests.{or-true, zeros-blank}
 use Rattle.record.specs.WellFormed.{Zero, Named}
 
@@ -69,29 +69,8 @@ head-is r h =
     let s : seen r (unit r) ≡ num r - 1 = omega (arith, h .own) in
     rw (le-leb (unit r) 7 (h .unit-known), le-leb 1 (op r) (h .op-from), le-leb (op r) 6 (h .op-to), le-leb 1 (num r) (h .number), eq-eqb (seen r (unit r)) (num r - 1) s)
 
-module _ (r : Rec) (e : wellFormed r ≡ true) where
-  pub well-length : length r ≡ 80
-  well-length = judged r e .size
-
-  pub well-unit : unit r < 8
-  well-unit = omega (arith, head-means r (judged r e .head) .unit-known)
-
-  pub well-op-from : 1 ≤ op r
-  well-op-from = head-means r (judged r e .head) .op-from
-
-  pub well-op-to : op r ≤ 6
-  well-op-to = head-means r (judged r e .head) .op-to
-
-  pub well-number : 1 ≤ num r
-  well-number = head-means r (judged r e .head) .number
-
-  pub well-own : num r ≡ suc (seen r (unit r))
-  well-own = head-means r (judged r e .head) .own
-
-  -- a well-formed record is not an unused place
-  pub well-not-blank : blank r ≡ false
-  unfolding op
-  well-not-blank = not-blank r 1 (λ z. omega (arith, well-op-from))
+pub well-head : (r : Rec) → wellFormed r ≡ true → Head r
+well-head r e = head-means r (judged r e .head)
 
 -- ---- zero bytes and names
 

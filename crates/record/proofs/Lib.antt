@@ -1,5 +1,4 @@
-pub mod Judged
+pub mod Whole
 pub mod Ranks
-pub mod Seen
 pub mod Fields
 pub mod Claims

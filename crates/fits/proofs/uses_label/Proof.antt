@@ -1,10 +1,10 @@
-use Rattle.record.proofs.Judged.{make-label, other-label}
+use Rattle.fits.proofs.Tests.{make-label, other-label}
 use borrow.Author.Needs.{needs}
 use native.Mathlib.Omega.{arith}
-use Rattle.record.proofs.uses_label.Statement.{statement}
-use Rattle.record.proofs.uses_label.Tie as tie
-use Rattle.record.proofs.uses_label.Reads as reads
-use Rattle.record.proofs.uses_label.Lts as lts
+use Rattle.fits.proofs.uses_label.Statement.{statement}
+use Rattle.fits.proofs.uses_label.Tie as tie
+use Rattle.fits.proofs.uses_label.Reads as reads
+use Rattle.fits.proofs.uses_label.Lts as lts
 
 -- src/lib.rt:29:1
 returns : tie.Need-returns

@@ -1,13 +1,13 @@
-use Rattle.record.proofs.Judged.{label-used, label-unused}
+use Rattle.fits.proofs.Tests.{label-used, label-unused}
 use native.Mathlib.Omega.{arith}
 use borrow.Author.Needs.{needs}
-use Rattle.record.proofs.label_fits.Statement.{statement}
-use Rattle.record.proofs.label_fits.Tie as tie
-use Rattle.record.proofs.label_fits.Reads as reads
-use Rattle.record.proofs.label_fits.Lts as lts
+use Rattle.fits.proofs.label_fits.Statement.{statement}
+use Rattle.fits.proofs.label_fits.Tie as tie
+use Rattle.fits.proofs.label_fits.Reads as reads
+use Rattle.fits.proofs.label_fits.Lts as lts
 use Rattle.fields.proofs.is_label.Reads as is-label-reads
 use Rattle.octets.proofs.is_blank.Reads as is-blank-reads
-use Rattle.record.proofs.uses_label.Reads as uses-label-reads
+use Rattle.fits.proofs.uses_label.Reads as uses-label-reads
 
 -- src/lib.rt:124:19
 shared-slice-read-uses-label : tie.Need-shared-slice-read-uses-label

@@ -2,10 +2,10 @@ use mathlib.Core.Path.{refl}
 use Rattle.model.specs.Record.{usesFolder}
 use borrow.Author.Needs.{needs}
 use native.Mathlib.Omega.{arith}
-use Rattle.record.proofs.uses_folder.Statement.{statement}
-use Rattle.record.proofs.uses_folder.Tie as tie
-use Rattle.record.proofs.uses_folder.Reads as reads
-use Rattle.record.proofs.uses_folder.Lts as lts
+use Rattle.fits.proofs.uses_folder.Statement.{statement}
+use Rattle.fits.proofs.uses_folder.Tie as tie
+use Rattle.fits.proofs.uses_folder.Reads as reads
+use Rattle.fits.proofs.uses_folder.Lts as lts
 
 -- src/lib.rt:22:1
 returns : tie.Need-returns

@@ -1,10 +1,10 @@
-use Rattle.record.proofs.Judged.{head-unit, head-no-op, head-op-above, head-number, head-seen}
+use Rattle.fits.proofs.Tests.{head-unit, head-no-op, head-op-above, head-number, head-seen}
 use native.Mathlib.Omega.{arith}
 use borrow.Author.Needs.{needs}
-use Rattle.record.proofs.head_fits.Statement.{statement}
-use Rattle.record.proofs.head_fits.Tie as tie
-use Rattle.record.proofs.head_fits.Reads as reads
-use Rattle.record.proofs.head_fits.Lts as lts
+use Rattle.fits.proofs.head_fits.Statement.{statement}
+use Rattle.fits.proofs.head_fits.Tie as tie
+use Rattle.fits.proofs.head_fits.Reads as reads
+use Rattle.fits.proofs.head_fits.Lts as lts
 use Rattle.octets.proofs.le16.Reads as le16-reads
 
 -- src/lib.rt:68:16

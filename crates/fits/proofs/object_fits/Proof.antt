@@ -1,13 +1,13 @@
-use Rattle.record.proofs.Judged.{object-used, object-unused}
+use Rattle.fits.proofs.Tests.{object-used, object-unused}
 use native.Mathlib.Omega.{arith}
 use borrow.Author.Needs.{needs}
-use Rattle.record.proofs.object_fits.Statement.{statement}
-use Rattle.record.proofs.object_fits.Tie as tie
-use Rattle.record.proofs.object_fits.Reads as reads
-use Rattle.record.proofs.object_fits.Lts as lts
+use Rattle.fits.proofs.object_fits.Statement.{statement}
+use Rattle.fits.proofs.object_fits.Tie as tie
+use Rattle.fits.proofs.object_fits.Reads as reads
+use Rattle.fits.proofs.object_fits.Lts as lts
 use Rattle.octets.proofs.is_blank.Reads as is-blank-reads
-use Rattle.record.proofs.names.Reads as names-reads
-use Rattle.record.proofs.uses_object.Reads as uses-object-reads
+use Rattle.fits.proofs.names.Reads as names-reads
+use Rattle.fits.proofs.uses_object.Reads as uses-object-reads
 
 -- src/lib.rt:91:20
 shared-slice-read-uses-object : tie.Need-shared-slice-read-uses-object

@@ -1,10 +1,10 @@
-use Rattle.record.proofs.Judged.{make-mark, other-mark}
+use Rattle.fits.proofs.Tests.{make-mark, other-mark}
 use borrow.Author.Needs.{needs}
 use native.Mathlib.Omega.{arith}
-use Rattle.record.proofs.uses_mark.Statement.{statement}
-use Rattle.record.proofs.uses_mark.Tie as tie
-use Rattle.record.proofs.uses_mark.Reads as reads
-use Rattle.record.proofs.uses_mark.Lts as lts
+use Rattle.fits.proofs.uses_mark.Statement.{statement}
+use Rattle.fits.proofs.uses_mark.Tie as tie
+use Rattle.fits.proofs.uses_mark.Reads as reads
+use Rattle.fits.proofs.uses_mark.Lts as lts
 
 -- src/lib.rt:36:1
 returns : tie.Need-returns

@@ -1,13 +1,13 @@
-use Rattle.record.proofs.Judged.{folder-zero, folder-unused, folder-used}
+use Rattle.fits.proofs.Tests.{folder-zero, folder-unused, folder-used}
 use native.Mathlib.Omega.{arith}
 use borrow.Author.Needs.{needs}
-use Rattle.record.proofs.folder_fits.Statement.{statement}
-use Rattle.record.proofs.folder_fits.Tie as tie
-use Rattle.record.proofs.folder_fits.Reads as reads
-use Rattle.record.proofs.folder_fits.Lts as lts
+use Rattle.fits.proofs.folder_fits.Statement.{statement}
+use Rattle.fits.proofs.folder_fits.Tie as tie
+use Rattle.fits.proofs.folder_fits.Reads as reads
+use Rattle.fits.proofs.folder_fits.Lts as lts
 use Rattle.octets.proofs.is_blank.Reads as is-blank-reads
-use Rattle.record.proofs.names.Reads as names-reads
-use Rattle.record.proofs.uses_folder.Reads as uses-folder-reads
+use Rattle.fits.proofs.names.Reads as names-reads
+use Rattle.fits.proofs.uses_folder.Reads as uses-folder-reads
 
 -- src/lib.rt:102:17
 sub-is-blank : tie.Need-sub-is-blank

@@ -2,10 +2,10 @@ use mathlib.Core.Path.{refl}
 use Rattle.model.specs.Record.{usesObject}
 use borrow.Author.Needs.{needs}
 use native.Mathlib.Omega.{arith}
-use Rattle.record.proofs.uses_object.Statement.{statement}
-use Rattle.record.proofs.uses_object.Tie as tie
-use Rattle.record.proofs.uses_object.Reads as reads
-use Rattle.record.proofs.uses_object.Lts as lts
+use Rattle.fits.proofs.uses_object.Statement.{statement}
+use Rattle.fits.proofs.uses_object.Tie as tie
+use Rattle.fits.proofs.uses_object.Reads as reads
+use Rattle.fits.proofs.uses_object.Lts as lts
 
 -- src/lib.rt:15:1
 returns : tie.Need-returns

@@ -1,10 +1,10 @@
-use Rattle.record.proofs.Judged.{unit-above, byte-used, number-none, number-seen}
+use Rattle.fits.proofs.Tests.{unit-above, byte-used, number-none, number-seen}
 use native.Mathlib.Omega.{arith}
 use borrow.Author.Needs.{needs}
-use Rattle.record.proofs.names.Statement.{statement}
-use Rattle.record.proofs.names.Tie as tie
-use Rattle.record.proofs.names.Reads as reads
-use Rattle.record.proofs.names.Lts as lts
+use Rattle.fits.proofs.names.Statement.{statement}
+use Rattle.fits.proofs.names.Tie as tie
+use Rattle.fits.proofs.names.Reads as reads
+use Rattle.fits.proofs.names.Lts as lts
 use Rattle.octets.proofs.le16.Reads as le16-reads
 
 -- src/lib.rt:49:16

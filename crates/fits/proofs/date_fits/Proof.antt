@@ -1,10 +1,10 @@
-use Rattle.record.proofs.Judged.{date-used}
+use Rattle.fits.proofs.Tests.{date-used}
 use native.Mathlib.Omega.{arith}
 use borrow.Author.Needs.{needs}
-use Rattle.record.proofs.date_fits.Statement.{statement}
-use Rattle.record.proofs.date_fits.Tie as tie
-use Rattle.record.proofs.date_fits.Reads as reads
-use Rattle.record.proofs.date_fits.Lts as lts
+use Rattle.fits.proofs.date_fits.Statement.{statement}
+use Rattle.fits.proofs.date_fits.Tie as tie
+use Rattle.fits.proofs.date_fits.Reads as reads
+use Rattle.fits.proofs.date_fits.Lts as lts
 use Rattle.fields.proofs.is_date.Reads as is-date-reads
 use Rattle.octets.proofs.le16.Reads as le16-reads
 

@@ -1,12 +1,12 @@
-use Rattle.record.proofs.Judged.{mark-used, mark-unused}
+use Rattle.fits.proofs.Tests.{mark-used, mark-unused}
 use native.Mathlib.Omega.{arith}
 use borrow.Author.Needs.{needs}
-use Rattle.record.proofs.mark_fits.Statement.{statement}
-use Rattle.record.proofs.mark_fits.Tie as tie
-use Rattle.record.proofs.mark_fits.Reads as reads
-use Rattle.record.proofs.mark_fits.Lts as lts
+use Rattle.fits.proofs.mark_fits.Statement.{statement}
+use Rattle.fits.proofs.mark_fits.Tie as tie
+use Rattle.fits.proofs.mark_fits.Reads as reads
+use Rattle.fits.proofs.mark_fits.Lts as lts
 use Rattle.octets.proofs.is_blank.Reads as is-blank-reads
-use Rattle.record.proofs.uses_mark.Reads as uses-mark-reads
+use Rattle.fits.proofs.uses_mark.Reads as uses-mark-reads
 
 -- src/lib.rt:135:18
 shared-slice-read-uses-mark : tie.Need-shared-slice-read-uses-mark

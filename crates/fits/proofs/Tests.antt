@@ -1,4 +1,4 @@
--- What the code that judges a record is asked at each way out, over plain values.
+-- What the code of each field is asked at each way out, over plain values.
 -- Assumes nothing.
 use Prim.Native.Nat.{ℕ, suc, _+_, _-_, _*_, _≤_, _<_}
 use native.Mathlib.Omega.{arith}
@@ -10,7 +10,7 @@ use lib.ListN.{getD, length, take, drop}
 use borrow.Author.Tests.{eq-eqb, ne-eqb, le-leb, lt-leb, not-true, not-false}
 use Rattle.model.specs.Bytes.{word, blank, part}
 use Rattle.model.specs.Date.{isDate}
-use Rattle.model.specs.Record.{Rec, unit, op, num, seen, labelOf, isLabel, usesObject, usesFolder, usesLabel, usesMark, unused, names, headFits, objectFits, folderFits, dateFits, labelFits, markFits, wellFormed}
+use Rattle.model.specs.Record.{Rec, unit, op, num, seen, labelOf, isLabel, usesObject, usesFolder, usesLabel, usesMark, unused, names, headFits, objectFits, folderFits, dateFits, labelFits, markFits}
 
 -- ---- which fields an operation uses
 
@@ -124,38 +124,3 @@ module _ (r : Rec) {z : Bool} (e : z ≡ blank (take 4 (drop 24 r))) where
     pub folder-used : {b : Bool} → not u ≡ false → b ≡ names r 24 → b ≡ folderFits r
     unfolding folderFits op unused part
     folder-used g k = rw (← f, not-false u g, ← e, h, k)
-
--- ---- well formed
-
-pub other-length : (r : Rec) → (length r ≡ 80 → ⊥) → false ≡ wellFormed r
-unfolding wellFormed
-other-length r n = rw (ne-eqb (length r) 80 n)
-
-module _ (r : Rec) {h : Bool} (n : length r ≡ 80) (eh : h ≡ headFits r) where
-  pub bad-head : not h ≡ true → false ≡ wellFormed r
-  unfolding wellFormed
-  bad-head f = rw (eq-eqb (length r) 80 n, ← eh, not-true h f)
-
-  module _ {o : Bool} (gh : not h ≡ false) (eo : o ≡ objectFits r) where
-    pub bad-object : not o ≡ true → false ≡ wellFormed r
-    unfolding wellFormed
-    bad-object f = rw (eq-eqb (length r) 80 n, ← eh, not-false h gh, ← eo, not-true o f)
-
-    module _ {p : Bool} (go : not o ≡ false) (ep : p ≡ folderFits r) where
-      pub bad-folder : not p ≡ true → false ≡ wellFormed r
-      unfolding wellFormed
-      bad-folder f = rw (eq-eqb (length r) 80 n, ← eh, not-false h gh, ← eo, not-false o go, ← ep, not-true p f)
-
-      module _ {d : Bool} (gp : not p ≡ false) (ed : d ≡ dateFits r) where
-        pub bad-date : not d ≡ true → false ≡ wellFormed r
-        unfolding wellFormed
-        bad-date f = rw (eq-eqb (length r) 80 n, ← eh, not-false h gh, ← eo, not-false o go, ← ep, not-false p gp, ← ed, not-true d f)
-
-        module _ {l : Bool} (gd : not d ≡ false) (el : l ≡ labelFits r) where
-          pub bad-label : not l ≡ true → false ≡ wellFormed r
-          unfolding wellFormed
-          bad-label f = rw (eq-eqb (length r) 80 n, ← eh, not-false h gh, ← eo, not-false o go, ← ep, not-false p gp, ← ed, not-false d gd, ← el, not-true l f)
-
-          pub mark-last : {m : Bool} → not l ≡ false → m ≡ markFits r → m ≡ wellFormed r
-          unfolding wellFormed
-          mark-last gl em = rw (eq-eqb (length r) 80 n, ← eh, not-false h gh, ← eo, not-false o go, ← ep, not-false p gp, ← ed, not-false d gd, ← el, not-false l gl, em)
