@@ -1,0 +1,186 @@
+// Text written into lent bytes: words, numbers, identities, dates, labels. Each function answers the place behind what it wrote.
+ghost use mathlib.Core.Path.{_≡_};
+ghost use Prim.Native.Nat.{_+_, _≤_, _<_};
+ghost use mathlib.Core.List.{[], _∷_};
+ghost use mathlib.Core.Bool.{_||_};
+ghost use lib.Dec.{eqb};
+ghost use lib.ListN.{length};
+ghost use Rattle.model.specs.Listing.{decimal, twoDigits, fourDigits, hexDigit, hexText, identityText, escaped, labelText, dateText};
+ghost use Rattle.model.specs.Bytes.{putAt};
+ghost use Rattle.text.specs.Written.{Wrote};
+
+// A word is written.
+pub fn put_word(out: &mut [u8], at: usize, s: &[u8]) -> usize
+    requires { ⌜ at + length (now s) ≤ length (now out) ⌝ }
+    ensures { λ r. ⌜ Wrote (now (out .entry)) (now (out .exit)) at r (now (s .entry)) ⌝ }
+{
+    octets::put(out, at, s);
+    at + s.len()
+}
+
+// One byte is written.
+pub fn put_byte(out: &mut [u8], at: usize, b: u8) -> usize
+    requires { ⌜ at + 1 ≤ length (now out) ⌝ }
+    ensures { λ r. ⌜ Wrote (now (out .entry)) (now (out .exit)) at r (b ∷ []) ⌝ }
+{
+    out[at] = b;
+    at + 1
+}
+
+// How many digits a number has.
+fn digits(n: u32) -> usize
+    ensures { λ r. ⌜ r ≡ length (decimal n) ⌝ }
+{
+    let mut k: usize = 1;
+    let mut left = n;
+    while 10 <= left {
+        left = left / 10;
+        k += 1;
+    }
+    k
+}
+
+// The digit that stands for a number below 10.
+fn digit(n: u32) -> u8
+    requires { ⌜ n < 10 ⌝ }
+    ensures { λ r. ⌜ r ≡ 48 + n ⌝ }
+{
+    48 + n as u8
+}
+
+// The last k digits of a number are written, the last first.
+fn put_digits(out: &mut [u8], at: usize, n: u32, k: usize)
+    requires { ⌜ (k ≡ length (decimal n)) × (at + k ≤ length (now out)) ⌝ }
+    ensures { λ _. ⌜ now (out .exit) ≡ putAt (now (out .entry)) at (decimal n) ⌝ }
+{
+    let mut left = n;
+    let mut i = k;
+    while 0 < i {
+        i -= 1;
+        out[at + i] = digit(left % 10);
+        left = left / 10;
+    }
+}
+
+// A number is written in decimal.
+pub fn put_decimal(out: &mut [u8], at: usize, n: u32) -> usize
+    requires { ⌜ at + length (decimal n) ≤ length (now out) ⌝ }
+    ensures { λ r. ⌜ Wrote (now (out .entry)) (now (out .exit)) at r (decimal n) ⌝ }
+{
+    let k = digits(n);
+    put_digits(out, at, n, k);
+    at + k
+}
+
+// The identity in four bytes is written as unit.number.
+pub fn put_identity(out: &mut [u8], at: usize, b: &[u8]) -> usize
+    requires { ⌜ (length (now b) ≡ 4) × (at + length (identityText (now b)) ≤ length (now out)) ⌝ }
+    ensures { λ r. ⌜ Wrote (now (out .entry)) (now (out .exit)) at r (identityText (now (b .entry))) ⌝ }
+{
+    let unit = octets::wide32(b[0]);
+    let number = octets::wider(octets::le16(b, 2));
+    let dot = put_decimal(out, at, unit);
+    let rest = put_byte(out, dot, b'.');
+    put_decimal(out, rest, number)
+}
+
+// The date in four bytes is written as 2025-03-03.
+pub fn put_date(out: &mut [u8], at: usize, b: &[u8]) -> usize
+    requires { ⌜ (length (now b) ≡ 4) × (at + length (dateText (now b)) ≤ length (now out)) ⌝ }
+    ensures { λ r. ⌜ Wrote (now (out .entry)) (now (out .exit)) at r (dateText (now (b .entry))) ⌝ }
+{
+    let y = octets::wider(octets::le16(b, 0));
+    let m = octets::wide32(b[2]);
+    let d = octets::wide32(b[3]);
+    let text = [
+        digit(y / 1000 % 10),
+        digit(y / 100 % 10),
+        digit(y / 10 % 10),
+        digit(y % 10),
+        b'-',
+        digit(m / 10 % 10),
+        digit(m % 10),
+        b'-',
+        digit(d / 10 % 10),
+        digit(d % 10),
+    ];
+    put_word(out, at, &text)
+}
+
+// The digit that stands for a number below 16.
+fn hex_digit(n: u8) -> u8
+    requires { ⌜ n < 16 ⌝ }
+    ensures { λ r. ⌜ r ≡ hexDigit n ⌝ }
+{
+    if n < 10 { 48 + n } else { 87 + n }
+}
+
+// One byte is written in hexadecimal.
+fn put_hex_byte(out: &mut [u8], at: usize, x: u8) -> usize
+    requires { ⌜ at + 2 ≤ length (now out) ⌝ }
+    ensures { λ r. ⌜ Wrote (now (out .entry)) (now (out .exit)) at r (hexText (x ∷ [])) ⌝ }
+{
+    let text = [hex_digit(x / 16), hex_digit(x % 16)];
+    put_word(out, at, &text)
+}
+
+// Bytes are written in hexadecimal.
+pub fn put_hex(out: &mut [u8], at: usize, b: &[u8]) -> usize
+    requires { ⌜ at + length (hexText (now b)) ≤ length (now out) ⌝ }
+    ensures { λ r. ⌜ Wrote (now (out .entry)) (now (out .exit)) at r (hexText (now (b .entry))) ⌝ }
+{
+    let mut m = at;
+    let mut i: usize = 0;
+    while i < b.len() {
+        m = put_hex_byte(out, m, b[i]);
+        i += 1;
+    }
+    m
+}
+
+// Quote or backslash.
+fn needs_escape(x: u8) -> bool
+    ensures { λ r. ⌜ r ≡ (eqb x 34 || eqb x 92) ⌝ }
+{
+    if x == b'"' {
+        return true;
+    }
+    x == b'\\'
+}
+
+// One byte of a label is written; quote and backslash get a backslash before them.
+fn put_escaped_byte(out: &mut [u8], at: usize, x: u8) -> usize
+    requires { ⌜ at + length (escaped (x ∷ [])) ≤ length (now out) ⌝ }
+    ensures { λ r. ⌜ Wrote (now (out .entry)) (now (out .exit)) at r (escaped (x ∷ [])) ⌝ }
+{
+    if needs_escape(x) {
+        let text = [b'\\', x];
+        return put_word(out, at, &text);
+    }
+    put_byte(out, at, x)
+}
+
+// The bytes of a label are written, escaped.
+pub fn put_escaped(out: &mut [u8], at: usize, t: &[u8]) -> usize
+    requires { ⌜ at + length (escaped (now t)) ≤ length (now out) ⌝ }
+    ensures { λ r. ⌜ Wrote (now (out .entry)) (now (out .exit)) at r (escaped (now (t .entry))) ⌝ }
+{
+    let mut m = at;
+    let mut i: usize = 0;
+    while i < t.len() {
+        m = put_escaped_byte(out, m, t[i]);
+        i += 1;
+    }
+    m
+}
+
+// A label is written between quotes.
+pub fn put_label(out: &mut [u8], at: usize, t: &[u8]) -> usize
+    requires { ⌜ at + length (labelText (now t)) ≤ length (now out) ⌝ }
+    ensures { λ r. ⌜ Wrote (now (out .entry)) (now (out .exit)) at r (labelText (now (t .entry))) ⌝ }
+{
+    let n = fields::text_length(t);
+    let text = put_byte(out, at, b'"');
+    let end = put_escaped(out, text, &t[0..n]);
+    put_byte(out, end, b'"')
+}
