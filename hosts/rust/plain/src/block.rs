@@ -11,6 +11,7 @@ const LETTERS: [u8; 4] = *b"SAB1";
 const FIRST_RECORD: usize = 28;
 const SUMS: usize = 508;
 const MODULUS: u32 = 65_521;
+const LANES: usize = 8;
 
 /// The header fields of a block.
 #[derive(Clone, Copy, PartialEq, Eq)]
@@ -25,8 +26,23 @@ pub struct Header {
 #[inline]
 pub fn sums(block: &Block) -> (u16, u16) {
     let (words, _) = block.as_chunks::<2>();
-    let (mut first, mut second) = (0u32, 0u32);
-    for word in &words[..SUMS / 2] {
+    let (rows, rest) = words[..SUMS / 2].as_chunks::<LANES>();
+    // Lane j keeps both sums of the words at 8k + j.
+    let mut firsts = [0u32; LANES];
+    let mut seconds = [0u32; LANES];
+    for row in rows {
+        for lane in 0..LANES {
+            firsts[lane] += u16::from_le_bytes(row[lane]) as u32;
+            seconds[lane] += firsts[lane];
+        }
+    }
+    // A lane's second sum counts a word once a row; it stands in eight places a
+    // row, but in lane j for the first row only in 8 - j.
+    let mut first: u32 = firsts.iter().sum();
+    let mut second: u32 = (0..LANES)
+        .map(|lane| LANES as u32 * seconds[lane] - lane as u32 * firsts[lane])
+        .sum();
+    for word in rest {
         first += u16::from_le_bytes(*word) as u32;
         second += first;
     }

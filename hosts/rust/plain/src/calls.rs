@@ -2,8 +2,8 @@
 
 use crate::block::{self, Block, Header};
 use crate::bytes::{all_zero, get64};
-use crate::held::{Held, Store};
-use crate::record::{Fields, Record, fields, rank_of};
+use crate::held::{Counts, Places, Store};
+use crate::record::{Fields, Record, rank_of, well_formed};
 use crate::replay::Replay;
 use crate::{Answer, BLOCK, FILE, LOG, PER_BLOCK, RECORD, RECORDS, TREE, refuse, refuse_at, table};
 
@@ -16,29 +16,39 @@ pub struct Head {
     pub vector: [u16; 8],
 }
 
-/// Goes once over a lent log and says whether it is sound. Each record is shown
-/// to `each` after its own check.
+/// Goes once over a lent log and counts it, if it is sound. Each record is shown
+/// to `each` with its place after its own check.
 #[inline(always)]
-fn scan(log: &[Record], held: &mut Held, mut each: impl FnMut(&Held, &Fields)) -> bool {
+fn scan(
+    log: &[Record],
+    places: &mut Places,
+    mut each: impl FnMut(&Places, &Fields, usize),
+) -> Option<Counts> {
+    let mut held = Counts::NONE;
     for (place, record) in log.iter().enumerate() {
         if get64(record, 0) == 0 {
-            return all_zero(log[place..].as_flattened());
+            return all_zero(log[place..].as_flattened()).then_some(held);
         }
-        let Some(fields) = fields(record) else {
-            return false;
-        };
-        if !(held.is_behind(&fields) && held.is_next(&fields) && held.is_closed(&fields)) {
-            return false;
+        if !well_formed(record) {
+            return None;
         }
-        held.push(&fields, place);
-        each(held, &fields);
+        let fields = Fields::of(record);
+        if !(held.are_before(&fields)
+            && held.rank_before(&fields)
+            && places.are_closed(&fields, held.vector))
+        {
+            return None;
+        }
+        held.add(&fields);
+        places.add(&fields, place);
+        each(places, &fields, place);
     }
-    true
+    Some(held)
 }
 
 /// The lent log is sound.
 pub fn sound(log: &[u8]) -> bool {
-    log.len() == LOG && scan(log.as_chunks().0, &mut Held::none(), |_, _| ())
+    log.len() == LOG && scan(log.as_chunks().0, &mut Places::none(), |_, _, _| ()).is_some()
 }
 
 /// Empties a log.
@@ -65,32 +75,33 @@ pub fn act(log: &mut [u8], _archive: u32, unit: u8, wish: &[u8]) -> Answer<()> {
         return refuse(21);
     }
     let (records, _) = log.as_chunks_mut::<RECORD>();
-    let mut held = Held::none();
+    let mut places = Places::none();
     let mut replay = Replay::root();
     let lent = &*records;
-    if !scan(lent, &mut held, |held, fields| {
-        replay.step(held, &lent, fields, held.len - 1)
-    }) {
+    let Some(held) = scan(lent, &mut places, |places, fields, place| {
+        replay.step(places, &lent, fields, place)
+    }) else {
         return refuse(19);
-    }
+    };
     if wish[0] != unit || wish[2..20] != [0; 18] {
         return refuse(7);
     }
     let mut record = *wish;
-    let number = held.counts.count(unit as usize) + 1;
+    let number = held.vector.count(unit as usize) + 1;
     record[2..4].copy_from_slice(&number.to_le_bytes());
-    held.counts.write(&mut record, 4);
-    let Some(fields) = fields(&record) else {
+    held.vector.write(&mut record, 4);
+    if !well_formed(&record) {
         return refuse(7);
-    };
-    if held.len == RECORDS {
+    }
+    if held.all == RECORDS {
         return refuse(11);
     }
-    let (fate, _) = replay.judge(&held, &lent, &fields);
-    if fate.reason != 0 {
-        return refuse(fate.reason);
+    replay.step(&places, &lent, &Fields::of(&record), held.all);
+    match replay.fates[held.all].reason {
+        0 => (),
+        reason => return refuse(reason),
     }
-    records[held.len] = record;
+    records[held.all] = record;
     Ok(())
 }
 
@@ -112,13 +123,20 @@ pub fn hand_out(
         return refuse(21);
     }
     let (records, _) = log.as_chunks::<RECORD>();
-    let mut held = Held::none();
-    if !scan(records, &mut held, |_, _| ()) {
+    let mut places = Places::none();
+    let Some(held) = scan(records, &mut places, |_, _, _| ()) else {
         return refuse(19);
-    }
+    };
     // The place of each unit's first record that is lacked and not yet given.
     let mut after = *asked;
-    let mut lacked: [usize; 8] = core::array::from_fn(|unit| held.place_after(unit, after[unit]));
+    let place_after = |unit: usize, count: u16| {
+        if count < held.vector.count(unit) {
+            places.place(unit, count as usize + 1)
+        } else {
+            RECORDS
+        }
+    };
+    let mut lacked: [usize; 8] = core::array::from_fn(|unit| place_after(unit, after[unit]));
     let mut count = 0;
     while count < PER_BLOCK {
         let unit = (1..8).fold(0, |least, unit| {
@@ -133,7 +151,7 @@ pub fn hand_out(
         }
         block::put_record(block, count, &records[lacked[unit]]);
         after[unit] += 1;
-        lacked[unit] = held.place_after(unit, after[unit]);
+        lacked[unit] = place_after(unit, after[unit]);
         count += 1;
     }
     block::finish(
@@ -141,7 +159,7 @@ pub fn hand_out(
         &Header {
             archive,
             unit,
-            vector: held.counts,
+            vector: held.vector,
         },
         count,
         0,
@@ -158,10 +176,10 @@ pub fn take(log: &mut [u8], archive: u32, unit: u8, block: &[u8]) -> Answer<()> 
         return refuse(21);
     }
     let (records, _) = log.as_chunks_mut::<RECORD>();
-    let mut held = Held::none();
-    if !scan(records, &mut held, |_, _| ()) {
+    let mut places = Places::none();
+    let Some(mut held) = scan(records, &mut places, |_, _, _| ()) else {
         return refuse(19);
-    }
+    };
     let Ok(block) = <&Block>::try_from(block) else {
         return refuse(2);
     };
@@ -172,16 +190,17 @@ pub fn take(log: &mut [u8], archive: u32, unit: u8, block: &[u8]) -> Answer<()> 
     if block::header(block).archive != archive {
         return refuse(6);
     }
-    let held_before = held.len;
+    let held_before = held.all;
     // Rank and place in the block of each new record, by rising rank.
     let mut new = [(0, 0); PER_BLOCK];
     for i in 0..block::count(block) {
         let record = block::record(block, i);
-        let Some(fields) = fields(record) else {
+        if !well_formed(record) {
             return refuse(7);
-        };
-        if held.holds(&fields) {
-            let place = held.place(fields.identity());
+        }
+        let fields = Fields::of(record);
+        if held.hold(&fields) {
+            let place = places.named(fields.identity());
             let known = match place.checked_sub(RECORDS) {
                 None => &records[place],
                 Some(i) => block::record(block, i),
@@ -191,24 +210,25 @@ pub fn take(log: &mut [u8], archive: u32, unit: u8, block: &[u8]) -> Answer<()> 
             }
             continue;
         }
-        if !held.is_next(&fields) {
+        if !held.are_before(&fields) {
             return refuse(8);
         }
-        if !held.is_closed(&fields) {
+        if !places.are_closed(&fields, held.vector) {
             return refuse(9);
         }
-        if held.len == RECORDS {
+        if held.all == RECORDS {
             return refuse(11);
         }
-        let mut at = held.len - held_before;
-        while at > 0 && new[at - 1].0 > fields.rank() {
+        let mut at = held.all - held_before;
+        while at > 0 && new[at - 1].0 > fields.small_rank() {
             new[at] = new[at - 1];
             at -= 1;
         }
-        new[at] = (fields.rank(), i);
-        held.push(&fields, RECORDS + i);
+        new[at] = (fields.small_rank(), i);
+        held.add(&fields);
+        places.add(&fields, RECORDS + i);
     }
-    lay_in(records, held_before, block, &new[..held.len - held_before]);
+    lay_in(records, held_before, block, &new[..held.all - held_before]);
     Ok(())
 }
 
@@ -232,20 +252,20 @@ pub fn write_file(log: &[u8], archive: u32, unit: u8, file: &mut [u8]) -> Answer
         return refuse(21);
     }
     let (records, _) = log.as_chunks::<RECORD>();
-    let mut held = Held::none();
-    if !scan(records, &mut held, |_, _| ()) {
+    let mut places = Places::none();
+    let Some(held) = scan(records, &mut places, |_, _, _| ()) else {
         return refuse(19);
-    }
+    };
     let header = Header {
         archive,
         unit,
-        vector: held.counts,
+        vector: held.vector,
     };
     let (blocks, _) = file.as_chunks_mut::<BLOCK>();
-    let used = held.len.div_ceil(PER_BLOCK).max(1);
+    let used = held.all.div_ceil(PER_BLOCK).max(1);
     for (place, block) in blocks[..used].iter_mut().enumerate() {
         let first = place * PER_BLOCK;
-        let count = (held.len - first).min(PER_BLOCK);
+        let count = (held.all - first).min(PER_BLOCK);
         block::put_records(block, &records[first..first + count]);
         block::finish(block, &header, count, place);
     }
@@ -272,14 +292,14 @@ pub fn blocks_of(file: &[u8]) -> Answer<Blocks<'_>> {
     Ok(Blocks(file.as_chunks().0))
 }
 
-/// Checks a file, all blocks and then all records. Each record is shown to
-/// `each` after its own check.
+/// Checks a file, all blocks and then all records, and counts it. Each record is
+/// shown to `each` with its place after its own check.
 #[inline(always)]
 pub fn check_file(
     blocks: Blocks,
-    held: &mut Held,
-    mut each: impl FnMut(&Held, &Fields),
-) -> Answer<Header> {
+    places: &mut Places,
+    mut each: impl FnMut(&Places, &Fields, usize),
+) -> Answer<(Header, Counts)> {
     let Blocks(blocks) = blocks;
     let last = blocks.len() - 1;
     let header = block::header(&blocks[0]);
@@ -294,31 +314,36 @@ pub fn check_file(
             return refuse_at(20, place);
         }
     }
+    let mut held = Counts::NONE;
     for (place, block) in blocks.iter().enumerate() {
         for i in 0..block::count(block) {
-            if held.len == RECORDS {
+            if held.all == RECORDS {
                 return refuse_at(11, place);
             }
-            let Some(fields) = fields(block::record(block, i)) else {
+            let record = block::record(block, i);
+            if !well_formed(record) {
                 return refuse_at(7, place);
-            };
-            if !held.is_behind(&fields) {
+            }
+            let fields = Fields::of(record);
+            if !held.are_before(&fields) {
+                let number = if held.rank_before_any(&fields) { 8 } else { 20 };
+                return refuse_at(number, place);
+            }
+            if !held.rank_before(&fields) {
                 return refuse_at(20, place);
             }
-            if !held.is_next(&fields) {
-                return refuse_at(8, place);
-            }
-            if !held.is_closed(&fields) {
+            if !places.are_closed(&fields, held.vector) {
                 return refuse_at(9, place);
             }
-            held.push(&fields, held.len);
-            each(held, &fields);
+            places.add(&fields, held.all);
+            each(places, &fields, held.all);
+            held.add(&fields);
         }
     }
-    if header.vector != held.counts {
+    if header.vector != held.vector {
         return refuse_at(20, last);
     }
-    Ok(header)
+    Ok((header, held))
 }
 
 /// Reads a file into a lent log, whose old bytes are not judged.
@@ -327,8 +352,7 @@ pub fn read_file(log: &mut [u8], file: &[u8]) -> Answer<Head> {
         return refuse(1);
     }
     let blocks = blocks_of(file)?;
-    let mut held = Held::none();
-    let header = check_file(blocks, &mut held, |_, _| ())?;
+    let (header, held) = check_file(blocks, &mut Places::none(), |_, _, _| ())?;
     let mut rest = log;
     for block in blocks.0 {
         let from = block::records(block);
@@ -340,7 +364,7 @@ pub fn read_file(log: &mut [u8], file: &[u8]) -> Answer<Head> {
     Ok(Head {
         archive: header.archive,
         unit: header.unit,
-        records: held.len as u16,
+        records: held.all as u16,
         vector: core::array::from_fn(|unit| header.vector.count(unit)),
     })
 }
@@ -354,13 +378,13 @@ pub fn show(log: &[u8], tree: &mut [u8]) -> Answer<()> {
         return refuse(1);
     };
     let (records, _) = log.as_chunks::<RECORD>();
-    let mut held = Held::none();
+    let mut places = Places::none();
     let mut replay = Replay::root();
-    if !scan(records, &mut held, |held, fields| {
-        replay.step(held, &records, fields, held.len - 1)
-    }) {
+    let Some(held) = scan(records, &mut places, |places, fields, place| {
+        replay.step(places, &records, fields, place)
+    }) else {
         return refuse(19);
-    }
-    table::write(tree, &held, &replay, &records);
+    };
+    table::write(tree, held.all, &replay, &records);
     Ok(())
 }

@@ -1,12 +1,12 @@
-//! The records held so far: counts, where each stands, and what a next record
+//! The records held so far: how many, where each stands, and what a next record
 //! must be.
 
-use crate::RECORDS;
 use crate::record::{Fields, Record};
 use crate::vector::Vector;
+use crate::{PER_BLOCK, RECORDS};
 
 /// Records held and, while a block is taken, those of the block behind them.
-const PLACES: usize = RECORDS + crate::PER_BLOCK;
+const ALL: usize = RECORDS + PER_BLOCK;
 
 /// Where records are kept, by place.
 pub trait Store {
@@ -21,120 +21,121 @@ impl Store for &[Record] {
     }
 }
 
-pub struct Held {
-    /// Records held.
-    pub len: usize,
-    /// Records of each unit.
-    pub counts: Vector,
+/// How many records are held.
+#[derive(Clone, Copy)]
+pub struct Counts {
+    pub all: usize,
+    pub vector: Vector,
     /// One above the rank of the last record; a next in order has no lower one.
     next_rank: u32,
-    /// The seen of each unit's last record.
-    last: [Vector; 8],
-    /// The place of each unit's records, by number less 1.
-    places: [[u16; RECORDS]; 8],
-    /// The seen and the identity of the record at each place.
-    seen: [Vector; PLACES],
-    identity: [u32; PLACES],
 }
 
-impl Held {
-    #[inline(always)]
-    pub fn none() -> Held {
-        Held {
-            len: 0,
-            counts: Vector::ZERO,
-            next_rank: 0,
-            last: [Vector::ZERO; 8],
-            places: [[0; RECORDS]; 8],
-            seen: [Vector::ZERO; PLACES],
-            identity: [0; PLACES],
-        }
-    }
-
-    /// The place of a held record, given as it is named.
-    #[inline(always)]
-    pub fn place(&self, identity: u32) -> usize {
-        let number = (identity >> 16) as usize;
-        self.places[(identity & 7) as usize][number.wrapping_sub(1) % RECORDS] as usize
-    }
-
-    /// The place of a unit's record after the first so many, or one above all
-    /// places if it is not held.
-    #[inline(always)]
-    pub fn place_after(&self, unit: usize, count: u16) -> usize {
-        if count >= self.counts.count(unit) {
-            return PLACES;
-        }
-        self.places[unit & 7][count as usize % RECORDS] as usize
-    }
-
-    #[inline(always)]
-    pub fn identity(&self, place: usize) -> u32 {
-        self.identity[place]
-    }
+impl Counts {
+    pub const NONE: Counts = Counts {
+        all: 0,
+        vector: Vector::ZERO,
+        next_rank: 0,
+    };
 
     /// The record's number is held.
     #[inline(always)]
-    pub fn holds(&self, fields: &Fields) -> bool {
-        fields.number <= self.counts.count(fields.unit)
-    }
-
-    /// The record ranks after the last one.
-    #[inline(always)]
-    pub fn is_behind(&self, fields: &Fields) -> bool {
-        fields.rank() >= self.next_rank
+    pub fn hold(&self, fields: &Fields) -> bool {
+        fields.number <= self.vector.count(fields.unit)
     }
 
     /// The record's number is its unit's next and its seen within the counts.
     #[inline(always)]
-    pub fn is_next(&self, fields: &Fields) -> bool {
-        // Its seen of its own unit is its number less 1.
+    pub fn are_before(&self, fields: &Fields) -> bool {
         fields.seen.is_small()
-            && fields.seen.within_small(self.counts)
-            && fields.seen.count(fields.unit) == self.counts.count(fields.unit)
+            & fields.seen.within_small(self.vector)
+            & (self.vector.count(fields.unit) + 1 == fields.number)
     }
 
-    /// The seen of a next record is closed. Its unit's record before is closed
-    /// already, so only the counts that moved since then are looked at.
+    /// A record that the counts are before ranks after the last one.
     #[inline(always)]
-    pub fn is_closed(&self, fields: &Fields) -> bool {
+    pub fn rank_before(&self, fields: &Fields) -> bool {
+        self.next_rank <= fields.small_rank()
+    }
+
+    /// Any record ranks after the last one.
+    #[cold]
+    pub fn rank_before_any(&self, fields: &Fields) -> bool {
+        self.next_rank <= fields.rank()
+    }
+
+    /// One more record, which the counts are before.
+    #[inline(always)]
+    pub fn add(&mut self, fields: &Fields) {
+        self.all += 1;
+        self.vector = self.vector.and_one_of(fields.unit);
+        self.next_rank = fields.small_rank() + 1;
+    }
+}
+
+/// Where the held records stand.
+pub struct Places {
+    /// The place of each unit's records, by number less 1.
+    of: [[u16; RECORDS]; 8],
+    /// The seen of each unit's last record with that record counted.
+    heard: [Vector; 8],
+    /// The seen of the record at each place.
+    seen: [Vector; ALL],
+}
+
+impl Places {
+    #[inline(always)]
+    pub fn none() -> Places {
+        Places {
+            of: [[0; RECORDS]; 8],
+            heard: [Vector::ZERO; 8],
+            seen: [Vector::ZERO; ALL],
+        }
+    }
+
+    /// The place of a unit's held record.
+    #[inline(always)]
+    pub fn place(&self, unit: usize, number: usize) -> usize {
+        self.of[unit & 7][number.wrapping_sub(1) % RECORDS] as usize
+    }
+
+    /// The place of a held record, given as it is named.
+    #[inline(always)]
+    pub fn named(&self, identity: u32) -> usize {
+        self.place(identity as usize, identity as usize >> 16)
+    }
+
+    /// The seen of a next record is closed; surely so if it is all that is held.
+    /// What its unit had heard is closed already, so only the counts that moved
+    /// since then are looked at.
+    #[inline(always)]
+    pub fn are_closed(&self, fields: &Fields, held: Vector) -> bool {
         let seen = fields.seen;
-        if seen == self.counts {
+        if seen == held {
             return true;
         }
-        let before = self.last[fields.unit];
-        if !before.within_small(seen) {
+        let heard = self.heard[fields.unit & 7];
+        if !heard.within_small(seen) {
             return false;
         }
-        for half in 0..2 {
-            let mut moved = seen.0[half] ^ before.0[half];
-            if fields.unit >> 2 == half {
-                moved &= !(0xffff << (16 * (fields.unit & 3)));
+        let mut moved = seen.small_differences(heard);
+        while moved != 0 {
+            let bit = moved.trailing_zeros() as usize;
+            let unit = bit / 16 + 4 * (bit & 1);
+            let place = self.place(unit, seen.count(unit) as usize);
+            if !self.seen[place].within_small(seen) {
+                return false;
             }
-            while moved != 0 {
-                let shift = moved.trailing_zeros() & 0x30;
-                let number = (seen.0[half] >> shift) as u16 as usize;
-                let unit = 4 * half + shift as usize / 16;
-                let place = self.places[unit & 7][number.wrapping_sub(1) % RECORDS];
-                if !self.seen[place as usize].within_small(seen) {
-                    return false;
-                }
-                moved &= !(0xffff << shift);
-            }
+            moved &= moved - 1;
         }
         true
     }
 
-    /// Holds one more record, kept at a place.
+    /// One more record, kept at a place.
     #[inline(always)]
-    pub fn push(&mut self, fields: &Fields, place: usize) {
+    pub fn add(&mut self, fields: &Fields, place: usize) {
         let unit = fields.unit & 7;
-        self.places[unit][(fields.number as usize).wrapping_sub(1) % RECORDS] = place as u16;
+        self.of[unit][(fields.number as usize).wrapping_sub(1) % RECORDS] = place as u16;
+        self.heard[unit] = fields.seen.and_one_of(unit);
         self.seen[place] = fields.seen;
-        self.identity[place] = fields.identity();
-        self.last[unit] = fields.seen;
-        self.counts.add(unit);
-        self.next_rank = fields.rank() + 1;
-        self.len += 1;
     }
 }

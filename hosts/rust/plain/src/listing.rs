@@ -1,9 +1,10 @@
 //! The listing that `readout` prints.
 
 use crate::calls::{Blocks, blocks_of, check_file};
-use crate::held::{Held, Store};
-use crate::replay::{Entry, Fate, Kind, NONE, ROOT, Replay};
-use crate::{Answer, RECORDS, table};
+use crate::held::{Places, Store};
+use crate::record::Record;
+use crate::replay::{Kind, ROOT, Replay};
+use crate::{Answer, RECORDS};
 
 /// The longest entry line: a trace with a label of 32 quotes, disputed.
 const LINE: usize = b"trace 7.512 in 7.512 \"\" 2025-03-03  disputed\n".len() + 2 * 32 + 32;
@@ -12,153 +13,193 @@ pub const LISTING: usize = 2 * LINE + RECORDS * LINE;
 
 /// Writes the listing of a file, or its line of refusal; answers its length.
 pub fn listing(file: &[u8], out: &mut [u8; LISTING]) -> usize {
-    let mut text = Text { out, len: 0 };
-    if let Err(refusal) = list(file, &mut text) {
-        text.put(b"refused ");
-        text.number(refusal.number as u32);
-        text.put(b" at ");
-        text.number(refusal.place as u32);
-        text.put(b"\n");
+    match list(file, out) {
+        Ok(len) => len,
+        Err(refusal) => {
+            let mut line = Line::empty();
+            line.put(b"refused ");
+            line.number(refusal.number as u32);
+            line.put(b" at ");
+            line.number(refusal.place as u32);
+            line.end(out, 0)
+        }
     }
-    text.len
 }
 
-fn list(file: &[u8], text: &mut Text) -> Answer<()> {
+fn list(file: &[u8], out: &mut [u8; LISTING]) -> Answer<usize> {
     let blocks = blocks_of(file)?;
-    let mut held = Held::none();
+    let mut places = Places::none();
     let mut replay = Replay::root();
-    let header = check_file(blocks, &mut held, |held, fields| {
-        replay.step(held, &blocks, fields, held.len - 1)
+    let (header, held) = check_file(blocks, &mut places, |places, fields, place| {
+        replay.step(places, &blocks, fields, place)
     })?;
-    text.put(b"archive ");
-    text.number(header.archive);
-    text.put(b" unit ");
-    text.number(header.unit as u32);
-    text.put(b" records ");
-    text.number(held.len as u32);
-    text.put(b"\nseen");
+    let mut line = Line::empty();
+    line.put(b"archive ");
+    line.number(header.archive);
+    line.put(b" unit ");
+    line.number(header.unit as u32);
+    line.put(b" records ");
+    line.number(held.all as u32);
+    let mut len = line.end(out, 0);
+    line.put(b"seen");
     for unit in 0..8 {
-        text.put(b" ");
-        text.number(header.vector.count(unit) as u32);
+        line.put(b" ");
+        line.number(header.vector.count(unit) as u32);
     }
-    text.put(b"\n");
-    let disputed = table::disputed(&held, &replay);
-    for place in 0..held.len {
-        let entry = &replay.entries[place];
-        if entry.kind != Kind::Absent {
-            entry_line(text, &held, blocks, place, entry, disputed[place]);
+    len = line.end(out, len);
+    let disputed = replay.disputed();
+    for (place, disputed) in disputed[..held.all].iter().enumerate() {
+        if replay.entries[place].kind != Kind::Absent {
+            put_entry(&mut line, &replay, blocks, place, *disputed);
+            len = line.end(out, len);
         }
     }
-    for place in 0..held.len {
-        let fate = replay.fates[place];
-        if fate.reason != 0 {
-            aside_line(text, &held, place, fate);
+    for place in 0..held.all {
+        if replay.fates[place].reason != 0 {
+            put_aside(&mut line, &replay, place);
+            len = line.end(out, len);
         }
     }
-    Ok(())
+    Ok(len)
 }
 
-fn entry_line(
-    text: &mut Text,
-    held: &Held,
-    blocks: Blocks,
-    place: usize,
-    entry: &Entry,
-    disputed: bool,
-) {
+fn put_entry(line: &mut Line, replay: &Replay, blocks: Blocks, place: usize, disputed: bool) {
+    let entry = &replay.entries[place];
     let contents = blocks.record(entry.contents as usize);
-    let label = &blocks.record(entry.label as usize)[32..64];
-    text.put(if entry.kind == Kind::Folder {
-        b"folder "
-    } else {
-        b"trace "
-    });
-    text.identity(held.identity(place));
-    text.put(b" in ");
-    text.identity(if entry.folder == ROOT {
+    let is_trace = entry.kind == Kind::Trace;
+    line.put(if is_trace { b"trace " } else { b"folder " });
+    line.identity(replay.identities[place]);
+    line.put(b" in ");
+    line.identity(if entry.folder == ROOT {
         0
     } else {
-        held.identity(entry.folder as usize)
+        replay.identities[entry.folder as usize]
     });
-    text.put(b" \"");
-    for &byte in label.iter().take_while(|byte| **byte != 0) {
-        if byte == b'"' || byte == b'\\' {
-            text.put(b"\\");
-        }
-        text.put(&[byte]);
-    }
-    text.put(b"\" ");
-    text.digits(u16::from_le_bytes([contents[28], contents[29]]) as u32, 4);
-    text.put(b"-");
-    text.digits(contents[30] as u32, 2);
-    text.put(b"-");
-    text.digits(contents[31] as u32, 2);
-    if entry.kind == Kind::Trace {
-        text.put(b" ");
-        for byte in &contents[64..80] {
-            text.put(&[HEX[(byte >> 4) as usize], HEX[(byte & 15) as usize]]);
-        }
+    line.put(b" \"");
+    line.label(blocks.record(entry.label as usize));
+    line.put(b"\" ");
+    let year = u16::from_le_bytes([contents[28], contents[29]]);
+    line.two_digits((year / 100) as u8);
+    line.two_digits((year % 100) as u8);
+    line.put(b"-");
+    line.two_digits(contents[30]);
+    line.put(b"-");
+    line.two_digits(contents[31]);
+    if is_trace {
+        line.put(b" ");
+        line.mark(contents);
     }
     if disputed {
-        text.put(b" disputed");
+        line.put(b" disputed");
     }
-    text.put(b"\n");
 }
 
-fn aside_line(text: &mut Text, held: &Held, place: usize, fate: Fate) {
-    text.put(b"aside ");
-    text.identity(held.identity(place));
-    text.put(b" reason ");
-    text.number(fate.reason as u32);
-    text.put(b" marks ");
-    if fate.marks == NONE {
-        text.put(b"-");
-    } else {
-        text.identity(held.identity(fate.marks as usize));
+fn put_aside(line: &mut Line, replay: &Replay, place: usize) {
+    let fate = replay.fates[place];
+    line.put(b"aside ");
+    line.identity(replay.identities[place]);
+    line.put(b" reason ");
+    line.number(fate.reason as u32);
+    line.put(b" marks ");
+    match fate.marks() {
+        None => line.put(b"-"),
+        Some(place) => line.identity(replay.identities[place]),
     }
-    text.put(if fate.settled {
-        b" settled\n"
-    } else {
-        b" open\n"
-    });
+    line.put(if fate.settled { b" settled" } else { b" open" });
 }
 
-const HEX: &[u8; 16] = b"0123456789abcdef";
-
-/// Text laid into lent memory.
-struct Text<'a> {
-    out: &'a mut [u8; LISTING],
-    len: usize,
+/// A line in the making. A length of eight bits never leaves the 256 bytes, so
+/// single bytes are put without a check.
+struct Line {
+    bytes: [u8; 256],
+    len: u8,
 }
 
-impl Text<'_> {
+impl Line {
+    fn empty() -> Line {
+        Line {
+            bytes: [0; 256],
+            len: 0,
+        }
+    }
+
+    #[inline(always)]
+    fn byte(&mut self, byte: u8) {
+        self.bytes[self.len as usize] = byte;
+        self.len = self.len.wrapping_add(1);
+    }
+
     #[inline(always)]
     fn put(&mut self, bytes: &[u8]) {
-        self.out[self.len..self.len + bytes.len()].copy_from_slice(bytes);
-        self.len += bytes.len();
+        let at = self.len as usize;
+        self.bytes[at..at + bytes.len()].copy_from_slice(bytes);
+        self.len += bytes.len() as u8;
     }
 
-    /// A number in decimal with at least so many digits.
-    fn digits(&mut self, number: u32, least: usize) {
-        let mut digits = [b'0'; 10];
+    /// A number in decimal.
+    fn number(&mut self, number: u32) {
+        let mut digits = [0; 10];
         let mut at = digits.len();
         let mut rest = number;
-        while rest > 0 {
+        loop {
             at -= 1;
-            digits[at] += (rest % 10) as u8;
+            digits[at] = b'0' + (rest % 10) as u8;
             rest /= 10;
+            if rest == 0 {
+                break;
+            }
         }
-        let at = at.min(digits.len() - least);
-        self.put(&digits[at..]);
+        for digit in &digits[at..] {
+            self.byte(*digit);
+        }
     }
 
-    fn number(&mut self, number: u32) {
-        self.digits(number, 1);
+    #[inline(always)]
+    fn two_digits(&mut self, number: u8) {
+        self.byte(b'0' + number / 10 % 10);
+        self.byte(b'0' + number % 10);
     }
 
+    #[inline(always)]
     fn identity(&mut self, identity: u32) {
-        self.number(identity & 7);
-        self.put(b".");
+        self.byte(b'0' + (identity & 7) as u8);
+        self.byte(b'.');
         self.number(identity >> 16);
+    }
+
+    /// A record's label, quotes and backslashes with a backslash before them.
+    #[inline(always)]
+    fn label(&mut self, record: &Record) {
+        for byte in &record[32..64] {
+            if *byte == 0 {
+                break;
+            }
+            if *byte == b'"' || *byte == b'\\' {
+                self.byte(b'\\');
+            }
+            self.byte(*byte);
+        }
+    }
+
+    /// A record's mark in hexadecimal.
+    #[inline(always)]
+    fn mark(&mut self, record: &Record) {
+        let digit = |half: u8| half + if half < 10 { b'0' } else { b'a' - 10 };
+        let mut text = [0; 32];
+        for i in 0..16 {
+            text[2 * i] = digit(record[64 + i] >> 4);
+            text[2 * i + 1] = digit(record[64 + i] & 15);
+        }
+        self.put(&text);
+    }
+
+    /// Ends the line behind the listing so far, and empties it.
+    #[inline(always)]
+    fn end(&mut self, out: &mut [u8; LISTING], len: usize) -> usize {
+        self.byte(b'\n');
+        let end = len + self.len as usize;
+        out[len..end].copy_from_slice(&self.bytes[..self.len as usize]);
+        self.len = 0;
+        end
     }
 }

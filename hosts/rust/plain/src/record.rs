@@ -11,19 +11,61 @@ pub const MAKE_TRACE: u8 = 2;
 pub const STORE: u8 = 3;
 pub const REMOVE: u8 = 4;
 pub const RENAME: u8 = 5;
+const SETTLE: u8 = 6;
 
-/// The operations, one bit each, that make an entry, use a label, use a mark.
-const OPERATIONS: u32 = 0b111_1110;
-const MAKES: u32 = 1 << MAKE_FOLDER | 1 << MAKE_TRACE;
-const LABELS: u32 = MAKES | 1 << RENAME;
-const MARKS: u32 = 1 << MAKE_TRACE | 1 << STORE;
+/// What an operation asks of a record's bytes.
+#[derive(Clone, Copy)]
+struct Rule {
+    /// Bits of the eight bytes of object and folder that are zero.
+    names_zero: u64,
+    /// Bits of the mark that are zero.
+    mark_zero: u64,
+    /// Where the named identity stands in those eight bytes.
+    named_at: u8,
+    uses_label: bool,
+    /// It may name the root.
+    names_root: bool,
+}
+
+const RULES: [Rule; 8] = {
+    // A unit of three bits, a zero, a number.
+    const IDENTITY: u64 = 0xffff_0007;
+    const fn rule(named_at: u8, uses_label: bool, uses_mark: bool) -> Rule {
+        Rule {
+            names_zero: !(IDENTITY << named_at),
+            mark_zero: if uses_mark { 0 } else { !0 },
+            named_at,
+            uses_label,
+            names_root: named_at == 32,
+        }
+    }
+    // No operation: no identity is good.
+    let mut rules = [Rule {
+        names_zero: !0,
+        ..rule(0, false, false)
+    }; 8];
+    rules[MAKE_FOLDER as usize] = rule(32, true, false);
+    rules[MAKE_TRACE as usize] = rule(32, true, true);
+    rules[STORE as usize] = rule(0, false, true);
+    rules[REMOVE as usize] = rule(0, false, false);
+    rules[RENAME as usize] = rule(0, true, false);
+    rules[SETTLE as usize] = rule(0, false, false);
+    rules
+};
+
+/// The rule of an operation below 8.
+#[inline(always)]
+fn rule(operation: u8) -> &'static Rule {
+    &RULES[(operation & 7) as usize]
+}
 
 /// A label's 32 bytes.
 pub type Label = [u64; 4];
 
 /// The fields of a well-formed record that later steps use.
 #[derive(Clone, Copy)]
-pub struct Fields {
+pub struct Fields<'a> {
+    pub record: &'a Record,
     pub unit: usize,
     pub operation: u8,
     pub number: u16,
@@ -31,10 +73,23 @@ pub struct Fields {
     /// The identity it names, as it stands in the record: the folder of a
     /// make, else the object.
     pub named: u32,
-    pub label: Label,
 }
 
-impl Fields {
+impl Fields<'_> {
+    #[inline(always)]
+    pub fn of(record: &Record) -> Fields<'_> {
+        let head = get32(record, 0);
+        let operation = (head >> 8) as u8;
+        Fields {
+            record,
+            unit: (head & 7) as usize,
+            operation,
+            number: (head >> 16) as u16,
+            seen: Vector::read(record, 4),
+            named: (get64(record, 20) >> rule(operation).named_at) as u32,
+        }
+    }
+
     /// The record's identity in the form of a named one.
     #[inline(always)]
     pub fn identity(&self) -> u32 {
@@ -46,12 +101,18 @@ impl Fields {
     pub fn rank(&self) -> u32 {
         self.seen.total() << 3 | self.unit as u32
     }
+
+    /// The rank, where the seen counts are within those of a log.
+    #[inline(always)]
+    pub fn small_rank(&self) -> u32 {
+        self.seen.small_total() << 3 | self.unit as u32
+    }
 }
 
-/// The rank of a well-formed record.
+/// The rank of a held record.
 #[inline(always)]
 pub fn rank_of(record: &Record) -> u32 {
-    Vector::read(record, 4).total() << 3 | (record[0] & 7) as u32
+    Vector::read(record, 4).small_total() << 3 | (record[0] & 7) as u32
 }
 
 #[inline(always)]
@@ -67,87 +128,57 @@ pub fn label_of(record: &Record) -> Label {
 /// A real Gregorian date from 1990 to 2199.
 #[inline(always)]
 pub fn is_date(year: u16, month: u8, day: u8) -> bool {
-    const DAYS: [u8; 16] = [0, 31, 28, 31, 30, 31, 30, 31, 31, 30, 31, 30, 31, 0, 0, 0];
+    // Days of the months 0 to 15 in common years, then in leap years.
+    const DAYS: [u8; 32] = [
+        0, 31, 28, 31, 30, 31, 30, 31, 31, 30, 31, 30, 31, 0, 0, 0, //
+        0, 31, 29, 31, 30, 31, 30, 31, 31, 30, 31, 30, 31, 0, 0, 0,
+    ];
     // Of these years only 2100 divides by 4 and is no leap year.
-    let leap = year & 3 == 0 && year != 2100;
-    let days = DAYS[(month & 15) as usize] + (month == 2 && leap) as u8;
-    year.wrapping_sub(1990) < 210 && month < 16 && day.wrapping_sub(1) < days
+    let leap = (year & 3 == 0) & (year != 2100);
+    let days = DAYS[(month & 15 | (leap as u8) << 4) as usize];
+    (year.wrapping_sub(1990) < 210) & (month < 16) & (day.wrapping_sub(1) < days)
 }
 
 /// The label is empty, or bytes 20 to 7E without a space first or last; all
-/// bytes after it are zero.
+/// bytes after it are zero. The record's date must be one: the day stands
+/// before the label and is neither zero nor a space.
 #[inline(always)]
-fn is_label_or_empty(label: &Label) -> bool {
-    const ONES: u64 = 0x0101_0101_0101_0101;
-    const TOPS: u64 = ONES << 7;
-    // The top bit of each byte tells: not zero, 20 and above, 21 and above, 7F.
-    let used = label.map(|word| (word & !TOPS) + ONES * 0x7f);
-    let mut bad = 0;
-    for i in 0..4 {
-        let word = label[i];
-        let low = word & !TOPS;
-        let printed = low + ONES * 0x60;
-        let beyond_space = low + ONES * 0x5f;
-        let deleted = low + ONES;
-        let after = if i < 3 { used[i + 1] << 56 } else { 0 };
-        let next = used[i] >> 8 & !(0xff << 56) | after;
-        bad |= word | used[i] ^ printed | deleted;
-        // Used after an unused byte, or a space before one.
-        bad |= next & !used[i] | used[i] & !beyond_space & !next;
+fn is_label_or_empty(record: &Record) -> bool {
+    // Without comparisons the loop becomes vector instructions.
+    let mut wrong = 0;
+    for i in 32..64 {
+        let (byte, before) = (record[i], record[i - 1]);
+        let unprinted = byte.saturating_sub(0x7e) | byte.min(0x20u8.saturating_sub(byte));
+        let after_end = byte.min(1u8.saturating_sub(before));
+        let last_space = 1u8.saturating_sub(byte) & 1u8.saturating_sub(before ^ 0x20);
+        wrong |= unprinted | after_end | last_space;
     }
-    bad & TOPS == 0 && label[0] & 0xff != 0x20
-}
-
-/// The fields of a record, if it is well formed.
-#[inline(always)]
-pub fn fields(record: &Record) -> Option<Fields> {
-    let head = get32(record, 0);
-    let unit = (head & 7) as usize;
-    let operation = (head >> 8) as u8;
-    let number = (head >> 16) as u16;
-    let own_seen = get16(record, 4 + 2 * unit);
-    let uses = |set: u32| set >> (operation & 7) & 1 != 0;
-
-    let (object, folder) = (get32(record, 20), get32(record, 24));
-    let makes = uses(MAKES);
-    let (named, unnamed) = if makes {
-        (folder, object)
-    } else {
-        (object, folder)
-    };
-    let named_number = named >> 16;
-    let named_seen = get16(record, 4 + 2 * (named & 7) as usize) as u32;
-    let names_root = named == 0 && makes;
-
-    let label = label_of(record);
-    let date = get32(record, 28);
-
-    let good = head & 0xf8 == 0
-        && operation < 8
-        && uses(OPERATIONS)
-        && own_seen as u32 + 1 == number as u32
-        && unnamed == 0
-        && named & 0xfff8 == 0
-        && named_number <= named_seen
-        && (named_number != 0 || names_root)
-        && is_date(date as u16, (date >> 16) as u8, (date >> 24) as u8)
-        && is_label_or_empty(&label)
-        && (label[0] & 0xff != 0) == uses(LABELS)
-        && (get64(record, 64) | get64(record, 72) == 0 || uses(MARKS));
-    if !good {
-        return None;
-    }
-    Some(Fields {
-        unit,
-        operation,
-        number,
-        seen: Vector::read(record, 4),
-        named,
-        label,
-    })
+    wrong == 0 && record[32] != 0x20 && record[63] != 0x20
 }
 
 /// The record is well formed.
+#[inline(always)]
 pub fn well_formed(record: &Record) -> bool {
-    fields(record).is_some()
+    let head = get32(record, 0);
+    let rule = rule((head >> 8) as u8);
+    let names = get64(record, 20);
+    let mark = get64(record, 64) | get64(record, 72);
+    let stray = (head & 0xf8f8) as u64 | names & rule.names_zero | mark & rule.mark_zero;
+
+    let own_seen = get16(record, 4 + 2 * (head & 7) as usize) as u32;
+
+    let named = (names >> rule.named_at) as u32;
+    let named_seen = get16(record, 4 + 2 * (named & 7) as usize) as u32;
+    let named_held = (named >> 16).wrapping_sub(1) < named_seen;
+    let named_root = (names == 0) & rule.names_root;
+
+    let date = get32(record, 28);
+    let has_label = record[32] != 0;
+
+    stray == 0
+        && own_seen + 1 == head >> 16
+        && named_held | named_root
+        && has_label == rule.uses_label
+        && is_date(date as u16, (date >> 16) as u8, (date >> 24) as u8)
+        && is_label_or_empty(record)
 }

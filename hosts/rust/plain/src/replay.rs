@@ -1,19 +1,16 @@
 //! The replay: each record in rank order fits or stands aside.
 
 use crate::RECORDS;
-use crate::held::{Held, Store};
+use crate::held::{Places, Store};
 use crate::record::{Fields, Label, MAKE_FOLDER, MAKE_TRACE, REMOVE, RENAME, STORE, label_of};
-use crate::vector::Vector;
 
 /// The root's place among the entries.
 pub const ROOT: u16 = RECORDS as u16;
-/// No entry.
-pub const NONE: u16 = RECORDS as u16 + 1;
 
-const HEADS: usize = 1024;
+const HEADS: usize = 4096;
 
 #[derive(Clone, Copy, PartialEq, Eq)]
-#[repr(u8)]
+#[repr(u16)]
 pub enum Kind {
     Absent = 0,
     Folder = 1,
@@ -23,7 +20,7 @@ pub enum Kind {
 /// An entry, kept at the place of its making record. The others are places too.
 #[derive(Clone, Copy)]
 pub struct Entry {
-    pub kind: Kind,
+    hash: u32,
     pub folder: u16,
     /// Last contents record.
     pub contents: u16,
@@ -31,19 +28,19 @@ pub struct Entry {
     pub label: u16,
     /// Entries in it.
     inside: u16,
-    /// Next entry under the same head.
+    /// Next entry under the same head, plus 1.
     next: u16,
-    hash: u32,
+    pub kind: Kind,
 }
 
 const ABSENT: Entry = Entry {
-    kind: Kind::Absent,
+    hash: 0,
     folder: 0,
     contents: 0,
     label: 0,
     inside: 0,
     next: 0,
-    hash: 0,
+    kind: Kind::Absent,
 };
 
 /// How a record fared: reason 0 is a fit.
@@ -51,24 +48,30 @@ const ABSENT: Entry = Entry {
 pub struct Fate {
     pub reason: u8,
     pub settled: bool,
-    pub marks: u16,
+    /// The marked entry, plus 1.
+    marks: u16,
 }
 
-const FITS: Fate = aside(0, NONE);
-
-#[inline(always)]
-const fn aside(reason: u8, marks: u16) -> Fate {
-    Fate {
-        reason,
+impl Fate {
+    const FITS: Fate = Fate {
+        reason: 0,
         settled: false,
-        marks,
+        marks: 0,
+    };
+
+    /// The place of the marked entry.
+    #[inline(always)]
+    pub fn marks(self) -> Option<usize> {
+        (self.marks as usize).checked_sub(1)
     }
 }
 
 pub struct Replay {
     pub entries: [Entry; RECORDS + 1],
     pub fates: [Fate; RECORDS],
-    /// First entry under each hash of folder and label.
+    /// The record at each place, as it is named.
+    pub identities: [u32; RECORDS],
+    /// First entry under each hash of folder and label, plus 1.
     heads: [u16; HEADS],
 }
 
@@ -97,30 +100,31 @@ impl Replay {
     /// The root alone.
     #[inline(always)]
     pub fn root() -> Replay {
-        let mut entries = [ABSENT; RECORDS + 1];
-        entries[ROOT as usize].kind = Kind::Folder;
-        Replay {
-            entries,
-            fates: [FITS; RECORDS],
-            heads: [NONE; HEADS],
-        }
+        let mut replay = Replay {
+            entries: [ABSENT; RECORDS + 1],
+            fates: [Fate::FITS; RECORDS],
+            identities: [0; RECORDS],
+            heads: [0; HEADS],
+        };
+        replay.entries[ROOT as usize].kind = Kind::Folder;
+        replay
     }
 
-    /// The entry in a folder that has a label.
+    /// The entry in a folder that has a label, plus 1.
     #[inline(always)]
     fn holder(&self, store: &impl Store, folder: u16, label: &Label, hash: u32) -> u16 {
-        let mut at = self.heads[head_of(hash)];
-        while at != NONE {
-            let entry = &self.entries[at as usize];
+        let mut link = self.heads[head_of(hash)];
+        while link != 0 {
+            let entry = &self.entries[link as usize - 1];
             if entry.hash == hash
                 && entry.folder == folder
                 && label_of(store.record(entry.label as usize)) == *label
             {
                 break;
             }
-            at = entry.next;
+            link = entry.next;
         }
-        at
+        link
     }
 
     /// Puts an entry under its hash.
@@ -130,7 +134,7 @@ impl Replay {
         let entry = &mut self.entries[at as usize];
         entry.hash = hash;
         entry.next = *head;
-        *head = at;
+        *head = at + 1;
     }
 
     /// Takes an entry from under its hash.
@@ -138,107 +142,158 @@ impl Replay {
     fn unlink(&mut self, at: u16) {
         let Entry { hash, next, .. } = self.entries[at as usize];
         let head = head_of(hash);
-        if self.heads[head] == at {
+        let mut link = self.heads[head];
+        if link == at + 1 {
             self.heads[head] = next;
             return;
         }
-        let mut before = self.heads[head];
-        while self.entries[before as usize].next != at {
-            before = self.entries[before as usize].next;
+        while self.entries[link as usize - 1].next != at + 1 {
+            link = self.entries[link as usize - 1].next;
         }
-        self.entries[before as usize].next = next;
-    }
-
-    /// How a record fares, and the hash of its label in its folder. The record
-    /// need not be held.
-    #[inline(always)]
-    pub fn judge(&self, held: &Held, store: &impl Store, fields: &Fields) -> (Fate, u32) {
-        let unseen = |place: u16| {
-            let identity = held.identity(place as usize);
-            identity >> 16 > Vector::count(fields.seen, (identity & 7) as usize) as u32
-        };
-        let named = if fields.named == 0 {
-            ROOT
-        } else {
-            held.place(fields.named) as u16
-        };
-        let entry = &self.entries[named as usize];
-        match fields.operation {
-            MAKE_FOLDER | MAKE_TRACE => match entry.kind {
-                Kind::Absent => (aside(13, NONE), 0),
-                Kind::Trace => (aside(14, named), 0),
-                Kind::Folder => self.judge_label(store, named, fields),
-            },
-            STORE => match entry.kind {
-                Kind::Absent => (aside(12, NONE), 0),
-                Kind::Folder => (aside(14, named), 0),
-                Kind::Trace if unseen(entry.contents) => (aside(17, named), 0),
-                Kind::Trace => (FITS, 0),
-            },
-            REMOVE if entry.kind == Kind::Absent => (aside(12, NONE), 0),
-            REMOVE if entry.inside != 0 => (aside(16, named), 0),
-            REMOVE if unseen(entry.contents) || unseen(entry.label) => (aside(17, named), 0),
-            REMOVE => (FITS, 0),
-            RENAME if entry.kind == Kind::Absent => (aside(12, NONE), 0),
-            RENAME if unseen(entry.label) => (aside(17, named), 0),
-            RENAME => self.judge_label(store, entry.folder, fields),
-            _ if self.fates[named as usize % RECORDS].reason == 0 => (aside(18, NONE), 0),
-            _ => (FITS, 0),
-        }
-    }
-
-    #[inline(always)]
-    fn judge_label(&self, store: &impl Store, folder: u16, fields: &Fields) -> (Fate, u32) {
-        let hash = hash_of(folder, &fields.label);
-        match self.holder(store, folder, &fields.label, hash) {
-            NONE => (FITS, hash),
-            holder => (aside(15, holder), hash),
-        }
+        self.entries[link as usize - 1].next = next;
     }
 
     /// Replays the record at a place, the last one held.
     #[inline(always)]
-    pub fn step(&mut self, held: &Held, store: &impl Store, fields: &Fields, place: usize) {
-        let (fate, hash) = self.judge(held, store, fields);
-        self.fates[place] = fate;
-        if fate.reason != 0 {
-            return;
-        }
-        let at = place as u16;
+    pub fn step(&mut self, places: &Places, store: &impl Store, fields: &Fields, place: usize) {
+        self.identities[place] = fields.identity();
         let named = if fields.named == 0 {
             ROOT
         } else {
-            held.place(fields.named) as u16
+            places.named(fields.named) as u16
         };
-        match fields.operation {
-            MAKE_FOLDER | MAKE_TRACE => {
-                self.entries[place] = Entry {
-                    kind: if fields.operation == MAKE_FOLDER {
-                        Kind::Folder
-                    } else {
-                        Kind::Trace
-                    },
-                    folder: named,
-                    contents: at,
-                    label: at,
-                    ..ABSENT
-                };
-                self.entries[named as usize].inside += 1;
-                self.link(at, hash);
-            }
-            STORE => self.entries[named as usize].contents = at,
-            REMOVE => {
-                self.unlink(named);
-                self.entries[named as usize].kind = Kind::Absent;
-                let folder = self.entries[named as usize].folder;
-                self.entries[folder as usize].inside -= 1;
-            }
-            RENAME => {
-                self.unlink(named);
-                self.entries[named as usize].label = at;
-                self.link(named, hash);
-            }
-            _ => self.fates[named as usize % RECORDS].settled = true,
+        let (reason, marks) = match fields.operation {
+            MAKE_FOLDER => self.make(store, fields, Kind::Folder, place as u16, named),
+            MAKE_TRACE => self.make(store, fields, Kind::Trace, place as u16, named),
+            STORE => self.store(fields, place as u16, named),
+            REMOVE => self.remove(fields, named),
+            RENAME => self.rename(store, fields, place as u16, named),
+            _ => self.settle(named),
+        };
+        self.fates[place] = Fate {
+            reason,
+            settled: false,
+            marks,
+        };
+    }
+
+    /// The reason and the marked entry plus 1 of a make.
+    #[inline(always)]
+    fn make(
+        &mut self,
+        store: &impl Store,
+        fields: &Fields,
+        kind: Kind,
+        place: u16,
+        folder: u16,
+    ) -> (u8, u16) {
+        match self.entries[folder as usize].kind {
+            Kind::Absent => return (13, 0),
+            Kind::Trace => return (14, folder + 1),
+            Kind::Folder => (),
         }
+        let label = label_of(fields.record);
+        let hash = hash_of(folder, &label);
+        let holder = self.holder(store, folder, &label, hash);
+        if holder != 0 {
+            return (15, holder);
+        }
+        self.entries[folder as usize].inside += 1;
+        self.entries[place as usize] = Entry {
+            kind,
+            folder,
+            contents: place,
+            label: place,
+            ..ABSENT
+        };
+        self.link(place, hash);
+        (0, 0)
+    }
+
+    #[inline(always)]
+    fn store(&mut self, fields: &Fields, place: u16, object: u16) -> (u8, u16) {
+        let entry = self.entries[object as usize];
+        match entry.kind {
+            Kind::Absent => (12, 0),
+            Kind::Folder => (14, object + 1),
+            Kind::Trace if self.unseen(fields, entry.contents) => (17, object + 1),
+            Kind::Trace => {
+                self.entries[object as usize].contents = place;
+                (0, 0)
+            }
+        }
+    }
+
+    #[inline(always)]
+    fn remove(&mut self, fields: &Fields, object: u16) -> (u8, u16) {
+        let entry = self.entries[object as usize];
+        if entry.kind == Kind::Absent {
+            return (12, 0);
+        }
+        if entry.inside != 0 {
+            return (16, object + 1);
+        }
+        if self.unseen(fields, entry.contents) || self.unseen(fields, entry.label) {
+            return (17, object + 1);
+        }
+        self.unlink(object);
+        self.entries[object as usize].kind = Kind::Absent;
+        self.entries[entry.folder as usize].inside -= 1;
+        (0, 0)
+    }
+
+    #[inline(always)]
+    fn rename(
+        &mut self,
+        store: &impl Store,
+        fields: &Fields,
+        place: u16,
+        object: u16,
+    ) -> (u8, u16) {
+        let entry = self.entries[object as usize];
+        if entry.kind == Kind::Absent {
+            return (12, 0);
+        }
+        if self.unseen(fields, entry.label) {
+            return (17, object + 1);
+        }
+        let label = label_of(fields.record);
+        let hash = hash_of(entry.folder, &label);
+        let holder = self.holder(store, entry.folder, &label, hash);
+        if holder != 0 {
+            return (15, holder);
+        }
+        self.unlink(object);
+        self.entries[object as usize].label = place;
+        self.link(object, hash);
+        (0, 0)
+    }
+
+    #[inline(always)]
+    fn settle(&mut self, record: u16) -> (u8, u16) {
+        let fate = &mut self.fates[record as usize % RECORDS];
+        if fate.reason == 0 {
+            return (18, 0);
+        }
+        fate.settled = true;
+        (0, 0)
+    }
+
+    /// The record at a place is unseen.
+    #[inline(always)]
+    fn unseen(&self, fields: &Fields, place: u16) -> bool {
+        let identity = self.identities[place as usize];
+        identity >> 16 > fields.seen.count((identity & 7) as usize) as u32
+    }
+
+    /// The entries that an open aside marks.
+    pub fn disputed(&self) -> [bool; RECORDS] {
+        let mut disputed = [false; RECORDS];
+        for fate in self.fates {
+            if let (false, Some(place)) = (fate.settled, fate.marks()) {
+                disputed[place % RECORDS] = true;
+            }
+        }
+        disputed
     }
 }

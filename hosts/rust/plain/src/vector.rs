@@ -5,73 +5,113 @@ use crate::bytes::{get64, put64};
 /// The top bit of each count.
 const TOP: u64 = 0x8000_8000_8000_8000;
 
-/// Eight counts; unit 0 stands lowest in the first word.
+/// Eight counts: units 0 to 3 in the low word, 4 to 7 in the high one, the
+/// first of them lowest.
 #[derive(Clone, Copy, PartialEq, Eq)]
-pub struct Vector(pub [u64; 2]);
+pub struct Vector {
+    pub low: u64,
+    pub high: u64,
+}
 
 impl Vector {
-    pub const ZERO: Vector = Vector([0; 2]);
+    pub const ZERO: Vector = Vector { low: 0, high: 0 };
 
     #[inline(always)]
     pub fn read(bytes: &[u8], at: usize) -> Vector {
-        Vector([get64(bytes, at), get64(bytes, at + 8)])
+        Vector {
+            low: get64(bytes, at),
+            high: get64(bytes, at + 8),
+        }
     }
 
     #[inline(always)]
     pub fn write(self, bytes: &mut [u8], at: usize) {
-        put64(bytes, at, self.0[0]);
-        put64(bytes, at + 8, self.0[1]);
+        put64(bytes, at, self.low);
+        put64(bytes, at + 8, self.high);
     }
 
     pub fn of(counts: &[u16; 8]) -> Vector {
         let word =
             |from: usize| (0..4).fold(0, |word, i| word | (counts[from + i] as u64) << (16 * i));
-        Vector([word(0), word(4)])
+        Vector {
+            low: word(0),
+            high: word(4),
+        }
     }
 
     /// The count of a unit below 8.
     #[inline(always)]
     pub fn count(self, unit: usize) -> u16 {
-        (self.0[unit >> 2 & 1] >> (16 * (unit & 3))) as u16
+        let word = if unit & 4 == 0 { self.low } else { self.high };
+        (word >> (16 * (unit & 3))) as u16
     }
 
-    /// One more record of a unit.
+    /// One record of a unit more.
     #[inline(always)]
-    pub fn add(&mut self, unit: usize) {
-        self.0[unit >> 2 & 1] += 1 << (16 * (unit & 3));
+    pub fn and_one_of(self, unit: usize) -> Vector {
+        const ONE: [Vector; 8] = {
+            let mut one = [Vector::ZERO; 8];
+            let mut unit = 0;
+            while unit < 4 {
+                one[unit].low = 1 << (16 * unit);
+                one[unit + 4].high = 1 << (16 * unit);
+                unit += 1;
+            }
+            one
+        };
+        let one = &ONE[unit & 7];
+        Vector {
+            low: self.low + one.low,
+            high: self.high + one.high,
+        }
     }
 
     /// No count is above the other's.
     #[inline(always)]
     pub fn within(self, other: Vector) -> bool {
         let at_most = |a: u64, b: u64| {
-            let low = (b | TOP) - (a & !TOP);
-            (!a & b | !(a ^ b) & low) & TOP == TOP
+            let rest = (b | TOP) - (a & !TOP);
+            (!a & b | !(a ^ b) & rest) & TOP == TOP
         };
-        at_most(self.0[0], other.0[0]) && at_most(self.0[1], other.0[1])
+        at_most(self.low, other.low) && at_most(self.high, other.high)
     }
 
     /// No count is above the other's, where all counts are below 32,768.
     #[inline(always)]
     pub fn within_small(self, other: Vector) -> bool {
-        let low = (other.0[0] | TOP).wrapping_sub(self.0[0]);
-        let high = (other.0[1] | TOP).wrapping_sub(self.0[1]);
+        let low = (other.low | TOP).wrapping_sub(self.low);
+        let high = (other.high | TOP).wrapping_sub(self.high);
         low & high & TOP == TOP
     }
 
     /// All counts are below 32,768.
     #[inline(always)]
     pub fn is_small(self) -> bool {
-        (self.0[0] | self.0[1]) & TOP == 0
+        (self.low | self.high) & TOP == 0
+    }
+
+    /// The units whose counts differ, where all are below 32,768: bit 16k for
+    /// unit k, bit 16k + 1 for unit 4 + k.
+    #[inline(always)]
+    pub fn small_differences(self, other: Vector) -> u64 {
+        let differ = |a: u64, b: u64| ((a ^ b) + !TOP) & TOP;
+        differ(self.low, other.low) >> 15 | differ(self.high, other.high) >> 14
     }
 
     /// The sum of the eight counts.
     #[inline(always)]
     pub fn total(self) -> u32 {
         const EVEN: u64 = 0x0000_ffff_0000_ffff;
-        let [a, b] = self.0;
-        let pairs = (a & EVEN) + (a >> 16 & EVEN) + (b & EVEN) + (b >> 16 & EVEN);
-        (pairs + (pairs >> 32)) as u32
+        let pairs = |word: u64| (word & EVEN) + (word >> 16 & EVEN);
+        let sum = pairs(self.low) + pairs(self.high);
+        (sum + (sum >> 32)) as u32
+    }
+
+    /// The sum of the eight counts, where it is below 65,536.
+    #[inline(always)]
+    pub fn small_total(self) -> u32 {
+        const ONES: u64 = 0x0001_0001_0001_0001;
+        ((self.low + self.high).wrapping_mul(ONES) >> 48) as u32
     }
 }
 
