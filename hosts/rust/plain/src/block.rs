@@ -113,7 +113,9 @@ pub fn finish(block: &mut Block, header: &Header, count: usize, place: usize) {
     block[9] = count as u8;
     put16(block, 10, place as u16);
     header.vector.write(block, 12);
-    block[record_at(count)..].fill(0);
+    if count < PER_BLOCK {
+        block[record_at(count)..SUMS].fill(0);
+    }
     let (first, second) = sums(block);
     put16(block, SUMS, first);
     put16(block, SUMS + 2, second);

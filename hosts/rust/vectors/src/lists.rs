@@ -1,8 +1,8 @@
 //! Call lists: eight logs, one call a line.
 
-use crate::library::{Answer, Library};
 use crate::tree;
 use crate::words::{Fault, Words, bytes, hash};
+use library::{Answer, Library};
 
 const LOG: usize = 40_960;
 

@@ -2,7 +2,6 @@
 //! directory and says how many passed and failed. Any failure, also a
 //! directory without a case, gives an exit status other than 0.
 
-mod library;
 mod lists;
 mod readout;
 mod tables;
@@ -132,10 +131,10 @@ fn run(library: &dyn Library, directory: &Path) -> Tally {
 /// The implementation that the words of the command choose.
 fn chosen(plain: bool) -> Option<Box<dyn Library>> {
     if plain {
-        return Some(Box::new(library::plain_rust::Plain));
+        return Some(Box::new(library::Plain));
     }
     #[cfg(feature = "static")]
-    return Some(Box::new(library::static_library::Static));
+    return Some(Box::new(library::Static));
     #[cfg(not(feature = "static"))]
     None
 }

@@ -1,8 +1,8 @@
 //! Readout cases: a file and the listing of it.
 
-use crate::library::Library;
 use crate::tree;
 use crate::words::Fault;
+use library::{LISTING, Library};
 
 const LOG: usize = 40_960;
 const FILE: usize = 44_032;
@@ -10,9 +10,10 @@ const FILE: usize = 44_032;
 /// Runs one case.
 pub fn case(library: &dyn Library, file: &[u8], expected: &[u8]) -> Result<(), Fault> {
     differs(expected, &listing(library, file)?)?;
-    match library.listing(file) {
+    let mut out = vec![0; LISTING];
+    match library.listing_into(file, &mut out) {
         None => Ok(()),
-        Some(listing) => differs(expected, &listing),
+        Some(len) => differs(expected, &out[..len]),
     }
 }
 

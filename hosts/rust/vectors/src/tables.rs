@@ -1,8 +1,8 @@
 //! Tables of the small functions. What an implementation does not offer by
 //! itself is asked through its entry points.
 
-use crate::library::Library;
 use crate::words::{Fault, Words};
+use library::Library;
 
 const LOG: usize = 40_960;
 const MODULUS: i64 = 65_521;

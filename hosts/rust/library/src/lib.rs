@@ -1,4 +1,8 @@
-//! An implementation under test: the entry points, and what follows from them.
+//! The entry points of an implementation, for programs that run or compare them.
+
+pub use plain_rust::Plain;
+#[cfg(feature = "static")]
+pub use static_library::Static;
 
 /// A call's no: the number of the refusal table and the block's place.
 #[derive(Clone, Copy, Debug, PartialEq, Eq)]
@@ -17,6 +21,9 @@ pub struct Head {
     pub records: u16,
     pub vector: [u16; 8],
 }
+
+/// No listing is longer.
+pub const LISTING: usize = 73_000;
 
 /// The entry points. Those that answer an `Option` are run beside what follows
 /// from the others, where an implementation offers them.
@@ -37,7 +44,8 @@ pub trait Library {
     fn show(&self, log: &[u8], tree: &mut [u8]) -> Answer<()>;
     fn compare(&self, first: &[u16; 8], second: &[u16; 8]) -> u8;
 
-    fn listing(&self, _file: &[u8]) -> Option<Vec<u8>> {
+    /// Writes a file's listing or its line of refusal; its length.
+    fn listing_into(&self, _file: &[u8], _out: &mut [u8]) -> Option<usize> {
         None
     }
     fn is_date(&self, _year: u16, _month: u8, _day: u8) -> Option<bool> {
@@ -103,7 +111,7 @@ macro_rules! entry_points {
 }
 
 /// The plain Rust implementation.
-pub mod plain_rust {
+mod plain_rust {
     use super::{Answer, Head, Library, Refusal};
 
     pub struct Plain;
@@ -115,10 +123,9 @@ pub mod plain_rust {
     impl Library for Plain {
         entry_points!(plain);
 
-        fn listing(&self, file: &[u8]) -> Option<Vec<u8>> {
-            let mut out = [0; plain::LISTING];
-            let len = plain::listing(file, &mut out);
-            Some(out[..len].to_vec())
+        fn listing_into(&self, file: &[u8], out: &mut [u8]) -> Option<usize> {
+            let out = out.first_chunk_mut()?;
+            Some(plain::listing(file, out))
         }
         fn is_date(&self, year: u16, month: u8, day: u8) -> Option<bool> {
             Some(plain::is_date(year, month, day))
@@ -137,7 +144,7 @@ pub mod plain_rust {
 
 /// The static library.
 #[cfg(feature = "static")]
-pub mod static_library {
+mod static_library {
     use super::{Answer, Head, Library, Refusal};
 
     pub struct Static;

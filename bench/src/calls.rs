@@ -1,0 +1,172 @@
+//! One case for each entry point and size of log.
+
+use crate::times::clock;
+use library::Library;
+use plain::{BLOCK, FILE, LOG, RECORD, TREE};
+use std::hint::black_box;
+use workload::vector_of;
+
+const ARCHIVE: u32 = 7;
+const SIZES: [usize; 4] = [0, 64, 256, 512];
+
+type Run = Box<dyn FnMut(&dyn Library) -> Option<u64>>;
+
+/// A call that is made ready and timed.
+pub struct Case {
+    pub name: String,
+    run: Run,
+}
+
+impl Case {
+    /// The time of one call, if the implementation has it.
+    pub fn run(&mut self, library: &dyn Library) -> Option<u64> {
+        (self.run)(library)
+    }
+}
+
+/// The first records of a log.
+fn first(log: &[u8], records: usize) -> Vec<u8> {
+    let mut first = log[..RECORD * records].to_vec();
+    first.resize(LOG, 0);
+    first
+}
+
+/// A wish that fits every log: the label is like no other.
+fn new_trace() -> [u8; 80] {
+    let mut wish = [0; 80];
+    wish[1] = 2;
+    wish[28..32].copy_from_slice(&[0xe9, 7, 3, 3]);
+    wish[32..41].copy_from_slice(b"Gain, new");
+    wish[64..].fill(0x11);
+    wish
+}
+
+/// The cases on the first 0, 64, 256 and 512 records of a full log. An act and a
+/// take of six on the full one are timed on all but what they add.
+pub fn cases(log: &[u8]) -> Vec<Case> {
+    let mut cases = Vec::new();
+    for size in SIZES {
+        let mut case = |name: &str, run: Run| {
+            let name = format!("{name}, {size} records");
+            cases.push(Case { name, run });
+        };
+        let lent = first(log, size);
+        case("check of the log", check(lent.clone()));
+        case("start", start(lent.clone()));
+        case("act", act(first(log, size.min(511))));
+        case("hand out, six lacking", hand_out(lent.clone(), [0; 8]));
+        case(
+            "hand out, none lacking",
+            hand_out(lent.clone(), vector_of(&lent)),
+        );
+        let before = size.min(506);
+        case(
+            "take, six new",
+            take(first(log, before), &first(log, before + 6)),
+        );
+        case("write a file", write_file(lent.clone()));
+        case("read a file", read_file(&lent));
+        case("show the tree", show(lent.clone()));
+        case("listing", listing(&lent));
+    }
+    cases
+}
+
+fn check(log: Vec<u8>) -> Run {
+    Box::new(move |library| {
+        library.sound(&log)?;
+        Some(clock(|| library.sound(black_box(&log))))
+    })
+}
+
+fn start(log: Vec<u8>) -> Run {
+    let mut lent = log.clone();
+    Box::new(move |library| {
+        lent.copy_from_slice(&log);
+        Some(clock(|| {
+            library.start(black_box(&mut lent), ARCHIVE, 0).unwrap()
+        }))
+    })
+}
+
+fn act(log: Vec<u8>) -> Run {
+    let mut lent = log.clone();
+    let wish = new_trace();
+    Box::new(move |library| {
+        lent.copy_from_slice(&log);
+        Some(clock(|| {
+            library
+                .act(black_box(&mut lent), ARCHIVE, 0, &wish)
+                .unwrap()
+        }))
+    })
+}
+
+fn hand_out(log: Vec<u8>, asked: [u16; 8]) -> Run {
+    let mut block = [0; BLOCK];
+    Box::new(move |library| {
+        Some(clock(|| {
+            library
+                .hand_out(black_box(&log), ARCHIVE, 0, &asked, &mut block)
+                .unwrap()
+        }))
+    })
+}
+
+fn take(log: Vec<u8>, other: &[u8]) -> Run {
+    let mut block = [0; BLOCK];
+    plain::hand_out(other, ARCHIVE, 1, &vector_of(&log), &mut block).expect("a sound log");
+    assert_eq!(block[9], 6);
+    let mut lent = log.clone();
+    Box::new(move |library| {
+        lent.copy_from_slice(&log);
+        Some(clock(|| {
+            library
+                .take(black_box(&mut lent), ARCHIVE, 0, &block)
+                .unwrap()
+        }))
+    })
+}
+
+fn write_file(log: Vec<u8>) -> Run {
+    let mut file = vec![0; FILE];
+    Box::new(move |library| {
+        Some(clock(|| {
+            library
+                .write_file(black_box(&log), ARCHIVE, 0, &mut file)
+                .unwrap()
+        }))
+    })
+}
+
+/// The file of a log.
+fn file_of(log: &[u8]) -> Vec<u8> {
+    let mut file = vec![0; FILE];
+    let blocks = plain::write_file(log, ARCHIVE, 0, &mut file).expect("a sound log");
+    file.truncate(BLOCK * blocks as usize);
+    file
+}
+
+fn read_file(log: &[u8]) -> Run {
+    let file = file_of(log);
+    let mut lent = vec![0; LOG];
+    Box::new(move |library| {
+        Some(clock(|| {
+            library.read_file(&mut lent, black_box(&file)).unwrap()
+        }))
+    })
+}
+
+fn show(log: Vec<u8>) -> Run {
+    let mut tree = vec![0; TREE];
+    Box::new(move |library| Some(clock(|| library.show(black_box(&log), &mut tree).unwrap())))
+}
+
+fn listing(log: &[u8]) -> Run {
+    let file = file_of(log);
+    let mut out = vec![0; plain::LISTING];
+    Box::new(move |library| {
+        library.listing_into(&file, &mut out)?;
+        Some(clock(|| library.listing_into(black_box(&file), &mut out)))
+    })
+}
