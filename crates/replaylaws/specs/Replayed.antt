@@ -1,0 +1,122 @@
+-- What the laws of the replay speak of: the asides that records leave, settles that fit, records that differ only in dates.
+-- Assumes nothing.
+use Prim.Native.Nat.{ℕ, zero, suc, _≤_, _<_}
+use mathlib.Core.Path.{_≡_}
+use mathlib.Core.Bool.{Bool, true, false, cond, not, _&&_, _||_}
+use mathlib.Core.Logic.{_⊎_}
+use mathlib.Core.List.{List, [], _∷_, _++_}
+use lib.Dec.{leb, eqb}
+use lib.ListN.{take, drop}
+use Rattle.model.specs.Record.{Rec, op, selfOf, objectOf}
+use Rattle.model.specs.Replay.{Entry, Aside, Tree, Verdict, fits, aside, judge, step}
+
+-- ---- members
+
+abbrev pub Has : {A : Type 0} → A → List A → Type 0
+Has x [] = ⊥
+Has x (y ∷ l) = (x ≡ y) ⊎ Has x l
+
+-- no two are equal
+abbrev pub Distinct : {A : Type 0} → List A → Type 0
+Distinct [] = Unit {0}
+Distinct (x ∷ l) = (Has x l → ⊥) × Distinct l
+
+-- the records' identities
+unfoldable pub selves : List Rec → List ℕ
+selves [] = []
+selves (r ∷ l) = selfOf r ∷ selves l
+
+unfoldable pub makers : List Entry → List ℕ
+makers [] = []
+makers (e ∷ l) = e .made ∷ makers l
+
+unfoldable pub whos : List Aside → List ℕ
+whos [] = []
+whos (a ∷ l) = a .who ∷ whos l
+
+-- ---- fitting and standing aside
+
+unfoldable pub isFit : Verdict → Bool
+isFit fits = true
+isFit (aside n k) = false
+
+-- a record that stands aside: its identity, the reason and the entry marked
+abbrev pub Standing : Type 0
+Standing = ℕ × ℕ × ℕ
+
+unfoldable pub standings : List Aside → List Standing
+standings [] = []
+standings (a ∷ l) = (a .who, a .reason, a .marked) ∷ standings l
+
+unfoldable pub standing : Verdict → Rec → List Standing
+standing fits r = []
+standing (aside n k) r = (selfOf r, n, k) ∷ []
+
+-- the records that stand aside when l is taken from the tree t on
+unfoldable pub standAside : Tree → List Rec → List Standing
+standAside t [] = []
+standAside t (r ∷ l) = standing (judge r t) r ++ standAside (step t r) l
+
+-- the makes that fit when l is taken from the tree t on
+unfoldable pub making : Verdict → Rec → List ℕ
+making fits r = cond (leb (op r) 2) (selfOf r ∷ []) []
+making (aside n k) r = []
+
+unfoldable pub makesFit : Tree → List Rec → List ℕ
+makesFit t [] = []
+makesFit t (r ∷ l) = making (judge r t) r ++ makesFit (step t r) l
+
+-- ---- settling
+
+-- the operation is settle: none of 1 to 5
+unfoldable pub isSettle : Rec → Bool
+isSettle r = not (leb (op r) 5)
+
+-- the aside k is open; false where no aside k stands
+unfoldable pub openOf : ℕ → List Aside → Bool
+openOf k [] = false
+openOf k (a ∷ l) = cond (eqb (a .who) k) (a .isOpen) (openOf k l)
+
+-- r is a settle that names k and fits
+unfoldable pub settles : ℕ → Tree → Rec → Bool
+settles k t r = isSettle r && (eqb (objectOf r) k && isFit (judge r t))
+
+-- a settle that names k fits somewhere when l is taken from the tree t on
+unfoldable pub settledIn : ℕ → Tree → List Rec → Bool
+settledIn k t [] = false
+settledIn k t (r ∷ l) = settles k t r || settledIn k (step t r) l
+
+-- ---- dates
+
+-- the same bytes but for the date, 28 to 31
+abbrev pub SameButDate : Rec → Rec → Type 0
+SameButDate r s = (take 28 r ≡ take 28 s) × (drop 32 r ≡ drop 32 s)
+
+-- one by one the same but for the date
+abbrev pub SameButDates : List Rec → List Rec → Type 0
+SameButDates [] [] = Unit {0}
+SameButDates [] (s ∷ m) = ⊥
+SameButDates (r ∷ l) [] = ⊥
+SameButDates (r ∷ l) (s ∷ m) = SameButDate r s × SameButDates l m
+
+-- an entry with its date forgotten
+unfoldable pub undated : Entry → Entry
+undated e =
+    record {
+      made = e .made;
+      kind = e .kind;
+      inside = e .inside;
+      label = e .label;
+      contents = e .contents;
+      date = 0 ∷ 0 ∷ 0 ∷ 0 ∷ [];
+      mark = e .mark;
+      naming = e .naming;
+    }
+
+unfoldable pub undatedAll : List Entry → List Entry
+undatedAll [] = []
+undatedAll (e ∷ l) = undated e ∷ undatedAll l
+
+-- a tree with its dates forgotten
+unfoldable pub undatedTree : Tree → Tree
+undatedTree t = record { entries = undatedAll (t .entries); asides = t .asides }

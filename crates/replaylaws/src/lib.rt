@@ -1,0 +1,1 @@
+// Laws of the replay; no code.
