@@ -116,11 +116,13 @@ apart-changed g k (e ∷ es) a s =
     rw c (λ x i. s e (rw c) .1 x (inr i) (a .0 x i), a .1))
     (λ (c : (eqb (e .made) k && isPresent e) ≡ false).
     let s′ : (x : Entry) → entryOf k es ≡ some x → Safe g x (e ∷ es) = λ x q. s x (rw c q) in
-    rw c (λ x i cl. ⊎-elim
-    (λ j. a .0 x j cl)
-    (λ m. let q : x ≡ g (m .0) = m .3 in s′ (m .0) (m .1) .0 e (inl refl) (a .0 (m .0) (m .2)) (rw q at cl))
-    (has-changed g k es x i),
-    apart-changed g k es (a .1) (λ x q. (λ y i. s′ x q .0 y (inr i), λ y i. s′ x q .1 y (inr i)))))
+    rw c (
+      λ x i cl. ⊎-elim
+          (λ j. a .0 x j cl)
+          (λ m. let q : x ≡ g (m .0) = m .3 in s′ (m .0) (m .1) .0 e (inl refl) (a .0 (m .0) (m .2)) (rw q at cl))
+          (has-changed g k es x i),
+      apart-changed g k es (a .1) (λ x q. (λ y i. s′ x q .0 y (inr i), λ y i. s′ x q .1 y (inr i))),
+    ))
     (bool-cases (eqb (e .made) k && isPresent e))
 
 -- ---- each record keeps the labels apart

@@ -5,3 +5,5 @@ pub mod Labels
 pub mod Settling
 pub mod Dates
 pub mod Acting
+pub mod Tables
+pub mod Claims

@@ -28,7 +28,7 @@ pub under-map : (P Q : ℕ → Type 0) → ((n : ℕ) → P n → Q n) → (v : 
 under-map P Q f fits h = tt
 under-map P Q f (aside n k) h = f n h
 
-under-free : (P : ℕ → Type 0) → P 15 → (o : Option Entry) → Under P (freeLabel o)
+pub under-free : (P : ℕ → Type 0) → P 15 → (o : Option Entry) → Under P (freeLabel o)
 unfolding freeLabel
 under-free P p none = tt
 under-free P p (some h) = p

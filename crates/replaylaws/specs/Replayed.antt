@@ -1,11 +1,11 @@
 -- What the laws of the replay speak of: the asides that records leave, settles that fit, records that differ only in dates.
 -- Assumes nothing.
-use Prim.Native.Nat.{ℕ, zero, suc, _≤_, _<_}
+use Prim.Native.Nat.{ℕ, zero, suc, _-_, _%_, _≤_, _<_}
 use mathlib.Core.Path.{_≡_}
 use mathlib.Core.Bool.{Bool, true, false, cond, not, _&&_, _||_}
 use mathlib.Core.Logic.{_⊎_}
 use mathlib.Core.List.{List, [], _∷_, _++_}
-use lib.Dec.{leb, eqb}
+use lib.Dec.{ltb, leb, eqb}
 use lib.ListN.{take, drop}
 use Rattle.model.specs.Record.{Rec, op, selfOf, objectOf}
 use Rattle.model.specs.Replay.{Entry, Aside, Tree, Verdict, fits, aside, judge, step}
@@ -120,3 +120,16 @@ undatedAll (e ∷ l) = undated e ∷ undatedAll l
 -- a tree with its dates forgotten
 unfoldable pub undatedTree : Tree → Tree
 undatedTree t = record { entries = undatedAll (t .entries); asides = t .asides }
+
+-- the places of the tree table that hold dates: bytes 20 to 23 of each of the 512 rows of 72 from 4 on
+unfoldable pub isDatePlace : ℕ → Bool
+isDatePlace i = leb 4 i && (ltb i 36868 && (leb 20 ((i - 4) % 72) && leb ((i - 4) % 72) 23))
+
+-- the bytes from the place i of a table on, with zeros for the dates
+unfoldable pub hideFrom : ℕ → List ℕ → List ℕ
+hideFrom i [] = []
+hideFrom i (x ∷ b) = cond (isDatePlace i) 0 x ∷ hideFrom (suc i) b
+
+-- a tree table with zeros for the dates
+unfoldable pub hideDates : List ℕ → List ℕ
+hideDates b = hideFrom 0 b
