@@ -1,0 +1,195 @@
+//! A call list in the making: each call is run and written down.
+
+use crate::text::{bytes, hash, lent, vector};
+use plain::{Answer, FILE, LOG, TREE};
+use workload::vector_of;
+
+/// The log lent to a call.
+#[derive(Clone, Copy)]
+pub enum Lent<'a> {
+    /// The slot's own.
+    Own,
+    /// One from outside.
+    Outside(&'a [u8]),
+}
+use Lent::{Outside, Own};
+
+pub struct List {
+    text: String,
+    pub logs: [Vec<u8>; 8],
+    /// Blocks given so far.
+    pub given: Vec<Vec<u8>>,
+}
+
+/// Number and place; only these numbers have a place.
+fn answer<T>(answer: &Answer<T>) -> String {
+    match answer {
+        Ok(_) => "0 -".to_string(),
+        Err(refusal) => match refusal.number {
+            2..=11 | 20 => format!("{} {}", refusal.number, refusal.place),
+            number => format!("{number} -"),
+        },
+    }
+}
+
+impl List {
+    pub fn new(remark: &str) -> List {
+        List {
+            text: format!("# {remark}\n"),
+            logs: std::array::from_fn(|_| vec![0; LOG]),
+            given: Vec::new(),
+        }
+    }
+
+    fn line(&mut self, line: String) {
+        self.text += &line;
+        self.text.push('\n');
+    }
+
+    /// The log of a call, and how it is written.
+    fn lent(&self, slot: usize, log: Lent) -> (Vec<u8>, String) {
+        match log {
+            Own => (self.logs[slot].clone(), "@".to_string()),
+            Outside(log) => (log.to_vec(), bytes(log)),
+        }
+    }
+
+    fn keep(&mut self, slot: usize, log: Lent, after: Vec<u8>) {
+        if matches!(log, Own) {
+            self.logs[slot] = after;
+        }
+    }
+
+    pub fn start(&mut self, slot: usize, log: Lent, archive: u32, unit: u8) {
+        let (mut after, word) = self.lent(slot, log);
+        let came = answer(&plain::start(&mut after, archive, unit));
+        self.line(format!(
+            "start {slot} {word} {archive} {unit} = {came} {}",
+            hash(&after)
+        ));
+        self.keep(slot, log, after);
+    }
+
+    /// Says whether the wish was accepted.
+    pub fn act(&mut self, slot: usize, log: Lent, archive: u32, unit: u8, wish: &[u8]) -> u8 {
+        let (mut after, word) = self.lent(slot, log);
+        let came = plain::act(&mut after, archive, unit, wish);
+        self.line(format!(
+            "act {slot} {word} {archive} {unit} {} = {} {}",
+            bytes(wish),
+            answer(&came),
+            hash(&after)
+        ));
+        self.keep(slot, log, after);
+        came.map_or_else(|refusal| refusal.number, |()| 0)
+    }
+
+    pub fn take(&mut self, slot: usize, log: Lent, archive: u32, unit: u8, block: &[u8]) -> u8 {
+        let (mut after, word) = self.lent(slot, log);
+        let came = plain::take(&mut after, archive, unit, block);
+        self.line(format!(
+            "take {slot} {word} {archive} {unit} {} = {} {}",
+            bytes(block),
+            answer(&came),
+            hash(&after)
+        ));
+        self.keep(slot, log, after);
+        came.map_or_else(|refusal| refusal.number, |()| 0)
+    }
+
+    pub fn hand_out(
+        &mut self,
+        slot: usize,
+        log: Lent,
+        archive: u32,
+        unit: u8,
+        asked: &[u16; 8],
+        (length, seed): (usize, u8),
+    ) {
+        let (after, word) = self.lent(slot, log);
+        let mut block = lent(length, seed);
+        let came = plain::hand_out(&after, archive, unit, asked, &mut block);
+        let written = came.map_or("-".to_string(), |()| bytes(&block));
+        self.line(format!(
+            "handout {slot} {word} {archive} {unit} {} {length}*{seed} = {} {} {written}",
+            vector(asked),
+            answer(&came),
+            hash(&after)
+        ));
+        if came.is_ok() {
+            self.given.push(block);
+        }
+    }
+
+    pub fn write(
+        &mut self,
+        slot: usize,
+        log: Lent,
+        archive: u32,
+        unit: u8,
+        length: usize,
+        seed: u8,
+    ) {
+        let (after, word) = self.lent(slot, log);
+        let mut file = lent(length, seed);
+        let came = plain::write_file(&after, archive, unit, &mut file);
+        let written = came.map_or("- -".to_string(), |count| {
+            format!("{count} {}", hash(&file))
+        });
+        self.line(format!(
+            "write {slot} {word} {archive} {unit} {length}*{seed} = {} {} {written}",
+            answer(&came),
+            hash(&after)
+        ));
+        if let Ok(count) = came {
+            self.given
+                .extend(file.chunks(512).take(count as usize).map(<[u8]>::to_vec));
+        }
+    }
+
+    pub fn show(&mut self, slot: usize, log: Lent) {
+        let (after, word) = self.lent(slot, log);
+        let mut tree = vec![0; TREE];
+        let came = plain::show(&after, &mut tree);
+        let lines = if came.is_ok() {
+            lines(&after)
+        } else {
+            Vec::new()
+        };
+        let asides = lines
+            .iter()
+            .filter(|line| line.starts_with("aside"))
+            .count();
+        let counts = came.map_or("- -".to_string(), |()| {
+            format!("{} {asides}", lines.len() - asides)
+        });
+        self.line(format!(
+            "show {slot} {word} = {} {} {counts}",
+            answer(&came),
+            hash(&after)
+        ));
+        for line in lines {
+            self.line(format!("> {line}"));
+        }
+    }
+
+    /// The list with what the slots hold at its end.
+    pub fn end(mut self) -> String {
+        for slot in 0..8 {
+            let log = &self.logs[slot];
+            let line = format!("end {slot} {} {}", vector(&vector_of(log)), hash(log));
+            self.line(line);
+        }
+        self.text
+    }
+}
+
+/// The lines of a log's tree, as its file is listed.
+fn lines(log: &[u8]) -> Vec<String> {
+    let mut file = vec![0; FILE];
+    let count = plain::write_file(log, 0, 0, &mut file).expect("a sound log") as usize;
+    let mut out = [0; plain::LISTING];
+    let len = plain::listing(&file[..512 * count], &mut out);
+    let text = String::from_utf8_lossy(&out[..len]);
+    text.lines().skip(2).map(str::to_string).collect()
+}

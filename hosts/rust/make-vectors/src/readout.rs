@@ -1,0 +1,306 @@
+//! Readout cases: good files, and one for each refusal and cause at a first, a
+//! middle and a last block.
+
+use crate::chain::{Wished, blocks_of_six, chain, file_of, seal};
+use plain::BLOCK;
+use workload::{Mix, log_of};
+
+pub struct Case {
+    pub name: String,
+    pub file: Vec<u8>,
+}
+
+/// What the plain implementation prints.
+pub fn listing(file: &[u8]) -> Vec<u8> {
+    let mut out = [0; plain::LISTING];
+    let len = plain::listing(file, &mut out);
+    out[..len].to_vec()
+}
+
+pub fn all() -> Vec<Case> {
+    let mut cases = good();
+    cases.extend(wrong_lengths());
+    for place in 0..3 {
+        cases.extend(wrong_blocks(place));
+        cases.extend(wrong_records(place));
+    }
+    cases.extend(wrong_wholes());
+    cases
+}
+
+const WHERE: [&str; 3] = ["first", "middle", "last"];
+
+/// A case that must be refused with a number at a place.
+fn refused(number: u8, place: usize, name: &str, file: Vec<u8>) -> Case {
+    let name = format!("n{number:02}-{name}");
+    let expected = format!("refused {number} at {place}\n");
+    let came = String::from_utf8_lossy(&listing(&file)).to_string();
+    assert_eq!(came, expected, "{name}");
+    Case { name, file }
+}
+
+fn good() -> Vec<Case> {
+    let good = |name: &str, file: Vec<u8>| {
+        assert!(listing(&file).starts_with(b"archive "), "{name}");
+        Case {
+            name: format!("good-{name}"),
+            file,
+        }
+    };
+    let records_of = |log: Vec<u8>| {
+        let (records, _) = log.as_chunks::<80>();
+        records
+            .iter()
+            .copied()
+            .take_while(|record| record[2..4] != [0, 0])
+            .collect::<Vec<_>>()
+    };
+    let mut cases = vec![
+        good("example", file_of(&example(), 7, 0)),
+        good("empty", file_of(&[], 4_294_967_295, 7)),
+        good("three-blocks", file_of(&blocks_of_six(3), 0, 3)),
+        good("settles", file_of(&settles(), 1, 1)),
+        good("removed-marked", file_of(&removed_marked(), 1, 1)),
+        good(
+            "full",
+            file_of(&records_of(log_of(512, 8, 4, &Mix::CONFLICTS, 31)), 9, 2),
+        ),
+    ];
+    for (records, seed) in [(1, 32), (6, 33), (7, 34), (40, 35), (60, 36)] {
+        let log = log_of(records, 4, 3, &Mix::CONFLICTS, seed);
+        cases.push(good(
+            &format!("{records}-records"),
+            file_of(&records_of(log), 5, 4),
+        ));
+    }
+    cases
+}
+
+fn wished(unit: u8, operation: u8, named: Option<usize>, label: &str, mark: u8) -> Wished {
+    Wished {
+        unit,
+        operation,
+        named,
+        label: label.to_string(),
+        mark,
+    }
+}
+
+/// Takes what unit 0 made at a place of a chain out of a later record's seen.
+fn unsee(record: &mut [u8; 80]) {
+    record[4] -= 1;
+}
+
+/// The example of document 01.
+fn example() -> Vec<[u8; 80]> {
+    let mut records = chain(&[
+        wished(0, 1, None, "Bench", 0),
+        wished(0, 2, Some(0), "Gain \"A\"", 0x11),
+        wished(1, 2, Some(0), "Gain \"A\"", 0x22),
+    ]);
+    unsee(&mut records[2]);
+    for (record, day) in records.iter_mut().zip(3..) {
+        record[31] = day;
+    }
+    records
+}
+
+/// An aside settled twice, a settle that stands aside, and its settle.
+fn settles() -> Vec<[u8; 80]> {
+    chain(&[
+        wished(0, 1, None, "\\\"\\\"", 0),
+        wished(1, 1, None, "\\\"\\\"", 0),
+        wished(0, 6, Some(1), "", 0),
+        wished(1, 6, Some(1), "", 0),
+        wished(2, 6, Some(0), "", 0),
+        wished(2, 6, Some(4), "", 0),
+        wished(3, 6, Some(2), "", 0),
+        wished(3, 5, Some(0), "\\\"\\\"", 0),
+    ])
+}
+
+/// An entry that an aside marks and that was removed afterwards.
+fn removed_marked() -> Vec<[u8; 80]> {
+    chain(&[
+        wished(0, 2, None, "A", 1),
+        wished(1, 2, None, "A", 2),
+        wished(0, 4, Some(0), "", 0),
+        wished(1, 3, Some(0), "", 3),
+        wished(1, 2, None, "A", 4),
+    ])
+}
+
+fn wrong_lengths() -> Vec<Case> {
+    let file = file_of(&blocks_of_six(1), 7, 0);
+    let mut long = file.clone();
+    long.push(0);
+    vec![
+        refused(2, 0, "none", Vec::new()),
+        refused(2, 0, "one-byte", vec![b'S']),
+        refused(2, 0, "one-short", file[..BLOCK - 1].to_vec()),
+        refused(2, 0, "one-over", long),
+        refused(2, 0, "87-blocks", file.repeat(87)),
+    ]
+}
+
+/// A good file of three blocks with one changed; its sums are put right.
+fn changed(place: usize, change: impl FnOnce(&mut [u8])) -> Vec<u8> {
+    let mut file = file_of(&blocks_of_six(3), 7, 0);
+    let block = &mut file[BLOCK * place..BLOCK * (place + 1)];
+    change(block);
+    seal(block);
+    file
+}
+
+fn wrong_blocks(place: usize) -> Vec<Case> {
+    let case = |number: u8, name: &str, change: fn(&mut [u8])| {
+        refused(
+            number,
+            place,
+            &format!("{name}-{}", WHERE[place]),
+            changed(place, change),
+        )
+    };
+    let unsealed = |name: &str, at: usize| {
+        let mut file = changed(place, |_| ());
+        file[BLOCK * place + at] ^= 0x10;
+        refused(4, place, &format!("{name}-{}", WHERE[place]), file)
+    };
+    let mut cases = vec![
+        case(3, "letters", |block| block[3] = b'2'),
+        unsealed("header", 10),
+        unsealed("body", 200),
+        unsealed("first-sum", 508),
+        unsealed("second-sum", 511),
+        case(5, "unit", |block| block[8] = 8),
+        case(5, "count", |block| block[9] = 7),
+        case(5, "unused", |block| block[9] = 5),
+        case(20, "place", |block| block[10] ^= 1),
+    ];
+    if place > 0 {
+        cases.push(case(20, "unit", |block| block[8] = 1));
+        cases.push(case(20, "archive", |block| block[7] = 1));
+        cases.push(case(20, "vector", |block| block[12] ^= 1));
+    }
+    if place < 2 {
+        cases.push(case(20, "short", |block| {
+            block[9] = 5;
+            block[28 + 400..508].fill(0);
+        }));
+    }
+    cases.push(case(20, "count-zero", |block| {
+        block[9] = 0;
+        block[28..508].fill(0);
+    }));
+    cases
+}
+
+/// The record of an operation in a block of six: make folder, make trace,
+/// store, rename, remove, settle.
+fn record_of(block: &mut [u8], i: usize) -> &mut [u8] {
+    &mut block[28 + 80 * i..28 + 80 * (i + 1)]
+}
+
+type Change = fn(&mut [u8]);
+
+/// Malformed in one way: the record of a block, and the change.
+const MALFORMED: [(&str, usize, Change); 30] = [
+    ("unit-8", 0, |record| record[0] = 8),
+    ("operation-0", 0, |record| record[1] = 0),
+    ("operation-7", 5, |record| record[1] = 7),
+    ("all-zero", 2, |record| record.fill(0)),
+    ("number-0", 1, |record| {
+        record[2..4].fill(0);
+        record[4..6].fill(0xff);
+    }),
+    ("own-seen", 1, |record| record[4] += 1),
+    ("object-beyond", 2, |record| record[22] = 0xee),
+    ("object-root", 3, |record| record[20..24].fill(0)),
+    ("object-unit-8", 4, |record| record[20] = 8),
+    ("object-of-make", 0, |record| record[22] = 1),
+    ("byte-21", 3, |record| record[21] = 1),
+    ("folder-beyond", 1, |record| record[26] = 0xee),
+    ("folder-3-0", 0, |record| record[24] = 3),
+    ("folder-unit-8", 1, |record| record[24] = 8),
+    ("folder-of-store", 2, |record| record[26] = 1),
+    ("byte-25", 1, |record| record[25] = 1),
+    ("date-zero", 5, |record| record[28..32].fill(0)),
+    ("year-2200", 4, |record| {
+        record[28..30].copy_from_slice(&2200u16.to_le_bytes())
+    }),
+    ("february-30", 3, |record| {
+        record[30..32].copy_from_slice(&[2, 30])
+    }),
+    ("day-0", 2, |record| record[31] = 0),
+    ("label-empty", 0, |record| record[32..64].fill(0)),
+    ("label-space-first", 0, |record| record[32] = b' '),
+    ("label-space-last", 3, |record| record[39] = b' '),
+    ("label-gap", 1, |record| record[33] = 0),
+    ("label-1f", 1, |record| record[34] = 0x1f),
+    ("label-7f", 3, |record| record[35] = 0x7f),
+    ("label-tail", 1, |record| record[63] = b'x'),
+    ("label-of-store", 2, |record| record[32] = b'x'),
+    ("mark-of-folder", 0, |record| record[64] = 1),
+    ("mark-of-settle", 5, |record| record[79] = 1),
+];
+
+fn wrong_records(place: usize) -> Vec<Case> {
+    let mut cases: Vec<Case> = Vec::new();
+    let mut case = |number: u8, name: &str, record: usize, change: Change| {
+        let file = changed(place, |block| change(record_of(block, record)));
+        cases.push(refused(
+            number,
+            place,
+            &format!("{name}-{}", WHERE[place]),
+            file,
+        ));
+    };
+    for (name, record, change) in MALFORMED {
+        case(7, name, record, change);
+    }
+    case(8, "number-ahead", 1, |record| {
+        record[2] += 1;
+        record[4] += 1;
+    });
+    case(8, "seen-above", 1, |record| record[18] = 1);
+    case(8, "seen-huge", 2, |record| record[18..20].fill(0xff));
+    case(8, "seen-wraps", 3, |record| record[14..20].fill(0xff));
+    // The settle of unit 2 saw the remove of unit 1, but not the rename that it saw.
+    case(9, "unclosed", 5, |record| record[4] -= 1);
+    cases.extend(wrong_ranks(place));
+    cases
+}
+
+/// A record that stands a second time, at once or later.
+fn wrong_ranks(place: usize) -> Vec<Case> {
+    let again = |name: &str, back: usize| {
+        let file = changed(place, |block| {
+            let from = 28 + 80 * (4 - back);
+            block.copy_within(from..from + 80, 28 + 80 * 4);
+        });
+        refused(20, place, &format!("{name}-{}", WHERE[place]), file)
+    };
+    vec![again("rank-equal", 1), again("rank-lower", 3)]
+}
+
+/// What only a whole file can have.
+fn wrong_wholes() -> Vec<Case> {
+    let mut counts = file_of(&blocks_of_six(3), 7, 0);
+    for block in counts.chunks_mut(BLOCK) {
+        block[12] += 1;
+        seal(block);
+    }
+    let mut behind = file_of(&blocks_of_six(2), 7, 0);
+    behind.extend([0; BLOCK]);
+    let stores: Vec<Wished> = (0..513)
+        .map(|i| match i {
+            0 => wished(0, 2, None, "T", 1),
+            _ => wished(i as u8 % 8, 3, Some(0), "", 0),
+        })
+        .collect();
+    vec![
+        refused(20, 2, "counts", counts),
+        refused(3, 2, "zeros-behind", behind),
+        refused(11, 85, "513-records", file_of(&chain(&stores), 7, 0)),
+    ]
+}

@@ -1,0 +1,34 @@
+//! The words of a vector line.
+
+/// `LENGTH:HEX` without the zeros at the end.
+pub fn bytes(bytes: &[u8]) -> String {
+    let used = bytes
+        .iter()
+        .rposition(|byte| *byte != 0)
+        .map_or(0, |at| at + 1);
+    let hex: String = bytes[..used]
+        .iter()
+        .map(|byte| format!("{byte:02x}"))
+        .collect();
+    format!("{}:{hex}", bytes.len())
+}
+
+/// Eight counts parted by commas.
+pub fn vector(counts: &[u16; 8]) -> String {
+    counts.map(|count| count.to_string()).join(",")
+}
+
+/// FNV-1a of 64 bits.
+pub fn hash(bytes: &[u8]) -> String {
+    let hash = bytes.iter().fold(0xcbf2_9ce4_8422_2325u64, |hash, byte| {
+        (hash ^ *byte as u64).wrapping_mul(0x0000_0100_0000_01b3)
+    });
+    format!("{hash:016x}")
+}
+
+/// A buffer lent for writing: byte i is the seed and 31 times i.
+pub fn lent(length: usize, seed: u8) -> Vec<u8> {
+    (0..length)
+        .map(|i| seed.wrapping_add((31 * i) as u8))
+        .collect()
+}
