@@ -96,6 +96,17 @@ start-keeps u log = go (bool-cases (eqb (length log) 40960)) (bool-cases (leb u 
     go (inl a) (inr b) = rw (a, b) (refusal-keeps 20 log [])
     go (inr a) b = rw a (refusal-keeps 0 log [])
 
+-- the log is emptied, or left
+pub start-cases : (u : ℕ) (log : List ℕ) → (startOf u log .log ≡ log) ⊎ (startOf u log .log ≡ replicate 40960 0)
+unfolding startOf
+start-cases u log = go (bool-cases (eqb (length log) 40960)) (bool-cases (leb u 7))
+  where
+    go : (eqb (length log) 40960 ≡ true) ⊎ (eqb (length log) 40960 ≡ false) → (leb u 7 ≡ true) ⊎ (leb u 7 ≡ false)
+        → (startOf u log .log ≡ log) ⊎ (startOf u log .log ≡ replicate 40960 0)
+    go (inl a) (inl b) = rw (a, b) (inr refl)
+    go (inl a) (inr b) = rw (a, b) (inl refl)
+    go (inr a) b = rw a (inl refl)
+
 -- ---- acting
 
 act-good : (u : ℕ) (log w : List ℕ) → length w ≡ 80 → Good log → actNumber u (recordsOf log) w ≡ 0

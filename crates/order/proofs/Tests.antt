@@ -9,7 +9,7 @@ use mathlib.Core.Option.{Option, none, some}
 use mathlib.Core.List.{List, [], _∷_, _++_}
 use lib.Dec.{eqb, ltb}
 use lib.ListN.{getD, length, length-append, List·getD-append}
-use lib.Seq.{getD-at}
+use lib.Seq.{getD-at, ext-getD}
 use borrow.Author.Tests.{eqb-true, eq-eqb, ne-eqb, ltb-true, lt-ltb}
 use Rattle.model.specs.Numbers.{malformed, notNext, notClosed, badFile}
 use Rattle.model.specs.Vector.{covers}
@@ -61,6 +61,17 @@ seenVector-getD r u h = vectorAt-getD r 4 u h
 -- the counts of one list are at least those of another
 pub counts-cover : (l m : List Rec) → ((u : ℕ) → u < 8 → count u l ≤ count u m) → covers (vectorOf m) (vectorOf l) ≡ true
 counts-cover l m h = all-covers (vectorOf m) (vectorOf l) (λ u k. omega (arith, vectorOf-getD l u k, vectorOf-getD m u k, h u k))
+
+-- equal vectors are equal counts
+pub counts-equal : (l m : List Rec) → vectorOf l ≡ vectorOf m → (u : ℕ) → u < 8 → count u l ≡ count u m
+counts-equal l m e u k = sym (vectorOf-getD l u k) ∙ ap (λ (v : List ℕ). getD v u 0) e ∙ vectorOf-getD m u k
+
+pub equal-counts : (l m : List Rec) → ((u : ℕ) → u < 8 → count u l ≡ count u m) → vectorOf l ≡ vectorOf m
+equal-counts l m h =
+    let n = vectorOf-length l in
+    ext-getD 0 (vectorOf l) (vectorOf m) (n ∙ sym (vectorOf-length m)) (λ u k.
+    let b : u < 8 = omega arith in
+    vectorOf-getD l u b ∙ h u b ∙ sym (vectorOf-getD m u b))
 
 -- ---- for all up to n
 

@@ -1,0 +1,27 @@
+-- Demand 3, proved: the claim holds of every list of calls.
+-- Assumes nothing.
+use Prim.Native.Nat.{ℕ}
+use mathlib.Core.Path.{_≡_, refl, sym, ap, _∙_, subst}
+use mathlib.Core.Bool.{true}
+use mathlib.Core.List.{List, [], _∷_, _++_}
+use Rattle.machine.specs.Machine.{Call, Bench, bare, next, play}
+use Rattle.machine.specs.Claim.{distinct, Claim, Demand}
+use Rattle.machine.proofs.Reach.{Inv, inv-bare, inv-play}
+use Rattle.machine.proofs.Converge.{converge}
+use Rattle.machine.proofs.Passing.{cover}
+
+pub play-append : (archive : ℕ) (a b : List Call) (s : Bench) → play archive s (a ++ b) ≡ play archive (play archive s a) b
+unfolding play
+play-append archive [] b s = refl
+play-append archive (c ∷ a) b s = play-append archive a b (next archive s c)
+
+pub demand : Demand
+demand archive before cs d =
+    let i = inv-play archive (before ++ cs) bare (inv-bare archive) in
+    record {
+      good = i .good;
+      converged = converge archive (play archive bare (before ++ cs)) i d;
+      covered = λ a b _ b8 p.
+          cover archive cs (play archive bare before) a b b8 (inv-play archive before bare (inv-bare archive))
+          (subst (λ (s : Bench). distinct (s .used) ≡ true) (play-append archive before cs bare) d) p;
+    }

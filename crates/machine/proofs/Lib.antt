@@ -1,0 +1,6 @@
+pub mod Tests
+pub mod Reach
+pub mod Converge
+pub mod Cover
+pub mod Passing
+pub mod Demand

@@ -1,0 +1,258 @@
+-- Passing: the first unit's log stands still, the blocks since the point come from it, and each take goes through.
+-- Assumes nothing.
+use Prim.Native.Nat.{ℕ, zero, suc, _+_, _-_, _≤_, _<_, max}
+use native.Mathlib.Omega.{arith}
+use mathlib.Core.Path.{_≡_, refl, sym, ap, _∙_, subst}
+use mathlib.Core.Logic.{_⊎_, inl, inr, ⊎-elim}
+use mathlib.Core.Bool.{Bool, true, false, cond, not, _&&_, _||_, true≢false, false≢true}
+use mathlib.Core.List.{List, [], _∷_, _++_}
+use lib.Dec.{ltb, leb, eqb}
+use lib.ListN.{length, getD, drop, length-append, length-drop}
+use lib.Seq.{drop-append-le, drop-length, getD-drop}
+use borrow.Author.Tests.{eqb-true, eqb-false, eq-eqb, ne-eqb, leb-true, ltb-true, not-true}
+use Rattle.model.specs.Vector.{covers}
+use Rattle.model.specs.Record.{Rec, unit, num}
+use Rattle.model.specs.Log.{sumTo, count, vectorOf, recordsOf, logBytes}
+use Rattle.model.specs.Block.{blockRecords}
+use Rattle.model.specs.Outcome.{Outcome, outcome, lacking, taken, takeAll, givenFault, takeOf}
+use Rattle.octets.proofs.Numbers.{lt-or-ge, eq-or-ne, bool-cases, and-true, true-and, cond-cases}
+use Rattle.order.specs.Members.{Has, Sub, Agree}
+use Rattle.order.specs.Sound.{SoundAfter, Sound}
+use Rattle.order.proofs.Formed.{well-unit, well-own}
+use Rattle.order.proofs.Members.{All, all-map, all-append, all-at, has-append}
+use Rattle.order.proofs.Counts.{formed, unit-of}
+use Rattle.order.proofs.Lacking.{absent-lacked, union-length, has-lacking}
+use Rattle.order.proofs.Tests.{counts-cover}
+use Rattle.images.specs.Keeps.{Good}
+use Rattle.images.proofs.Calls.{take-good, sound-back, take-done}
+use Rattle.machine.specs.Machine.{Call, starts, acts, handsOut, writes, takes, unitOf, Block, Bench, held, heldVector, blockGiven, done, gives, put, after, next, play}
+use Rattle.machine.specs.Claim.{holds, distinct, passes, passing, flowOf, flow, lacked, holdsAll, firsts, rising, Passed, zeros, Covered}
+use Rattle.machine.proofs.Tests.{Held, holds-cases, holds-some, Rising, rising-from, all-from, distinct-agree}
+use Rattle.machine.proofs.Reach.{Own, own, Given, Inv, Put, put-cases, inv-next, inv-play, used-play, used-agree, hand-log, write-log}
+use Rattle.machine.proofs.Converge.{held-sound}
+use Rattle.machine.proofs.Cover.{Way, way-all, way-end}
+
+-- ---- tests
+
+not-either : (x y : Bool) → not (x || y) ≡ true → (x ≡ false) × (y ≡ false)
+not-either true y e = absurd (false≢true e)
+not-either false true e = absurd (false≢true e)
+not-either false false e = (refl, refl)
+
+or-true : (x y : Bool) → (not x || y) ≡ true → x ≡ true → y ≡ true
+or-true true y e p = e
+or-true false y e p = absurd (false≢true p)
+
+unit-takes : (u k : ℕ) → unitOf (takes u k) ≡ u
+unfolding unitOf
+unit-takes u k = refl
+
+flow-other : (b : ℕ) (s : Bench) (c : Call) → (unitOf c ≡ b → ⊥) → flowOf b s c ≡ []
+unfolding flowOf unitOf
+flow-other b s (starts u) d = refl
+flow-other b s (acts u w) d = refl
+flow-other b s (handsOut u v lent) d = refl
+flow-other b s (writes u lent) d = refl
+flow-other b s (takes u k) d = rw (ne-eqb u b d)
+
+flow-takes : (b : ℕ) (s : Bench) (k : ℕ) → flowOf b s (takes b k) ≡ blockRecords (blockGiven s k .bytes)
+unfolding flowOf
+flow-takes b s k = rw (eq-eqb b b refl)
+
+-- ---- what a call of a passing does
+
+module _ (archive a b n₀ : ℕ) where
+  -- neither of the two units, the first handing out or writing, or the other taking a block that the first gave since
+  pub data Does (s : Bench) (c : Call) : Type 0 where
+    elsewhere : (unitOf c ≡ a → ⊥) → (unitOf c ≡ b → ⊥) → Does s c
+    giving : done archive s c .log ≡ s .logs (unitOf c) → (unitOf c ≡ b → ⊥) → Does s c
+    taking : (k : ℕ) → c ≡ takes b k → (b ≡ a → ⊥) → n₀ ≤ k → k < length (s .given) → blockGiven s k .giver ≡ a → Does s c
+
+  neither : (s : Bench) (c : Call) (u : ℕ) → unitOf c ≡ u → not (eqb u a || eqb u b) ≡ true → Does s c
+  neither s c u q e =
+      let (x, y) = not-either (eqb u a) (eqb u b) e in
+      elsewhere (λ p. eqb-false u a x (sym q ∙ p)) (λ p. eqb-false u b y (sym q ∙ p))
+
+  does : (s : Bench) (c : Call) → passes a b n₀ s c ≡ true → Does s c
+  unfolding passes unitOf done
+  does s (starts u) e = neither s (starts u) u refl e
+  does s (acts u w) e = neither s (acts u w) u refl e
+  does s (handsOut u v lent) e = giving (hand-log archive u (s .logs u) v lent) (eqb-false u b (not-true (eqb u b) e))
+  does s (writes u lent) e = giving (write-log archive u (s .logs u) lent) (eqb-false u b (not-true (eqb u b) e))
+  does s (takes u k) e =
+      let (x, y) = and-true (not (eqb u a)) (not (eqb u b) || (leb n₀ k && (ltb k (length (s .given)) && eqb (blockGiven s k .giver) a))) e in
+      let away : u ≡ a → ⊥ = eqb-false u a (not-true (eqb u a) x) in
+      ⊎-elim
+      (λ (q : u ≡ b).
+      let z = or-true (eqb u b) (leb n₀ k && (ltb k (length (s .given)) && eqb (blockGiven s k .giver) a)) y (eq-eqb u b q) in
+      let (f, g) = and-true (leb n₀ k) (ltb k (length (s .given)) && eqb (blockGiven s k .giver) a) z in
+      let (h, i) = and-true (ltb k (length (s .given))) (eqb (blockGiven s k .giver) a) g in
+      taking k (ap (λ (t : ℕ). takes t k) q) (λ p. away (q ∙ p)) (leb-true n₀ k f) (ltb-true k (length (s .given)) h) (eqb-true (blockGiven s k .giver) a i))
+      (λ (q : u ≡ b → ⊥). elsewhere away q)
+      (eq-or-ne u b)
+
+  -- ---- the first unit's log stays, and its blocks come from it
+
+  module _ (A : List Rec) where
+    abbrev Mine : Block → Type 0
+    Mine g = g .giver ≡ a → Sub (blockRecords (g .bytes)) A
+
+    pub record Source (s : Bench) : Type 0 where
+      pub at-a : held s a ≡ A
+      pub since : All Mine (drop n₀ (s .given))
+      pub grown : n₀ ≤ length (s .given)
+
+    log-a : (s : Bench) (c : Call) → Does s c → next archive s c .logs a ≡ s .logs a
+    unfolding next after
+    log-a s c d = ⊎-elim (λ k. k .1 ∙ same d (sym (k .0))) (λ k. k .1) (put-cases (s .logs) (unitOf c) (done archive s c .log) a)
+      where
+        same : Does s c → unitOf c ≡ a → done archive s c .log ≡ s .logs a
+        same (elsewhere x y) e = absurd (x e)
+        same (giving x y) e = x ∙ ap (s .logs) e
+        same (taking k q x y z w) e = absurd (x (sym (ap unitOf q ∙ unit-takes b k) ∙ e))
+
+    source-next : (s : Bench) (c : Call) → Source s → Does s c → Source (next archive s c)
+    unfolding next after held
+    source-next s c h d =
+        let u : ℕ = unitOf c in
+        let gs : List Block = gives c (done archive s c) in
+        record {
+          at-a = ap recordsOf (log-a s c d) ∙ h .at-a;
+          since =
+              rw (drop-append-le n₀ (s .given) gs (h .grown))
+              (all-append Mine (drop n₀ (s .given)) gs (h .since)
+              (all-map (λ g k e r i. subst (Has r) (ap (λ (v : ℕ). recordsOf (s .logs v)) (sym (k .giver) ∙ e) ∙ h .at-a) (k .part r i)) gs (own archive s c)));
+          grown = omega (arith, h .grown, length-append (s .given) gs);
+        }
+
+    -- a block that the first gave since the point is of its records
+    source-block : (s : Bench) (k : ℕ) → Source s → n₀ ≤ k → k < length (s .given) → blockGiven s k .giver ≡ a → Sub (blockRecords (blockGiven s k .bytes)) A
+    unfolding blockGiven
+    source-block s k h p q e =
+        let d : Block = record { giver = 0; bytes = [] } in
+        let m : n₀ + (k - n₀) ≡ k = omega arith in
+        let z : getD (drop n₀ (s .given)) (k - n₀) d ≡ getD (s .given) k d = getD-drop n₀ (s .given) (k - n₀) d ∙ ap (λ (x : ℕ). getD (s .given) x d) m in
+        subst Mine z (all-at Mine (drop n₀ (s .given)) (k - n₀) d (omega (arith, length-drop n₀ (s .given))) (h .since)) e
+
+    -- what the other takes is of these records
+    flow-part : (s : Bench) (c : Call) → Source s → Does s c → Sub (flowOf b s c) A
+    flow-part s c h (elsewhere x y) r i = absurd (subst (Has r) (flow-other b s c y) i)
+    flow-part s c h (giving x y) r i = absurd (subst (Has r) (flow-other b s c y) i)
+    flow-part s c h (taking k q x y z w) r i =
+        source-block s k h y z w r (subst (Has r) (ap (flowOf b s) q ∙ flow-takes b s k) i)
+
+    source-flow : (cs : List Call) (s : Bench) → Source s → passing archive a b n₀ s cs ≡ true → Sub (flow archive b s cs) A
+    unfolding flow passing
+    source-flow [] s h e r i = absurd i
+    source-flow (c ∷ cs) s h e r i =
+        let (p, q) = and-true (passes a b n₀ s c) (passing archive a b n₀ (next archive s c) cs) e in
+        ⊎-elim
+        (λ j. flow-part s c h (does s c p) r j)
+        (λ j. source-flow cs (next archive s c) (source-next s c h (does s c p)) q r j)
+        (has-append (flowOf b s c) (flow archive b (next archive s c) cs) r i)
+
+-- ---- over the calls
+
+module _ (archive a b n₀ : ℕ) (b8 : b < 8) (A B₀ used : List Rec) (sA : Sound A) (agree : Agree used used) (inA : Sub A used)
+    (fit : sumTo 8 (λ u. max (count u A) (count u B₀)) ≤ 512) where
+  abbrev W : List Rec → List Rec → List Rec → Type 0
+  W = Way A B₀ used sA agree inA fit
+
+  -- one call: a take of b answers 0, and what its log becomes
+  record Went (s : Bench) (c : Call) (rest : List Rec) : Type 0 where
+    zero′ : unitOf c ≡ b → done archive s c .number ≡ 0
+    acc : List Rec
+    way : W (held (next archive s c) b) acc rest
+
+  other : (s : Bench) (c : Call) (acc rest : List Rec) → (unitOf c ≡ b → ⊥) → W (held s b) acc (flowOf b s c ++ rest) → Went s c rest
+  unfolding next after held
+  other s c acc rest d w =
+      let q : next archive s c .logs b ≡ s .logs b =
+      ⊎-elim (λ k. absurd (d (sym (k .0)))) (λ k. k .1) (put-cases (s .logs) (unitOf c) (done archive s c .log) b) in
+      record { zero′ = λ k. absurd (d k); acc = acc; way = rw (ap recordsOf q) (rw (flow-other b s c d) at w) }
+
+  log-taken : (s : Bench) (k : ℕ) (m : List Rec) → takeOf archive b (s .logs b) (blockGiven s k .bytes) ≡ outcome 0 0 (logBytes m) [] 0
+      → recordsOf (next archive s (takes b k) .logs b) ≡ recordsOf (logBytes m)
+  unfolding next after done
+  log-taken s k m e =
+      ⊎-elim (λ h. ap recordsOf (h .1 ∙ ap (λ (x : Outcome). x .log) e)) (λ h. absurd (h .0 (sym (unit-takes b k))))
+      (put-cases (s .logs) (unitOf (takes b k)) (done archive s (takes b k) .log) b)
+
+  mine : (s : Bench) (k : ℕ) (acc rest : List Rec) → Inv archive s → k < length (s .given) → W (held s b) acc (flowOf b s (takes b k) ++ rest) → Went s (takes b k) rest
+  unfolding next after held done blockGiven
+  mine s k acc rest i n w =
+      let bs : List Rec = blockRecords (blockGiven s k .bytes) in
+      let (m, acc₁, t, w₁) = way-all A B₀ used sA agree inA fit bs rest (held s b) acc (rw (flow-takes b s k) at w) in
+      let f : givenFault archive (blockGiven s k .bytes) ≡ 0 = all-at (Given archive (s .used)) (s .given) k (record { giver = 0; bytes = [] }) n (i .blocked) .0 in
+      let o : takeOf archive b (s .logs b) (blockGiven s k .bytes) ≡ outcome 0 0 (logBytes m) [] 0 = take-done archive b (s .logs b) (blockGiven s k .bytes) m (omega arith) (i .good b) f t in
+      let (h, few) = take-good (s .logs b) bs m (i .good b) t in
+      let q : recordsOf (next archive s (takes b k) .logs b) ≡ m = log-taken s k m o ∙ sound-back m h few in
+      record { zero′ = λ _. ap (λ (x : Outcome). x .number) o; acc = acc₁; way = rw q w₁ }
+
+  went : (s : Bench) (c : Call) (acc rest : List Rec) → Inv archive s → Does archive a b n₀ s c → W (held s b) acc (flowOf b s c ++ rest) → Went s c rest
+  went s c acc rest i (elsewhere x y) w = other s c acc rest y w
+  went s c acc rest i (giving x y) w = other s c acc rest y w
+  went s c acc rest i (taking k q x y z v) w =
+      subst (λ (t : Call). Went s t rest) (sym q) (mine s k acc rest i z (subst (λ (t : Call). W (held s b) acc (flowOf b s t ++ rest)) q w))
+
+  goes : (cs : List Call) (s : Bench) (acc : List Rec) → Inv archive s → Source archive a b n₀ A s → passing archive a b n₀ s cs ≡ true → W (held s b) acc (flow archive b s cs)
+      → (zeros archive b s cs ≡ true) × ((u : ℕ) → count u (held (play archive s cs) a) ≤ count u (held (play archive s cs) b))
+  unfolding flow play passing zeros
+  goes [] s acc i h e w = (refl, λ u. rw (h .at-a) (way-end A B₀ used sA agree inA fit (held s b) acc w u))
+  goes (c ∷ cs) s acc i h e w =
+      let (p, q) = and-true (passes a b n₀ s c) (passing archive a b n₀ (next archive s c) cs) e in
+      let d = does archive a b n₀ s c p in
+      let g = went s c acc (flow archive b (next archive s c) cs) i d w in
+      let (x, y) = goes cs (next archive s c) (g .acc) (inv-next archive s c i) (source-next archive a b n₀ A s c h d) q (g .way) in
+      (true-and (not (eqb (unitOf c) b) || eqb (done archive s c .number) 0) (zeros archive b (next archive s c) cs) (zero-or (g .zero′)) x, y)
+    where
+      zero-or : (unitOf c ≡ b → done archive s c .number ≡ 0) → (not (eqb (unitOf c) b) || eqb (done archive s c .number) 0) ≡ true
+      zero-or f =
+          ⊎-elim
+          (λ k. rw (eq-eqb (unitOf c) b k, eq-eqb (done archive s c .number) 0 (f k)))
+          (λ k. rw (ne-eqb (unitOf c) b k))
+          (eq-or-ne (unitOf c) b)
+
+-- ---- the whole
+
+-- a record that the other lacks is among those that come
+comes : (A B F used : List Rec) → Sound A → Sound B → Agree used used → Sub A used → Sub B used → Sub F A
+    → holdsAll F (lacking (vectorOf B) A) ≡ true → (r : Rec) → Has r A → (Has r B → ⊥) → Has r F
+comes A B F used sA sB agree inA inB part e r h absent = go (holds-cases B r)
+  where
+    go : Held B r → Has r F
+    go (inl (t, _, j, a, b)) = absurd (absent (subst (λ (x : Rec). Has x B) (agree t r (inB t j) (inA r h) a b) j))
+    go (inr (_, d)) =
+        let f = formed [] A r sA h in
+        let l = absent-lacked A B sB r (well-unit r f) (omega (arith, well-own r f)) h d in
+        let (t, j, a, b) = holds-some F r (all-from F (lacking (vectorOf B) A) e r l) in
+        subst (λ (x : Rec). Has x F) (agree t r (inA t (part t j)) (inA r h) a b) j
+
+pub cover : (archive : ℕ) (cs : List Call) (s : Bench) (a b : ℕ) → b < 8 → Inv archive s → distinct (play archive s cs .used) ≡ true → Passed archive a b s cs → Covered archive a b s cs
+unfolding heldVector lacked
+cover archive cs s a b b8 i d p =
+    let A : List Rec = held s a in
+    let B : List Rec = held s b in
+    let used : List Rec = play archive s cs .used in
+    let n : ℕ = length (s .given) in
+    let sA = held-sound archive s i a in
+    let sB = held-sound archive s i b in
+    let agree = distinct-agree used d in
+    let inU : (v : ℕ) → Sub (held s v) used = λ v r h. used-play archive cs s r (i .logged v r h) in
+    let fit : sumTo 8 (λ u. max (count u A) (count u B)) ≤ 512 =
+    omega (arith, union-length A B sA sB, leb-true (length (lacking (vectorOf B) A) + length B) 512 (p .union)) in
+    let src : Source archive a b n A s = record { at-a = refl; since = rw drop-length tt; grown = omega arith } in
+    let part = source-flow archive a b n A cs s src (p .calls) in
+    let w : Way A B used sA agree (inU a) fit B B (flow archive b s cs) =
+    record {
+      sound = sB;
+      in-acc = λ r h. h;
+      of-acc = λ r h. h;
+      from = inU b;
+      part = part;
+      rising = rising-from (firsts B (flow archive b s cs)) (p .order);
+      all = comes A B (flow archive b s cs) used sA sB agree (inU a) (inU b) part (p .all);
+      room = λ u k. omega arith;
+    } in
+    let (x, y) = goes archive a b n b8 A B used sA agree (inU a) fit cs s B i src (p .calls) w in
+    record { answers = x; covering = counts-cover (held (play archive s cs) a) (held (play archive s cs) b) (λ u _. y u) }
