@@ -4,3 +4,5 @@ pub mod Converge
 pub mod Cover
 pub mod Passing
 pub mod Demand
+pub mod Quick
+pub mod Example
