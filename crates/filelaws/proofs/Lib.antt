@@ -1,0 +1,5 @@
+pub mod Records
+pub mod Written
+pub mod Blocks
+pub mod Rewritten
+pub mod Claims
