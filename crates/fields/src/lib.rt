@@ -6,14 +6,14 @@ ghost use Rattle.model.specs.Date.{isLeap, daysOf, isDate};
 ghost use Rattle.model.specs.Record.{textLength, printable, isLabel};
 
 // A year of 366 days.
-pub fn is_leap(y: u16) -> bool
+fn is_leap(y: u16) -> bool
     ensures { λ r. ⌜ r ≡ isLeap y ⌝ }
 {
     y % 4 == 0 && (y % 100 != 0 || y % 400 == 0)
 }
 
 // The days of a month; 0 where there is no such month.
-pub fn days(y: u16, m: u8) -> u8
+fn days(y: u16, m: u8) -> u8
     ensures { λ r. ⌜ r ≡ daysOf y m ⌝ }
 {
     match m {
@@ -55,7 +55,7 @@ pub fn text_length(t: &[u8]) -> usize
 }
 
 // Every byte is hexadecimal 20 to 7E.
-pub fn is_printable(t: &[u8]) -> bool
+fn is_printable(t: &[u8]) -> bool
     ensures { λ r. ⌜ r ≡ printable (now (t .entry)) ⌝ }
 {
     let mut i: usize = 0;
