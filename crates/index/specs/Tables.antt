@@ -1,0 +1,71 @@
+-- The tables of the records held: at which position each stands, and what each has seen.
+-- Assumes nothing.
+use Prim.Native.Nat.{ℕ, zero, suc, _+_, _-_, _*_, _≤_, _<_}
+use mathlib.Core.Path.{_≡_}
+use mathlib.Core.Bool.{Bool, true, false, cond, _&&_}
+use mathlib.Core.Option.{Option, none, some}
+use mathlib.Core.List.{List, [], _∷_}
+use lib.Dec.{ltb, leb, eqb}
+use lib.ListN.{getD, length, set}
+use Rattle.model.specs.Numbers.{malformed, notNext, notClosed, badFile}
+use Rattle.model.specs.Bytes.{part, putAt}
+use Rattle.model.specs.Vector.{covers}
+use Rattle.model.specs.Record.{Rec, unit, num, seenVector, wellFormed}
+use Rattle.model.specs.Log.{rank, count, vectorOf, byId, allTo}
+
+-- where the position of the record u.c stands
+unfoldable pub slotOf : ℕ → ℕ → ℕ
+slotOf u c = 512 * u + (c - 1)
+
+-- the position of the record u.c
+unfoldable pub positionOf : List ℕ → ℕ → ℕ → ℕ
+positionOf places u c = getD places (slotOf u c) 0
+
+-- what the record at a position has seen
+unfoldable pub rowAt : List ℕ → ℕ → List ℕ
+rowAt seens p = part seens (8 * p) 8
+
+-- the record of the count of unit u in s has nowhere seen more than s
+unfoldable pub unitClosed : List ℕ → List ℕ → List ℕ → ℕ → Bool
+unitClosed places seens s u = cond (eqb (getD s u 0) 0) true (covers s (rowAt seens (positionOf places u (getD s u 0))))
+
+-- for each unit u with count c above 0, the seen of record u.c is nowhere above it, as the tables have it
+unfoldable pub closedBy : List ℕ → List ℕ → List ℕ → Bool
+closedBy places seens s = allTo 8 (unitClosed places seens s)
+
+-- the lowest rank that rises behind records that stand last first
+unfoldable pub floorOf : List Rec → ℕ
+floorOf [] = 0
+floorOf (s ∷ l) = suc (rank s)
+
+-- the first of 7, 20, 8 and 9 that holds of a record, or 0, as the tables have it; floor is the lowest rank that rises
+unfoldable pub faultBy : ℕ → List ℕ → List ℕ → List ℕ → Rec → ℕ
+faultBy floor held places seens r =
+    cond (wellFormed r)
+    (cond (leb floor (rank r))
+    (cond (eqb (num r) (suc (getD held (unit r) 0)) && covers held (seenVector r))
+    (cond (closedBy places seens (seenVector r)) 0 notClosed)
+    notNext)
+    badFile)
+    malformed
+
+-- the positions of the records counted lie in the tables
+pub record Placed (held places : List ℕ) : Type 0 where
+  pub few : (u : ℕ) → u < 8 → getD held u 0 ≤ 512
+  pub inside : (u c : ℕ) → u < 8 → 1 ≤ c → c ≤ getD held u 0 → positionOf places u c < 518
+
+-- the record u.c of the list m stands at a position below top, with its seen
+pub record Stands (at : ℕ → Rec) (top : ℕ) (m : List Rec) (places seens : List ℕ) (u c : ℕ) : Type 0 where
+  pub below : positionOf places u c < top
+  pub found : byId u c m ≡ some (at (positionOf places u c))
+  pub row : rowAt seens (positionOf places u c) ≡ seenVector (at (positionOf places u c))
+
+-- the tables have the records of the list m, which stand at positions below top, and no others
+pub record Holds (at : ℕ → Rec) (top : ℕ) (m : List Rec) (held places seens : List ℕ) : Type 0 where
+  pub counts : held ≡ vectorOf m
+  pub places-long : length places ≡ 4096
+  pub seens-long : length seens ≡ 4144
+  pub few : length m ≤ 512
+  pub room : top ≤ 518
+  pub stands : (u c : ℕ) → u < 8 → 1 ≤ c → c ≤ count u m → Stands at top m places seens u c
+  pub beyond : (u c : ℕ) → count u m < c → byId u c m ≡ none

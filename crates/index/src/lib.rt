@@ -1,0 +1,1 @@
+// The tables of the records held, and the checks that go by them.
