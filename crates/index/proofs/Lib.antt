@@ -2,3 +2,5 @@ pub mod Counts
 pub mod Vectors
 pub mod Tables
 pub mod Closed
+pub mod Faults
+pub mod Admits

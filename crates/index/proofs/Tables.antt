@@ -21,7 +21,8 @@ use Rattle.octets.proofs.Parts.{part-length}
 use Rattle.octets.proofs.PutAt.{length-put, part-put, part-put-before}
 use Rattle.index.specs.Tables.{slotOf, positionOf, rowAt, unitClosed, closedBy, faultBy, floorOf, Placed, Stands, Holds}
 use Rattle.index.proofs.Counts.{count-cons, count-own, count-few, vector-long, vector-at, vector-cons, byId-same, byId-other, Alike, alike-vector}
-use Rattle.index.proofs.Vectors.{seen-long, seen-at, covers-at}
+use Rattle.vector.proofs.Dominance.{covers-at}
+use Rattle.index.proofs.Vectors.{seen-long, seen-at}
 
 -- ---- slots
 

@@ -49,6 +49,28 @@ faultBy floor held places seens r =
     badFile)
     malformed
 
+-- what is known of the records before, with the number that the last of them gave
+pub record Front : Type 0 where
+  pub number : ℕ
+  pub held : List ℕ
+  pub floor : ℕ
+  pub places : List ℕ
+  pub seens : List ℕ
+
+abbrev pub front : ℕ → List ℕ → ℕ → List ℕ → List ℕ → Front
+front n held floor places seens = record { number = n; held = held; floor = floor; places = places; seens = seens }
+
+-- a record behind others is refused with its fault, or noted at the position p
+unfoldable pub admitOf : Rec → ℕ → List ℕ → ℕ → List ℕ → List ℕ → Front
+admitOf r p held floor places seens =
+    cond (eqb (faultBy floor held places seens r) 0)
+    (front 0 (set held (unit r) (getD held (unit r) 0 + 1)) (rank r + 1) (set places (slotOf (unit r) (num r)) p) (putAt seens (8 * p) (seenVector r)))
+    (front (faultBy floor held places seens r) held floor places seens)
+
+-- a record more of each unit has a place in the tables
+pub record Spare (held : List ℕ) : Type 0 where
+  pub below : (u : ℕ) → u < 8 → getD held u 0 < 512
+
 -- the positions of the records counted lie in the tables
 pub record Placed (held places : List ℕ) : Type 0 where
   pub few : (u : ℕ) → u < 8 → getD held u 0 ≤ 512

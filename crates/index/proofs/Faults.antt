@@ -1,0 +1,103 @@
+-- What the checks of a record behind others are asked, over plain values.
+-- Assumes nothing.
+use Prim.Native.Nat.{ℕ, zero, suc, _+_, _-_, _*_, _≤_, _<_}
+use native.Mathlib.Numerals.{add-one}
+use native.Mathlib.Omega.{arith}
+use mathlib.Core.Path.{_≡_, refl, sym, ap, _∙_}
+use mathlib.Core.Bool.{Bool, true, false, cond, not, _&&_}
+use mathlib.Core.List.{List}
+use lib.Dec.{leb, eqb}
+use lib.ListN.{getD, length, set}
+use borrow.Author.Tests.{le-leb, lt-leb, eq-eqb, ne-eqb, eqb-true, not-true, not-false}
+use Rattle.model.specs.Bytes.{putAt}
+use Rattle.model.specs.Vector.{covers}
+use Rattle.model.specs.Record.{Rec, unit, num, seenVector, wellFormed}
+use Rattle.model.specs.Log.{rank}
+use Rattle.vector.proofs.Dominance.{covers-at}
+use Rattle.index.specs.Tables.{slotOf, closedBy, faultBy, Placed, Spare, front, admitOf}
+use Rattle.index.proofs.Tables.{well-unit}
+
+-- what is seen lies within what is held, so its positions lie in the tables
+pub placed-within : (held s places : List ℕ) (t : Bool) → Placed held places → t ≡ covers held s → not t ≡ false → Placed s places
+placed-within held s places t p e g =
+    let w : covers held s ≡ true = sym e ∙ not-false t g in
+    record {
+      few = λ u h. omega (arith, covers-at held s w u h, p .few u h);
+      inside = λ u c h l k. p .inside u c h l (omega (arith, covers-at held s w u h));
+    }
+
+module _ (r : Rec) (floor : ℕ) (held places seens : List ℕ) (w : Bool) (e : w ≡ wellFormed r) where
+  pub fault-malformed : not w ≡ true → 7 ≡ faultBy floor held places seens r
+  unfolding faultBy
+  fault-malformed g = rw (← e, not-true w g)
+
+  module _ (g : not w ≡ false) where
+    pub unit-small : (u : ℕ) → u ≡ unit r → u < 8
+    unit-small u q = rw q (well-unit r (sym e ∙ not-false w g))
+
+    pub count-fits : (u : ℕ) → u ≡ unit r → Placed held places → getD held u 0 + 1 < 65536
+    count-fits u q p = omega (arith, p .few u (unit-small u q))
+
+    pub fault-low : (k : ℕ) → k ≡ rank r → k < floor → 20 ≡ faultBy floor held places seens r
+    unfolding faultBy
+    fault-low k q h = rw (← e, not-false w g, ← q, lt-leb floor k h)
+
+    module _ (k : ℕ) (q : k ≡ rank r) (h : floor ≤ k) (u n : ℕ) (a : u ≡ unit r) (b : n ≡ num r) where
+      pub fault-number : (n ≡ getD held u 0 + 1 → ⊥) → 8 ≡ faultBy floor held places seens r
+      unfolding faultBy
+      fault-number d = rw (← e, not-false w g, ← q, le-leb floor k h, ← a, ← b, ne-eqb n (suc (getD held u 0)) (λ f. d (omega arith)))
+
+      module _ (d : n ≡ getD held u 0 + 1) (s : List ℕ) (v : s ≡ seenVector r) (t : Bool) (f : t ≡ covers held s) where
+        pub fault-above : not t ≡ true → 8 ≡ faultBy floor held places seens r
+        unfolding faultBy
+        fault-above z = rw (← e, not-false w g, ← q, le-leb floor k h, ← a, ← b, eq-eqb n (suc (getD held u 0)) (omega arith), ← v, ← f, not-true t z)
+
+        module _ (z : not t ≡ false) (o : Bool) (i : o ≡ closedBy places seens s) where
+          pub fault-open : not o ≡ true → 9 ≡ faultBy floor held places seens r
+          unfolding faultBy
+          fault-open x = rw (← e, not-false w g, ← q, le-leb floor k h, ← a, ← b, eq-eqb n (suc (getD held u 0)) (omega arith), ← v, ← f, not-false t z, ← i, not-true o x)
+
+          pub fault-none : not o ≡ false → 0 ≡ faultBy floor held places seens r
+          unfolding faultBy
+          fault-none x = rw (← e, not-false w g, ← q, le-leb floor k h, ← a, ← b, eq-eqb n (suc (getD held u 0)) (omega arith), ← v, ← f, not-false t z, ← i, not-false o x)
+
+-- ---- a record behind others is admitted
+
+module _ (r : Rec) (floor : ℕ) (held places seens : List ℕ) (n : ℕ) (e : n ≡ faultBy floor held places seens r) where
+  pub admit-refuses : (p : ℕ) → (n ≡ 0 → ⊥) → front n held floor places seens ≡ admitOf r p held floor places seens
+  unfolding admitOf
+  admit-refuses p h = rw (← e, ne-eqb n 0 h)
+
+  module _ (z : n ≡ 0) where
+    pub no-fault : (wellFormed r ≡ true) × (num r ≡ suc (getD held (unit r) 0))
+    unfolding faultBy
+    no-fault =
+        go (wellFormed r) (leb floor (rank r)) (eqb (num r) (suc (getD held (unit r) 0))) (covers held (seenVector r)) (closedBy places seens (seenVector r)) refl refl (sym e ∙ z)
+      where
+        go : (a b c d f : Bool) → wellFormed r ≡ a → eqb (num r) (suc (getD held (unit r) 0)) ≡ c → _≡_ {A = ℕ} (cond a (cond b (cond (c && d) (cond f 0 9) 8) 20) 7) 0 → (wellFormed r ≡ true) × (num r ≡ suc (getD held (unit r) 0))
+        go true true true true true p q x = (p, eqb-true (num r) (suc (getD held (unit r) 0)) q)
+        go true true true true false p q x = absurd (omega arith)
+        go true true true false f p q x = absurd (omega arith)
+        go true true false d f p q x = absurd (omega arith)
+        go true false c d f p q x = absurd (omega arith)
+        go false b c d f p q x = absurd (omega arith)
+
+    module _ (u : ℕ) (a : u ≡ unit r) where
+      pub unit-admitted : u < 8
+      unit-admitted = rw a (well-unit r (no-fault .0))
+
+      pub count-spare : Spare held → getD held u 0 < 65535
+      count-spare s = omega (arith, s .below u unit-admitted)
+
+    module _ (c : ℕ) (b : c ≡ num r) where
+      pub number-least : 1 ≤ c
+      number-least = omega (arith, no-fault .1)
+
+      pub number-most : Spare held → c ≤ 512
+      number-most s = omega (arith, no-fault .1, s .below (unit r) (well-unit r (no-fault .0)))
+
+    pub admit-notes : (p u c k : ℕ) (s held′ places′ seens′ : List ℕ) → u ≡ unit r → c ≡ num r → k ≡ rank r → s ≡ seenVector r
+        → held′ ≡ set held u (getD held u 0 + 1) → places′ ≡ set places (slotOf u c) p → seens′ ≡ putAt seens (8 * p) s
+        → front 0 held′ (k + 1) places′ seens′ ≡ admitOf r p held floor places seens
+    unfolding admitOf
+    admit-notes p u c k s held′ places′ seens′ a b d f g h i = rw (← e, z, g, h, i, a, b, d, f)
