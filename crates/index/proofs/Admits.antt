@@ -13,39 +13,45 @@ use borrow.Author.Tests.{eq-eqb, ne-eqb}
 use Rattle.model.specs.Record.{Rec, unit, num}
 use Rattle.model.specs.Log.{rank, count, recordFault}
 use Rattle.octets.proofs.Numbers.{eq-or-ne}
-use Rattle.index.specs.Tables.{faultBy, floorOf, Spare, Holds, Front, front, admitOf}
+use Rattle.order.proofs.Formed.{well-unit}
+use Rattle.index.specs.Tables.{faultBy, floorOf, Spare, Indexed, Noted, noted, admitOf}
 use Rattle.index.proofs.Counts.{count-few}
-use Rattle.index.proofs.Tables.{held-at, fault-is, holds-note, well-unit}
+use Rattle.index.proofs.Tables.{held-at, fault-is, indexed-note}
 use Rattle.index.proofs.Faults.{no-fault}
 
-module _ (at : ℕ → Rec) (top : ℕ) (m : List Rec) (held places seens : List ℕ) (h : Holds at top m held places seens) where
-  pub holds-spare : length m < 512 → Spare held
-  holds-spare k = record { below = λ u g. omega (arith, held-at at top m held places seens h u g, count-few u m) }
+module _ (at : ℕ → Rec) (top : ℕ) (m : List Rec) (held places seens : List ℕ) (h : Indexed at top m held places seens) where
+  pub indexed-spare : length m < 512 → Spare held
+  indexed-spare k = record { below = λ u g. omega (arith, held-at at top m held places seens h u g, count-few u m) }
 
-  module _ (floor : ℕ) (f : floor ≡ floorOf m) (r : Rec) (p : ℕ) (o : Front) (e : o ≡ admitOf r p held floor places seens) where
+  module _ (floor : ℕ) (f : floor ≡ floorOf m) (r : Rec) (p : ℕ) (o : Noted) (e : o ≡ admitOf r p held floor places seens) where
     same-fault : o .number ≡ faultBy floor held places seens r
     unfolding admitOf
     same-fault =
         ⊎-elim
-        (λ (z : faultBy floor held places seens r ≡ 0). ap (λ (x : Front). x .number) e ∙ rw z)
-        (λ (z : faultBy floor held places seens r ≡ 0 → ⊥). ap (λ (x : Front). x .number) e ∙ rw (ne-eqb (faultBy floor held places seens r) 0 z))
+        (λ (z : faultBy floor held places seens r ≡ 0). ap (λ (x : Noted). x .number) e ∙ rw z)
+        (λ (z : faultBy floor held places seens r ≡ 0 → ⊥). ap (λ (x : Noted). x .number) e ∙ rw (ne-eqb (faultBy floor held places seens r) 0 z))
         (eq-or-ne (faultBy floor held places seens r) 0)
 
     -- the number is the record's first fault
     pub admit-fault : o .number ≡ recordFault m r
     admit-fault = same-fault ∙ fault-is at top m held places seens h floor f r
 
+    -- without a fault its number is its unit's next
+    pub admit-next : o .number ≡ 0 → num r ≡ suc (count (unit r) m)
+    admit-next z =
+        let (w, n) = no-fault r floor held places seens 0 (sym (sym same-fault ∙ z)) refl in
+        n ∙ ap suc (held-at at top m held places seens h (unit r) (well-unit r w))
+
     -- without a fault the record is held, and the next must rank above it
     module _ (k : length m < 512) (lo : top ≤ p) (hi : p < 518) (q : at p ≡ r) (z : o .number ≡ 0) where
       zero-fault : faultBy floor held places seens r ≡ 0
       zero-fault = sym same-fault ∙ z
 
-      pub admit-holds : Holds at (suc p) (r ∷ m) (o .held) (o .places) (o .seens)
+      pub admit-indexed : Indexed at (suc p) (r ∷ m) (o .held) (o .places) (o .seens)
       unfolding admitOf
-      admit-holds =
-          let (w, n) = no-fault r floor held places seens 0 (sym zero-fault) refl in
-          let u8 = well-unit r w in
-          rw (e, zero-fault) (holds-note at top m held places seens h r p u8 (n ∙ ap suc (held-at at top m held places seens h (unit r) u8)) k lo hi q)
+      admit-indexed =
+          let u8 = well-unit r (no-fault r floor held places seens 0 (sym zero-fault) refl .0) in
+          rw (e, zero-fault) (indexed-note at top m held places seens h r p u8 (admit-next z) k lo hi q)
 
       pub admit-floor : o .floor ≡ floorOf (r ∷ m)
       unfolding admitOf floorOf

@@ -1,6 +1,6 @@
 -- Record counts, and the record of an identity, in a list that gets one record more.
 -- Assumes nothing.
-use Prim.Native.Nat.{ℕ, zero, suc, _+_, _-_, _≤_, _<_}
+use Prim.Native.Nat.{ℕ, zero, suc, _+_, _≤_, _<_}
 use native.Mathlib.Numerals.{add-one}
 use native.Mathlib.Omega.{arith}
 use mathlib.Core.Path.{_≡_, refl, sym, ap, _∙_}
@@ -8,55 +8,22 @@ use mathlib.Core.Logic.{_⊎_, inl, inr, ⊎-elim}
 use mathlib.Core.Bool.{Bool, true, false, cond, _&&_}
 use mathlib.Core.Option.{Option, none, some}
 use mathlib.Core.List.{List, [], _∷_, _++_}
-use lib.Dec.{ltb, eqb}
-use lib.ListN.{getD, length, set, List·getD-append, length-append, length-set}
-use lib.Seq.{getD-at, getD-set-same, getD-set-other, ext-getD}
-use borrow.Author.Tests.{lt-ltb, le-ltb, eq-eqb, ne-eqb}
+use lib.Dec.{eqb}
+use lib.ListN.{getD, length, set, length-set}
+use lib.Seq.{getD-set-same, getD-set-other, ext-getD}
+use borrow.Author.Tests.{eq-eqb, ne-eqb}
 use Rattle.model.specs.Record.{Rec, unit, num}
-use Rattle.model.specs.Log.{rank, insert, count, countsTo, vectorOf, byId}
-use Rattle.octets.proofs.Numbers.{lt-or-ge, eq-or-ne, and-wrong}
+use Rattle.model.specs.Log.{count, countsTo, vectorOf, byId}
+use Rattle.octets.proofs.Numbers.{eq-or-ne}
+use Rattle.order.proofs.Counts.{count-cons}
+use Rattle.order.proofs.Tests.{vectorOf-length, vectorOf-getD}
 
 -- ---- counts
-
-pub count-cons : (u : ℕ) (r : Rec) (l : List Rec) → ((unit r ≡ u) × (count u (r ∷ l) ≡ suc (count u l))) ⊎ ((unit r ≡ u → ⊥) × (count u (r ∷ l) ≡ count u l))
-unfolding count
-count-cons u r l =
-    ⊎-elim
-    (λ e. inl (e, rw (eq-eqb (unit r) u e)))
-    (λ e. inr (e, rw (ne-eqb (unit r) u e)))
-    (eq-or-ne (unit r) u)
-
-pub count-own : (r : Rec) (l : List Rec) → count (unit r) (r ∷ l) ≡ suc (count (unit r) l)
-count-own r l = ⊎-elim (λ a. a .1) (λ a. absurd (a .0 refl)) (count-cons (unit r) r l)
 
 pub count-few : (u : ℕ) (l : List Rec) → count u l ≤ length l
 unfolding count
 count-few u [] = omega arith
 count-few u (r ∷ l) = ⊎-elim (λ a. omega (arith, count-few u l)) (λ a. omega (arith, count-few u l)) (count-cons u r l)
-
--- ---- the vector of the counts
-
-counts-long : (l : List Rec) (n : ℕ) → length (countsTo l n) ≡ n
-unfolding countsTo
-counts-long l zero = refl
-counts-long l (suc n) = simp length-append (omega (arith, counts-long l n))
-
-counts-at : (l : List Rec) (n u : ℕ) → u < n → getD (countsTo l n) u 0 ≡ count u l
-unfolding countsTo
-counts-at l zero u h = absurd (omega arith)
-counts-at l (suc n) u h =
-    ⊎-elim
-    (λ (g : u < n). List·getD-append (countsTo l n) (count n l ∷ []) 0 u (omega (arith, counts-long l n)) ∙ counts-at l n u g)
-    (λ g. let e : u ≡ n = omega arith in rw e (getD-at (countsTo l n) (count n l) [] 0 n (counts-long l n)))
-    (lt-or-ge u n)
-
-pub vector-long : (l : List Rec) → length (vectorOf l) ≡ 8
-unfolding vectorOf
-vector-long l = counts-long l 8
-
-pub vector-at : (l : List Rec) (u : ℕ) → u < 8 → getD (vectorOf l) u 0 ≡ count u l
-unfolding vectorOf
-vector-at l u h = counts-at l 8 u h
 
 -- ---- the record of an identity
 
@@ -91,19 +58,19 @@ byId-other r l u c d = rw (other-test r u c d)
 pub vector-cons : (r : Rec) (l : List Rec) → unit r < 8 → vectorOf (r ∷ l) ≡ set (vectorOf l) (unit r) (getD (vectorOf l) (unit r) 0 + 1)
 vector-cons r l h =
     let v = vectorOf l in
-    let n : length (set v (unit r) (getD v (unit r) 0 + 1)) ≡ 8 = simp length-set (vector-long l) in
-    ext-getD 0 (vectorOf (r ∷ l)) (set v (unit r) (getD v (unit r) 0 + 1)) (vector-long (r ∷ l) ∙ sym n) (λ u k. at u (rw (vector-long (r ∷ l)) at k))
+    let n : length (set v (unit r) (getD v (unit r) 0 + 1)) ≡ 8 = simp length-set (vectorOf-length l) in
+    ext-getD 0 (vectorOf (r ∷ l)) (set v (unit r) (getD v (unit r) 0 + 1)) (vectorOf-length (r ∷ l) ∙ sym n) (λ u k. at u (rw (vectorOf-length (r ∷ l)) at k))
   where
     at : (u : ℕ) → u < 8 → getD (vectorOf (r ∷ l)) u 0 ≡ getD (set (vectorOf l) (unit r) (getD (vectorOf l) (unit r) 0 + 1)) u 0
     at u k =
         ⊎-elim
         (λ (a : (unit r ≡ u) × (count u (r ∷ l) ≡ suc (count u l))).
-        vector-at (r ∷ l) u k
-        ∙ rw (a .0, getD-set-same (vectorOf l) u (getD (vectorOf l) u 0 + 1) 0 (omega (arith, vector-long l)), vector-at l u k, a .1, add-one))
+        vectorOf-getD (r ∷ l) u k
+        ∙ rw (a .0, getD-set-same (vectorOf l) u (getD (vectorOf l) u 0 + 1) 0 (omega (arith, vectorOf-length l)), vectorOf-getD l u k, a .1, add-one))
         (λ (a : (unit r ≡ u → ⊥) × (count u (r ∷ l) ≡ count u l)).
-        vector-at (r ∷ l) u k
+        vectorOf-getD (r ∷ l) u k
         ∙ a .1
-        ∙ rw (getD-set-other (vectorOf l) (unit r) u (getD (vectorOf l) (unit r) 0 + 1) 0 (λ e. a .0 (sym e))) (sym (vector-at l u k)))
+        ∙ rw (getD-set-other (vectorOf l) (unit r) u (getD (vectorOf l) (unit r) 0 + 1) 0 (λ e. a .0 (sym e))) (sym (vectorOf-getD l u k)))
         (count-cons u r l)
 
 -- ---- lists that count alike and have the same record of each identity

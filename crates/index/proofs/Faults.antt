@@ -14,8 +14,8 @@ use Rattle.model.specs.Vector.{covers}
 use Rattle.model.specs.Record.{Rec, unit, num, seenVector, wellFormed}
 use Rattle.model.specs.Log.{rank}
 use Rattle.vector.proofs.Dominance.{covers-at}
-use Rattle.index.specs.Tables.{slotOf, closedBy, faultBy, Placed, Spare, front, admitOf}
-use Rattle.index.proofs.Tables.{well-unit}
+use Rattle.index.specs.Tables.{slotOf, closedBy, faultBy, Placed, Spare, noted, admitOf}
+use Rattle.order.proofs.Formed.{well-unit}
 
 -- what is seen lies within what is held, so its positions lie in the tables
 pub placed-within : (held s places : List ℕ) (t : Bool) → Placed held places → t ≡ covers held s → not t ≡ false → Placed s places
@@ -64,7 +64,7 @@ module _ (r : Rec) (floor : ℕ) (held places seens : List ℕ) (w : Bool) (e : 
 -- ---- a record behind others is admitted
 
 module _ (r : Rec) (floor : ℕ) (held places seens : List ℕ) (n : ℕ) (e : n ≡ faultBy floor held places seens r) where
-  pub admit-refuses : (p : ℕ) → (n ≡ 0 → ⊥) → front n held floor places seens ≡ admitOf r p held floor places seens
+  pub admit-refuses : (p : ℕ) → (n ≡ 0 → ⊥) → noted n held floor places seens ≡ admitOf r p held floor places seens
   unfolding admitOf
   admit-refuses p h = rw (← e, ne-eqb n 0 h)
 
@@ -98,6 +98,6 @@ module _ (r : Rec) (floor : ℕ) (held places seens : List ℕ) (n : ℕ) (e : n
 
     pub admit-notes : (p u c k : ℕ) (s held′ places′ seens′ : List ℕ) → u ≡ unit r → c ≡ num r → k ≡ rank r → s ≡ seenVector r
         → held′ ≡ set held u (getD held u 0 + 1) → places′ ≡ set places (slotOf u c) p → seens′ ≡ putAt seens (8 * p) s
-        → front 0 held′ (k + 1) places′ seens′ ≡ admitOf r p held floor places seens
+        → noted 0 held′ (k + 1) places′ seens′ ≡ admitOf r p held floor places seens
     unfolding admitOf
     admit-notes p u c k s held′ places′ seens′ a b d f g h i = rw (← e, z, g, h, i, a, b, d, f)

@@ -19,10 +19,12 @@ use Rattle.model.specs.Log.{rank, count, vectorOf, countsTo, byId, allTo, isNex
 use Rattle.octets.proofs.Numbers.{lt-or-ge, eq-or-ne, and-true, bool-cases}
 use Rattle.octets.proofs.Parts.{part-length}
 use Rattle.octets.proofs.PutAt.{length-put, part-put, part-put-before}
-use Rattle.index.specs.Tables.{slotOf, positionOf, rowAt, unitClosed, closedBy, faultBy, floorOf, Placed, Stands, Holds}
-use Rattle.index.proofs.Counts.{count-cons, count-own, count-few, vector-long, vector-at, vector-cons, byId-same, byId-other, Alike, alike-vector}
+use Rattle.index.specs.Tables.{slotOf, positionOf, rowAt, unitClosed, closedBy, faultBy, floorOf, Placed, Stands, Indexed}
+use Rattle.index.proofs.Counts.{count-few, vector-cons, byId-same, byId-other, Alike, alike-vector}
 use Rattle.vector.proofs.Dominance.{covers-at}
-use Rattle.index.proofs.Vectors.{seen-long, seen-at}
+use Rattle.order.proofs.Counts.{count-cons}
+use Rattle.order.proofs.Formed.{well-unit}
+use Rattle.order.proofs.Tests.{vectorOf-getD, seenVector-length, seenVector-getD}
 
 -- ---- slots
 
@@ -43,13 +45,6 @@ unfolding allTo
 all-same zero p q h = refl
 all-same (suc n) p q h = rw (all-same n p q (λ u k. h u (omega arith)), h n (omega arith))
 
-pub well-unit : (r : Rec) → wellFormed r ≡ true → unit r < 8
-unfolding wellFormed headFits
-well-unit r e =
-    let a = and-true (eqb (length r) 80) _ e .1 in
-    let b = and-true (headFits r) _ a .0 in
-    omega (arith, leb-true (unit r) 7 (and-true (leb (unit r) 7) _ b .0))
-
 rises-is : (m : List Rec) (r : Rec) → rises m r ≡ leb (floorOf m) (rank r)
 unfolding rises floorOf
 rises-is [] r = sym (le-leb 0 (rank r) (omega arith))
@@ -61,12 +56,12 @@ rises-is (s ∷ l) r =
 
 -- ---- what the tables say
 
-module _ (at : ℕ → Rec) (top : ℕ) (m : List Rec) (held places seens : List ℕ) (h : Holds at top m held places seens) where
+module _ (at : ℕ → Rec) (top : ℕ) (m : List Rec) (held places seens : List ℕ) (h : Indexed at top m held places seens) where
   pub held-at : (u : ℕ) → u < 8 → getD held u 0 ≡ count u m
-  held-at u k = rw (h .counts) (vector-at m u k)
+  held-at u k = rw (h .counts) (vectorOf-getD m u k)
 
-  pub holds-placed : Placed held places
-  holds-placed =
+  pub indexed-placed : Placed held places
+  indexed-placed =
       record {
         few = λ u k. omega (arith, held-at u k, count-few u m, h .few);
         inside = λ u c k l g. omega (arith, h .stands u c k l (omega (arith, held-at u k)) .below, h .room);
@@ -77,11 +72,11 @@ module _ (at : ℕ → Rec) (top : ℕ) (m : List Rec) (held places seens : List
       → unitClosed places seens (seenVector r) u ≡ cond (eqb (seen r u) 0) true (nowhereAbove r (byId u (seen r u) m))
   unfolding unitClosed nowhereAbove
   closed-unit r w u k =
-      rw (seen-at r u k)
+      rw (seenVector-getD r u k)
       (⊎-elim
       (λ (e : seen r u ≡ 0). rw e)
       (λ (e : seen r u ≡ 0 → ⊥).
-      let s = h .stands u (seen r u) k (omega arith) (omega (arith, covers-at held (seenVector r) w u k, held-at u k, seen-at r u k)) in
+      let s = h .stands u (seen r u) k (omega arith) (omega (arith, covers-at held (seenVector r) w u k, held-at u k, seenVector-getD r u k)) in
       rw (ne-eqb (seen r u) 0 e, s .found, s .row))
       (eq-or-ne (seen r u) 0))
 
@@ -131,7 +126,7 @@ old-or-new r m n u c k =
     (λ (a : (unit r ≡ u → ⊥) × (count u (r ∷ m) ≡ count u m)). inr (omega arith, λ s. a .0 (s .0)))
     (count-cons u r m)
 
-module _ (at : ℕ → Rec) (top : ℕ) (m : List Rec) (held places seens : List ℕ) (h : Holds at top m held places seens) where
+module _ (at : ℕ → Rec) (top : ℕ) (m : List Rec) (held places seens : List ℕ) (h : Indexed at top m held places seens) where
   module _ (r : Rec) (p : ℕ) (u8 : unit r < 8) (n : num r ≡ suc (count (unit r) m)) (k : length m < 512) (lo : top ≤ p) (hi : p < 518) (e : at p ≡ r) where
     slot-new : positionOf (set places (slotOf (unit r) (num r)) p) (unit r) (num r) ≡ p
     unfolding positionOf
@@ -147,7 +142,7 @@ module _ (at : ℕ → Rec) (top : ℕ) (m : List Rec) (held places seens : List
 
     row-new : rowAt (putAt seens (8 * p) (seenVector r)) p ≡ seenVector r
     unfolding rowAt
-    row-new = rw (seen-long r) at (part-put seens (8 * p) (seenVector r) (omega (arith, h .seens-long)))
+    row-new = rw (seenVector-length r) at (part-put seens (8 * p) (seenVector r) (omega (arith, h .seens-long)))
 
     row-old : (q : ℕ) → q < top → rowAt (putAt seens (8 * p) (seenVector r)) q ≡ rowAt seens q
     unfolding rowAt
@@ -172,12 +167,12 @@ module _ (at : ℕ → Rec) (top : ℕ) (m : List Rec) (held places seens : List
         }
 
     -- the record r at the position p is noted
-    pub holds-note : Holds at (suc p) (r ∷ m) (set held (unit r) (getD held (unit r) 0 + 1)) (set places (slotOf (unit r) (num r)) p) (putAt seens (8 * p) (seenVector r))
-    holds-note =
+    pub indexed-note : Indexed at (suc p) (r ∷ m) (set held (unit r) (getD held (unit r) 0 + 1)) (set places (slotOf (unit r) (num r)) p) (putAt seens (8 * p) (seenVector r))
+    indexed-note =
         record {
           counts = rw (h .counts) (sym (vector-cons r m u8));
           places-long = simp length-set (h .places-long);
-          seens-long = length-put seens (8 * p) (seenVector r) (omega (arith, seen-long r, h .seens-long)) ∙ h .seens-long;
+          seens-long = length-put seens (8 * p) (seenVector r) (omega (arith, seenVector-length r, h .seens-long)) ∙ h .seens-long;
           few = omega arith;
           room = omega arith;
           stands = λ u c v l g. ⊎-elim
@@ -194,8 +189,8 @@ module _ (at : ℕ → Rec) (top : ℕ) (m : List Rec) (held places seens : List
         past u c g (inr a) = byId-other r m u c (λ s. a .0 (s .0)) ∙ h .beyond u c (omega arith)
 
   -- the same of a list that is like it, of positions that are like them, and of more room
-  pub holds-alike : (l : List Rec) → Alike m l → length l ≤ 512 → Holds at top l held places seens
-  holds-alike l k f =
+  pub indexed-alike : (l : List Rec) → Alike m l → length l ≤ 512 → Indexed at top l held places seens
+  indexed-alike l k f =
       record {
         counts = h .counts ∙ alike-vector k;
         places-long = h .places-long;
@@ -208,8 +203,8 @@ module _ (at : ℕ → Rec) (top : ℕ) (m : List Rec) (held places seens : List
         beyond = λ u c g. sym (k .records u c) ∙ h .beyond u c (omega (arith, k .counts u));
       }
 
-  pub holds-where : (to : ℕ → Rec) (more : ℕ) → top ≤ more → more ≤ 518 → ((p : ℕ) → p < top → at p ≡ to p) → Holds to more m held places seens
-  holds-where to more lo hi same =
+  pub indexed-where : (to : ℕ → Rec) (more : ℕ) → top ≤ more → more ≤ 518 → ((p : ℕ) → p < top → at p ≡ to p) → Indexed to more m held places seens
+  indexed-where to more lo hi same =
       record {
         counts = h .counts;
         places-long = h .places-long;
@@ -227,9 +222,9 @@ module _ (at : ℕ → Rec) (top : ℕ) (m : List Rec) (held places seens : List
       }
 
 -- nothing is held
-pub holds-none : (at : ℕ → Rec) (held places seens : List ℕ) → held ≡ replicate 8 0 → length places ≡ 4096 → length seens ≡ 4144 → Holds at 0 [] held places seens
+pub indexed-none : (at : ℕ → Rec) (held places seens : List ℕ) → held ≡ replicate 8 0 → length places ≡ 4096 → length seens ≡ 4144 → Indexed at 0 [] held places seens
 unfolding vectorOf countsTo count byId
-holds-none at held places seens e p s =
+indexed-none at held places seens e p s =
     record {
       counts = e;
       places-long = p;

@@ -50,22 +50,22 @@ faultBy floor held places seens r =
     malformed
 
 -- what is known of the records before, with the number that the last of them gave
-pub record Front : Type 0 where
+pub record Noted : Type 0 where
   pub number : ℕ
   pub held : List ℕ
   pub floor : ℕ
   pub places : List ℕ
   pub seens : List ℕ
 
-abbrev pub front : ℕ → List ℕ → ℕ → List ℕ → List ℕ → Front
-front n held floor places seens = record { number = n; held = held; floor = floor; places = places; seens = seens }
+abbrev pub noted : ℕ → List ℕ → ℕ → List ℕ → List ℕ → Noted
+noted n held floor places seens = record { number = n; held = held; floor = floor; places = places; seens = seens }
 
 -- a record behind others is refused with its fault, or noted at the position p
-unfoldable pub admitOf : Rec → ℕ → List ℕ → ℕ → List ℕ → List ℕ → Front
+unfoldable pub admitOf : Rec → ℕ → List ℕ → ℕ → List ℕ → List ℕ → Noted
 admitOf r p held floor places seens =
     cond (eqb (faultBy floor held places seens r) 0)
-    (front 0 (set held (unit r) (getD held (unit r) 0 + 1)) (rank r + 1) (set places (slotOf (unit r) (num r)) p) (putAt seens (8 * p) (seenVector r)))
-    (front (faultBy floor held places seens r) held floor places seens)
+    (noted 0 (set held (unit r) (getD held (unit r) 0 + 1)) (rank r + 1) (set places (slotOf (unit r) (num r)) p) (putAt seens (8 * p) (seenVector r)))
+    (noted (faultBy floor held places seens r) held floor places seens)
 
 -- a record more of each unit has a place in the tables
 pub record Spare (held : List ℕ) : Type 0 where
@@ -83,7 +83,7 @@ pub record Stands (at : ℕ → Rec) (top : ℕ) (m : List Rec) (places seens : 
   pub row : rowAt seens (positionOf places u c) ≡ seenVector (at (positionOf places u c))
 
 -- the tables have the records of the list m, which stand at positions below top, and no others
-pub record Holds (at : ℕ → Rec) (top : ℕ) (m : List Rec) (held places seens : List ℕ) : Type 0 where
+pub record Indexed (at : ℕ → Rec) (top : ℕ) (m : List Rec) (held places seens : List ℕ) : Type 0 where
   pub counts : held ≡ vectorOf m
   pub places-long : length places ≡ 4096
   pub seens-long : length seens ≡ 4144

@@ -5,7 +5,7 @@ ghost use lib.ListN.{length, set};
 ghost use Rattle.model.specs.Bytes.{putAt};
 ghost use Rattle.model.specs.Record.{seenVector};
 ghost use Rattle.model.specs.Log.{rank};
-ghost use Rattle.index.specs.Tables.{slotOf, positionOf, closedBy, faultBy, Placed, Spare, Front, front, admitOf};
+ghost use Rattle.index.specs.Tables.{slotOf, positionOf, closedBy, faultBy, Placed, Spare, Noted, noted, admitOf};
 use vector::Vector;
 
 // What is known of the records before: their counts, and the lowest rank that rises behind them.
@@ -114,7 +114,7 @@ pub fn record_fault(rec: &[u8], s: Vector, k: u32, b: Before, places: &[u16], se
 // A record behind others is refused with its fault, or noted at the position p.
 pub fn admit(rec: &[u8], p: usize, b: Before, places: &mut [u16], seens: &mut [u16]) -> Admitted
     requires { ⌜ (length (now rec) ≡ 80) × (p < 518) × (length (now places) ≡ 4096) × (length (now seens) ≡ 4144) × Placed (b .held .counts) (now places) × Spare (b .held .counts) ⌝ }
-    ensures { λ r. ⌜ front (r .number) (r .before .held .counts) (r .before .floor) (now (places .exit)) (now (seens .exit)) ≡ admitOf (now (rec .entry)) p (b .held .counts) (b .floor) (now (places .entry)) (now (seens .entry)) ⌝ }
+    ensures { λ r. ⌜ noted (r .number) (r .before .held .counts) (r .before .floor) (now (places .exit)) (now (seens .exit)) ≡ admitOf (now (rec .entry)) p (b .held .counts) (b .floor) (now (places .entry)) (now (seens .entry)) ⌝ }
 {
     let s = record::seen_vector(rec);
     let k = record::rank_of(rec);

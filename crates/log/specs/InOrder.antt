@@ -1,0 +1,38 @@
+-- Records judged one after another.
+-- Assumes nothing.
+use Prim.Native.Nat.{ℕ, zero, suc}
+use mathlib.Core.Path.{_≡_}
+use mathlib.Core.Bool.{Bool, true, false, cond}
+use mathlib.Core.List.{List, [], _∷_}
+use lib.Dec.{eqb}
+use Rattle.model.specs.Record.{Rec}
+use Rattle.model.specs.Log.{recordFault}
+use Rattle.index.specs.Tables.{Indexed}
+
+-- the n records from i on
+unfoldable pub listed : (ℕ → Rec) → ℕ → ℕ → List Rec
+listed at i zero = []
+listed at i (suc n) = at i ∷ listed at (suc i) n
+
+-- the first n records, last first
+unfoldable pub before : (ℕ → Rec) → ℕ → List Rec
+before at zero = []
+before at (suc n) = at n ∷ before at n
+
+-- a fault and the record that has it; number 0 for none
+pub record Found : Type 0 where
+  pub number : ℕ
+  pub at : ℕ
+
+abbrev pub found : ℕ → ℕ → Found
+found n i = record { number = n; at = i }
+
+-- the first fault of the n records from i on
+unfoldable pub firstFault : (ℕ → Rec) → ℕ → ℕ → Found
+firstFault at i zero = found 0 0
+firstFault at i (suc n) = cond (eqb (recordFault (before at i) (at i)) 0) (firstFault at (suc i) n) (found (recordFault (before at i) (at i)) i)
+
+-- what judging n records gives: the first fault, or tables that have them all
+pub record ScanGives (at : ℕ → Rec) (n number place : ℕ) (held places seens : List ℕ) : Type 0 where
+  pub first : found number place ≡ firstFault at 0 n
+  pub holds : number ≡ 0 → Indexed at n (listed at 0 n) held places seens
