@@ -125,5 +125,8 @@ pub fn admit(rec: &[u8], p: usize, b: Before, places: &mut [u16], seens: &mut [u
     let u = record::unit_of(rec) as usize;
     note(u, record::number_of(rec), p, s, places, seens);
     let held = vector::bump(b.held, u);
-    Admitted { number: 0, before: Before { held, floor: k + 1 } }
+    Admitted {
+        number: 0,
+        before: Before { held, floor: k + 1 },
+    }
 }

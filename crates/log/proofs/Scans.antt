@@ -101,7 +101,7 @@ module _ (k : Layout) (b : List ℕ) where
         }
 
     module _ (h : i < n) (few : n ≤ 512) (at : ℕ) (q : at ≡ offsetOf k i) (number : ℕ) (held′ : List ℕ) (floor′ : ℕ) (places′ seens′ : List ℕ)
-      (e : noted number held′ floor′ places′ seens′ ≡ admitOf (take (at + 80 - at) (drop at b)) i held floor places seens) where
+        (e : noted number held′ floor′ places′ seens′ ≡ admitOf (take (at + 80 - at) (drop at b)) i held floor places seens) where
       admitted : noted number held′ floor′ places′ seens′ ≡ admitOf (laidAt k b i) i held floor places seens
       admitted = rw (lent-is i at q) at e
 

@@ -4,10 +4,13 @@ use Prim.Native.Nat.{ℕ, zero, suc}
 use mathlib.Core.Path.{_≡_}
 use mathlib.Core.Bool.{Bool, true, false, cond}
 use mathlib.Core.List.{List, [], _∷_}
+use lib.ListN.{length}
 use lib.Dec.{eqb}
 use Rattle.model.specs.Record.{Rec}
-use Rattle.model.specs.Log.{recordFault}
+use Rattle.model.specs.Log.{recordFault, recordsOf, soundLog}
 use Rattle.index.specs.Tables.{Indexed}
+use Rattle.log.specs.declared.Layout.the-variants.{Log}
+use Rattle.log.specs.Places.{laidAt}
 
 -- the n records from i on
 unfoldable pub listed : (ℕ → Rec) → ℕ → ℕ → List Rec
@@ -36,3 +39,9 @@ firstFault at i (suc n) = cond (eqb (recordFault (before at i) (at i)) 0) (first
 pub record ScanGives (at : ℕ → Rec) (n number place : ℕ) (held places seens : List ℕ) : Type 0 where
   pub first : found number place ≡ firstFault at 0 n
   pub holds : number ≡ 0 → Indexed at n (listed at 0 n) held places seens
+
+-- what checking a log gives: its soundness, how many records it has, and of a sound one tables that have them all
+pub record CheckGives (log : List ℕ) (sound : Bool) (used : ℕ) (held places seens : List ℕ) : Type 0 where
+  pub sound-is : sound ≡ soundLog log
+  pub used-is : used ≡ length (recordsOf log)
+  pub holds : soundLog log ≡ true → Indexed (laidAt Log log) used (recordsOf log) held places seens
