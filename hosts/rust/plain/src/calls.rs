@@ -33,10 +33,7 @@ fn scan(
             return None;
         }
         let fields = Fields::of(record);
-        if !(held.are_before(&fields)
-            && held.rank_before(&fields)
-            && places.are_closed(&fields, held.vector))
-        {
+        if !(held.are_before(&fields) && held.rank_before(&fields) && places.are_closed(&fields)) {
             return None;
         }
         held.add(&fields);
@@ -213,7 +210,7 @@ pub fn take(log: &mut [u8], archive: u32, unit: u8, block: &[u8]) -> Answer<()> 
         if !held.are_before(&fields) {
             return refuse(8);
         }
-        if !places.are_closed(&fields, held.vector) {
+        if !places.are_closed(&fields) {
             return refuse(9);
         }
         if held.all == RECORDS {
@@ -332,7 +329,7 @@ pub fn check_file(
             if !held.rank_before(&fields) {
                 return refuse_at(20, place);
             }
-            if !places.are_closed(&fields, held.vector) {
+            if !places.are_closed(&fields) {
                 return refuse_at(9, place);
             }
             places.add(&fields, held.all);

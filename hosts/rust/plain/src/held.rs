@@ -104,16 +104,15 @@ impl Places {
         self.place(identity as usize, identity as usize >> 16)
     }
 
-    /// The seen of a next record is closed; surely so if it is all that is held.
-    /// What its unit had heard is closed already, so only the counts that moved
-    /// since then are looked at.
+    /// The seen of a next record is closed. What its unit had heard is closed
+    /// already, so only the counts that moved since then are looked at.
     #[inline(always)]
-    pub fn are_closed(&self, fields: &Fields, held: Vector) -> bool {
+    pub fn are_closed(&self, fields: &Fields) -> bool {
         let seen = fields.seen;
-        if seen == held {
+        let heard = self.heard[fields.unit & 7];
+        if seen == heard {
             return true;
         }
-        let heard = self.heard[fields.unit & 7];
         if !heard.within_small(seen) {
             return false;
         }
