@@ -1,0 +1,257 @@
+-- A working table after one change: a row more, a row changed, an aside more, an aside settled.
+-- Assumes nothing.
+use Prim.Native.Nat.{ℕ, zero, suc, _+_, _-_, _*_, _/_, _%_, _≤_, _<_}
+use native.Mathlib.Numerals.{add-one}
+use native.Mathlib.Nat.{add-zero, zero-add}
+use native.Mathlib.Omega.{arith}
+use mathlib.Core.Path.{_≡_, refl, sym, ap, _∙_}
+use mathlib.Core.Logic.{_⊎_, inl, inr, ⊎-elim}
+use mathlib.Core.Bool.{Bool, true, false, cond, not, _&&_, true≢false, false≢true}
+use mathlib.Core.Option.{Option, none, some}
+use mathlib.Core.List.{List, [], _∷_, _++_}
+use lib.Dec.{eqb}
+use lib.ListN.{getD, length, set, length-append, length-set}
+use lib.Seq.{getD-set-same, getD-set-other}
+use borrow.Author.Tests.{eq-eqb, ne-eqb, eqb-true, eqb-false}
+use Rattle.model.specs.Bytes.{part, putAt}
+use Rattle.model.specs.Record.{Rec, selfOf, objectOf}
+use Rattle.model.specs.Replay.{Entry, Aside, Tree, isPresent, isDisputed, entryOf, changed, settled, newEntry}
+use Rattle.model.specs.Table.{entryRow, asideRow}
+use Rattle.octets.proofs.Numbers.{eq-or-ne, lt-or-ge, bool-cases}
+use Rattle.table.specs.Rows.{entryIn, entriesFrom, treeIn, rowIn, flagged, workBytes, newAside, InRange, Proper, AllProper}
+use Rattle.table.proofs.Writes.{add-entry, set-entry, part-entry, add-aside, set-aside, part-aside}
+use Rattle.table.proofs.Fields.{settledOne}
+use Rattle.lookup.specs.Roles.{rowFrom, noteFrom, rowOf, noteOf, behindRows, roleOf, slotOf, Absent, Lone, MarksFit, Works, Holds}
+use Rattle.lookup.proofs.Places.{row-absent, row-set, note-set, row-more, row-new, note-more, note-new, lone-set, lone-more, note-at}
+use Rattle.lookup.proofs.Working.{blankEntry, blankAside, behind-cases}
+use Rattle.apply.specs.Effects.{withEntries, withAsides}
+
+-- ---- slots
+
+slot-unit : (j k : ℕ) → InRange j → InRange k → slotOf j ≡ slotOf k → (j % 8 < k % 8) → ⊥
+unfolding slotOf
+slot-unit j k a b e h =
+    let p = a .low in
+    let q = a .high in
+    let r = b .low in
+    let s = b .high in
+    omega arith
+
+same-parts : (j k : ℕ) → j % 8 ≡ k % 8 → j / 8 ≡ k / 8 → j ≡ k
+same-parts j k p q =
+    let a : j ≡ 8 * (j / 8) + j % 8 = omega arith in
+    let b : k ≡ 8 * (k / 8) + k % 8 = omega arith in
+    a ∙ rw (p, q) (sym b)
+
+pub slot-one : (j k : ℕ) → InRange j → InRange k → slotOf j ≡ slotOf k → j ≡ k
+unfolding slotOf
+slot-one j k a b e =
+    let p = a .low in
+    let q = a .high in
+    let r = b .low in
+    let s = b .high in
+    ⊎-elim (λ (h : j % 8 < k % 8). absurd (slot-unit j k a b e h))
+    (λ (h : k % 8 ≤ j % 8).
+    ⊎-elim (λ (g : k % 8 < j % 8). absurd (slot-unit k j b a (sym e) g)) (λ (g : j % 8 ≤ k % 8). same-parts j k (omega arith) (omega arith)) (lt-or-ge (k % 8) (j % 8)))
+    (lt-or-ge (j % 8) (k % 8))
+
+pub slot-low : (k : ℕ) → InRange k → slotOf k < 4096
+unfolding slotOf
+slot-low k a =
+    let p = a .low in
+    let q = a .high in
+    omega arith
+
+-- ---- proper entries, and marks that fit
+
+pub proper-at : (l : List Entry) (i : ℕ) (d : Entry) → i < length l → AllProper l → Proper (getD l i d)
+proper-at [] i d h p = absurd (omega arith)
+proper-at (e ∷ l) zero d h p = p .0
+proper-at (e ∷ l) (suc i) d h p = proper-at l i d (omega arith) (p .1)
+
+proper-set : (l : List Entry) (i : ℕ) (e : Entry) → Proper e → AllProper l → AllProper (set l i e)
+proper-set [] i e h p = tt
+proper-set (x ∷ l) zero e h p = (h, p .1)
+proper-set (x ∷ l) (suc i) e h p = (p .0, proper-set l i e h (p .1))
+
+proper-more : (l : List Entry) (e : Entry) → Proper e → AllProper l → AllProper (l ++ (e ∷ []))
+proper-more [] e h p = (h, tt)
+proper-more (x ∷ l) e h p = (p .0, proper-more l e h (p .1))
+
+marks-set : (l : List Aside) (i : ℕ) (d : Aside) → MarksFit l → MarksFit (set l i (settledOne (getD l i d)))
+marks-set [] i d p = tt
+marks-set (a ∷ l) zero d p = p
+marks-set (a ∷ l) (suc i) d p = (p .0, marks-set l i d (p .1))
+
+marks-more : (l : List Aside) (a : Aside) → (a .marked ≡ 0) ⊎ InRange (a .marked) → MarksFit l → MarksFit (l ++ (a ∷ []))
+marks-more [] a h p = (h, tt)
+marks-more (x ∷ l) a h p = (p .0, marks-more l a h (p .1))
+
+-- ---- an identity that is new
+
+module _ (k : ℕ) (t : Tree) (fresh : roleOf k t ≡ 0) where
+  pub fresh-row : rowOf k t ≡ 0
+  unfolding roleOf
+  fresh-row = omega arith
+
+  pub fresh-note : noteOf k t ≡ 0
+  unfolding roleOf
+  fresh-note =
+      ⊎-elim (λ (y : (noteOf k t ≡ 0) × (behindRows (noteOf k t) ≡ 0)). y .0)
+      (λ (y : (1 ≤ noteOf k t) × (behindRows (noteOf k t) ≡ 512 + noteOf k t)). absurd (omega (arith, y .1)))
+      (behind-cases (noteOf k t))
+
+-- ---- the changes
+
+module _ (b roles : List ℕ) (n m : ℕ) (t : Tree) (w : Works b roles n m t) where
+  pub works-part : (i : ℕ) → i < n → part b (4 + 72 * i) 72 ≡ entryRow 0 (getD (t .entries) i blankEntry)
+  unfolding workBytes isDisputed
+  works-part i h =
+      let rows = w .rows in
+      let fit = w .rows-fit in
+      rw (w .bytes) (part-entry [] (t .entries) (t .asides) (w .proper) (omega arith) i blankEntry (omega arith))
+
+  pub works-part-aside : (i : ℕ) → i < m → part b (36868 + 12 * i) 12 ≡ asideRow (getD (t .asides) i blankAside)
+  unfolding workBytes
+  works-part-aside i h =
+      let rows = w .rows in
+      let notes = w .notes in
+      let fit = w .rows-fit in
+      rw (w .bytes) (part-aside [] (t .entries) (t .asides) (w .proper) (omega arith) i blankAside (omega arith))
+
+  -- row i holds another entry of the same identity
+  pub works-change : (i : ℕ) (e : Entry) → i < n → e .made ≡ getD (t .entries) i blankEntry .made → Proper e
+      → Works (putAt b (4 + 72 * i) (entryRow 0 e)) roles n m (withEntries t (set (t .entries) i e))
+  unfolding withEntries workBytes isDisputed rowOf noteOf roleOf
+  works-change i e h q p =
+      let es = t .entries in
+      let l = t .asides in
+      let rows = w .rows in
+      let fit = w .rows-fit in
+      let same : (k : ℕ) → rowFrom k 0 (set es i e) ≡ rowFrom k 0 es = λ k. row-set k 0 es i e blankEntry q in
+      record {
+        bytes = rw (w .bytes) (set-entry [] es l (w .proper) (omega arith) i e (omega arith) p);
+        rows = length-set es i e ∙ w .rows;
+        notes = w .notes;
+        rows-fit = fit;
+        notes-fit = w .notes-fit;
+        proper = proper-set es i e p (w .proper);
+        lone = lone-set es i e blankEntry q (w .lone);
+        marks = w .marks;
+        apart = λ k. rw (same k) (w .apart k);
+        wide = w .wide;
+        right = λ k u. rw (same k) (w .right k u);
+      }
+
+  -- an aside is settled
+  pub works-settle : (i : ℕ) → i < m
+      → Works
+      (putAt b (36868 + 12 * i) (asideRow (settledOne (getD (t .asides) i blankAside))))
+      roles
+      n
+      m
+      (withAsides t (set (t .asides) i (settledOne (getD (t .asides) i blankAside))))
+  unfolding withAsides workBytes rowOf noteOf roleOf
+  works-settle i h =
+      let es = t .entries in
+      let l = t .asides in
+      let a = settledOne (getD l i blankAside) in
+      let rows = w .rows in
+      let notes = w .notes in
+      let fit = w .rows-fit in
+      let same : (k : ℕ) → noteFrom k 0 (set l i a) ≡ noteFrom k 0 l = λ k. note-set k 0 l i a blankAside refl in
+      record {
+        bytes = rw (w .bytes) (set-aside [] es l (w .proper) (omega arith) i a (omega arith));
+        rows = w .rows;
+        notes = length-set l i a ∙ w .notes;
+        rows-fit = fit;
+        notes-fit = w .notes-fit;
+        proper = w .proper;
+        lone = w .lone;
+        marks = marks-set l i blankAside (w .marks);
+        apart = λ k. rw (same k) (w .apart k);
+        wide = w .wide;
+        right = λ k u. rw (same k) (w .right k u);
+      }
+
+  module _ (k : ℕ) (own : InRange k) (fresh : roleOf k t ≡ 0) (v : ℕ) where
+    slots : (j : ℕ) → InRange j → ((j ≡ k) × (getD (set roles (slotOf k) v) (slotOf j) 0 ≡ v)) ⊎ ((j ≡ k → ⊥) × (getD (set roles (slotOf k) v) (slotOf j) 0 ≡ roleOf j t))
+    slots j u =
+        let low = slot-low k own in
+        let wide = w .wide in
+        ⊎-elim (λ (q : j ≡ k). inl (q, rw q (getD-set-same roles (slotOf k) v 0 (omega arith))))
+        (λ (q : j ≡ k → ⊥).
+        inr (q, getD-set-other roles (slotOf k) (slotOf j) v 0 (λ (z : slotOf j ≡ slotOf k). q (slot-one j k u own z)) ∙ w .right j u))
+        (eq-or-ne j k)
+
+  -- a row for a new entry
+  pub works-make : (e : Entry) → n < 512 → Proper e → roleOf (e .made) t ≡ 0
+      → Works (putAt b (4 + 72 * n) (entryRow 0 e)) (set roles (slotOf (e .made)) (n + 1)) (n + 1) m (withEntries t (t .entries ++ (e ∷ [])))
+  unfolding withEntries workBytes isDisputed rowOf noteOf roleOf behindRows
+  works-make e h p fresh =
+      let es = t .entries in
+      let l = t .asides in
+      let k = e .made in
+      let rows = w .rows in
+      let nr : rowFrom k 0 es ≡ 0 = fresh-row k t fresh in
+      let nn : noteFrom k 0 l ≡ 0 = fresh-note k t fresh in
+      let b1 : b ≡ flagged [] es l = w .bytes in
+      record {
+        bytes = rw (b1, ← rows) (add-entry [] es l (w .proper) (omega arith) e (omega arith) p);
+        rows = length-append es (e ∷ []) ∙ rw rows refl;
+        notes = w .notes;
+        rows-fit = omega arith;
+        notes-fit = w .notes-fit;
+        proper = proper-more es e p (w .proper);
+        lone = lone-more es e (row-absent k 0 es nr) (w .lone);
+        marks = w .marks;
+        apart = λ j.
+            ⊎-elim (λ (q : j ≡ k). inr (rw q nn))
+            (λ (q : j ≡ k → ⊥). rw (row-more j 0 es e (λ (z : k ≡ j). q (sym z))) (w .apart j))
+            (eq-or-ne j k);
+        wide = length-set roles (slotOf k) (n + 1) ∙ w .wide;
+        right = λ j u.
+            ⊎-elim
+            (λ (q : (j ≡ k) × (getD (set roles (slotOf k) (n + 1)) (slotOf j) 0 ≡ n + 1)).
+            q .1 ∙ rw (q .0, row-new k 0 es e nr refl, nn) (omega arith))
+            (λ (q : (j ≡ k → ⊥) × (getD (set roles (slotOf k) (n + 1)) (slotOf j) 0 ≡ roleOf j t)).
+            q .1 ∙ rw (row-more j 0 es e (λ (z : k ≡ j). q .0 (sym z))))
+            (slots k (p .range) fresh (n + 1) j u);
+      }
+
+  -- a row for a new aside
+  pub works-aside : (a : Aside) → m < 512 → InRange (a .who) → roleOf (a .who) t ≡ 0 → (a .marked ≡ 0) ⊎ InRange (a .marked)
+      → Works (putAt b (36868 + 12 * m) (asideRow a)) (set roles (slotOf (a .who)) (513 + m)) n (m + 1) (withAsides t (t .asides ++ (a ∷ [])))
+  unfolding withAsides workBytes rowOf noteOf roleOf behindRows
+  works-aside a h own fresh mark =
+      let es = t .entries in
+      let l = t .asides in
+      let k = a .who in
+      let rows = w .rows in
+      let notes = w .notes in
+      let nr : rowFrom k 0 es ≡ 0 = fresh-row k t fresh in
+      let nn : noteFrom k 0 l ≡ 0 = fresh-note k t fresh in
+      let b1 : b ≡ flagged [] es l = w .bytes in
+      let fit = w .rows-fit in
+      record {
+        bytes = rw (b1, ← notes) (add-aside [] es l (w .proper) (omega arith) a);
+        rows = w .rows;
+        notes = length-append l (a ∷ []) ∙ rw notes refl;
+        rows-fit = fit;
+        notes-fit = omega arith;
+        proper = w .proper;
+        lone = w .lone;
+        marks = marks-more l a mark (w .marks);
+        apart = λ j.
+            ⊎-elim (λ (q : j ≡ k). inl (rw q nr))
+            (λ (q : j ≡ k → ⊥). rw (note-more j 0 l a (λ (z : k ≡ j). q (sym z))) (w .apart j))
+            (eq-or-ne j k);
+        wide = length-set roles (slotOf k) (513 + m) ∙ w .wide;
+        right = λ j u.
+            ⊎-elim
+            (λ (q : (j ≡ k) × (getD (set roles (slotOf k) (513 + m)) (slotOf j) 0 ≡ 513 + m)).
+            q .1 ∙ rw (q .0, nr, note-new k 0 l a nn refl) (omega arith))
+            (λ (q : (j ≡ k → ⊥) × (getD (set roles (slotOf k) (513 + m)) (slotOf j) 0 ≡ roleOf j t)).
+            q .1 ∙ rw (note-more j 0 l a (λ (z : k ≡ j). q .0 (sym z))))
+            (slots k own fresh (513 + m) j u);
+      }
