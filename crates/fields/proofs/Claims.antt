@@ -2,18 +2,18 @@
 -- Assumes nothing.
 use Prim.Native.Nat.{ℕ, zero, suc, _+_, _-_, _%_, _≤_, _<_}
 use native.Mathlib.Omega.{arith}
-use mathlib.Core.Path.{_≡_, refl, sym, ap, _∙_}
+use mathlib.Core.Path.{_≡_, refl, sym, _∙_}
 use mathlib.Core.Logic.{_⊎_, inl, inr, ⊎-elim, _↔_}
-use mathlib.Core.Bool.{Bool, true, false, cond, not, _&&_, _||_, false≢true}
+use mathlib.Core.Bool.{Bool, true, false, cond, not, _&&_, _||_}
 use mathlib.Core.List.{List, [], _∷_}
 use lib.Dec.{leb, eqb}
 use lib.ListN.{getD, length, take, drop}
 use lib.Seq.{getD-take, getD-drop, length-take-le}
-use borrow.Author.Tests.{leb-true, leb-false, eqb-true, eqb-false, le-leb, lt-leb, eq-eqb, ne-eqb, not-true}
+use borrow.Author.Tests.{leb-true, eqb-true, eqb-false, le-leb, eq-eqb, ne-eqb, not-true}
 use Rattle.model.specs.Bytes.{blank}
 use Rattle.model.specs.Date.{isLeap, daysOf, isDate}
 use Rattle.model.specs.Record.{textLength, printable, isLabel}
-use Rattle.octets.proofs.Numbers.{eq-or-ne, and-true, true-and, test-false, bool-cases}
+use Rattle.octets.proofs.Numbers.{eq-or-ne, and-true, bool-cases}
 use Rattle.octets.proofs.Compare.{blank-getD}
 use Rattle.fields.proofs.Tests.{or-true, zeros-blank}
 use Rattle.fields.proofs.Date.{february-leap, february, short-month, other-month, long-month}

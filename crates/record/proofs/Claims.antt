@@ -1,18 +1,16 @@
 -- Claims R1 and R4: the test of a record says exactly what it should, and what it says of names.
 -- Assumes nothing.
-use Prim.Native.Nat.{ℕ, suc, _+_, _*_, _≤_, _<_}
+use Prim.Native.Nat.{ℕ, _+_, _≤_}
 use native.Mathlib.Omega.{arith}
-use mathlib.Core.Path.{_≡_, refl, sym, ap, _∙_}
+use mathlib.Core.Path.{_≡_, refl}
 use mathlib.Core.Logic.{_⊎_, inl, inr, ⊎-elim, _↔_}
-use mathlib.Core.Bool.{Bool, true, false, cond, _||_}
-use lib.Dec.{leb, eqb}
+use mathlib.Core.Bool.{Bool, true, false, _||_}
 use lib.ListN.{getD, length}
 use borrow.Author.Tests.{le-leb}
 use Rattle.model.specs.Bytes.{word, part}
-use Rattle.model.specs.Record.{Rec, identity, root, identityAt, objectOf, folderOf, unit, op, num, seen, labelOf, isLabel, usesObject, usesFolder, usesLabel, usesMark, unused, names, objectFits, folderFits, dateFits, labelFits, markFits, wellFormed}
+use Rattle.model.specs.Record.{Rec, identity, root, identityAt, objectOf, folderOf, unit, op, num, seen, labelOf, usesObject, usesFolder, usesLabel, usesMark, unused, names, objectFits, folderFits, dateFits, labelFits, markFits, wellFormed}
 use Rattle.octets.proofs.Numbers.{eq-or-ne}
 use Rattle.fields.proofs.Claims.{date-means, real-date, label-means, a-label}
-use Rattle.fields.specs.RealDate.{RealDate}
 use Rattle.fields.specs.Label.{Label}
 use Rattle.record.specs.WellFormed.{Zero, Named, Folder, Used, WellFormed}
 use Rattle.record.specs.WellFormed.Used.{make-folder, make-trace, store, remove, rename, settle}

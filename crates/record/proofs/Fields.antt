@@ -1,15 +1,14 @@
 -- What follows field by field from the test that a record is well formed.
 -- Assumes nothing.
-use Prim.Native.Nat.{ℕ, zero, suc, _+_, _-_, _≤_, _<_}
+use Prim.Native.Nat.{ℕ, zero, suc, _+_, _-_, _≤_}
 use native.Mathlib.Omega.{arith}
-use mathlib.Core.Path.{_≡_, refl, sym, ap, _∙_}
+use mathlib.Core.Path.{_≡_, sym, _∙_}
 use mathlib.Core.Logic.{_⊎_, inl, inr, ⊎-elim}
-use mathlib.Core.Bool.{Bool, true, false, cond, _&&_, _||_}
-use mathlib.Core.List.{List}
+use mathlib.Core.Bool.{true, false, _&&_}
 use lib.Dec.{leb, eqb}
 use lib.ListN.{getD, length, List·getD-eq-default}
 use borrow.Author.Tests.{leb-true, eqb-true, le-leb, eq-eqb}
-use Rattle.model.specs.Bytes.{word, blank, part}
+use Rattle.model.specs.Bytes.{word, part}
 use Rattle.model.specs.Record.{Rec, unit, op, num, seen, labelOf, isLabel, usesObject, usesFolder, usesLabel, usesMark, unused, names, headFits, objectFits, folderFits, dateFits, labelFits, markFits, wellFormed}
 use Rattle.octets.proofs.Numbers.{lt-or-ge, and-true}
 use Rattle.octets.proofs.Parts.{part-length, getD-part}

@@ -5,7 +5,7 @@ use mathlib.Core.Path.{_≡_}
 use mathlib.Core.Logic.{_⊎_}
 use lib.ListN.{getD, length}
 use Rattle.model.specs.Bytes.{word, part}
-use Rattle.model.specs.Record.{Rec, unit, op, num, seen, labelOf}
+use Rattle.model.specs.Record.{Rec, unit, op, num, seen}
 use Rattle.fields.specs.RealDate.{RealDate}
 use Rattle.fields.specs.Label.{Label}
 

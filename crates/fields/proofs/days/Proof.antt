@@ -1,8 +1,4 @@
-use Prim.Native.Nat.{ℕ, _<_, _≤_}
-use mathlib.Core.Path.{_≡_}
-use mathlib.Core.Logic.{inl, inr, ⊎-elim}
 use Rattle.fields.proofs.Date.{february-leap, february, short-month, key-month, july-august, before-months, behind-months}
-use native.Mathlib.Omega.{arith}
 use borrow.Author.Needs.{needs}
 use Rattle.fields.proofs.days.Statement.{statement}
 use Rattle.fields.proofs.days.Tie as tie

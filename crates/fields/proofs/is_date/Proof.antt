@@ -1,5 +1,4 @@
 use Rattle.fields.proofs.Date.{too-early, too-late, no-day, day-within}
-use native.Mathlib.Omega.{arith}
 use borrow.Author.Needs.{needs}
 use Rattle.fields.proofs.is_date.Statement.{statement}
 use Rattle.fields.proofs.is_date.Tie as tie

@@ -1,5 +1,4 @@
 use Rattle.fields.proofs.Label.{no-text, not-printable, space-first, space-last, zeros-behind}
-use native.Mathlib.Omega.{arith}
 use borrow.Author.Needs.{needs}
 use Rattle.fields.proofs.is_label.Statement.{statement}
 use Rattle.fields.proofs.is_label.Tie as tie

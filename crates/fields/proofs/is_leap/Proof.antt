@@ -1,6 +1,4 @@
 use Rattle.fields.proofs.Date.{leap-four, leap-hundred, not-four}
-use borrow.Author.Needs.{needs}
-use native.Mathlib.Omega.{arith}
 use Rattle.fields.proofs.is_leap.Statement.{statement}
 use Rattle.fields.proofs.is_leap.Tie as tie
 use Rattle.fields.proofs.is_leap.Reads as reads

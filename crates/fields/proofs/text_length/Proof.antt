@@ -1,6 +1,6 @@
 use Prim.Native.Nat.{_+_, _≤_, _-_}
 use native.Mathlib.Nat.{zero-add}
-use mathlib.Core.Path.{_≡_, refl}
+use mathlib.Core.Path.{_≡_}
 use lib.ListN.{length, drop}
 use Rattle.model.specs.Record.{textLength}
 use Rattle.fields.proofs.Label.{text-next, text-stops, text-ends}

@@ -1,5 +1,4 @@
 use Rattle.fits.proofs.Tests.{date-used}
-use native.Mathlib.Omega.{arith}
 use borrow.Author.Needs.{needs}
 use Rattle.fits.proofs.date_fits.Statement.{statement}
 use Rattle.fits.proofs.date_fits.Tie as tie

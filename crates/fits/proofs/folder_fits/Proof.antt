@@ -1,5 +1,4 @@
 use Rattle.fits.proofs.Tests.{folder-zero, folder-unused, folder-used}
-use native.Mathlib.Omega.{arith}
 use borrow.Author.Needs.{needs}
 use Rattle.fits.proofs.folder_fits.Statement.{statement}
 use Rattle.fits.proofs.folder_fits.Tie as tie

@@ -1,5 +1,4 @@
 use Rattle.fits.proofs.Tests.{head-unit, head-no-op, head-op-above, head-number, head-seen}
-use native.Mathlib.Omega.{arith}
 use borrow.Author.Needs.{needs}
 use Rattle.fits.proofs.head_fits.Statement.{statement}
 use Rattle.fits.proofs.head_fits.Tie as tie

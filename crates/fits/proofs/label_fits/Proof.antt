@@ -1,5 +1,4 @@
 use Rattle.fits.proofs.Tests.{label-used, label-unused}
-use native.Mathlib.Omega.{arith}
 use borrow.Author.Needs.{needs}
 use Rattle.fits.proofs.label_fits.Statement.{statement}
 use Rattle.fits.proofs.label_fits.Tie as tie

@@ -1,5 +1,4 @@
 use Rattle.fits.proofs.Tests.{mark-used, mark-unused}
-use native.Mathlib.Omega.{arith}
 use borrow.Author.Needs.{needs}
 use Rattle.fits.proofs.mark_fits.Statement.{statement}
 use Rattle.fits.proofs.mark_fits.Tie as tie

@@ -1,5 +1,4 @@
 use Rattle.fits.proofs.Tests.{unit-above, byte-used, number-none, number-seen}
-use native.Mathlib.Omega.{arith}
 use borrow.Author.Needs.{needs}
 use Rattle.fits.proofs.names.Statement.{statement}
 use Rattle.fits.proofs.names.Tie as tie

@@ -1,5 +1,4 @@
 use Rattle.fits.proofs.Tests.{object-used, object-unused}
-use native.Mathlib.Omega.{arith}
 use borrow.Author.Needs.{needs}
 use Rattle.fits.proofs.object_fits.Statement.{statement}
 use Rattle.fits.proofs.object_fits.Tie as tie

@@ -1,7 +1,5 @@
 use mathlib.Core.Path.{refl}
 use Rattle.model.specs.Record.{usesFolder}
-use borrow.Author.Needs.{needs}
-use native.Mathlib.Omega.{arith}
 use Rattle.fits.proofs.uses_folder.Statement.{statement}
 use Rattle.fits.proofs.uses_folder.Tie as tie
 use Rattle.fits.proofs.uses_folder.Reads as reads

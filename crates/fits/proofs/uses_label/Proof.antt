@@ -1,6 +1,4 @@
 use Rattle.fits.proofs.Tests.{make-label, other-label}
-use borrow.Author.Needs.{needs}
-use native.Mathlib.Omega.{arith}
 use Rattle.fits.proofs.uses_label.Statement.{statement}
 use Rattle.fits.proofs.uses_label.Tie as tie
 use Rattle.fits.proofs.uses_label.Reads as reads

@@ -1,6 +1,4 @@
 use Rattle.fits.proofs.Tests.{make-mark, other-mark}
-use borrow.Author.Needs.{needs}
-use native.Mathlib.Omega.{arith}
 use Rattle.fits.proofs.uses_mark.Statement.{statement}
 use Rattle.fits.proofs.uses_mark.Tie as tie
 use Rattle.fits.proofs.uses_mark.Reads as reads

@@ -1,7 +1,5 @@
 use mathlib.Core.Path.{refl}
 use Rattle.model.specs.Record.{usesObject}
-use borrow.Author.Needs.{needs}
-use native.Mathlib.Omega.{arith}
 use Rattle.fits.proofs.uses_object.Statement.{statement}
 use Rattle.fits.proofs.uses_object.Tie as tie
 use Rattle.fits.proofs.uses_object.Reads as reads

@@ -1,5 +1,4 @@
 use Rattle.model.specs.Record.{num}
-use native.Mathlib.Omega.{arith}
 use borrow.Author.Needs.{needs}
 use Rattle.record.proofs.number_of.Statement.{statement}
 use Rattle.record.proofs.number_of.Tie as tie

@@ -1,5 +1,4 @@
 use Rattle.model.specs.Record.{seenVector}
-use native.Mathlib.Omega.{arith}
 use borrow.Author.Needs.{needs}
 use Rattle.record.proofs.seen_vector.Statement.{statement}
 use Rattle.record.proofs.seen_vector.Tie as tie

@@ -1,5 +1,4 @@
 use Rattle.record.proofs.Whole.{other-length, bad-head, bad-object, bad-folder, bad-date, bad-label, mark-last}
-use native.Mathlib.Omega.{arith}
 use borrow.Author.Needs.{needs}
 use Rattle.record.proofs.well_formed.Statement.{statement}
 use Rattle.record.proofs.well_formed.Tie as tie
