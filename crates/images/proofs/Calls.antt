@@ -1,28 +1,26 @@
 -- What each call answers and leaves, case by case; claim L3.
 -- Assumes nothing.
-use Prim.Native.Nat.{ℕ, zero, suc, _+_, _-_, _*_, _≤_, _<_}
+use Prim.Native.Nat.{ℕ, zero, suc, _≤_}
 use native.Mathlib.Omega.{arith}
 use mathlib.Core.Path.{_≡_, refl, sym, ap, _∙_, subst}
 use mathlib.Core.Logic.{_⊎_, inl, inr, ⊎-elim}
-use mathlib.Core.Bool.{Bool, true, false, cond, _&&_}
+use mathlib.Core.Bool.{Bool, true, false, _&&_}
 use mathlib.Core.List.{List, [], _∷_, _++_}
 use lib.Dec.{leb, eqb}
-use lib.ListN.{getD, length, replicate, length-append}
+use lib.ListN.{length, replicate, length-append}
 use borrow.Author.Tests.{eq-eqb, eqb-true, leb-true, le-leb}
-use Rattle.model.specs.Numbers.{badBuffer, unsoundLog, badUnit}
 use Rattle.model.specs.Bytes.{padded}
-use Rattle.model.specs.Record.{Rec, wellFormed}
-use Rattle.model.specs.Log.{count, recordsOf, soundLog, logBytes}
+use Rattle.model.specs.Record.{Rec}
+use Rattle.model.specs.Log.{recordsOf, soundLog, logBytes}
 use Rattle.model.specs.Replay.{replay}
 use Rattle.model.specs.Table.{tableBytes}
 use Rattle.model.specs.Block.{blockRecords}
 use Rattle.model.specs.File.{blockCount, fileOf}
 use Rattle.model.specs.Outcome.{Outcome, outcome, refusal, startOf, guarded, stamped, actNumber, acted, actOf, handBlock, handOf, writeOf, Took, refused, taken, takeAll, givenFault, tookAll, tookBlock, takeOf, showOf}
-use Rattle.octets.proofs.Numbers.{bool-cases, and-true, true-and}
-use Rattle.order.specs.Members.{Has}
-use Rattle.order.specs.Sound.{SoundAfter, Sound}
+use Rattle.octets.proofs.Numbers.{bool-cases, and-true}
+use Rattle.order.specs.Sound.{Sound}
 use Rattle.order.proofs.Act.{wish-fits, act-zero, act-sound}
-use Rattle.order.proofs.Take.{Grown, all-from}
+use Rattle.order.proofs.Take.{all-from}
 use Rattle.images.specs.Keeps.{Good, Keeps}
 use Rattle.images.proofs.Logs.{sound-proper, proper-sized, length-logBytes, records-back, sound-records, sound-few, log-sound, empty-log}
 

@@ -3,20 +3,20 @@
 use Prim.Native.Nat.{ℕ, zero, suc, _≤_}
 use native.Mathlib.Omega.{arith}
 use mathlib.Core.Path.{_≡_, refl, sym, ap, _∙_, subst}
-use mathlib.Core.Logic.{_⊎_, inl, inr, ⊎-elim, _↔_}
+use mathlib.Core.Logic.{inl, inr, _↔_}
 use mathlib.Core.Bool.{true}
 use mathlib.Core.List.{List, []}
 use lib.ListN.{length}
 use Rattle.model.specs.Record.{Rec}
-use Rattle.model.specs.Log.{recordsOf, soundAfter, logBytes}
+use Rattle.model.specs.Log.{recordsOf, soundAfter, soundLog, logBytes}
 use Rattle.model.specs.Block.{blockRecords}
 use Rattle.model.specs.File.{readOf}
-use Rattle.model.specs.Outcome.{Outcome, outcome, refusal, startOf, actOf, handOf, writeOf, Took, refused, taken, takeAll, givenFault, tookAll, tookBlock, takeOf, showOf}
-use Rattle.order.specs.Sound.{SoundAfter, Sound}
-use Rattle.order.proofs.Tests.{sound-means}
-use Rattle.order.proofs.Take.{Grown, all-from, take-again}
+use Rattle.model.specs.Outcome.{Outcome, outcome, startOf, actOf, handOf, writeOf, Took, refused, taken, takeAll, givenFault, tookAll, tookBlock, takeOf, showOf}
+use Rattle.order.specs.Sound.{Sound}
+use Rattle.order.proofs.Tests.{sound-means, means-sound}
+use Rattle.order.proofs.Take.{all-from, take-again}
 use Rattle.images.specs.Keeps.{Good, Keeps, Reads}
-use Rattle.images.proofs.Logs.{sound-bytes, sound-records, sound-few}
+use Rattle.images.proofs.Logs.{Proper, records-back, sound-bytes, sound-records, sound-few, log-sound}
 use Rattle.images.proofs.Reading.{read-keeps}
 use Rattle.images.proofs.Calls.{Guarded, guarded-cases, guarded-passes, log-good, sound-back, take-done, start-keeps, act-keeps, hand-keeps, write-keeps, take-keeps, show-keeps}
 
@@ -25,6 +25,13 @@ pub one-reading : (b : List ℕ) → Good b → (l : List Rec) → soundAfter []
 one-reading b g l h k = (
   λ (e : logBytes l ≡ b). sym (sound-back l (sound-means l h) k) ∙ ap recordsOf e,
   λ (e : l ≡ recordsOf b). ap logBytes e ∙ sound-bytes b (g .long) (g .sound),
+)
+
+-- the bytes of at most 512 well-formed records are a sound log exactly if the records are sound
+pub sound-bytes-exactly : (l : List Rec) → Proper l → length l ≤ 512 → (soundLog (logBytes l) ≡ true) ↔ (soundAfter [] l ≡ true)
+sound-bytes-exactly l p k = (
+  λ e. means-sound l (subst Sound (records-back l p k) (sound-records (logBytes l) e)),
+  λ e. log-sound l (sound-means l e) k,
 )
 
 -- L3: whatever a call is lent, an accepted one leaves a good log, a refused one every byte as it was

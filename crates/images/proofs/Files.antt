@@ -1,15 +1,13 @@
 -- The blocks of a written file, one by one.
 -- Assumes nothing.
-use Prim.Native.Nat.{ℕ, zero, suc, _+_, _-_, _*_, _/_, _≤_, _<_, max}
+use Prim.Native.Nat.{ℕ, zero, suc, _*_, _≤_, _<_}
 use native.Mathlib.Omega.{arith}
-use mathlib.Core.Path.{_≡_, refl, sym, ap, _∙_, subst}
-use mathlib.Core.Logic.{_⊎_, inl, inr, ⊎-elim}
+use mathlib.Core.Path.{_≡_, refl}
+use mathlib.Core.Logic.{⊎-elim}
 use mathlib.Core.List.{List, [], _∷_, _++_, append-assoc}
 use lib.ListN.{length, take, drop, length-append, length-take}
-use lib.Seq.{length-take-le}
 use Rattle.model.specs.Bytes.{part, padded}
 use Rattle.model.specs.Record.{Rec}
-use Rattle.model.specs.Block.{blockOf}
 use Rattle.model.specs.File.{blockCount, headerOf, fileBlock, fileTo, fileOf, blockAt}
 use Rattle.octets.proofs.Numbers.{lt-or-ge}
 use Rattle.octets.proofs.Parts.{part-middle}

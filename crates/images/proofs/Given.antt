@@ -1,11 +1,10 @@
 -- The blocks that a hand-out or a file writing gives: no fault is found in them, and they hold records of the log.
 -- Assumes nothing.
-use Prim.Native.Nat.{ℕ, zero, suc, _+_, _*_, _≤_, _<_}
-use native.Mathlib.Omega.{arith}
-use mathlib.Core.Path.{_≡_, refl, sym, ap, _∙_, subst}
+use Prim.Native.Nat.{ℕ, suc, _*_, _≤_, _<_}
+use mathlib.Core.Path.{_≡_, sym, subst}
 use mathlib.Core.Logic.{_⊎_, inl, inr, ⊎-elim}
-use mathlib.Core.Bool.{Bool, true, false}
-use mathlib.Core.List.{List, [], _∷_}
+use mathlib.Core.Bool.{true}
+use mathlib.Core.List.{List}
 use lib.Dec.{eqb}
 use lib.ListN.{length, take, drop}
 use Rattle.model.specs.Bytes.{padded}
@@ -14,16 +13,13 @@ use Rattle.model.specs.Log.{recordsOf}
 use Rattle.model.specs.Block.{blockOf, blockRecords}
 use Rattle.model.specs.File.{blockCount, headerOf, fileBlock, fileOf, blockAt}
 use Rattle.model.specs.Outcome.{Outcome, outcome, refusal, lacking, handBlock, handOf, writeOf, givenFault}
-use Rattle.blocklaws.proofs.Fields.{Sized}
 use Rattle.blocklaws.proofs.ReadBack.{given-faultless, block-records}
-use Rattle.order.specs.Members.{Has, Sub}
-use Rattle.order.specs.Sound.{SoundAfter, Sound}
 use Rattle.order.proofs.Members.{has-take, has-drop}
 use Rattle.order.proofs.Lacking.{has-lacking}
 use Rattle.images.specs.Keeps.{Good}
-use Rattle.images.proofs.Logs.{Proper, sound-proper, proper-sized, sound-records, sound-few}
-use Rattle.images.proofs.Files.{six, few-blocks, block-of-file}
-use Rattle.images.proofs.Calls.{Guarded, guarded-cases}
+use Rattle.images.proofs.Logs.{Proper, sound-proper, proper-sized, sound-records}
+use Rattle.images.proofs.Files.{six, block-of-file}
+use Rattle.images.proofs.Calls.{guarded-cases}
 
 -- a block in which no fault is found, with these records
 pub record Holds (archive : ℕ) (b : List ℕ) (rs : List Rec) : Type 0 where

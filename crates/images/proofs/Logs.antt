@@ -1,22 +1,22 @@
 -- A log's bytes give its records back, and a sound log's records give its bytes back.
 -- Assumes nothing.
-use Prim.Native.Nat.{ℕ, zero, suc, _+_, _-_, _*_, _≤_, _<_}
+use Prim.Native.Nat.{ℕ, zero, suc, _+_, _-_, _*_, _≤_}
 use native.Mathlib.Omega.{arith}
 use mathlib.Core.Path.{_≡_, refl, sym, ap, ap₂, _∙_, subst}
-use mathlib.Core.Logic.{_⊎_, inl, inr, ⊎-elim}
-use mathlib.Core.Bool.{Bool, true, false, cond, _&&_}
+use mathlib.Core.Logic.{inl, inr, ⊎-elim}
+use mathlib.Core.Bool.{true}
 use mathlib.Core.List.{List, [], _∷_, _++_, append-assoc}
-use lib.ListN.{length, take, drop, replicate, take-append-drop, length-append, length-drop, length-replicate}
+use lib.ListN.{length, take, drop, replicate, take-append-drop, length-drop}
 use lib.Seq.{take-at, drop-at, take-add, length-take-le}
 use Rattle.model.specs.Bytes.{blank, padded, joined}
 use Rattle.model.specs.Record.{Rec, wellFormed}
 use Rattle.model.specs.Log.{recordsIn, recordsOf, soundAfter, soundLog, logBytes}
-use Rattle.octets.proofs.Numbers.{cond-cases, and-true, true-and}
+use Rattle.octets.proofs.Numbers.{cond-cases, and-true}
 use Rattle.octets.proofs.Compare.{blank-zeros, blank-eq, blank-take}
 use Rattle.octets.proofs.PutAt.{length-padded}
 use Rattle.blocklaws.proofs.Fields.{Sized, length-joined}
 use Rattle.order.specs.Members.{Has}
-use Rattle.order.specs.Sound.{SoundAfter, Sound}
+use Rattle.order.specs.Sound.{Sound}
 use Rattle.order.proofs.Formed.{well-length, well-not-blank}
 use Rattle.order.proofs.Counts.{formed}
 use Rattle.order.proofs.Tests.{sound-means, means-sound}

@@ -1,20 +1,18 @@
 -- A file that is accepted holds sound records, and reading it leaves a sound log; a refused one leaves the log as it was.
 -- Assumes nothing.
-use Prim.Native.Nat.{ℕ, zero, suc, _+_, _/_, _≤_, _<_}
+use Prim.Native.Nat.{ℕ, suc, _+_, _≤_}
 use native.Mathlib.Omega.{arith}
-use mathlib.Core.Path.{_≡_, refl, sym, ap, _∙_, subst}
-use mathlib.Core.Logic.{_⊎_, inl, inr, ⊎-elim}
-use mathlib.Core.Bool.{Bool, true, false, cond, _&&_}
+use mathlib.Core.Path.{_≡_, refl}
+use mathlib.Core.Logic.{_⊎_, inl, inr}
+use mathlib.Core.Bool.{true, false}
 use mathlib.Core.List.{List, [], _∷_}
 use lib.Dec.{ltb, eqb}
 use lib.ListN.{length}
-use borrow.Author.Tests.{eqb-true, eqb-false, eq-eqb, ltb-true}
-use Rattle.model.specs.Numbers.{fullLog, badLength, badBuffer}
+use borrow.Author.Tests.{eqb-true, eqb-false, ltb-true}
 use Rattle.model.specs.Record.{Rec}
-use Rattle.model.specs.Log.{recordFault, soundAfter, logBytes}
-use Rattle.model.specs.File.{fileLength, Fault, fault, blocksIn, blocksFault, fileRecords, recordsFault, countsFault, orElse, fileFault, ReadBack, notRead, readBack, readOf}
-use Rattle.octets.proofs.Numbers.{bool-cases, cond-cases, true-and}
-use Rattle.order.specs.Sound.{SoundAfter, Sound}
+use Rattle.model.specs.Log.{recordFault, soundAfter}
+use Rattle.model.specs.File.{fileLength, Fault, fault, blocksIn, blocksFault, fileRecords, recordsFault, countsFault, orElse, fileFault, notRead, readBack, readOf}
+use Rattle.octets.proofs.Numbers.{bool-cases, true-and}
 use Rattle.order.proofs.Tests.{sound-means}
 use Rattle.images.specs.Keeps.{Reads}
 use Rattle.images.proofs.Calls.{log-good}

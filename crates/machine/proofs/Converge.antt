@@ -1,19 +1,18 @@
 -- Equal vectors: the same records, the same log byte for byte, the same tree.
 -- Assumes nothing.
-use Prim.Native.Nat.{ℕ, _≤_, _<_}
+use Prim.Native.Nat.{ℕ}
 use native.Mathlib.Omega.{arith}
-use mathlib.Core.Path.{_≡_, refl, sym, ap, _∙_, subst}
+use mathlib.Core.Path.{_≡_, sym, ap, _∙_, subst}
 use mathlib.Core.Bool.{true}
 use mathlib.Core.List.{List}
 use Rattle.model.specs.Record.{Rec}
-use Rattle.model.specs.Log.{count, vectorOf, recordsOf, logBytes}
+use Rattle.model.specs.Log.{vectorOf, logBytes}
 use Rattle.model.specs.Replay.{replay}
 use Rattle.model.specs.Outcome.{showOf}
-use Rattle.order.specs.Members.{Has, Sub}
-use Rattle.order.specs.Sound.{SoundAfter, Sound}
+use Rattle.order.specs.Members.{Has}
+use Rattle.order.specs.Sound.{Sound}
 use Rattle.order.proofs.Same.{same, counts-sub}
 use Rattle.order.proofs.Tests.{counts-equal, equal-counts}
-use Rattle.images.specs.Keeps.{Good}
 use Rattle.images.proofs.Logs.{sound-records, sound-bytes}
 use Rattle.machine.specs.Machine.{Bench, held, heldVector}
 use Rattle.machine.specs.Claim.{distinct, Converged}

@@ -1,11 +1,11 @@
 -- Records of one log, taken one after another: if the lacked ones first come in rising rank and none is missing, each is
 -- taken, and in the end the taker covers the log.
 -- Assumes nothing.
-use Prim.Native.Nat.{ℕ, zero, suc, _+_, _≤_, _<_, max}
+use Prim.Native.Nat.{ℕ, suc, _≤_, _<_, max}
 use native.Mathlib.Omega.{arith}
 use mathlib.Core.Path.{_≡_, refl, sym, ap, _∙_, subst}
-use mathlib.Core.Logic.{_⊎_, inl, inr, ⊎-elim}
-use mathlib.Core.Bool.{Bool, true, false}
+use mathlib.Core.Logic.{inl, inr, ⊎-elim}
+use mathlib.Core.Bool.{true, false}
 use mathlib.Core.List.{List, [], _∷_, _++_}
 use lib.ListN.{length}
 use Rattle.model.specs.Record.{Rec, unit, num, seen, wellFormed}
@@ -13,16 +13,16 @@ use Rattle.model.specs.Log.{sumTo, rank, count, insert}
 use Rattle.model.specs.Outcome.{taken, takeOne, takeAll}
 use Rattle.octets.proofs.Numbers.{lt-or-ge, eq-or-ne}
 use Rattle.order.specs.Members.{Has, Sub, Agree}
-use Rattle.order.specs.Sound.{SoundAfter, Sound, Joins}
+use Rattle.order.specs.Sound.{Sound, Joins}
 use Rattle.order.proofs.Formed.{well-unit, well-own}
 use Rattle.order.proofs.Sums.{sumTo-le}
-use Rattle.order.proofs.Counts.{count-cons, count-nil, count-own, count-other, length-counts, number-held, find-held, formed, unit-of}
+use Rattle.order.proofs.Counts.{count-cons, count-nil, length-counts, number-held, find-held, formed, unit-of}
 use Rattle.order.proofs.Insert.{insert-sound, has-insert, insert-has, length-insert, count-insert}
 use Rattle.order.proofs.Ids.{none-byId, held-byId}
-use Rattle.order.proofs.Seen.{Saw, saw}
+use Rattle.order.proofs.Seen.{saw}
 use Rattle.order.proofs.Take.{take-new, take-held, takeAll-nil, takeAll-goes}
 use Rattle.machine.specs.Claim.{holds, firsts}
-use Rattle.machine.proofs.Tests.{Held, holds-cases, holds-none, has-holds, Rising, firsts-skip, firsts-keep}
+use Rattle.machine.proofs.Tests.{Held, holds-cases, has-holds, Rising, firsts-skip, firsts-keep}
 
 -- A: the log that is passed; B₀: the taker's at first; used: records that agree, A's among them
 module _ (A B₀ used : List Rec) (sA : Sound A) (agree : Agree used used) (inA : Sub A used) (fit : sumTo 8 (λ u. max (count u A) (count u B₀)) ≤ 512) where

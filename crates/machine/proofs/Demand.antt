@@ -1,12 +1,12 @@
 -- Demand 3, proved: the claim holds of every list of calls.
 -- Assumes nothing.
 use Prim.Native.Nat.{ℕ}
-use mathlib.Core.Path.{_≡_, refl, sym, ap, _∙_, subst}
+use mathlib.Core.Path.{_≡_, refl, subst}
 use mathlib.Core.Bool.{true}
 use mathlib.Core.List.{List, [], _∷_, _++_}
 use Rattle.machine.specs.Machine.{Call, Bench, bare, next, play}
-use Rattle.machine.specs.Claim.{distinct, Claim, Demand}
-use Rattle.machine.proofs.Reach.{Inv, inv-bare, inv-play}
+use Rattle.machine.specs.Claim.{distinct, Demand}
+use Rattle.machine.proofs.Reach.{inv-bare, inv-play}
 use Rattle.machine.proofs.Converge.{converge}
 use Rattle.machine.proofs.Passing.{cover}
 

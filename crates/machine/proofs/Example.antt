@@ -1,11 +1,11 @@
 -- Claim D4: the premises can be met. A list of calls with conflicts, losses, repeats, a restart and refused calls, computed.
 -- Assumes nothing.
-use Prim.Native.Nat.{ℕ, zero, suc, _+_}
+use Prim.Native.Nat.{ℕ, _+_}
 use native.Mathlib.Omega.{arith}
 use mathlib.Core.Path.{_≡_, refl, sym, _∙_}
-use mathlib.Core.Bool.{Bool, true, false, _&&_}
+use mathlib.Core.Bool.{Bool, true, _&&_}
 use mathlib.Core.List.{List, [], _∷_, _++_}
-use lib.ListN.{length, getD, replicate}
+use lib.ListN.{length, replicate}
 use lib.Dec.{leb}
 use Rattle.machine.specs.Machine.{Call, starts, acts, handsOut, writes, takes, Bench, bare, play, outcomes}
 use Rattle.model.specs.Bytes.{word, long, blank, sameBytes, part, padded, joined}

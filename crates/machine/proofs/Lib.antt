@@ -4,5 +4,7 @@ pub mod Converge
 pub mod Cover
 pub mod Passing
 pub mod Demand
+pub mod Runs
+pub mod Meeting
 pub mod Quick
 pub mod Example

@@ -1,34 +1,32 @@
 -- Passing: the first unit's log stands still, the blocks since the point come from it, and each take goes through.
 -- Assumes nothing.
-use Prim.Native.Nat.{ℕ, zero, suc, _+_, _-_, _≤_, _<_, max}
+use Prim.Native.Nat.{ℕ, _+_, _-_, _≤_, _<_, max}
 use native.Mathlib.Omega.{arith}
 use mathlib.Core.Path.{_≡_, refl, sym, ap, _∙_, subst}
-use mathlib.Core.Logic.{_⊎_, inl, inr, ⊎-elim}
-use mathlib.Core.Bool.{Bool, true, false, cond, not, _&&_, _||_, true≢false, false≢true}
+use mathlib.Core.Logic.{inl, inr, ⊎-elim}
+use mathlib.Core.Bool.{Bool, true, false, not, _&&_, _||_, false≢true}
 use mathlib.Core.List.{List, [], _∷_, _++_}
 use lib.Dec.{ltb, leb, eqb}
 use lib.ListN.{length, getD, drop, length-append, length-drop}
 use lib.Seq.{drop-append-le, drop-length, getD-drop}
 use borrow.Author.Tests.{eqb-true, eqb-false, eq-eqb, ne-eqb, leb-true, ltb-true, not-true}
-use Rattle.model.specs.Vector.{covers}
-use Rattle.model.specs.Record.{Rec, unit, num}
+use Rattle.model.specs.Record.{Rec}
 use Rattle.model.specs.Log.{sumTo, count, vectorOf, recordsOf, logBytes}
 use Rattle.model.specs.Block.{blockRecords}
-use Rattle.model.specs.Outcome.{Outcome, outcome, lacking, taken, takeAll, givenFault, takeOf}
-use Rattle.octets.proofs.Numbers.{lt-or-ge, eq-or-ne, bool-cases, and-true, true-and, cond-cases}
+use Rattle.model.specs.Outcome.{Outcome, outcome, lacking, givenFault, takeOf}
+use Rattle.octets.proofs.Numbers.{eq-or-ne, and-true, true-and}
 use Rattle.order.specs.Members.{Has, Sub, Agree}
-use Rattle.order.specs.Sound.{SoundAfter, Sound}
+use Rattle.order.specs.Sound.{Sound}
 use Rattle.order.proofs.Formed.{well-unit, well-own}
 use Rattle.order.proofs.Members.{All, all-map, all-append, all-at, has-append}
-use Rattle.order.proofs.Counts.{formed, unit-of}
-use Rattle.order.proofs.Lacking.{absent-lacked, union-length, has-lacking}
+use Rattle.order.proofs.Counts.{formed}
+use Rattle.order.proofs.Lacking.{absent-lacked, union-length}
 use Rattle.order.proofs.Tests.{counts-cover}
-use Rattle.images.specs.Keeps.{Good}
 use Rattle.images.proofs.Calls.{take-good, sound-back, take-done}
-use Rattle.machine.specs.Machine.{Call, starts, acts, handsOut, writes, takes, unitOf, Block, Bench, held, heldVector, blockGiven, done, gives, put, after, next, play}
-use Rattle.machine.specs.Claim.{holds, distinct, passes, passing, flowOf, flow, lacked, holdsAll, firsts, rising, Passed, zeros, Covered}
-use Rattle.machine.proofs.Tests.{Held, holds-cases, holds-some, Rising, rising-from, all-from, distinct-agree}
-use Rattle.machine.proofs.Reach.{Own, own, Given, Inv, Put, put-cases, inv-next, inv-play, used-play, used-agree, hand-log, write-log}
+use Rattle.machine.specs.Machine.{Call, starts, acts, handsOut, writes, takes, unitOf, Block, Bench, held, heldVector, blockGiven, done, gives, after, next, play}
+use Rattle.machine.specs.Claim.{distinct, passes, passing, flowOf, flow, lacked, holdsAll, firsts, rising, Passed, zeros, Covered}
+use Rattle.machine.proofs.Tests.{Held, holds-cases, holds-some, rising-from, all-from, distinct-agree}
+use Rattle.machine.proofs.Reach.{own, Given, Inv, put-cases, inv-next, used-play, hand-log, write-log}
 use Rattle.machine.proofs.Converge.{held-sound}
 use Rattle.machine.proofs.Cover.{Way, way-all, way-end}
 

@@ -1,9 +1,7 @@
 -- The machine without the checks that a reachable bench is known to pass, so that an example computes quickly.
 -- Assumes nothing.
-use Prim.Native.Nat.{ℕ, zero, suc, _≤_, _<_}
-use native.Mathlib.Omega.{arith}
+use Prim.Native.Nat.{ℕ}
 use mathlib.Core.Path.{_≡_, refl, sym, ap, _∙_}
-use mathlib.Core.Logic.{_⊎_, inl, inr, ⊎-elim}
 use mathlib.Core.Bool.{Bool, true, false, cond, _&&_}
 use mathlib.Core.List.{List, [], _∷_, _++_}
 use lib.Dec.{ltb, leb, eqb}
@@ -15,11 +13,9 @@ use Rattle.model.specs.Block.{blockRecords}
 use Rattle.model.specs.Bytes.{padded}
 use Rattle.model.specs.File.{blockCount, fileOf}
 use Rattle.model.specs.Outcome.{Outcome, outcome, guarded, actNumber, acted, actOf, handBlock, handOf, writeOf, takeAll, givenFault, tookAll, tookBlock, takeOf}
-use Rattle.octets.proofs.Numbers.{cond-cases, and-true}
 use Rattle.order.proofs.Members.{all-at}
-use Rattle.images.specs.Keeps.{Good}
 use Rattle.images.proofs.Calls.{guarded-passes}
-use Rattle.machine.specs.Machine.{Call, starts, acts, handsOut, writes, takes, Bench, held, blockGiven, done, after, next, play, outcomes}
+use Rattle.machine.specs.Machine.{Call, starts, acts, handsOut, writes, takes, Bench, blockGiven, done, after, next, play, outcomes}
 use Rattle.machine.specs.Claim.{passes, passing, flowOf, flow}
 use Rattle.machine.proofs.Reach.{Given, Inv, inv-next}
 

@@ -1,25 +1,25 @@
 -- Every reachable bench: the logs are good, and every record in a log or in a block given is one that an accepted act used.
 -- Assumes nothing.
-use Prim.Native.Nat.{ℕ, zero, suc, _+_, _*_, _≤_, _<_}
+use Prim.Native.Nat.{ℕ, zero, suc, _*_, _<_}
 use native.Mathlib.Omega.{arith}
 use mathlib.Core.Path.{_≡_, refl, sym, ap, _∙_, subst}
 use mathlib.Core.Logic.{_⊎_, inl, inr, ⊎-elim}
-use mathlib.Core.Bool.{Bool, true, false, cond}
+use mathlib.Core.Bool.{true}
 use mathlib.Core.List.{List, [], _∷_, _++_}
 use lib.Dec.{eqb}
-use lib.ListN.{length, getD, take, drop, replicate, List·getD-eq-default}
+use lib.ListN.{length, take, drop, List·getD-eq-default}
 use borrow.Author.Tests.{eqb-true, eqb-false, eq-eqb, ne-eqb}
 use Rattle.model.specs.Bytes.{padded}
 use Rattle.model.specs.Record.{Rec}
 use Rattle.model.specs.Log.{recordsOf}
 use Rattle.model.specs.Block.{countIn, recordsFrom, blockRecords}
 use Rattle.model.specs.File.{blockCount, fileOf, blockAt}
-use Rattle.model.specs.Outcome.{Outcome, outcome, refusal, startOf, stamped, actOf, lacking, handBlock, handOf, writeOf, taken, takeAll, givenFault, takeOf}
+use Rattle.model.specs.Outcome.{Outcome, outcome, stamped, actOf, lacking, handBlock, handOf, writeOf, givenFault}
 use Rattle.octets.proofs.Numbers.{lt-or-ge, eq-or-ne, cond-cases}
 use Rattle.order.specs.Members.{Has, Sub, Agree}
 use Rattle.order.proofs.Members.{All, all-map, all-append, all-at, has-append, append-has, has-take, has-drop}
 use Rattle.order.proofs.Lacking.{has-lacking}
-use Rattle.order.proofs.Take.{Grown, all-from}
+use Rattle.order.proofs.Take.{all-from}
 use Rattle.images.specs.Keeps.{Good, Keeps}
 use Rattle.images.proofs.Logs.{sound-records, empty-log}
 use Rattle.images.proofs.Calls.{zeros-good, sound-back, start-keeps, act-keeps, hand-keeps, write-keeps, take-keeps, start-cases, act-cases, take-cases}

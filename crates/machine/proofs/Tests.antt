@@ -1,18 +1,17 @@
 -- What the tests of the premises tell.
 -- Assumes nothing.
-use Prim.Native.Nat.{ℕ, zero, suc, _≤_, _<_}
+use Prim.Native.Nat.{_<_}
 use native.Mathlib.Omega.{arith}
-use mathlib.Core.Path.{_≡_, refl, sym, ap, _∙_, subst}
-use mathlib.Core.Logic.{_⊎_, inl, inr, ⊎-elim}
-use mathlib.Core.Bool.{Bool, true, false, cond, not, _&&_, _||_, true≢false, false≢true}
+use mathlib.Core.Path.{_≡_, refl, sym, ap, _∙_}
+use mathlib.Core.Logic.{_⊎_, inl, inr}
+use mathlib.Core.Bool.{true, false, not}
 use mathlib.Core.Option.{Option, none, some}
 use mathlib.Core.List.{List, [], _∷_}
-use lib.Dec.{ltb, eqb}
 use borrow.Author.Tests.{ltb-true, not-true}
 use Rattle.model.specs.Record.{Rec, unit, num}
 use Rattle.model.specs.Log.{rank, byId}
-use Rattle.octets.proofs.Numbers.{and-true, bool-cases, not-both, test-false}
-use Rattle.order.specs.Members.{Has, Sub, Agree}
+use Rattle.octets.proofs.Numbers.{and-true, not-both}
+use Rattle.order.specs.Members.{Has, Agree}
 use Rattle.order.proofs.Ids.{byId-some, byId-none}
 use Rattle.machine.specs.Claim.{isSome, holds, distinct, holdsAll, firsts, below, rising}
 

@@ -13,10 +13,10 @@ use Rattle.model.specs.Record.{Rec, unit, num}
 use Rattle.model.specs.Log.{rank, byId}
 use Rattle.model.specs.Replay.{replay}
 use Rattle.model.specs.Block.{blockRecords}
-use Rattle.model.specs.Outcome.{Outcome, lacking, showOf}
+use Rattle.model.specs.Outcome.{lacking, showOf}
 use Rattle.order.specs.Members.{Has}
 use Rattle.images.specs.Keeps.{Good}
-use Rattle.machine.specs.Machine.{Call, starts, acts, handsOut, writes, takes, unitOf, Block, Bench, bare, held, heldVector, blockGiven, done, next, play}
+use Rattle.machine.specs.Machine.{Call, starts, acts, handsOut, writes, takes, unitOf, Bench, bare, held, heldVector, blockGiven, done, next, play}
 
 unfoldable pub isSome : Option Rec → Bool
 isSome none = false

@@ -1,2 +1,4 @@
 pub mod Machine
 pub mod Claim
+pub mod Runs
+pub mod Meeting

@@ -1,10 +1,10 @@
 -- An act's record: its number, what it saw, that it ranks last, and that the log with it is sound.
 -- Assumes nothing.
-use Prim.Native.Nat.{ℕ, zero, suc, _+_, _-_, _*_, _/_, _%_, _≤_, _<_}
+use Prim.Native.Nat.{ℕ, suc, _+_, _*_, _<_}
 use native.Mathlib.Omega.{arith}
-use mathlib.Core.Path.{_≡_, refl, sym, ap, _∙_, subst}
-use mathlib.Core.Logic.{_⊎_, inl, inr, ⊎-elim}
-use mathlib.Core.Bool.{Bool, true, false, cond, _&&_}
+use mathlib.Core.Path.{_≡_, sym, ap, _∙_, subst}
+use mathlib.Core.Logic.{⊎-elim}
+use mathlib.Core.Bool.{true, cond, _&&_}
 use mathlib.Core.List.{List, [], _∷_, _++_, append-assoc}
 use lib.Dec.{ltb, eqb}
 use lib.ListN.{getD, length, take, drop, length-append, List·getD-append}
@@ -21,7 +21,7 @@ use Rattle.octets.proofs.Numbers.{and-true, cond-cases}
 use Rattle.octets.proofs.Words.{word-at, word-front, word-behind}
 use Rattle.vector.proofs.InBytes.{vectorBytes-length, vectorBytes-word}
 use Rattle.order.specs.Members.{Has}
-use Rattle.order.specs.Sound.{SoundAfter, Sound, Joins}
+use Rattle.order.specs.Sound.{Sound, Joins}
 use Rattle.order.proofs.Sums.{sumTo-eq, sumTo-lt}
 use Rattle.order.proofs.Counts.{count-nil, unit-of, own-of, number-held, seen-within}
 use Rattle.order.proofs.Insert.{insert-sound, insert-last}

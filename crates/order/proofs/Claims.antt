@@ -1,14 +1,14 @@
 -- Claims P1 and P3 of sound records: ranks are unique and follow what was seen, and the records alone fix their order.
 -- Assumes nothing.
-use Prim.Native.Nat.{ℕ, _≤_, _<_}
+use Prim.Native.Nat.{_≤_, _<_}
 use native.Mathlib.Omega.{arith}
-use mathlib.Core.Path.{_≡_, refl, sym, ap, _∙_, subst}
-use mathlib.Core.Logic.{_⊎_, inl, inr, ⊎-elim, _↔_}
+use mathlib.Core.Path.{_≡_, refl, sym, ap, _∙_}
+use mathlib.Core.Logic.{inl, inr, _↔_}
 use mathlib.Core.Bool.{true}
 use mathlib.Core.List.{List, [], _∷_}
 use Rattle.model.specs.Record.{Rec, unit, num, seen}
-use Rattle.model.specs.Log.{rank, count, soundAfter}
-use Rattle.order.specs.Members.{Has, Sub}
+use Rattle.model.specs.Log.{rank, soundAfter}
+use Rattle.order.specs.Members.{Has}
 use Rattle.order.specs.Sound.{SoundAfter, Sound}
 use Rattle.order.proofs.Counts.{above-all, unit-of}
 use Rattle.order.proofs.Same.{unique, same, counts-sub}

@@ -1,8 +1,8 @@
 -- Counts and numbers in a sound log: which identities it has, and in which order they stand.
 -- Assumes nothing.
-use Prim.Native.Nat.{ℕ, zero, suc, _+_, _*_, _≤_, _<_}
+use Prim.Native.Nat.{ℕ, suc, _+_, _≤_, _<_}
 use native.Mathlib.Omega.{arith}
-use mathlib.Core.Path.{_≡_, refl, sym, ap, _∙_, subst}
+use mathlib.Core.Path.{_≡_, refl, sym, ap, _∙_}
 use mathlib.Core.Logic.{_⊎_, inl, inr, ⊎-elim}
 use mathlib.Core.Bool.{true}
 use mathlib.Core.List.{List, [], _∷_}
@@ -10,9 +10,9 @@ use lib.ListN.{length}
 use borrow.Author.Tests.{eq-eqb, ne-eqb}
 use Rattle.model.specs.Record.{Rec, unit, num, seen, wellFormed}
 use Rattle.model.specs.Log.{sumTo, rank, count}
-use Rattle.octets.proofs.Numbers.{lt-or-ge, eq-or-ne}
+use Rattle.octets.proofs.Numbers.{eq-or-ne}
 use Rattle.order.specs.Members.{Has}
-use Rattle.order.specs.Sound.{Next, SoundAfter, Sound}
+use Rattle.order.specs.Sound.{SoundAfter, Sound}
 use Rattle.order.proofs.Formed.{well-unit, well-own}
 use Rattle.order.proofs.Sums.{sumTo-lt, sumTo-suc, sumTo-zero}
 

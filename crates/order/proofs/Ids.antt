@@ -1,19 +1,19 @@
 -- Looking up an identity.
 -- Assumes nothing.
-use Prim.Native.Nat.{ℕ, zero, suc, _≤_, _<_}
+use Prim.Native.Nat.{ℕ, _≤_, _<_}
 use native.Mathlib.Omega.{arith}
 use mathlib.Core.Path.{_≡_, refl, sym, ap, _∙_, subst}
-use mathlib.Core.Logic.{_⊎_, inl, inr, ⊎-elim}
-use mathlib.Core.Bool.{Bool, true, false, cond, _&&_}
+use mathlib.Core.Logic.{inl, inr, ⊎-elim}
+use mathlib.Core.Bool.{_&&_}
 use mathlib.Core.Option.{Option, none, some}
 use mathlib.Core.List.{List, [], _∷_}
 use lib.Dec.{eqb}
 use borrow.Author.Tests.{eqb-true, eq-eqb}
 use Rattle.model.specs.Record.{Rec, unit, num}
 use Rattle.model.specs.Log.{count, insert, byId}
-use Rattle.octets.proofs.Numbers.{lt-or-ge, cond-cases, and-true, true-and, not-both, test-false}
+use Rattle.octets.proofs.Numbers.{cond-cases, and-true, true-and, not-both}
 use Rattle.order.specs.Members.{Has, Agree}
-use Rattle.order.specs.Sound.{SoundAfter, Sound}
+use Rattle.order.specs.Sound.{Sound}
 use Rattle.order.proofs.Counts.{find-held, number-held}
 use Rattle.order.proofs.Insert.{has-insert, insert-has}
 use Rattle.order.proofs.Same.{unique}

@@ -1,6 +1,6 @@
 -- A record that may join goes in at its rank, and the log stays sound.
 -- Assumes nothing.
-use Prim.Native.Nat.{ℕ, zero, suc, _+_, _≤_, _<_}
+use Prim.Native.Nat.{ℕ, suc, _+_, _≤_, _<_}
 use native.Mathlib.Omega.{arith}
 use mathlib.Core.Path.{_≡_, refl, sym, ap, _∙_, subst}
 use mathlib.Core.Logic.{_⊎_, inl, inr, ⊎-elim}
@@ -11,9 +11,9 @@ use Rattle.model.specs.Record.{Rec, unit, num, seen}
 use Rattle.model.specs.Log.{rank, insert, count}
 use Rattle.octets.proofs.Numbers.{lt-or-ge, eq-or-ne}
 use Rattle.order.specs.Members.{Has}
-use Rattle.order.specs.Sound.{Next, SoundAfter, Sound, Joins}
+use Rattle.order.specs.Sound.{SoundAfter, Sound, Joins}
 use Rattle.order.proofs.Formed.{well-unit, well-own}
-use Rattle.order.proofs.Counts.{count-cons, count-own, count-other, count-plus, count-shift, find, formed, numbers, above-all, lower, rank-unit}
+use Rattle.order.proofs.Counts.{count-cons, count-other, count-plus, count-shift, find, formed, numbers, above-all, lower, rank-unit}
 
 -- ---- what an insertion has
 

@@ -1,6 +1,6 @@
 -- The records that a vector lacks.
 -- Assumes nothing.
-use Prim.Native.Nat.{ℕ, zero, suc, _+_, _-_, _≤_, _<_, max}
+use Prim.Native.Nat.{ℕ, suc, _+_, _≤_, _<_, max}
 use native.Mathlib.Omega.{arith}
 use mathlib.Core.Path.{_≡_, refl, sym, ap, _∙_, subst}
 use mathlib.Core.Logic.{_⊎_, inl, inr, ⊎-elim}
@@ -12,11 +12,9 @@ use Rattle.model.specs.Log.{sumTo, count, vectorOf}
 use Rattle.model.specs.Outcome.{lacking}
 use Rattle.octets.proofs.Numbers.{lt-or-ge, eq-or-ne}
 use Rattle.order.specs.Members.{Has, Sub}
-use Rattle.order.specs.Sound.{Next, SoundAfter, Sound}
-use Rattle.order.proofs.Formed.{well-unit}
+use Rattle.order.specs.Sound.{SoundAfter, Sound}
 use Rattle.order.proofs.Sums.{sumTo-plus}
-use Rattle.order.proofs.Counts.{count-nil, count-own, count-other, count-plus, length-counts, unit-of, numbers, number-held, find-held}
-use Rattle.order.proofs.Same.{unique}
+use Rattle.order.proofs.Counts.{count-nil, count-own, count-other, length-counts, unit-of, find-held}
 use Rattle.order.proofs.Tests.{vectorOf-getD}
 
 abbrev pub Lacked : List ℕ → Rec → List Rec → Type 0
@@ -54,6 +52,18 @@ lacking-has v (x ∷ l) r (inr i) n =
     ⊎-elim
     (λ k. subst (Has r) (sym (k .1)) (inr (lacking-has v l r i n)))
     (λ k. subst (Has r) (sym (k .1)) (lacking-has v l r i n))
+    (lacking-cons v x l)
+
+pub lacking-beyond : (v : List ℕ) (l : List Rec) (r : Rec) → Has r (lacking v l) → getD v (unit r) 0 < num r
+lacking-beyond v [] r h = absurd (rw (lacking-nil v) at h)
+lacking-beyond v (x ∷ l) r h =
+    ⊎-elim
+    (λ k.
+    ⊎-elim
+    (λ (e : r ≡ x). subst (λ (t : Rec). getD v (unit t) 0 < num t) (sym e) (k .0))
+    (λ i. lacking-beyond v l r i)
+    (subst (Has r) (k .1) h))
+    (λ k. lacking-beyond v l r (subst (Has r) (k .1) h))
     (lacking-cons v x l)
 
 -- ---- what the vector of a sound log lacks of another

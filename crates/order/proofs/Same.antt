@@ -1,15 +1,15 @@
 -- One identity, one record; and two sound logs that agree where they share an identity, and count alike, are one list.
 -- Assumes nothing.
-use Prim.Native.Nat.{ℕ, zero, suc, _+_, _≤_, _<_}
+use Prim.Native.Nat.{ℕ, suc, _≤_, _<_}
 use native.Mathlib.Omega.{arith}
 use mathlib.Core.Path.{_≡_, refl, sym, ap, _∙_, subst}
-use mathlib.Core.Logic.{_⊎_, inl, inr, ⊎-elim}
+use mathlib.Core.Logic.{inl, inr, ⊎-elim}
 use mathlib.Core.List.{List, [], _∷_}
 use Rattle.model.specs.Record.{Rec, unit, num}
 use Rattle.model.specs.Log.{rank, count}
 use Rattle.octets.proofs.Numbers.{lt-or-ge}
 use Rattle.order.specs.Members.{Has, Sub, Agree}
-use Rattle.order.specs.Sound.{Next, SoundAfter, Sound}
+use Rattle.order.specs.Sound.{SoundAfter, Sound}
 use Rattle.order.proofs.Formed.{well-unit}
 use Rattle.order.proofs.Counts.{count-cons, count-own, count-plus, find, find-held, number-held, above-all, numbers, rank-unit}
 

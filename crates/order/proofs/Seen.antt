@@ -1,14 +1,14 @@
 -- What a record of a sound log saw stands in the log, below it.
 -- Assumes nothing.
-use Prim.Native.Nat.{ℕ, zero, suc, _+_, _≤_, _<_}
+use Prim.Native.Nat.{ℕ, _≤_, _<_}
 use native.Mathlib.Omega.{arith}
-use mathlib.Core.Path.{_≡_, refl, sym, ap, _∙_, subst}
+use mathlib.Core.Path.{_≡_, sym, ap, _∙_, subst}
 use mathlib.Core.Logic.{_⊎_, inl, inr, ⊎-elim}
 use mathlib.Core.List.{List, [], _∷_}
 use Rattle.model.specs.Record.{Rec, unit, num, seen}
-use Rattle.model.specs.Log.{rank, count}
+use Rattle.model.specs.Log.{rank}
 use Rattle.order.specs.Members.{Has}
-use Rattle.order.specs.Sound.{Next, SoundAfter, Sound}
+use Rattle.order.specs.Sound.{SoundAfter, Sound}
 use Rattle.order.proofs.Formed.{well-own}
 use Rattle.order.proofs.Counts.{count-plus, numbers, formed, unit-of, find-held, seen-within, lower}
 

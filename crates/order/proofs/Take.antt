@@ -1,8 +1,8 @@
 -- What an accepted take leaves: a sound log with the block's records.
 -- Assumes nothing.
-use Prim.Native.Nat.{ℕ, zero, suc, _+_, _≤_, _<_}
+use Prim.Native.Nat.{ℕ, _≤_, _<_}
 use native.Mathlib.Omega.{arith}
-use mathlib.Core.Path.{_≡_, refl, sym, ap, _∙_, subst}
+use mathlib.Core.Path.{_≡_, refl, sym, _∙_}
 use mathlib.Core.Logic.{_⊎_, inl, inr, ⊎-elim}
 use mathlib.Core.Bool.{Bool, true, false, cond, _&&_}
 use mathlib.Core.Option.{Option, none, some}
@@ -12,13 +12,13 @@ use lib.ListN.{length}
 use borrow.Author.Tests.{ltb-true, lt-ltb}
 use Rattle.model.specs.Numbers.{malformed, notNext, notClosed, otherBytes, fullLog}
 use Rattle.model.specs.Bytes.{sameBytes}
-use Rattle.model.specs.Record.{Rec, unit, num, seen, wellFormed}
-use Rattle.model.specs.Log.{insert, count, byId, isNext, isWithin, isClosed}
+use Rattle.model.specs.Record.{Rec, unit, num, wellFormed}
+use Rattle.model.specs.Log.{insert, byId, isNext, isWithin, isClosed}
 use Rattle.model.specs.Outcome.{Took, refused, taken, takeNew, takeHeld, takeOne, takeAll}
-use Rattle.octets.proofs.Numbers.{and-true, true-and}
+use Rattle.octets.proofs.Numbers.{and-true}
 use Rattle.octets.proofs.Compare.{same-eq, same-refl}
 use Rattle.order.specs.Members.{Has, Sub}
-use Rattle.order.specs.Sound.{SoundAfter, Sound, Joins}
+use Rattle.order.specs.Sound.{Sound, Joins}
 use Rattle.order.proofs.Counts.{count-nil, formed}
 use Rattle.order.proofs.Insert.{insert-sound, has-insert, insert-has, length-insert}
 use Rattle.order.proofs.Same.{unique}

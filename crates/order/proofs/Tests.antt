@@ -1,29 +1,28 @@
 -- The tests for a sound log decide exactly what `Sound` says.
 -- Assumes nothing.
-use Prim.Native.Nat.{ℕ, zero, suc, _+_, _*_, _≤_, _<_}
+use Prim.Native.Nat.{ℕ, zero, suc, _≤_, _<_}
 use native.Mathlib.Omega.{arith}
-use mathlib.Core.Path.{_≡_, refl, sym, ap, _∙_, subst}
+use mathlib.Core.Path.{_≡_, refl, sym, ap, _∙_}
 use mathlib.Core.Logic.{_⊎_, inl, inr, ⊎-elim}
-use mathlib.Core.Bool.{Bool, true, false, cond, _&&_, false≢true}
+use mathlib.Core.Bool.{Bool, true, false, cond, _&&_}
 use mathlib.Core.Option.{Option, none, some}
-use mathlib.Core.List.{List, [], _∷_, _++_}
-use lib.Dec.{eqb, ltb}
+use mathlib.Core.List.{List, [], _∷_}
+use lib.Dec.{eqb}
 use lib.ListN.{getD, length, length-append, List·getD-append}
 use lib.Seq.{getD-at, ext-getD}
 use borrow.Author.Tests.{eqb-true, eq-eqb, ne-eqb, ltb-true, lt-ltb}
-use Rattle.model.specs.Numbers.{malformed, notNext, notClosed, badFile}
+use Rattle.model.specs.Numbers.{notNext, notClosed, badFile}
 use Rattle.model.specs.Vector.{covers}
 use Rattle.model.specs.Record.{Rec, unit, num, seen, seenVector, wellFormed}
 use Rattle.model.specs.Log.{rank, count, countsTo, vectorOf, byId, isNext, isWithin, allTo, nowhereAbove, isClosed, rises, recordFault, soundAfter}
-use Rattle.octets.proofs.Numbers.{lt-or-ge, eq-or-ne, bool-cases, cond-cases, and-true, true-and}
+use Rattle.octets.proofs.Numbers.{lt-or-ge, bool-cases, and-true, true-and}
 use Rattle.vector.proofs.Dominance.{covers-at, all-covers}
 use Rattle.vector.proofs.InBytes.{vectorAt-length, vectorAt-getD}
 use Rattle.order.specs.Members.{Has, Agree}
-use Rattle.order.specs.Sound.{Next, SoundAfter, Sound, Joins}
+use Rattle.order.specs.Sound.{Next, SoundAfter, Sound}
 use Rattle.order.proofs.Formed.{well-unit, well-own}
-use Rattle.order.proofs.Counts.{count-cons, count-nil, count-own, count-plus}
+use Rattle.order.proofs.Counts.{count-own, count-plus}
 use Rattle.order.proofs.Ids.{byId-some, agree-byId}
-use Rattle.order.proofs.Same.{unique}
 
 -- ---- the record counts as a vector
 

@@ -1,0 +1,18 @@
+-- Runs whose outcomes are those of document 01 are the machine's.
+-- Assumes nothing.
+use Prim.Native.Nat.{ℕ}
+use mathlib.Core.Path.{_≡_, subst}
+use mathlib.Core.List.{List, [], _∷_}
+use Rattle.model.specs.Outcome.{Outcome}
+use Rattle.machine.specs.Machine.{Call, Bench, done, after, next, play, outcomes}
+use Rattle.machine.specs.Runs.{Runs}
+
+pub runs-are : (archive : ℕ) (R : Bench → Call → Outcome → Type 0) → ((s : Bench) (c : Call) (o : Outcome) → R s c o → o ≡ done archive s c)
+    → (cs : List Call) (s : Bench) (os : List Outcome) (t : Bench) → Runs R s cs os t → (os ≡ outcomes archive s cs) × (t ≡ play archive s cs)
+unfolding outcomes play next
+runs-are archive R h [] s os t r = r
+runs-are archive R h (c ∷ cs) s [] t r = absurd r
+runs-are archive R h (c ∷ cs) s (o ∷ os) t (r, rest) =
+    let e = h s c o r in
+    let (p, q) = runs-are archive R h cs (next archive s c) os t (subst (λ (x : Outcome). Runs R (after s c x) cs os t) e rest) in
+    (λ i. e i ∷ p i, q)
