@@ -1,15 +1,16 @@
 -- The lengths of a block's parts, and the records that stand in it.
 -- Assumes nothing.
-use Prim.Native.Nat.{ℕ, suc, _+_, _-_, _*_, _≤_}
+use Prim.Native.Nat.{ℕ, zero, suc, _+_, _-_, _*_, _≤_, _<_}
 use native.Mathlib.Omega.{arith}
-use mathlib.Core.Path.{_≡_, refl, ap}
-use mathlib.Core.List.{List, [], _∷_, _++_, append-assoc}
-use lib.ListN.{length, length-append}
-use Rattle.model.specs.Bytes.{two, padded, joined}
+use mathlib.Core.Path.{_≡_, refl, ap, _∙_}
+use mathlib.Core.List.{List, [], _∷_, _++_, append-assoc, append-nil}
+use lib.ListN.{getD, length, take, drop, length-append}
+use lib.Seq.{drop-cons, take-append-add}
+use Rattle.model.specs.Bytes.{two, part, padded, joined}
 use Rattle.model.specs.Record.{Rec}
 use Rattle.model.specs.Block.{Header, headBytes, bodyBytes, sealed, blockOf, firstTo, secondTo, recordAt, recordsFrom}
 use Rattle.vector.proofs.InBytes.{vectorBytes-length}
-use Rattle.octets.proofs.Parts.{part-middle}
+use Rattle.octets.proofs.Parts.{part-start, part-behind, part-middle}
 use Rattle.octets.proofs.PutAt.{length-padded}
 
 -- ---- records laid end to end
@@ -23,6 +24,32 @@ pub length-joined : (l : List Rec) → Sized l → length (joined l) ≡ 80 * le
 unfolding joined
 length-joined [] z = refl
 length-joined (r ∷ l) z = omega (arith, length-append r (joined l), z .0, length-joined l (z .1))
+
+joined-front : (l : List Rec) (m : ℕ) (t : List ℕ) → Sized l → m ≤ length l → take (80 * m) (joined l ++ t) ≡ joined (take m l)
+unfolding joined
+joined-front l zero t z h = refl
+joined-front [] (suc m) t z h = absurd (omega arith)
+joined-front (r ∷ l) (suc m) t z h =
+    let n : 80 * suc m ≡ length r + 80 * m = omega (arith, z .0) in
+    rw (append-assoc r (joined l) t, n, take-append-add r (joined l ++ t) (80 * m), joined-front l m t (z .1) (omega arith))
+
+-- the records from a place on, where they stand
+pub joined-part : (l : List Rec) (j m : ℕ) (t : List ℕ) → Sized l → j + m ≤ length l → part (joined l ++ t) (80 * j) (80 * m) ≡ joined (take m (drop j l))
+unfolding joined
+joined-part l zero m t z h = part-start (joined l ++ t) (80 * m) ∙ joined-front l m t z (omega arith)
+joined-part [] (suc j) m t z h = absurd (omega arith)
+joined-part (r ∷ l) (suc j) m t z h =
+    let n : 80 * suc j ≡ length r + 80 * j = omega (arith, z .0) in
+    rw (append-assoc r (joined l) t, n, part-behind r (joined l ++ t) (80 * j) (80 * m)) (joined-part l j m t (z .1) (omega arith))
+
+pub joined-at : (l : List Rec) (i : ℕ) (t : List ℕ) → Sized l → i < length l → part (joined l ++ t) (80 * i) 80 ≡ getD l i []
+unfolding joined
+joined-at l i t z h = joined-part l i 1 t z (omega arith) ∙ rw (drop-cons l i [] h, append-nil)
+
+pub joined-append : (a b : List Rec) → joined (a ++ b) ≡ joined a ++ joined b
+unfolding joined
+joined-append [] b = refl
+joined-append (r ∷ a) b = rw (joined-append a b, append-assoc r)
 
 record-middle : (p x t : List ℕ) (i : ℕ) → length p ≡ 28 + 80 * i → length x ≡ 80 → recordAt (p ++ (x ++ t)) i ≡ x
 unfolding recordAt

@@ -1,0 +1,128 @@
+-- The blocks of a written file: which records each holds, where each is written, and the zeros behind them.
+-- Assumes nothing.
+use Prim.Native.Nat.{ℕ, zero, suc, _+_, _-_, _*_, _/_, _≤_, _<_, min, max}
+use native.Mathlib.Numerals.{add-one}
+use native.Mathlib.Omega.{arith}
+use mathlib.Core.Path.{_≡_, refl, sym, ap, _∙_, subst}
+use mathlib.Core.Logic.{_⊎_, inl, inr, ⊎-elim}
+use mathlib.Core.Bool.{true}
+use mathlib.Core.List.{List, [], _∷_, _++_, append-nil}
+use lib.ListN.{length, take, drop, replicate, length-append, length-take, length-drop, length-replicate}
+use lib.Seq.{take-all, length-take-le, drop-length}
+use borrow.Rule.Slice.PartMut.{putMid}
+use Rattle.model.specs.Bytes.{part, padded, joined, putAt}
+use Rattle.model.specs.Record.{Rec}
+use Rattle.model.specs.Log.{recordsOf, soundLog, logBytes, vectorOf}
+use Rattle.model.specs.Block.{Header, headBytes, bodyBytes, sealed, blockOf}
+use Rattle.model.specs.File.{blockCount, headerOf, fileBlock, fileTo, fileOf}
+use Rattle.octets.proofs.Numbers.{lt-or-ge}
+use Rattle.octets.proofs.Parts.{part-is, lent-length}
+use Rattle.octets.proofs.PutAt.{mid-put, put-whole, put-grows}
+use Rattle.blocklaws.proofs.Fields.{Sized, joined-part}
+use Rattle.images.proofs.Logs.{sound-proper, proper-sized, sound-records, sound-bytes, sound-few}
+use Rattle.images.proofs.Files.{few-blocks, length-fileBlock, length-fileTo}
+
+-- ---- how many blocks
+
+pub few-used : (b : List ℕ) (used : ℕ) → used ≡ length (recordsOf b) → used ≤ 512
+few-used b used e = omega (arith, sound-few b)
+
+pub few : (used n : ℕ) → used ≤ 512 → n ≡ blockCount used → n ≤ 86
+few used n h e = omega (arith, few-blocks used h)
+
+pub begun : (used n k : ℕ) → n ≡ blockCount used → k < n → 6 * k ≤ used
+unfolding blockCount
+begun used n k e h = omega arith
+
+pub all-counted : (b : List ℕ) (used n : ℕ) → used ≡ length (recordsOf b) → n ≡ blockCount used → n ≡ blockCount (length (recordsOf b))
+all-counted b used n e f = rw e at f
+
+-- ---- block k
+
+-- six records, or as many as there are
+take-six : (l : List Rec) (n : ℕ) → n ≡ min 6 (length l) → take 6 l ≡ take n l
+take-six l n e =
+    ⊎-elim
+    (λ (h : length l < 6). take-all 6 l (omega arith) ∙ sym (take-all n l (omega arith)))
+    (λ (h : 6 ≤ length l). let m : n ≡ 6 = omega arith in rw m)
+    (lt-or-ge (length l) 6)
+
+-- records from a place of a sound log on
+log-part : (b : List ℕ) → length b ≡ 40960 → soundLog b ≡ true → (j m : ℕ) → j + m ≤ length (recordsOf b) → part b (80 * j) (80 * m) ≡ joined (take m (drop j (recordsOf b)))
+unfolding logBytes padded
+log-part b long sound j m h =
+    let l = recordsOf b in
+    let t : List ℕ = replicate (40960 - length (joined l)) 0 in
+    subst (λ (x : List ℕ). part x (80 * j) (80 * m) ≡ joined (take m (drop j l))) (sound-bytes b long sound)
+    (joined-part l j m t (proper-sized l (sound-proper l (sound-records b sound))) h)
+
+module _ (a u k : ℕ) (b h : List ℕ) (used n : ℕ) {o : List ℕ} (whole : used ≡ length (recordsOf b)) (counted : n ≡ min 6 (used - 6 * k)) (own : h ≡ vectorOf (recordsOf b)) where
+  pub none-left : n ≡ 0 → o ≡ blockOf (record { archive = a; sender = u; place = k; vector = h }) [] → o ≡ fileBlock a u (recordsOf b) k
+  unfolding fileBlock headerOf
+  none-left e f =
+      let m : length (take 6 (drop (6 * k) (recordsOf b))) ≡ 0 = omega (arith, length-take 6 (drop (6 * k) (recordsOf b)), length-drop (6 * k) (recordsOf b)) in
+      rw (← take-all 0 (take 6 (drop (6 * k) (recordsOf b))) (omega arith), ← own) f
+
+  pub some-left : length b ≡ 40960 → soundLog b ≡ true → 6 * k ≤ used → o ≡ sealed (headBytes (record { archive = a; sender = u; place = k; vector = h }) n ++ padded 480 (take (480 * k + 80 * n - 480 * k) (drop (480 * k) b)))
+      → o ≡ fileBlock a u (recordsOf b) k
+  unfolding fileBlock headerOf blockOf bodyBytes
+  some-left long sound g f =
+      let l : List Rec = drop (6 * k) (recordsOf b) in
+      let e : 80 * (6 * k) ≡ 480 * k = omega arith in
+      let c : length (take 6 l) ≡ n = omega (arith, length-take 6 l, length-drop (6 * k) (recordsOf b)) in
+      let j : joined (take 6 l) ≡ take (480 * k + 80 * n - 480 * k) (drop (480 * k) b) =
+      rw (take-six l n (omega (arith, length-drop (6 * k) (recordsOf b))), part-is b (480 * k) (80 * n), ← e) (sym (log-part b long sound (6 * k) n (omega arith))) in
+      f ∙ rw (j, c, own)
+
+-- ---- writing into the file
+
+-- a part that was lent has come back with s in it
+pub placed : (d p s : List ℕ) (k : ℕ) → length d ≡ 44032 → k < 86 → length s ≡ 512 → p ≡ putAt (take (512 * k + 512 - 512 * k) (drop (512 * k) d)) 0 s
+    → putMid (512 * k) (512 * k + 512 - 512 * k) d p ≡ putAt d (512 * k) s
+placed d p s k h g n e =
+    let q : p ≡ s = e ∙ put-whole (take (512 * k + 512 - 512 * k) (drop (512 * k) d)) s (n ∙ sym (lent-length d (512 * k) 512 (omega arith))) in
+    rw q (mid-put (512 * k) 512 d s n)
+
+pub fits-part : (d s : List ℕ) (k : ℕ) → length d ≡ 44032 → k < 86 → length s ≡ 512 → 0 + length s ≤ length (take (512 * k + 512 - 512 * k) (drop (512 * k) d))
+fits-part d s k h g n = omega (arith, lent-length d (512 * k) 512 (omega arith))
+
+pub cleared : (d p : List ℕ) (n : ℕ) → length d ≡ 44032 → n ≤ 86 → p ≡ replicate (length (take (44032 - 512 * n) (drop (512 * n) d))) 0
+    → putMid (512 * n) (44032 - 512 * n) d p ≡ putAt d (512 * n) (replicate (44032 - 512 * n) 0)
+cleared d p n h g e =
+    let m : ℕ = 44032 - 512 * n in
+    let l : length (take m (drop (512 * n) d)) ≡ m = length-take-le m (drop (512 * n) d) (omega (arith, length-drop (512 * n) d)) in
+    let q : p ≡ replicate m 0 = e ∙ rw l in
+    let w : 512 * n + m - 512 * n ≡ m = omega arith in
+    rw q (rw w at (mid-put (512 * n) m d (replicate m 0) (length-replicate m 0)))
+
+-- ---- the whole file
+
+module _ (a u : ℕ) (b d : List ℕ) (long : length b ≡ 40960) (sound : soundLog b ≡ true) (room : length d ≡ 44032) where
+  sized : Sized (recordsOf b)
+  sized = proper-sized (recordsOf b) (sound-proper (recordsOf b) (sound-records b sound))
+
+  -- one block more
+  pub goes-on : (k n : ℕ) {e s o : List ℕ} → o ≡ putAt e (512 * k) s → s ≡ fileBlock a u (recordsOf b) k → e ≡ fileTo a u (recordsOf b) k ++ drop (512 * k) d → k < n → n ≤ 86
+      → o ≡ fileTo a u (recordsOf b) (k + 1) ++ drop (512 * (k + 1)) d
+  unfolding fileTo
+  goes-on k n r q p h g =
+      let f = fileTo a u (recordsOf b) k in
+      let w = fileBlock a u (recordsOf b) k in
+      let lf : length f ≡ 512 * k = length-fileTo a u (recordsOf b) sized k in
+      let lw : length (f ++ w) ≡ 512 * (k + 1) = omega (arith, length-append f w, length-fileBlock a u (recordsOf b) sized k) in
+      let x : putAt (f ++ drop (512 * k) d) (512 * k) w ≡ (f ++ w) ++ drop (512 * (k + 1)) d = rw (lf, lw) at (put-grows d f w (omega arith)) in
+      r ∙ rw (p, q, x, add-one k)
+
+  -- zeros behind the last block
+  pub ends : (k n used : ℕ) {e o : List ℕ} → k ≤ n → n ≤ k → n ≤ 86 → n ≡ blockCount used → used ≡ length (recordsOf b) → e ≡ fileTo a u (recordsOf b) k ++ drop (512 * k) d
+      → o ≡ putAt e (512 * n) (replicate (44032 - 512 * n) 0) → o ≡ padded 44032 (fileOf a u (recordsOf b))
+  unfolding fileOf padded
+  ends k n used h g m c v p q =
+      let f = fileTo a u (recordsOf b) n in
+      let z : List ℕ = replicate (44032 - 512 * n) 0 in
+      let kn : k ≡ n = omega arith in
+      let nc : n ≡ blockCount (length (recordsOf b)) = all-counted b used n v c in
+      let lf : length f ≡ 512 * n = length-fileTo a u (recordsOf b) sized n in
+      let lz : length (f ++ z) ≡ length d = omega (arith, length-append f z, length-replicate {A = ℕ} (44032 - 512 * n) 0) in
+      let x : putAt (f ++ drop (512 * n) d) (512 * n) z ≡ f ++ z = (rw (lf, lz) at (put-grows d f z (omega arith))) ∙ rw (drop-length d, append-nil) in
+      q ∙ rw (p, kn, x, ← nc, lf)

@@ -1,0 +1,37 @@
+-- The block that is handed out, and the ways out of handing out, over plain values.
+-- Assumes nothing.
+use Prim.Native.Nat.{ℕ, zero, suc, _+_, _-_, _*_, _≤_, _<_}
+use native.Mathlib.Omega.{arith}
+use mathlib.Core.Path.{_≡_, refl, sym, ap, _∙_}
+use mathlib.Core.List.{List, [], _∷_, _++_, append-nil}
+use lib.ListN.{length, take, replicate, length-append, length-replicate}
+use Rattle.model.specs.Bytes.{padded, joined}
+use Rattle.model.specs.Record.{Rec}
+use Rattle.model.specs.Log.{recordsOf, vectorOf}
+use Rattle.model.specs.Block.{Header, headBytes, bodyBytes, sealed, blockOf}
+use Rattle.model.specs.File.{headerOf}
+use Rattle.model.specs.Outcome.{lacking, handBlock}
+
+no-records : (l : List Rec) → length l ≡ 0 → l ≡ []
+no-records [] e = refl
+no-records (r ∷ l) e = absurd (omega arith)
+
+padded-twice : (n : ℕ) (s : List ℕ) → padded n (padded n s) ≡ padded n s
+unfolding padded
+padded-twice n s =
+    let m = length-append s (replicate (n - length s) 0) in
+    let k = length-replicate {A = ℕ} (n - length s) 0 in
+    let e : n - length (s ++ replicate (n - length s) 0) ≡ 0 = omega arith in
+    rw (e, append-nil)
+
+module _ (a u : ℕ) (b v h : List ℕ) {n : ℕ} {o : List ℕ} (counted : n ≡ length (take 6 (lacking v (recordsOf b)))) (own : h ≡ vectorOf (recordsOf b)) where
+  pub none-lacking : n ≡ 0 → o ≡ blockOf (record { archive = a; sender = u; place = 0; vector = h }) [] → o ≡ handBlock a u (recordsOf b) v
+  unfolding handBlock headerOf
+  none-lacking e f = rw (no-records (take 6 (lacking v (recordsOf b))) (omega arith), ← own) f
+
+  pub some-lacking : (d : List ℕ) → d ≡ padded 480 (joined (take 6 (lacking v (recordsOf b)))) → o ≡ sealed (headBytes (record { archive = a; sender = u; place = 0; vector = h }) n ++ padded 480 d)
+      → o ≡ handBlock a u (recordsOf b) v
+  unfolding handBlock headerOf blockOf bodyBytes
+  some-lacking d e f =
+      let l : List Rec = take 6 (lacking v (recordsOf b)) in
+      f ∙ rw (e, padded-twice 480 (joined l), own, counted)
