@@ -6,9 +6,9 @@ ghost use lib.ListN.{length, replicate};
 ghost use Rattle.model.specs.Bytes.{padded, putAt};
 ghost use Rattle.model.specs.Log.{recordsOf, soundLog, vectorOf};
 ghost use Rattle.model.specs.File.{blockCount, fileBlock, fileOf};
+use block::Block;
 use block::block_of;
 use block::empty_block;
-use block::Block;
 use octets::clear;
 use octets::put;
 use vector::Vector;
@@ -46,7 +46,14 @@ fn file_block(log: &[u8], used: usize, held: Vector, archive: u32, unit: u8, k: 
         return empty_block(archive, unit, k as u16, held);
     }
     let at = 480 * k;
-    block_of(archive, unit, n as u8, k as u16, held, &log[at..at + 80 * n])
+    block_of(
+        archive,
+        unit,
+        n as u8,
+        k as u16,
+        held,
+        &log[at..at + 80 * n],
+    )
 }
 
 // A block is written into the part of the file that starts at its place.
@@ -69,7 +76,14 @@ fn clear_behind(file: &mut [u8], n: usize)
 }
 
 // Block after block is written, then zeros; the count of blocks is returned.
-fn write_blocks(log: &[u8], used: usize, held: Vector, archive: u32, unit: u8, file: &mut [u8]) -> u8
+fn write_blocks(
+    log: &[u8],
+    used: usize,
+    held: Vector,
+    archive: u32,
+    unit: u8,
+    file: &mut [u8],
+) -> u8
     requires { ⌜ (length (now log) ≡ 40960) × (soundLog (now log) ≡ true) × (used ≡ length (recordsOf (now log))) × (held .counts ≡ vectorOf (recordsOf (now log))) × (length (now file) ≡ 44032) ⌝ }
     ensures counted { λ r. ⌜ r ≡ blockCount (length (recordsOf (now (log .entry)))) ⌝ }
     ensures written { λ _. ⌜ now (file .exit) ≡ padded 44032 (fileOf archive unit (recordsOf (now (log .entry)))) ⌝ }

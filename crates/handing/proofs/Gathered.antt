@@ -31,7 +31,7 @@ lacking-append v [] b = refl
 lacking-append v (r ∷ a) b = go (ltb (getD v (unit r) 0) (num r)) (lacking-append v a b)
   where
     go : (t : Bool) → lacking v (a ++ b) ≡ lacking v a ++ lacking v b
-      → cond t (r ∷ lacking v (a ++ b)) (lacking v (a ++ b)) ≡ cond t (r ∷ lacking v a) (lacking v a) ++ lacking v b
+        → cond t (r ∷ lacking v (a ++ b)) (lacking v (a ++ b)) ≡ cond t (r ∷ lacking v a) (lacking v a) ++ lacking v b
     go true e = ap (λ (l : List Rec). r ∷ l) e
     go false e = e
 
