@@ -1,0 +1,29 @@
+-- Lines from one of their parts on, which functions of their own write.
+-- Assumes nothing.
+use Prim.Native.Nat.{ℕ}
+use mathlib.Core.List.{List, [], _∷_, _++_}
+use lib.ListN.{getD}
+use Rattle.model.specs.Bytes.{part}
+use Rattle.model.specs.Listing.{decimal, inWord, reasonWord, marksWord, identityText, labelText, dateText, markText, disputedText, markedText, stateText}
+
+-- ---- an entry line
+
+unfoldable pub entryMark : List ℕ → List ℕ
+entryMark row = markText (getD row 0 0) (part row 56 16) ++ (disputedText (getD row 1 0) ++ (10 ∷ []))
+
+unfoldable pub entryDate : List ℕ → List ℕ
+entryDate row = 32 ∷ (dateText (part row 20 4) ++ entryMark row)
+
+unfoldable pub entryLabel : List ℕ → List ℕ
+entryLabel row = 32 ∷ (labelText (part row 24 32) ++ entryDate row)
+
+unfoldable pub entryFolder : List ℕ → List ℕ
+entryFolder row = inWord ++ (identityText (part row 8 4) ++ entryLabel row)
+
+-- ---- an aside line
+
+unfoldable pub asideMarks : List ℕ → List ℕ
+asideMarks row = marksWord ++ (markedText (part row 8 4) ++ (stateText (getD row 5 0) ++ (10 ∷ [])))
+
+unfoldable pub asideReason : List ℕ → List ℕ
+asideReason row = reasonWord ++ (decimal (getD row 4 0) ++ asideMarks row)
