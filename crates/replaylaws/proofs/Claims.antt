@@ -1,8 +1,8 @@
--- Claims P2, P3, P4 and A1 of the replay.
+-- Claims P2, P3, P4 and A1: the replay, what decides nothing, and acts.
 -- Assumes nothing.
 use Prim.Native.Nat.{ℕ, _≤_, _<_}
 use mathlib.Core.Path.{_≡_, refl, sym, ap, _∙_}
-use mathlib.Core.Logic.{_⊎_, inl, inr, _↔_}
+use mathlib.Core.Logic.{_⊎_, inl, inr, ⊎-elim, _↔_}
 use mathlib.Core.Bool.{true, false, not}
 use mathlib.Core.Option.{some}
 use mathlib.Core.List.{List, [], _∷_, _++_}
@@ -12,11 +12,13 @@ use Rattle.model.specs.Record.{Rec, op, selfOf, objectOf}
 use Rattle.model.specs.Log.{soundAfter}
 use Rattle.model.specs.Replay.{Entry, Aside, Tree, Verdict, fits, aside, isPresent, entryOf, judge, standsAside, holderOf, isDisputed, step, emptyTree, replay}
 use Rattle.model.specs.Table.{tableBytes}
-use Rattle.model.specs.Outcome.{stamped, wishFits, actNumber}
+use Rattle.model.specs.Outcome.{stamped, wishFits, actNumber, taken, takeAll}
 use Rattle.order.specs.Members.{Has as Member}
 use Rattle.order.proofs.Formed.{well-length}
 use Rattle.order.proofs.Counts.{formed}
-use Rattle.order.proofs.Tests.{sound-means}
+use Rattle.order.proofs.Take.{all-from}
+use Rattle.order.proofs.Tests.{sound-means, means-sound}
+use Rattle.order.proofs.Claims.{order-fixed}
 use Rattle.replaylaws.specs.Replayed.{Has, Distinct, selves, makers, whos, standings, standAside, makesFit, openOf, settledIn, SameButDates, undatedTree, hideDates}
 use Rattle.replaylaws.proofs.Verdicts.{Under, OneOf, Reason, reason-range, judge-make, judge-store, judge-remove, judge-rename, judge-settle, make-reasons, store-reasons, remove-reasons, rename-reasons, settle-reasons}
 use Rattle.replaylaws.proofs.Steps.{standings-replay, makers-replay}
@@ -24,6 +26,7 @@ use Rattle.replaylaws.proofs.Identities as Identities
 use Rattle.replaylaws.proofs.Labels as Labels
 use Rattle.replaylaws.proofs.Dates.{dates-replay}
 use Rattle.replaylaws.proofs.Tables.{table-hidden, filled-replay, entries-few}
+use Rattle.replaylaws.proofs.Arrival.{takeAll-append}
 use Rattle.replaylaws.proofs.Settling as Settling
 use Rattle.replaylaws.proofs.Acting as Acting
 
@@ -82,7 +85,7 @@ pub holder-is-found : (l : List Rec) (e : Entry) → Has e (replay l .entries) �
 unfolding replay emptyTree
 holder-is-found l = Labels.the-holder (replay l .entries) (Labels.apart-replay emptyTree l tt)
 
--- ---- P3: dates decide nothing
+-- ---- P3: dates and the order of arrival decide nothing
 
 -- records that differ only in dates leave trees that differ only in dates
 pub dates-decide-nothing : (l m : List Rec) → SameButDates l m → undatedTree (replay l) ≡ undatedTree (replay m)
@@ -100,6 +103,22 @@ tables-differ-only-in-dates l m s t p q d = hidden l s p ∙ ap tableBytes (date
         table-hidden (replay l)
         (filled-replay emptyTree l (λ r i. well-length r (formed [] l r (sound-means l s) i)) tt)
         (omega (arith, entries-few l))
+
+-- blocks taken one after another are their records taken one after another
+pub blocks-end-to-end : (l rs qs m : List Rec) → takeAll l rs ≡ taken m → takeAll l (rs ++ qs) ≡ takeAll m qs
+blocks-end-to-end = takeAll-append
+
+-- two logs that took in the same records, in whatever order and blocks, are the same, and so show the same
+pub arrival-decides-nothing : (b c rs qs m p : List Rec) → soundAfter [] b ≡ true → soundAfter [] c ≡ true → takeAll b rs ≡ taken m → takeAll c qs ≡ taken p
+    → ((s : Rec) → (Member s b ⊎ Member s rs) ↔ (Member s c ⊎ Member s qs)) → m ≡ p
+arrival-decides-nothing b c rs qs m p x y e f h =
+    let v = all-from rs b m (sound-means b x) e in
+    let w = all-from qs c p (sound-means c y) f in
+    order-fixed m p (means-sound m (v .sound)) (means-sound p (w .sound))
+    (λ s. (
+      λ i. ⊎-elim (λ j. w .kept s j) (λ j. w .got s j) (h s .0 (v .from s i)),
+      λ i. ⊎-elim (λ j. v .kept s j) (λ j. v .got s j) (h s .1 (w .from s i)),
+    ))
 
 -- ---- P4: open, settled, disputed
 

@@ -6,4 +6,5 @@ pub mod Settling
 pub mod Dates
 pub mod Acting
 pub mod Tables
+pub mod Arrival
 pub mod Claims
