@@ -1,0 +1,28 @@
+// Starting: the lent log becomes all zeros.
+ghost use mathlib.Core.Path.{_≡_};
+ghost use mathlib.Core.List.{[]};
+ghost use Rattle.model.specs.Outcome.{outcome, startOf};
+use answer::Answer;
+
+// The lent log is emptied, whatever stood in it. The archive is not asked.
+pub fn start(log: &mut [u8], archive: u32, unit: u8) -> Answer
+    ensures { λ r. ⌜ outcome (r .number) (r .place) (now (log .exit)) [] 0 ≡ startOf unit (now (log .entry)) ⌝ }
+{
+    if log.len() != 40960 {
+        return Answer {
+            number: 1,
+            place: 0,
+        };
+    }
+    if 7 < unit {
+        return Answer {
+            number: 21,
+            place: 0,
+        };
+    }
+    octets::clear(log);
+    Answer {
+        number: 0,
+        place: 0,
+    }
+}
