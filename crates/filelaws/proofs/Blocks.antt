@@ -2,14 +2,13 @@
 -- Assumes nothing.
 use Prim.Native.Nat.{ℕ, zero, suc, _+_, _-_, _*_, _/_, _%_, _≤_, _<_}
 use native.Mathlib.Omega.{arith}
-use mathlib.Core.Path.{_≡_, refl, sym, ap, ap₂, _∙_, subst}
-use mathlib.Core.Logic.{_⊎_, inl, inr, ⊎-elim}
+use mathlib.Core.Path.{_≡_, sym, ap, _∙_}
+use mathlib.Core.Logic.{⊎-elim}
 use mathlib.Core.Bool.{true}
 use mathlib.Core.List.{List, [], _∷_, _++_}
-use lib.ListN.{getD, length, take, drop, replicate, List·getD-eq-default}
+use lib.ListN.{getD, length, take, replicate, List·getD-eq-default}
 use Rattle.model.specs.Bytes.{word, long, two, four, part, blank, padded, joined}
 use Rattle.model.specs.Vector.{vectorAt, countBytes, vectorBytes}
-use Rattle.model.specs.Record.{Rec}
 use Rattle.model.specs.Block.{Header, letters, headBytes, bodyBytes, sealed, blockOf, firstTo, secondTo, countIn, senderIn, archiveIn, placeIn, vectorIn, blockFault, recordAt, recordsFrom, blockRecords}
 use Rattle.octets.proofs.Numbers.{lt-or-ge}
 use Rattle.octets.proofs.Parts.{part-length, getD-part, part-cons, part-none, part-split, part-start, part-whole}

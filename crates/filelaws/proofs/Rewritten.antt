@@ -1,22 +1,20 @@
 -- An accepted file, written again under its own archive and unit, gives the same bytes.
 -- Assumes nothing.
-use Prim.Native.Nat.{ℕ, zero, suc, _+_, _-_, _*_, _/_, _%_, _≤_, _<_, max, min}
+use Prim.Native.Nat.{ℕ, zero, suc, _+_, _-_, _*_, _/_, _%_, _≤_, _<_, min}
 use native.Mathlib.Omega.{arith}
-use mathlib.Core.Path.{_≡_, refl, sym, ap, ap₂, _∙_, subst}
-use mathlib.Core.Logic.{_⊎_, inl, inr, ⊎-elim}
-use mathlib.Core.Bool.{Bool, true, false, cond, _&&_, _||_}
-use mathlib.Core.List.{List, [], _∷_, _++_}
-use lib.Dec.{ltb, leb, eqb}
-use lib.ListN.{getD, length, take, drop}
+use mathlib.Core.Path.{_≡_, refl, sym, ap, _∙_}
+use mathlib.Core.Logic.{⊎-elim}
+use mathlib.Core.Bool.{true, false, _&&_}
+use mathlib.Core.List.{List, [], _++_}
+use lib.Dec.{leb, eqb}
+use lib.ListN.{length, take, drop}
 use lib.Seq.{take-all, take-add}
-use borrow.Author.Tests.{eqb-true, eqb-false, leb-true, eq-eqb, ne-eqb, lt-ltb, le-ltb}
-use Rattle.model.specs.Numbers.{badLength, badBuffer, badFile}
+use borrow.Author.Tests.{eqb-true, eqb-false, leb-true, ne-eqb, lt-ltb, le-ltb}
 use Rattle.model.specs.Bytes.{sameBytes, part}
-use Rattle.model.specs.Record.{Rec}
 use Rattle.model.specs.Log.{vectorOf}
-use Rattle.model.specs.Block.{Header, blockOf, blockFault, archiveIn, senderIn, placeIn, countIn, vectorIn, blockRecords, recordsFrom}
-use Rattle.model.specs.File.{blockCount, headerOf, fileBlock, fileTo, fileOf, fileLength, blocksIn, blockAt, countFits, agrees, fileBlockFault, Fault, fault, blocksFault, recordsCounted, fileRecordsFrom, fileRecords, recordsFault, countsFault, orElse, fileFault, ReadBack, notRead, readBack, readOf}
-use Rattle.octets.proofs.Numbers.{bool-cases, cond-cases, lt-or-ge, eq-or-ne, and-true}
+use Rattle.model.specs.Block.{blockOf, blockFault, archiveIn, senderIn, placeIn, countIn, vectorIn, blockRecords}
+use Rattle.model.specs.File.{blockCount, headerOf, fileBlock, fileTo, fileOf, fileLength, blocksIn, blockAt, countFits, agrees, fileBlockFault, Fault, fault, blocksFault, recordsCounted, fileRecordsFrom, fileRecords, recordsFault, countsFault, orElse, fileFault, notRead, readBack, readOf}
+use Rattle.octets.proofs.Numbers.{bool-cases, lt-or-ge, eq-or-ne, and-true}
 use Rattle.octets.proofs.Parts.{part-length}
 use Rattle.octets.proofs.Compare.{same-eq}
 use Rattle.blocklaws.proofs.Faults.{header-right, stored-header}

@@ -2,26 +2,25 @@
 -- Assumes nothing.
 use Prim.Native.Nat.{ℕ, zero, suc, _+_, _-_, _*_, _/_, _%_, _≤_, _<_, max, min}
 use native.Mathlib.Omega.{arith}
-use mathlib.Core.Path.{_≡_, refl, sym, ap, _∙_, subst}
-use mathlib.Core.Logic.{_⊎_, inl, inr, ⊎-elim}
-use mathlib.Core.Bool.{Bool, true, false, cond, _&&_, _||_}
-use mathlib.Core.List.{List, [], _∷_, _++_}
-use lib.Dec.{ltb, leb, eqb}
+use mathlib.Core.Path.{_≡_, refl, sym, ap, _∙_}
+use mathlib.Core.Logic.{⊎-elim}
+use mathlib.Core.Bool.{true}
+use mathlib.Core.List.{List, [], _∷_}
+use lib.Dec.{eqb}
 use lib.ListN.{getD, length, take, drop, replicate, length-take, length-drop}
 use lib.Seq.{getD-take, getD-drop}
 use borrow.Author.Tests.{eq-eqb, ne-eqb, lt-ltb, le-ltb, le-leb}
-use Rattle.model.specs.Numbers.{badLength, badBuffer, badFile}
-use Rattle.model.specs.Bytes.{sameBytes, part, padded}
+use Rattle.model.specs.Bytes.{padded}
 use Rattle.model.specs.Record.{Rec}
 use Rattle.model.specs.Log.{vectorOf, soundAfter, recordFault, logBytes}
-use Rattle.model.specs.Block.{Header, blockOf, blockFault, archiveIn, senderIn, placeIn, countIn, vectorIn, recordAt, blockRecords}
-use Rattle.model.specs.File.{blockCount, headerOf, fileBlock, fileTo, fileOf, fileLength, blocksIn, blockAt, countFits, agrees, fileBlockFault, Fault, fault, blocksFault, recordsCounted, fileRecord, fileRecordsFrom, fileRecords, recordsFault, countsFault, orElse, fileFault, ReadBack, notRead, readBack, readOf}
+use Rattle.model.specs.Block.{blockOf, blockFault, archiveIn, senderIn, placeIn, countIn, vectorIn, recordAt, blockRecords}
+use Rattle.model.specs.File.{blockCount, headerOf, fileBlock, fileOf, fileLength, blocksIn, blockAt, countFits, agrees, fileBlockFault, fault, blocksFault, recordsCounted, fileRecords, recordsFault, countsFault, orElse, fileFault, readBack, readOf}
 use Rattle.octets.proofs.Numbers.{lt-or-ge, eq-or-ne, and-true}
 use Rattle.octets.proofs.Parts.{part-front}
 use Rattle.octets.proofs.Compare.{same-refl}
 use Rattle.blocklaws.proofs.Fields.{Sized}
 use Rattle.blocklaws.proofs.ReadBack.{sender-back, count-back, archive-back, place-back, vector-in-back, faultless, block-records}
-use Rattle.order.specs.Sound.{SoundAfter, Sound}
+use Rattle.order.specs.Sound.{Sound}
 use Rattle.order.proofs.Tests.{vectorOf-length, means-sound}
 use Rattle.images.proofs.Logs.{sound-proper, proper-sized}
 use Rattle.images.proofs.Files.{sized-take, sized-drop, six, few-blocks, length-fileTo, block-of-file}
@@ -62,9 +61,9 @@ unfolding blockCount
 counted n = omega arith
 
 -- record i stands in one of the blocks
-within : (n i : ℕ) → i < n → i / 6 < blockCount n
+in-some-block : (n i : ℕ) → i < n → i / 6 < blockCount n
 unfolding blockCount
-within n i h = omega arith
+in-some-block n i h = omega arith
 
 -- ---- the file of a sound log
 
@@ -184,7 +183,7 @@ module _ (archive u : ℕ) (l : List Rec) (s : Sound l) (h : length l ≤ 512) (
       (length l) 0 (omega arith))
     where
       inside : (i : ℕ) → i < length l → i / 6 < blocks
-      inside i b = within (length l) i b
+      inside i b = in-some-block (length l) i b
 
   no-fault : fileFault file ≡ fault 0 0
   unfolding fileFault orElse countsFault fault

@@ -1,20 +1,20 @@
 -- An act: its record has seen all that stands in the tree, so it never stands aside under 17; and when it is accepted.
 -- Assumes nothing.
-use Prim.Native.Nat.{ℕ, zero, suc, _+_, _*_, _/_, _%_, _≤_, _<_}
-use mathlib.Core.Path.{_≡_, refl, sym, ap, ap₂, _∙_, subst}
-use mathlib.Core.Bool.{Bool, true, false, cond, not, _&&_, _||_, false≢true}
-use mathlib.Core.Logic.{_⊎_, inl, inr, ⊎-elim, _↔_}
+use Prim.Native.Nat.{ℕ, _+_, _*_, _/_, _%_, _<_}
+use mathlib.Core.Path.{_≡_, refl, sym, _∙_}
+use mathlib.Core.Bool.{true, false, cond, _&&_}
+use mathlib.Core.Logic.{inl, inr, ⊎-elim, _↔_}
 use mathlib.Core.Option.{Option, none, some}
 use mathlib.Core.List.{List, [], _∷_, _++_}
 use native.Mathlib.Omega.{arith}
-use lib.Dec.{ltb, leb, eqb}
+use lib.Dec.{ltb, eqb}
 use lib.ListN.{length}
-use borrow.Author.Tests.{eqb-true, ltb-true, leb-true, le-ltb, lt-ltb}
-use Rattle.octets.proofs.Numbers.{bool-cases, cond-cases, and-true, true-and}
+use borrow.Author.Tests.{le-ltb, lt-ltb}
+use Rattle.octets.proofs.Numbers.{cond-cases}
 use Rattle.model.specs.Numbers.{fullLog, malformed}
-use Rattle.model.specs.Record.{Rec, identity, unit, num, seen, op, selfOf, objectOf, labelOf}
+use Rattle.model.specs.Record.{Rec, identity, unit, num, selfOf, objectOf, labelOf}
 use Rattle.model.specs.Log.{count}
-use Rattle.model.specs.Replay.{Entry, Aside, Tree, Verdict, fits, aside, isPresent, entryOf, unseen, judgeMake, judgeStore, judgeRemove, judgeRename, judgeSettle, judge, newEntry, stored, renamed, removed, changed, hasEntries, freeLabel, holderOf, effect, step, emptyTree, replayFrom, replay}
+use Rattle.model.specs.Replay.{Entry, Tree, Verdict, fits, aside, isPresent, entryOf, unseen, judgeMake, judgeStore, judgeRemove, judgeRename, judgeSettle, judge, newEntry, stored, renamed, removed, changed, hasEntries, holderOf, step, emptyTree, replayFrom, replay}
 use Rattle.model.specs.Outcome.{stamped, wishFits, reasonOf, actNumber}
 use Rattle.order.specs.Members.{Has as Member}
 use Rattle.order.specs.Sound.{SoundAfter, Sound}

@@ -1,22 +1,20 @@
 -- Dates decide nothing: records that differ only in dates leave trees that differ only in dates.
 -- Assumes nothing.
-use Prim.Native.Nat.{ℕ, zero, suc, _+_, _*_, _/_, _%_, _≤_, _<_}
-use mathlib.Core.Path.{_≡_, refl, sym, ap, ap₂, _∙_, subst}
-use mathlib.Core.Bool.{Bool, true, false, cond, not, _&&_, _||_}
-use mathlib.Core.Logic.{_⊎_, inl, inr, ⊎-elim}
+use Prim.Native.Nat.{ℕ, _+_, _*_, _/_, _%_, _<_}
+use mathlib.Core.Path.{_≡_, refl, sym, ap, ap₂, _∙_}
+use mathlib.Core.Bool.{Bool, true, false, cond, _&&_, _||_}
 use mathlib.Core.Option.{Option, none, some}
 use mathlib.Core.List.{List, [], _∷_, _++_}
 use native.Mathlib.Omega.{arith}
-use lib.Dec.{ltb, leb, eqb}
+use lib.Dec.{ltb, eqb}
 use lib.ListN.{getD, take, drop}
 use lib.Seq.{getD-take, drop-drop}
-use Rattle.octets.proofs.Numbers.{bool-cases}
 use Rattle.octets.proofs.Words.{word-same}
 use Rattle.model.specs.Bytes.{word, part}
-use Rattle.model.specs.Record.{Rec, root, identity, unit, num, seen, op, identityAt, selfOf, objectOf, folderOf, labelOf, markOf, dateBytes}
-use Rattle.model.specs.Replay.{Entry, Aside, Tree, Verdict, fits, aside, isPresent, sameLabel, entryOf, isIn, holderOf, hasEntries, standsAside, unseen, freeLabel, judgeMakeIn, judgeMake, judgeStore, judgeRemove, judgeRename, judgeSettle, judge, newEntry, stored, renamed, removed, changed, settled, effect, apply, step, emptyTree, replayFrom, replay}
+use Rattle.model.specs.Record.{Rec, root, identity, unit, num, seen, op, identityAt, selfOf, objectOf, folderOf, labelOf, markOf}
+use Rattle.model.specs.Replay.{Entry, Aside, Tree, Verdict, fits, aside, isPresent, sameLabel, entryOf, isIn, holderOf, hasEntries, unseen, freeLabel, judgeMakeIn, judgeMake, judgeStore, judgeRemove, judgeRename, judgeSettle, judge, newEntry, stored, renamed, removed, changed, settled, effect, apply, step, replayFrom}
 use Rattle.replaylaws.specs.Replayed.{SameButDate, SameButDates, undated, undatedAll, undatedTree}
-use Rattle.replaylaws.proofs.Steps.{cond-elim, effect-elim, withEntries, effect-make, effect-store, effect-remove, effect-rename, effect-settle}
+use Rattle.replaylaws.proofs.Steps.{effect-elim, effect-make, effect-store, effect-remove, effect-rename, effect-settle}
 
 -- ---- the fields but for the date
 
@@ -128,18 +126,18 @@ unfolding freeLabel undatedIn undated
 free-undated none = refl
 free-undated (some e) = refl
 
-holder-free : (g : ℕ) (t : List ℕ) (es : List Entry) → freeLabel (holderOf g t (undatedAll es)) ≡ freeLabel (holderOf g t es)
-holder-free g t es = ap freeLabel (holder-undated g t es) ∙ free-undated (holderOf g t es)
+free-holder : (g : ℕ) (t : List ℕ) (es : List Entry) → freeLabel (holderOf g t (undatedAll es)) ≡ freeLabel (holderOf g t es)
+free-holder g t es = ap freeLabel (holder-undated g t es) ∙ free-undated (holderOf g t es)
 
 module _ (r : Rec) (es : List Entry) where
   make-in-undated : (o : Option Entry) → judgeMakeIn r (undatedAll es) (undatedIn o) ≡ judgeMakeIn r es o
   unfolding judgeMakeIn undatedIn undated
   make-in-undated none = refl
-  make-in-undated (some e) = rw (holder-free (folderOf r) (labelOf r) es)
+  make-in-undated (some e) = rw (free-holder (folderOf r) (labelOf r) es)
 
   make-undated : judgeMake r (undatedAll es) ≡ judgeMake r es
   unfolding judgeMake
-  make-undated = rw (holder-free root (labelOf r) es, entry-undated (folderOf r) es, make-in-undated (entryOf (folderOf r) es))
+  make-undated = rw (free-holder root (labelOf r) es, entry-undated (folderOf r) es, make-in-undated (entryOf (folderOf r) es))
 
   store-undated : (o : Option Entry) → judgeStore r (undatedIn o) ≡ judgeStore r o
   unfolding judgeStore undatedIn undated
@@ -154,7 +152,7 @@ module _ (r : Rec) (es : List Entry) where
   rename-undated : (o : Option Entry) → judgeRename r (undatedAll es) (undatedIn o) ≡ judgeRename r es o
   unfolding judgeRename undatedIn undated
   rename-undated none = refl
-  rename-undated (some e) = rw (holder-free (e .inside) (labelOf r) es)
+  rename-undated (some e) = rw (free-holder (e .inside) (labelOf r) es)
 
 judge-undated : (r : Rec) (t : Tree) → judge r (undatedTree t) ≡ judge r t
 unfolding judge undatedTree

@@ -1,13 +1,12 @@
 -- The identities of entries and asides are those of the records, and differ if those do.
 -- Assumes nothing.
-use Prim.Native.Nat.{ℕ, zero, suc}
-use mathlib.Core.Path.{_≡_, refl, sym, ap, _∙_, subst}
-use mathlib.Core.Bool.{Bool, true, false, cond}
+use Prim.Native.Nat.{ℕ}
+use mathlib.Core.Path.{_≡_, refl, ap, _∙_, subst}
 use mathlib.Core.Logic.{_⊎_, inl, inr, ⊎-elim}
 use mathlib.Core.List.{List, [], _∷_, _++_}
 use lib.Dec.{leb}
 use Rattle.model.specs.Record.{Rec, op, selfOf}
-use Rattle.model.specs.Replay.{Entry, Aside, Tree, Verdict, fits, aside, judge, step, emptyTree, replayFrom, replay}
+use Rattle.model.specs.Replay.{Aside, Tree, Verdict, fits, aside, judge, step, emptyTree, replayFrom, replay}
 use Rattle.replaylaws.specs.Replayed.{Has, Distinct, selves, makers, whos, Standing, standings, standing, standAside, making, makesFit}
 use Rattle.replaylaws.proofs.Steps.{standings-replay, makers-replay, cond-elim}
 

@@ -1,22 +1,22 @@
 -- No two entries that are present have one label in one folder, so the holder of a label is the one that is found.
 -- Assumes nothing.
-use Prim.Native.Nat.{ℕ, zero, suc, _≤_, _<_}
-use mathlib.Core.Path.{_≡_, refl, sym, ap, _∙_, subst}
-use mathlib.Core.Bool.{Bool, true, false, cond, not, _&&_, false≢true}
+use Prim.Native.Nat.{ℕ}
+use mathlib.Core.Path.{_≡_, refl, sym, ap, _∙_}
+use mathlib.Core.Bool.{Bool, true, false, _&&_, false≢true}
 use mathlib.Core.Logic.{_⊎_, inl, inr, ⊎-elim}
 use mathlib.Core.Option.{Option, none, some}
 use mathlib.Core.List.{List, [], _∷_, _++_}
 use native.Mathlib.Omega.{arith}
-use lib.Dec.{leb, eqb}
-use borrow.Author.Tests.{eqb-true, eq-eqb, leb-true}
-use Rattle.octets.proofs.Numbers.{bool-cases, cond-cases, and-true, true-and, and-wrong, not-both, test-false}
+use lib.Dec.{eqb}
+use borrow.Author.Tests.{eqb-true, eq-eqb}
+use Rattle.octets.proofs.Numbers.{bool-cases, cond-cases, and-true, true-and, not-both}
 use Rattle.octets.proofs.Compare.{same-eq, eq-same}
 use Rattle.model.specs.Bytes.{sameBytes}
-use Rattle.model.specs.Record.{Rec, root, op, selfOf, objectOf, folderOf, labelOf}
-use Rattle.model.specs.Replay.{Entry, Aside, Tree, Verdict, fits, aside, isPresent, sameLabel, entryOf, isIn, holderOf, freeLabel, judgeMakeIn, judgeMake, judgeRename, judge, unseen, newEntry, stored, renamed, removed, changed, effect, step, emptyTree, replayFrom, replay}
+use Rattle.model.specs.Record.{Rec, root, objectOf, folderOf, labelOf}
+use Rattle.model.specs.Replay.{Entry, Tree, fits, aside, isPresent, sameLabel, entryOf, isIn, holderOf, freeLabel, judgeMakeIn, judgeMake, judgeRename, unseen, newEntry, stored, renamed, removed, changed, step, replayFrom}
 use Rattle.replaylaws.specs.Replayed.{Has}
 use Rattle.replaylaws.proofs.Verdicts.{judge-make, judge-rename}
-use Rattle.replaylaws.proofs.Steps.{cond-elim, effect-elim, step-elim, withEntries}
+use Rattle.replaylaws.proofs.Steps.{effect-elim, step-elim}
 
 -- e is present in the folder f under the label t
 holds : ℕ → List ℕ → Entry → Bool

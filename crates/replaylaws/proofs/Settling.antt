@@ -1,16 +1,16 @@
 -- Open, settled and disputed.
 -- Assumes nothing.
-use Prim.Native.Nat.{ℕ, zero, suc, _≤_, _<_}
+use Prim.Native.Nat.{ℕ, _≤_, _<_}
 use mathlib.Core.Path.{_≡_, refl, sym, ap, _∙_, subst}
 use mathlib.Core.Bool.{Bool, true, false, cond, not, _&&_, _||_, false≢true}
-use mathlib.Core.Logic.{_⊎_, inl, inr, ⊎-elim, _↔_}
+use mathlib.Core.Logic.{inl, inr, ⊎-elim, _↔_}
 use mathlib.Core.List.{List, [], _∷_, _++_}
 use native.Mathlib.Omega.{arith}
 use lib.Dec.{leb, eqb}
-use borrow.Author.Tests.{eqb-true, eqb-false, eq-eqb, ne-eqb, leb-true, le-leb, lt-leb}
-use Rattle.octets.proofs.Numbers.{bool-cases, cond-cases, eq-or-ne, and-true, true-and, and-right, and-wrong, not-both, test-false}
+use borrow.Author.Tests.{eqb-true, eqb-false, eq-eqb, ne-eqb, le-leb, lt-leb}
+use Rattle.octets.proofs.Numbers.{bool-cases, and-true, true-and, and-right, and-wrong, test-false}
 use Rattle.model.specs.Record.{Rec, op, selfOf, objectOf}
-use Rattle.model.specs.Replay.{Entry, Aside, Tree, Verdict, fits, aside, judge, judgeSettle, standsAside, settled, effect, step, emptyTree, replayFrom, replay, isDisputed}
+use Rattle.model.specs.Replay.{Aside, Tree, fits, aside, judge, judgeSettle, standsAside, settled, step, emptyTree, replayFrom, replay, isDisputed}
 use Rattle.replaylaws.specs.Replayed.{Has, Distinct, selves, whos, isFit, isSettle, openOf, settles, settledIn}
 use Rattle.replaylaws.proofs.Verdicts.{judge-settle}
 use Rattle.replaylaws.proofs.Steps.{cond-elim, effect-elim, step-elim, step-fits, step-aside, effect-settle}

@@ -1,17 +1,15 @@
 -- What one record does to the entries and the asides, and what a whole list of records leaves of each.
 -- Assumes nothing.
-use Prim.Native.Nat.{ℕ, zero, suc, _≤_, _<_}
+use Prim.Native.Nat.{ℕ, _≤_, _<_}
 use mathlib.Core.Path.{_≡_, refl, sym, ap, _∙_}
-use mathlib.Core.Bool.{Bool, true, false, cond, _&&_, _||_}
-use mathlib.Core.Logic.{_⊎_, inl, inr, ⊎-elim}
-use mathlib.Core.Option.{Option, none, some}
+use mathlib.Core.Bool.{Bool, true, false, cond, _&&_}
 use mathlib.Core.List.{List, [], _∷_, _++_, append-assoc, append-nil}
 use lib.Dec.{leb, eqb}
 use native.Mathlib.Omega.{arith}
 use borrow.Author.Tests.{leb-true, leb-false, eqb-true, eqb-false, le-leb, lt-leb, ne-eqb}
 use Rattle.model.specs.Record.{Rec, op, selfOf, objectOf}
-use Rattle.model.specs.Replay.{Entry, Aside, Tree, Verdict, fits, aside, isPresent, newEntry, stored, renamed, removed, changed, settled, effect, apply, judge, step, emptyTree, replayFrom, replay}
-use Rattle.replaylaws.specs.Replayed.{Has, Distinct, selves, makers, whos, Standing, standings, standing, standAside, making, makesFit}
+use Rattle.model.specs.Replay.{Entry, Aside, Tree, Verdict, fits, aside, isPresent, newEntry, stored, renamed, removed, changed, settled, effect, apply, judge, step, replayFrom}
+use Rattle.replaylaws.specs.Replayed.{makers, Standing, standings, standing, standAside, making, makesFit}
 
 -- ---- one record
 

@@ -1,21 +1,20 @@
 -- The tables of logs that differ only in dates differ only in the bytes of dates.
 -- Assumes nothing.
-use Prim.Native.Nat.{ℕ, zero, suc, _+_, _-_, _*_, _/_, _%_, _≤_, _<_}
-use mathlib.Core.Path.{_≡_, refl, sym, ap, ap₂, _∙_, subst}
-use mathlib.Core.Bool.{Bool, true, false, cond, not, _&&_, _||_}
-use mathlib.Core.Logic.{_⊎_, inl, inr, ⊎-elim}
+use Prim.Native.Nat.{ℕ, zero, suc, _+_, _-_, _*_, _%_, _≤_, _<_}
+use mathlib.Core.Path.{_≡_, refl, sym, ap, _∙_}
+use mathlib.Core.Bool.{Bool, true, false, cond, not, _&&_}
+use mathlib.Core.Logic.{inl, inr}
 use mathlib.Core.List.{List, [], _∷_, _++_}
 use native.Mathlib.Omega.{arith}
-use lib.Dec.{ltb, leb, eqb}
-use lib.ListN.{getD, length, take, drop, replicate, length-append, length-replicate}
+use lib.Dec.{leb, eqb}
+use lib.ListN.{length, replicate, length-append}
 use borrow.Author.Tests.{le-leb, lt-leb, lt-ltb, le-ltb}
-use Rattle.octets.proofs.Numbers.{bool-cases}
 use Rattle.octets.proofs.Parts.{part-length}
 use Rattle.octets.proofs.PutAt.{length-padded}
 use Rattle.model.specs.Bytes.{two, padded}
 use Rattle.model.specs.Record.{Rec, op, selfOf, objectOf, labelOf, markOf, dateBytes}
-use Rattle.model.specs.Replay.{Entry, Aside, Tree, Verdict, fits, aside, judge, isPresent, newEntry, stored, renamed, removed, changed, effect, step, emptyTree, replayFrom, replay, presentOnes, isDisputed}
-use Rattle.model.specs.Table.{identityBytes, entryRow, asideRow, entryRows, asideRows, tableBytes}
+use Rattle.model.specs.Replay.{Entry, Aside, Tree, Verdict, fits, aside, judge, isPresent, newEntry, stored, renamed, removed, changed, step, emptyTree, replayFrom, replay, presentOnes, isDisputed}
+use Rattle.model.specs.Table.{identityBytes, entryRow, entryRows, asideRows, tableBytes}
 use Rattle.order.specs.Members.{Has as Member}
 use Rattle.order.proofs.Members.{All, all-append}
 use Rattle.replaylaws.specs.Replayed.{makers, making, makesFit, undated, undatedAll, undatedTree, isDatePlace, hideFrom, hideDates}
