@@ -1,4 +1,4 @@
-// The lent log: its records checked in order, and one more put in by rank.
+// The lent log: its records checked in order.
 ghost use mathlib.Core.Path.{_≡_};
 ghost use mathlib.Core.Bool.{true};
 ghost use Prim.Native.Nat.{_+_, _≤_, _<_};
@@ -120,14 +120,14 @@ pub fn check_into(log: &[u8], places: &mut [u16], seens: &mut [u16]) -> Checked
 }
 
 // A table of 4,096 positions.
-fn fresh_places() -> [u16; 4096]
+pub fn fresh_places() -> [u16; 4096]
     ensures { λ r. ⌜ length r ≡ 4096 ⌝ }
 {
     [0u16; 4096]
 }
 
 // A table of 518 rows of 8 counts.
-fn fresh_seens() -> [u16; 4144]
+pub fn fresh_seens() -> [u16; 4144]
     ensures { λ r. ⌜ length r ≡ 4144 ⌝ }
 {
     [0u16; 4144]
