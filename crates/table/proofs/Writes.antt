@@ -124,15 +124,20 @@ module _ (s : List Aside) (es : List Entry) (l : List Aside) (fit : AllProper es
       in-entries (72 * length es) x (omega (arith, row-length (flagOf s e) e r))
       ∙ rw (← n, put-padded 36864 R x, entry-rows-append s es (e ∷ []), append-nil x)
 
+  -- bytes in the place of bytes of the rows
+  pub rows-written : (at : ℕ) (x : List ℕ) → at + length x ≤ length (entryRows s es)
+      → putAt (flagged s es l) (4 + at) x ≡ (0 ∷ 0 ∷ 0 ∷ 0 ∷ []) ++ (padded 36864 (putAt (entryRows s es) at x) ++ padded 6144 (asideRows l))
+  unfolding head
+  rows-written at x h = in-entries at x (omega (arith, rows-length s es fit)) ∙ rw (put-in-padded 36864 (entryRows s es) at x h)
+
   -- another row in the place of row i
   pub set-entry : (i : ℕ) (e : Entry) → i < length es → Proper e
       → putAt (flagged s es l) (4 + 72 * i) (entryRow (flagOf s e) e) ≡ flagged s (set es i e) l
-  unfolding flagged head
+  unfolding flagged
   set-entry i e h r =
       let x = entryRow (flagOf s e) e in
       let m = row-length (flagOf s e) e r in
-      in-entries (72 * i) x (omega arith)
-      ∙ rw (put-in-padded 36864 (entryRows s es) (72 * i) x (omega (arith, rows-length s es fit)), rows-set s es i e h fit r)
+      rows-written (72 * i) x (omega (arith, rows-length s es fit)) ∙ rw (rows-set s es i e h fit r)
 
   pub part-entry : (i : ℕ) (d : Entry) → i < length es → part (flagged s es l) (4 + 72 * i) 72 ≡ entryRow (flagOf s (getD es i d)) (getD es i d)
   unfolding flagged head

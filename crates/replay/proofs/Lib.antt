@@ -1,0 +1,4 @@
+pub mod Marks
+pub mod Stepping
+pub mod Playing
+pub mod Sound
