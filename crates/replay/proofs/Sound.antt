@@ -7,7 +7,7 @@ use mathlib.Core.Logic.{_⊎_, inl, inr, ⊎-elim}
 use mathlib.Core.Bool.{Bool, true, false, cond}
 use mathlib.Core.List.{List, [], _∷_, _++_}
 use lib.Dec.{eqb}
-use lib.ListN.{getD, length, replicate, replicate-append-replicate}
+use lib.ListN.{getD, length, replicate, length-replicate, replicate-append-replicate}
 use Rattle.model.specs.Bytes.{word, padded}
 use Rattle.model.specs.Record.{Rec, root, identity, unit, num, seen, op, identityAt, selfOf, objectOf, folderOf, wellFormed}
 use Rattle.model.specs.Log.{rank, count, recordsOf, soundLog}
@@ -52,7 +52,7 @@ formed-asks r e h =
     record {
       long = well-length r e;
       folder = λ g.
-        ⊎-elim (λ (z : folderOf r ≡ root). inl z) (λ (z : Named r 24 × (folderOf r ≡ root → ⊥)). inr (named-range r 24 (z .0) h)) (folder-root-or-named r e g);
+          ⊎-elim (λ (z : folderOf r ≡ root). inl z) (λ (z : Named r 24 × (folderOf r ≡ root → ⊥)). inr (named-range r 24 (z .0) h)) (folder-root-or-named r e g);
       object = λ g. named-range r 20 (object-named r e g .0) h;
     }
 
@@ -100,17 +100,17 @@ sound-playable at n l e c few s =
     record {
       asks = λ i h. formed-asks (at i) (well i h) (λ v g. omega (arith, seen-within l (at i) s (has i h) v g, count-few v l));
       own = λ i h.
-        let a = low i h in
-        let d = well-head (at i) (well i h) .number in
-        let f = number-held l (at i) s (has i h) in
-        let g = count-few (unit (at i)) l in
-        record { low = omega arith; high = omega arith };
+          let a = low i h in
+          let d = well-head (at i) (well i h) .number in
+          let f = number-held l (at i) s (has i h) in
+          let g = count-few (unit (at i)) l in
+          record { low = omega arith; high = omega arith };
       apart = λ i j h g q.
-        let same : at j ≡ at i =
+          let same : at j ≡ at i =
           unique [] l s (at j) (at i) (has j g) (has i (omega arith)) (self-unit (at j) (at i) (low j g) (low i (omega arith)) q) (self-num (at j) (at i) (low j g) (low i (omega arith)) q) in
-        let rises = rank-rises at 0 n [] (rw e at s) i j (omega arith) h (omega arith) in
-        let level : rank (at j) ≡ rank (at i) = ap rank same in
-        absurd (omega arith);
+          let rises = rank-rises at 0 n [] (rw e at s) i j (omega arith) h (omega arith) in
+          let level : rank (at j) ≡ rank (at i) = ap rank same in
+          absurd (omega arith);
       fresh = λ i h. empty-role (selfOf (at i));
     }
 
@@ -127,9 +127,9 @@ zeros-at zero i = refl
 zeros-at (suc n) zero = refl
 zeros-at (suc n) (suc i) = zeros-at n i
 
-start-works : (b roles : List ℕ) → b ≡ replicate 43012 0 → roles ≡ replicate 4096 0 → length roles ≡ 4096 → Works b roles 0 0 emptyTree
+start-works : (b roles : List ℕ) → b ≡ replicate 43012 0 → roles ≡ replicate 4096 0 → Works b roles 0 0 emptyTree
 unfolding workBytes flagged emptyTree entryRows asideRows rowOf noteOf rowFrom noteFrom
-start-works b roles e f wide =
+start-works b roles e f =
     record {
       bytes = e ∙ table-zeros 36864 6144;
       rows = refl;
@@ -140,7 +140,7 @@ start-works b roles e f wide =
       lone = tt;
       marks = tt;
       apart = λ k. inl refl;
-      wide = wide;
+      wide = ap (λ (x : List ℕ). length x) f ∙ length-replicate {A = ℕ} 4096 0;
       right = λ k u. ap (λ (x : List ℕ). getD x (slotOf k) 0) f ∙ zeros-at 4096 (slotOf k) ∙ sym (empty-role k);
     }
 
@@ -150,10 +150,13 @@ empty-rows : (b : List ℕ) → treeIn b 0 0 ≡ emptyTree
 unfolding treeIn emptyTree entriesFrom asidesFrom
 empty-rows b = refl
 
-pub start-holds : (b roles : List ℕ) → b ≡ replicate 43012 0 → roles ≡ replicate 4096 0 → length roles ≡ 4096 → Holds b roles 0 0
-start-holds b roles e f wide = works-holds b roles 0 0 emptyTree (start-works b roles e f wide)
+pub start-holds : (b roles : List ℕ) → b ≡ replicate 43012 0 → roles ≡ replicate 4096 0 → Holds b roles 0 0
+start-holds b roles e f = works-holds b roles 0 0 emptyTree (start-works b roles e f)
 
 module _ (b : List ℕ) (n : ℕ) (c : n ≡ length (recordsOf b)) where
+  pub log-room : 0 + n ≤ 512
+  log-room = omega (arith, sound-few b)
+
   pub log-playable : (table : List ℕ) → soundLog b ≡ true → Playable (treeIn table 0 0) (laidAt Log b) n
   log-playable table s =
       rw (empty-rows table)

@@ -65,9 +65,9 @@ step-grows t r =
     let l = t .asides in
     step-elim (λ (u : Tree). Grows t u) t r
     (λ _.
-      effect-elim (λ (u : Tree). Grows t u) r t (λ _. (omega (arith, length-append es (newEntry r ∷ [])), omega arith))
-      (λ _. (omega (arith, length-changed (stored r) (objectOf r) es), omega arith)) (λ _. (omega (arith, length-changed removed (objectOf r) es), omega arith))
-      (λ _. (omega (arith, length-changed (renamed r) (objectOf r) es), omega arith)) (λ _. (omega arith, omega (arith, length-settled (objectOf r) l))))
+    effect-elim (λ (u : Tree). Grows t u) r t (λ _. (omega (arith, length-append es (newEntry r ∷ [])), omega arith))
+    (λ _. (omega (arith, length-changed (stored r) (objectOf r) es), omega arith)) (λ _. (omega (arith, length-changed removed (objectOf r) es), omega arith))
+    (λ _. (omega (arith, length-changed (renamed r) (objectOf r) es), omega arith)) (λ _. (omega arith, omega (arith, length-settled (objectOf r) l))))
     (λ n k _. (omega arith, omega (arith, length-append l (record { who = selfOf r; reason = n; marked = k; isOpen = true } ∷ []))))
 
 same-role : (k : ℕ) (t u : Tree) → rowOf k u ≡ rowOf k t → noteOf k u ≡ noteOf k t → roleOf k u ≡ roleOf k t
@@ -81,11 +81,11 @@ step-role k t r h =
     let l = t .asides in
     step-elim (λ (u : Tree). roleOf k u ≡ roleOf k t) t r
     (λ _.
-      effect-elim (λ (u : Tree). roleOf k u ≡ roleOf k t) r t (λ _. same-role k t _ (row-more k 0 es (newEntry r) h) refl)
-      (λ _. same-role k t _ (row-changed (stored r) (λ e. refl) k 0 (objectOf r) es) refl)
-      (λ _. same-role k t _ (row-changed removed (λ e. refl) k 0 (objectOf r) es) refl)
-      (λ _. same-role k t _ (row-changed (renamed r) (λ e. refl) k 0 (objectOf r) es) refl)
-      (λ _. same-role k t _ refl (note-settled k 0 (objectOf r) l)))
+    effect-elim (λ (u : Tree). roleOf k u ≡ roleOf k t) r t (λ _. same-role k t _ (row-more k 0 es (newEntry r) h) refl)
+    (λ _. same-role k t _ (row-changed (stored r) (λ e. refl) k 0 (objectOf r) es) refl)
+    (λ _. same-role k t _ (row-changed removed (λ e. refl) k 0 (objectOf r) es) refl)
+    (λ _. same-role k t _ (row-changed (renamed r) (λ e. refl) k 0 (objectOf r) es) refl)
+    (λ _. same-role k t _ refl (note-settled k 0 (objectOf r) l)))
     (λ n m _. same-role k t _ refl (note-more k 0 l (record { who = selfOf r; reason = n; marked = m; isOpen = true }) h))
 
 -- ---- what `step` is asked, over plain values

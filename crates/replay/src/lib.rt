@@ -1,1 +1,68 @@
-// Replay.
+// Replay: records are taken into a tree table one after another.
+ghost use mathlib.Core.Path.{_≡_};
+ghost use mathlib.Core.Bool.{true};
+ghost use Prim.Native.Nat.{_+_, _≤_, _<_};
+ghost use lib.ListN.{length, replicate};
+ghost use Rattle.model.specs.Log.{recordsOf, soundLog};
+ghost use Rattle.model.specs.Replay.{step as stepOf, replayFrom, replay as replayOf};
+ghost use Rattle.table.specs.Rows.{treeIn};
+ghost use Rattle.lookup.specs.Roles.{Works, Holds};
+ghost use Rattle.apply.specs.Effects.{Takes};
+ghost use Rattle.log.specs.Places.{laidAt, Laid};
+ghost use Rattle.log.specs.InOrder.{listed};
+ghost use Rattle.replay.specs.Playable.{Playable};
+use log::Layout;
+use table::Size;
+
+// One record: it acts, or stands aside.
+pub fn step(rec: &[u8], table: &mut [u8], roles: &mut [u16], size: Size) -> Size
+    requires { ⌜ Takes (treeIn (now table) (size .entries) (size .asides)) (now rec) × Holds (now table) (now roles) (size .entries) (size .asides) × (size .entries < 512) × (size .asides < 512) ⌝ }
+    ensures { λ r. ⌜ Works (now (table .exit)) (now (roles .exit)) (r .entries) (r .asides) (stepOf (treeIn (now (table .entry)) (size .entries) (size .asides)) (now (rec .entry))) ⌝ }
+{
+    let j = judge::judge(rec, table, roles, size);
+    if j.reason == 0 {
+        return apply::effect(rec, table, roles, size);
+    }
+    apply::stand_aside(rec, j.reason, j.marked, table, roles, size)
+}
+
+// The first n records of a log or a file, from the tree that a table holds on.
+pub fn replay(
+    bytes: &[u8],
+    layout: Layout,
+    n: usize,
+    table: &mut [u8],
+    roles: &mut [u16],
+    start: Size,
+) -> Size
+    requires { ⌜ Laid layout (now bytes) n × Playable (treeIn (now table) (start .entries) (start .asides)) (laidAt layout (now bytes)) n × Holds (now table) (now roles) (start .entries) (start .asides) × (start .entries + n ≤ 512) × (start .asides + n ≤ 512) ⌝ }
+    ensures { λ r. ⌜ Works (now (table .exit)) (now (roles .exit)) (r .entries) (r .asides) (replayFrom (treeIn (now (table .entry)) (start .entries) (start .asides)) (listed (laidAt layout (now (bytes .entry))) 0 n)) ⌝ }
+{
+    let mut size = start;
+    let mut i: usize = 0;
+    while i < n {
+        let at = log::offset(layout, i);
+        let next = step(&bytes[at..at + 80], table, roles, size);
+        size = next;
+        i += 1;
+    }
+    size
+}
+
+// The n records of a sound log, from the root alone on: table and roles are all zero before.
+pub fn replay_log(log: &[u8], n: usize, table: &mut [u8], roles: &mut [u16]) -> Size
+    requires { ⌜ (length (now log) ≡ 40960) × (soundLog (now log) ≡ true) × (n ≡ length (recordsOf (now log))) × (now table ≡ replicate 43012 0) × (now roles ≡ replicate 4096 0) ⌝ }
+    ensures { λ r. ⌜ Works (now (table .exit)) (now (roles .exit)) (r .entries) (r .asides) (replayOf (recordsOf (now (log .entry)))) ⌝ }
+{
+    replay(
+        log,
+        Layout::Log,
+        n,
+        table,
+        roles,
+        Size {
+            entries: 0,
+            asides: 0,
+        },
+    )
+}

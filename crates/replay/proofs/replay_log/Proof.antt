@@ -1,0 +1,24 @@
+use native.Mathlib.Omega.{arith}
+use borrow.Author.Needs.{needs}
+use Rattle.log.proofs.Sound.{log-laid}
+use Rattle.replay.proofs.Sound.{start-holds, log-room, log-playable, log-replayed}
+use Rattle.replay.proofs.replay_log.Statement.{statement}
+use Rattle.replay.proofs.replay_log.Tie as tie
+use Rattle.replay.proofs.replay_log.Reads as reads
+use Rattle.replay.proofs.replay_log.Lts as lts
+use Rattle.replay.proofs.replay.Reads as replay-reads
+
+replay-requires : tie.Need-replay-requires
+replay-requires c κs = (search (log-laid), search (log-playable), search (start-holds), search (log-room), search (log-room))
+
+same-length : tie.Need-same-length
+same-length c = search needs
+
+same-length-2 : tie.Need-same-length-2
+same-length-2 c = search needs
+
+returns : tie.Need-returns
+returns c = search (log-replayed)
+
+pub replay-log-spec : {M : Type 1} → statement M
+replay-log-spec = tie.close (tie.spec replay-requires same-length same-length-2 returns)
