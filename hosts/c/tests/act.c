@@ -1,0 +1,156 @@
+/* Acting: every operation, every refusal. */
+
+#include "check.h"
+#include "lent.h"
+#include "limp.h"
+#include "make.h"
+#include "tests.h"
+
+#include <string.h>
+
+/* Acts once; a refusal must leave the log. */
+static uint32_t act_on(struct lent log, uint8_t unit, struct lent wish)
+{
+    uint32_t r;
+    note(log);
+    only_read(wish, 1);
+    r = limp_act(log.bytes, LIMP_LOG_BYTES, ARCHIVE, unit, wish.bytes, LIMP_RECORD_BYTES);
+    only_read(wish, 0);
+    CHECK(r == LIMP_OK || kept(log));
+    return r;
+}
+
+/* An accepted act adds the wish, stamped, and nothing else. */
+static void test_accepted(struct lent log, struct lent wish)
+{
+    static uint8_t expected[LIMP_LOG_BYTES];
+    uint8_t *record = expected + 3 * LIMP_RECORD_BYTES;
+    memcpy(expected, log.bytes, LIMP_LOG_BYTES);
+    wish_on(wish.bytes, 1, LIMP_STORE, id_of(0, 2), "");
+    memcpy(record, wish.bytes, LIMP_RECORD_BYTES);
+    put16(record + 2, 2);
+    put16(record + 4, 2);
+    put16(record + 6, 1);
+    CHECK(act_on(log, 1, wish) == LIMP_OK);
+    CHECK(memcmp(log.bytes, expected, LIMP_LOG_BYTES) == 0);
+}
+
+/* The log holds folder 0.1 Bench with trace 0.2 Gain "A"; 1.1 stands aside. */
+static void test_reasons(struct lent log, struct lent wish)
+{
+    wish_make(wish.bytes, 0, LIMP_MAKE_TRACE, id_of(1, 1), "x");
+    CHECK(act_on(log, 0, wish) == LIMP_NO_FOLDER);
+    wish_make(wish.bytes, 0, LIMP_MAKE_FOLDER, id_of(0, 2), "x");
+    CHECK(act_on(log, 0, wish) == LIMP_WRONG_KIND);
+    wish_make(wish.bytes, 0, LIMP_MAKE_FOLDER, id_of(0, 1), "Gain \"A\"");
+    CHECK(act_on(log, 0, wish) == LIMP_LABEL_HELD);
+    wish_on(wish.bytes, 0, LIMP_STORE, id_of(1, 1), "");
+    CHECK(act_on(log, 0, wish) == LIMP_NO_OBJECT);
+    wish_on(wish.bytes, 0, LIMP_STORE, id_of(0, 1), "");
+    CHECK(act_on(log, 0, wish) == LIMP_WRONG_KIND);
+    wish_on(wish.bytes, 0, LIMP_REMOVE, id_of(1, 1), "");
+    CHECK(act_on(log, 0, wish) == LIMP_NO_OBJECT);
+    wish_on(wish.bytes, 0, LIMP_REMOVE, id_of(0, 1), "");
+    CHECK(act_on(log, 0, wish) == LIMP_NOT_EMPTY);
+    wish_on(wish.bytes, 0, LIMP_RENAME, id_of(1, 1), "x");
+    CHECK(act_on(log, 0, wish) == LIMP_NO_OBJECT);
+    wish_on(wish.bytes, 0, LIMP_RENAME, id_of(0, 1), "Bench");
+    CHECK(act_on(log, 0, wish) == LIMP_LABEL_HELD);
+    wish_on(wish.bytes, 0, LIMP_SETTLE, id_of(0, 2), "");
+    CHECK(act_on(log, 0, wish) == LIMP_NOT_ASIDE);
+}
+
+/* Every operation accepted once: 0.3 to 0.9. */
+static void test_operations(struct lent log, struct lent wish)
+{
+    wish_on(wish.bytes, 0, LIMP_SETTLE, id_of(1, 1), "");
+    CHECK(act_on(log, 0, wish) == LIMP_OK);
+    wish_make(wish.bytes, 0, LIMP_MAKE_FOLDER, id_of(0, 1), "12345678901234567890123456789012");
+    CHECK(act_on(log, 0, wish) == LIMP_OK);
+    wish_make(wish.bytes, 0, LIMP_MAKE_TRACE, id_of(0, 4), "~");
+    CHECK(act_on(log, 0, wish) == LIMP_OK);
+    wish_on(wish.bytes, 0, LIMP_STORE, id_of(0, 5), "");
+    CHECK(act_on(log, 0, wish) == LIMP_OK);
+    wish_on(wish.bytes, 0, LIMP_RENAME, id_of(0, 4), "a b");
+    CHECK(act_on(log, 0, wish) == LIMP_OK);
+    wish_on(wish.bytes, 0, LIMP_REMOVE, id_of(0, 5), "");
+    CHECK(act_on(log, 0, wish) == LIMP_OK);
+    wish_on(wish.bytes, 0, LIMP_REMOVE, id_of(0, 4), "");
+    CHECK(act_on(log, 0, wish) == LIMP_OK);
+    wish_on(wish.bytes, 0, LIMP_REMOVE, id_of(0, 4), "");
+    CHECK(act_on(log, 0, wish) == LIMP_NO_OBJECT);
+    CHECK(held(log.bytes) == 10);
+}
+
+/* A byte of a good make that makes it malformed. */
+static void test_malformed(struct lent log, struct lent wish)
+{
+    static const uint8_t changes[][2] = {
+        {0, 1},   {0, 8},   {1, 0},   {1, 7},   {2, 1},    {3, 1},    {4, 1},     {19, 1},
+        {20, 1},  {21, 1},  {22, 1},  {24, 8},  {25, 1},   {26, 9},   {27, 1},    {29, 0},
+        {29, 9},  {30, 0},  {30, 13}, {31, 0},  {31, 32},  {32, 0},   {32, 0x20}, {32, 0x1F},
+        {32, 0x7F}, {33, 0x20}, {63, 'x'}, {64, 1}, {79, 255},
+    };
+    size_t i;
+    for (i = 0; i < sizeof changes / sizeof changes[0]; i++) {
+        wish_make(wish.bytes, 0, LIMP_MAKE_FOLDER, id_of(0, 0), "F");
+        wish.bytes[changes[i][0]] = changes[i][1];
+        CHECK(act_on(log, 0, wish) == LIMP_MALFORMED);
+    }
+    for (i = 0; i < 4; i++) {
+        static const uint8_t days[4][4] = {{2025 & 255, 2025 >> 8, 2, 29},
+                                           {2100 & 255, 2100 >> 8, 2, 29},
+                                           {1989 & 255, 1989 >> 8, 12, 31},
+                                           {2025 & 255, 2025 >> 8, 4, 31}};
+        wish_make(wish.bytes, 0, LIMP_MAKE_FOLDER, id_of(0, 0), "F");
+        memcpy(wish.bytes + 28, days[i], 4);
+        CHECK(act_on(log, 0, wish) == LIMP_MALFORMED);
+    }
+    wish_on(wish.bytes, 0, LIMP_REMOVE, id_of(0, 0), "");
+    CHECK(act_on(log, 0, wish) == LIMP_MALFORMED);
+    wish_on(wish.bytes, 0, LIMP_SETTLE, id_of(3, 1), "");
+    CHECK(act_on(log, 0, wish) == LIMP_MALFORMED);
+}
+
+static void test_order_of_checks(struct lent log, struct lent wish)
+{
+    int i;
+    wish_make(wish.bytes, 0, LIMP_MAKE_FOLDER, id_of(0, 0), "F");
+    note(log);
+    note(wish);
+    for (i = 0; i < WRONG_LENGTHS; i++) {
+        size_t no_log = wrong_length(LIMP_LOG_BYTES, i), no_wish = wrong_length(LIMP_RECORD_BYTES, i);
+        CHECK(limp_act(nowhere(), no_log, ARCHIVE, 0, wish.bytes, LIMP_RECORD_BYTES) ==
+              LIMP_BAD_BUFFER);
+        CHECK(limp_act(log.bytes, LIMP_LOG_BYTES, ARCHIVE, 0, nowhere(), no_wish) ==
+              LIMP_BAD_BUFFER);
+        CHECK(limp_act(nowhere(), no_log, ARCHIVE, 9, nowhere(), no_wish) == LIMP_BAD_BUFFER);
+    }
+    CHECK(limp_act(log.bytes, LIMP_LOG_BYTES, ARCHIVE, 8, wish.bytes, LIMP_RECORD_BYTES) ==
+          LIMP_BAD_UNIT);
+    CHECK(kept(log) && kept(wish));
+    log.bytes[31] = 32;
+    wish.bytes[31] = 32;
+    CHECK(act_on(log, 255, wish) == LIMP_BAD_UNIT);
+    CHECK(act_on(log, 0, wish) == LIMP_UNSOUND_LOG);
+    log.bytes[31] = 3;
+    CHECK(act_on(log, 0, wish) == LIMP_MALFORMED);
+}
+
+void test_act(void)
+{
+    static uint8_t apart[LIMP_LOG_BYTES];
+    struct lent log = lend(LIMP_LOG_BYTES), wish = lend(LIMP_RECORD_BYTES);
+    bench_logs(apart, log.bytes);
+    test_accepted(log, wish);
+    bench_logs(apart, log.bytes);
+    test_reasons(log, wish);
+    test_malformed(log, wish);
+    test_order_of_checks(log, wish);
+    test_operations(log, wish);
+    full_log(log.bytes);
+    wish_on(wish.bytes, 0, LIMP_STORE, id_of(1, 1), "");
+    CHECK(act_on(log, 0, wish) == LIMP_FULL_LOG);
+    wish_on(wish.bytes, 0, LIMP_STORE, id_of(0, 0), "");
+    CHECK(act_on(log, 0, wish) == LIMP_MALFORMED);
+}

@@ -1,0 +1,34 @@
+/* Runs the tests; says how many checks passed and failed. */
+
+#include "check.h"
+#include "tests.h"
+
+#include <stdio.h>
+
+static int passed, failed;
+
+void check(int holds, const char *fact, const char *file, int line)
+{
+    if (holds) {
+        passed++;
+        return;
+    }
+    failed++;
+    if (failed <= 20)
+        printf("%s:%d: not so: %s\n", file, line, fact);
+}
+
+int main(void)
+{
+    test_compare();
+    test_start();
+    test_act();
+    test_hand_out();
+    test_take();
+    test_write_file();
+    test_read_file();
+    test_show();
+    test_listing();
+    printf("%d passed, %d failed\n", passed, failed);
+    return failed != 0 || passed == 0;
+}

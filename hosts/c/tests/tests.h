@@ -1,0 +1,16 @@
+/* The tests, one group for each call. */
+
+#ifndef TESTS_H
+#define TESTS_H
+
+void test_compare(void);
+void test_start(void);
+void test_act(void);
+void test_hand_out(void);
+void test_take(void);
+void test_write_file(void);
+void test_read_file(void);
+void test_show(void);
+void test_listing(void);
+
+#endif

@@ -1,0 +1,187 @@
+/* Showing the tree and the listing. */
+
+#include "check.h"
+#include "lent.h"
+#include "limp.h"
+#include "make.h"
+#include "tests.h"
+
+#include <string.h>
+
+/* The tree table of the bench example. */
+static void expect_tree(uint8_t *tree, const uint8_t *log)
+{
+    uint8_t *folder = tree + LIMP_TREE_ENTRIES, *trace = folder + LIMP_ENTRY_BYTES,
+            *aside = tree + LIMP_TREE_ASIDES;
+    memset(tree, 0, LIMP_TREE_BYTES);
+    put16(tree, 2);
+    put16(tree + 2, 1);
+    folder[0] = LIMP_FOLDER;
+    put16(folder + 6, 1);
+    put16(folder + 14, 1);
+    put16(folder + 18, 1);
+    memcpy(folder + 20, log + 28, 4);
+    memcpy(folder + 24, "Bench", 5);
+    trace[0] = LIMP_TRACE;
+    trace[1] = 1;
+    put16(trace + 6, 2);
+    put16(trace + 10, 1);
+    put16(trace + 14, 2);
+    put16(trace + 18, 2);
+    memcpy(trace + 20, log + LIMP_RECORD_BYTES + 28, 4);
+    memcpy(trace + 24, "Gain \"A\"", 8);
+    memset(trace + 56, 0x11, 16);
+    aside[0] = 1;
+    put16(aside + 2, 1);
+    aside[4] = LIMP_LABEL_HELD;
+    aside[5] = LIMP_OPEN;
+    put16(aside + 10, 2);
+}
+
+static uint32_t show(struct lent log, struct lent tree)
+{
+    uint32_t r;
+    only_read(log, 1);
+    note(tree);
+    r = limp_show(log.bytes, LIMP_LOG_BYTES, tree.bytes, LIMP_TREE_BYTES);
+    only_read(log, 0);
+    CHECK(r == LIMP_OK || kept(tree));
+    return r;
+}
+
+void test_show(void)
+{
+    static uint8_t apart[LIMP_LOG_BYTES], expected[LIMP_TREE_BYTES];
+    struct lent log = lend(LIMP_LOG_BYTES), tree = lend(LIMP_TREE_BYTES);
+    int i;
+    bench_logs(apart, log.bytes);
+    expect_tree(expected, log.bytes);
+    CHECK(show(log, tree) == LIMP_OK);
+    CHECK(memcmp(tree.bytes, expected, LIMP_TREE_BYTES) == 0);
+    change(log.bytes, 0, LIMP_SETTLE, id_of(1, 1), "");
+    expected[LIMP_TREE_ENTRIES + LIMP_ENTRY_BYTES + 1] = 0;
+    expected[LIMP_TREE_ASIDES + 5] = LIMP_SETTLED;
+    CHECK(show(log, tree) == LIMP_OK);
+    CHECK(memcmp(tree.bytes, expected, LIMP_TREE_BYTES) == 0);
+    full_log(log.bytes);
+    CHECK(show(log, tree) == LIMP_OK);
+    CHECK(get16(tree.bytes) == 257 && get16(tree.bytes + 2) == 0);
+    log.bytes[LIMP_LOG_BYTES - 80 + 28] = 0;
+    log.bytes[LIMP_LOG_BYTES - 80 + 29] = 0;
+    CHECK(show(log, tree) == LIMP_UNSOUND_LOG);
+    memset(log.bytes, 0, LIMP_LOG_BYTES);
+    fill(tree);
+    memset(expected, 0, LIMP_TREE_BYTES);
+    CHECK(show(log, tree) == LIMP_OK);
+    CHECK(memcmp(tree.bytes, expected, LIMP_TREE_BYTES) == 0);
+    note(log);
+    note(tree);
+    for (i = 0; i < WRONG_LENGTHS; i++) {
+        size_t no_log = wrong_length(LIMP_LOG_BYTES, i), no_tree = wrong_length(LIMP_TREE_BYTES, i);
+        CHECK(limp_show(nowhere(), no_log, tree.bytes, LIMP_TREE_BYTES) == LIMP_BAD_BUFFER);
+        CHECK(limp_show(log.bytes, LIMP_LOG_BYTES, nowhere(), no_tree) == LIMP_BAD_BUFFER);
+        CHECK(limp_show(nowhere(), no_log, nowhere(), no_tree) == LIMP_BAD_BUFFER);
+    }
+    CHECK(kept(log) && kept(tree));
+}
+
+/* The buffers of a listing. */
+struct listing {
+    struct lent file, log, tree, out, length;
+};
+
+/* Lists the end of the file's buffer, with stated lengths. */
+static uint32_t list(struct listing l, size_t file_length)
+{
+    uint32_t r;
+    fill(l.log);
+    fill(l.tree);
+    fill(l.out);
+    fill(l.length);
+    note(l.log);
+    note(l.tree);
+    note(l.out);
+    note(l.length);
+    only_read(l.file, 1);
+    r = limp_listing(l.file.bytes + l.file.length - file_length, file_length, l.log.bytes,
+                     LIMP_LOG_BYTES, l.tree.bytes, LIMP_TREE_BYTES, l.out.bytes, LIMP_LISTING_BYTES,
+                     l.length.bytes, LIMP_LENGTH_BYTES);
+    only_read(l.file, 0);
+    return r;
+}
+
+/* The listing is this text, and the bytes behind it are as they were. */
+static int listed(struct listing l, const char *text)
+{
+    size_t length = strlen(text);
+    return l.length.bytes[0] == (length & 0xFF) && l.length.bytes[1] == length >> 8 &&
+           get16(l.length.bytes + 2) == 0 && memcmp(l.out.bytes, text, length) == 0 &&
+           memcmp(l.out.bytes + length, l.out.was + length, LIMP_LISTING_BYTES - length) == 0;
+}
+
+static const char BENCH[] =
+    "archive 7 unit 0 records 3\n"
+    "seen 2 1 0 0 0 0 0 0\n"
+    "folder 0.1 in 0.0 \"Bench\" 2025-03-03\n"
+    "trace 0.2 in 0.1 \"Gain \\\"A\\\"\" 2025-03-04 11111111111111111111111111111111 disputed\n"
+    "aside 1.1 reason 15 marks 0.2 open\n";
+
+static void test_wrong_buffers(struct listing l)
+{
+    int i, wrong;
+    for (i = 0; i < WRONG_LENGTHS; i++)
+        for (wrong = 1; wrong < 16; wrong++) {
+            int log = wrong & 1, tree = wrong & 2, out = wrong & 4, length = wrong & 8;
+            CHECK(limp_listing(
+                      nowhere(), 0, log ? nowhere() : l.log.bytes,
+                      log ? wrong_length(LIMP_LOG_BYTES, i) : LIMP_LOG_BYTES,
+                      tree ? nowhere() : l.tree.bytes,
+                      tree ? wrong_length(LIMP_TREE_BYTES, i) : LIMP_TREE_BYTES,
+                      out ? nowhere() : l.out.bytes,
+                      out ? wrong_length(LIMP_LISTING_BYTES, i) : LIMP_LISTING_BYTES,
+                      length ? nowhere() : l.length.bytes,
+                      length ? wrong_length(LIMP_LENGTH_BYTES, i) : LIMP_LENGTH_BYTES) ==
+                  LIMP_BAD_BUFFER);
+            CHECK(kept(l.log) && kept(l.tree) && kept(l.out) && kept(l.length));
+        }
+}
+
+void test_listing(void)
+{
+    static uint8_t apart[LIMP_LOG_BYTES], all[LIMP_LOG_BYTES], whole[LIMP_FILE_BYTES],
+        tree[LIMP_TREE_BYTES];
+    static const size_t not_files[4] = {0, 1, 511, LIMP_BLOCK_BYTES + 1};
+    struct listing l;
+    int i;
+    l.file = lend(2 * LIMP_BLOCK_BYTES);
+    l.log = lend(LIMP_LOG_BYTES);
+    l.tree = lend(LIMP_TREE_BYTES);
+    l.out = lend(LIMP_LISTING_BYTES);
+    l.length = lend(LIMP_LENGTH_BYTES);
+    bench_logs(apart, all);
+    CHECK(limp_write_file(all, LIMP_LOG_BYTES, ARCHIVE, 0, whole, LIMP_FILE_BYTES) == 1u << 16);
+    memcpy(l.file.bytes + LIMP_BLOCK_BYTES, whole, LIMP_BLOCK_BYTES);
+    CHECK(list(l, LIMP_BLOCK_BYTES) == LIMP_OK);
+    CHECK(listed(l, BENCH));
+    CHECK(memcmp(l.log.bytes, all, LIMP_LOG_BYTES) == 0);
+    expect_tree(tree, all);
+    CHECK(memcmp(l.tree.bytes, tree, LIMP_TREE_BYTES) == 0);
+
+    l.file.bytes[LIMP_BLOCK_BYTES + 30] ^= 1;
+    CHECK(list(l, LIMP_BLOCK_BYTES) == LIMP_BAD_SUM);
+    CHECK(listed(l, "refused 4 at 0\n"));
+    CHECK(kept(l.log) && kept(l.tree));
+    memcpy(l.file.bytes, whole, LIMP_BLOCK_BYTES);
+    CHECK(list(l, 2 * LIMP_BLOCK_BYTES) == LIMP_BAD_FILE);
+    CHECK(listed(l, "refused 20 at 0\n"));
+    for (i = 0; i < 4; i++) {
+        list(l, LIMP_BLOCK_BYTES);
+        CHECK(limp_listing(nowhere(), not_files[i], l.log.bytes, LIMP_LOG_BYTES, l.tree.bytes,
+                           LIMP_TREE_BYTES, l.out.bytes, LIMP_LISTING_BYTES, l.length.bytes,
+                           LIMP_LENGTH_BYTES) == LIMP_BAD_LENGTH);
+        CHECK(listed(l, "refused 2 at 0\n"));
+    }
+    note(l.out);
+    note(l.length);
+    test_wrong_buffers(l);
+}
