@@ -72,10 +72,13 @@ pub fn cases(log: &[u8]) -> Vec<Case> {
     cases
 }
 
-fn check(log: Vec<u8>) -> Run {
+/// A take refuses a block of another length right after it has checked the log.
+fn check(mut log: Vec<u8>) -> Run {
     Box::new(move |library| {
-        library.sound(&log)?;
-        Some(clock(|| library.sound(black_box(&log))))
+        Some(clock(|| {
+            let answer = library.take(black_box(&mut log), ARCHIVE, 0, &[]);
+            assert!(answer.is_err_and(|refusal| refusal.number == 2));
+        }))
     })
 }
 
@@ -164,7 +167,7 @@ fn show(log: Vec<u8>) -> Run {
 
 fn listing(log: &[u8]) -> Run {
     let file = file_of(log);
-    let mut out = vec![0; plain::LISTING];
+    let mut out = vec![0; library::LISTING];
     Box::new(move |library| {
         library.listing_into(&file, &mut out)?;
         Some(clock(|| library.listing_into(black_box(&file), &mut out)))

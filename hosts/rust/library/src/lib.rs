@@ -22,8 +22,8 @@ pub struct Head {
     pub vector: [u16; 8],
 }
 
-/// No listing is longer.
-pub const LISTING: usize = 73_000;
+/// Bytes lent for a listing; none is longer.
+pub const LISTING: usize = 76_800;
 
 /// The entry points. Those that answer an `Option` are run beside what follows
 /// from the others, where an implementation offers them.
@@ -146,8 +146,15 @@ mod plain_rust {
 #[cfg(feature = "static")]
 mod static_library {
     use super::{Answer, Head, Library, Refusal};
+    use std::cell::RefCell;
 
     pub struct Static;
+
+    thread_local! {
+        /// Work space of a listing: a log and a tree.
+        static WORK: RefCell<(Vec<u8>, Vec<u8>)> =
+            RefCell::new((vec![0; limp::LOG], vec![0; limp::TREE]));
+    }
 
     fn refusal(limp::Refusal { number, place }: limp::Refusal) -> Refusal {
         Refusal { number, place }
@@ -155,5 +162,12 @@ mod static_library {
 
     impl Library for Static {
         entry_points!(limp);
+
+        fn listing_into(&self, file: &[u8], out: &mut [u8]) -> Option<usize> {
+            WORK.with_borrow_mut(|(log, tree)| {
+                let listed = limp::listing(file, log, tree, out).ok()?;
+                Some(listed.length)
+            })
+        }
     }
 }

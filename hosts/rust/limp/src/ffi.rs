@@ -1,7 +1,7 @@
 //! The static library's functions as its header declares them.
 //!
 //! A result's low byte is the number, its next byte the place, its upper 16
-//! bits the count where a call returns one.
+//! bits the count where a call returns one. `include/limp.h` is the manual.
 
 unsafe extern "C" {
     pub fn limp_start(log: *mut u8, log_len: usize, archive: u32, unit: u8) -> u32;
@@ -60,5 +60,18 @@ unsafe extern "C" {
         first_len: usize,
         second: *const u8,
         second_len: usize,
+    ) -> u32;
+
+    pub fn limp_listing(
+        file: *const u8,
+        file_len: usize,
+        log: *mut u8,
+        log_len: usize,
+        tree: *mut u8,
+        tree_len: usize,
+        out: *mut u8,
+        out_len: usize,
+        length: *mut u8,
+        length_len: usize,
     ) -> u32;
 }

@@ -16,6 +16,8 @@ pub const BLOCK: usize = 512;
 pub const FILE: usize = 44_032;
 /// Bytes of the tree table.
 pub const TREE: usize = 43_012;
+/// Bytes lent for a listing; none is longer.
+pub const LISTING: usize = 76_800;
 
 const HEAD: usize = 24;
 
@@ -164,5 +166,45 @@ pub fn compare(first: &[u16; 8], second: &[u16; 8]) -> u8 {
     let (first, second) = (vector_bytes(first), vector_bytes(second));
     let result =
         unsafe { ffi::limp_compare(first.as_ptr(), first.len(), second.as_ptr(), second.len()) };
-    result as u8
+    (result >> 16) as u8
+}
+
+/// What listing a file answers: the length of the text at the beginning of `out`,
+/// and the refusal that the text tells of, if the file was refused.
+#[derive(Clone, Copy, Debug, PartialEq, Eq)]
+pub struct Listed {
+    pub length: usize,
+    pub refused: Option<Refusal>,
+}
+
+/// Lists a file as text; a refused file gives one line. `log` and `tree` are work
+/// space, and hold the file's records and tree if it is accepted. Refuses 1, for
+/// `log`, `tree` or `out`.
+pub fn listing(file: &[u8], log: &mut [u8], tree: &mut [u8], out: &mut [u8]) -> Answer<Listed> {
+    let mut length = [0; 4];
+    let result = unsafe {
+        ffi::limp_listing(
+            file.as_ptr(),
+            file.len(),
+            log.as_mut_ptr(),
+            log.len(),
+            tree.as_mut_ptr(),
+            tree.len(),
+            out.as_mut_ptr(),
+            out.len(),
+            length.as_mut_ptr(),
+            length.len(),
+        )
+    };
+    let refused = answer(result).err();
+    match refused {
+        Some(Refusal { number: 1, .. }) => Err(Refusal {
+            number: 1,
+            place: 0,
+        }),
+        _ => Ok(Listed {
+            length: u32::from_le_bytes(length) as usize,
+            refused,
+        }),
+    }
 }
