@@ -46,10 +46,8 @@ fn rows_at(table: &[u8], at: usize) -> usize
 
 // The entries by rank of their makers, then the asides by rank.
 pub fn tree_lines(out: &mut [u8], at: usize, table: &[u8]) -> usize
-    requires {
-        ⌜ (length (now table) ≡ 43012) × (word (now table) 0 ≤ 512) × (word (now table) 2 ≤ 512)
-        × (at + length (treeLines (now table)) ≤ length (now out)) ⌝
-    }
+    requires { ⌜ (length (now table) ≡ 43012) × (word (now table) 0 ≤ 512) × (word (now table) 2 ≤ 512)
+        × (at + length (treeLines (now table)) ≤ length (now out)) ⌝ }
     ensures { λ r. ⌜ Wrote (now (out .entry)) (now (out .exit)) at r (treeLines (now (table .entry))) ⌝ }
 {
     let n = rows_at(table, 0);

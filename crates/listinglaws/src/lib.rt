@@ -1,0 +1,1 @@
+// Laws of the listing: its greatest length. No code.
