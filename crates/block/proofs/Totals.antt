@@ -1,12 +1,11 @@
 -- The totals whose remainders are the two sums.
 -- Assumes nothing.
-use Prim.Native.Nat.{ℕ, zero, suc, _+_, _-_, _*_, _%_, _≤_, _<_}
+use Prim.Native.Nat.{ℕ, zero, suc, _+_, _-_, _*_, _%_, _≤_}
 use native.Mathlib.Numerals.{add-one}
 use native.Mathlib.Nat.{mod-add-mod, add-mod-mod, mul-zero, zero-mul, suc-mul, mul-add, mul-le-mul, sub-self}
 use native.Mathlib.Omega.{arith}
-use mathlib.Core.Path.{_≡_, refl, sym, ap, _∙_}
+use mathlib.Core.Path.{_≡_, refl, ap}
 use mathlib.Core.List.{List}
-use lib.ListN.{length}
 use Rattle.model.specs.Bytes.{word}
 use Rattle.model.specs.Block.{firstTo, secondTo}
 

@@ -3,17 +3,17 @@
 use Prim.Native.Nat.{ℕ, zero, suc, _+_, _-_, _*_, _/_, _%_, _≤_, _<_}
 use native.Mathlib.Omega.{arith}
 use native.Mathlib.Nat.{add-zero, add-suc}
-use mathlib.Core.Path.{_≡_, refl, sym, ap, _∙_}
+use mathlib.Core.Path.{_≡_, refl, sym, _∙_}
 use mathlib.Core.Logic.{_⊎_, inl, inr, ⊎-elim}
 use mathlib.Core.Bool.{Bool, true, false, cond, _&&_}
-use mathlib.Core.List.{List, [], _∷_, _++_}
+use mathlib.Core.List.{List, []}
 use lib.Dec.{leb, eqb}
 use lib.ListN.{getD, length, set, length-set}
 use lib.Seq.{getD-set-same, getD-set-other}
 use borrow.Author.Tests.{eq-eqb, ne-eqb}
 use Rattle.model.specs.Bytes.{word}
-use Rattle.model.specs.Block.{firstTo, secondTo, blockFault}
-use Rattle.model.specs.Outcome.{Outcome, refusal, guarded, givenFault, tookBlock, takeOf}
+use Rattle.model.specs.Block.{firstTo, blockFault}
+use Rattle.model.specs.Outcome.{refusal, guarded, givenFault, tookBlock, takeOf}
 use Rattle.model.specs.Numbers.{badBuffer, badUnit, unsoundLog}
 use Rattle.model.specs.Log.{soundLog}
 use Rattle.octets.proofs.Numbers.{lt-or-ge}

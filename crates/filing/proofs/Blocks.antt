@@ -1,24 +1,26 @@
 -- The blocks of a written file: which records each holds, where each is written, and the zeros behind them.
 -- Assumes nothing.
-use Prim.Native.Nat.{ℕ, zero, suc, _+_, _-_, _*_, _/_, _≤_, _<_, min, max}
+use Prim.Native.Nat.{ℕ, _+_, _-_, _*_, _≤_, _<_, min}
 use native.Mathlib.Numerals.{add-one}
 use native.Mathlib.Omega.{arith}
-use mathlib.Core.Path.{_≡_, refl, sym, ap, _∙_, subst}
-use mathlib.Core.Logic.{_⊎_, inl, inr, ⊎-elim}
-use mathlib.Core.Bool.{true}
-use mathlib.Core.List.{List, [], _∷_, _++_, append-nil}
+use mathlib.Core.Path.{_≡_, sym, _∙_, subst}
+use mathlib.Core.Logic.{⊎-elim}
+use mathlib.Core.Bool.{Bool, true, false, not}
+use mathlib.Core.List.{List, [], _++_, append-nil}
 use lib.ListN.{length, take, drop, replicate, length-append, length-take, length-drop, length-replicate}
 use lib.Seq.{take-all, length-take-le, drop-length}
 use borrow.Rule.Slice.PartMut.{putMid}
 use Rattle.model.specs.Bytes.{part, padded, joined, putAt}
 use Rattle.model.specs.Record.{Rec}
 use Rattle.model.specs.Log.{recordsOf, soundLog, logBytes, vectorOf}
-use Rattle.model.specs.Block.{Header, headBytes, bodyBytes, sealed, blockOf}
+use Rattle.model.specs.Block.{headBytes, bodyBytes, sealed, blockOf}
 use Rattle.model.specs.File.{blockCount, headerOf, fileBlock, fileTo, fileOf}
+use Rattle.model.specs.Outcome.{outcome, writeOf}
 use Rattle.octets.proofs.Numbers.{lt-or-ge}
 use Rattle.octets.proofs.Parts.{part-is, lent-length}
 use Rattle.octets.proofs.PutAt.{mid-put, put-whole, put-grows}
 use Rattle.blocklaws.proofs.Fields.{Sized, joined-part}
+use Rattle.answer.proofs.Guards.{guards-pass}
 use Rattle.images.proofs.Logs.{sound-proper, proper-sized, sound-records, sound-bytes, sound-few}
 use Rattle.images.proofs.Files.{few-blocks, length-fileBlock, length-fileTo}
 
@@ -83,9 +85,6 @@ placed d p s k h g n e =
     let q : p ≡ s = e ∙ put-whole (take (512 * k + 512 - 512 * k) (drop (512 * k) d)) s (n ∙ sym (lent-length d (512 * k) 512 (omega arith))) in
     rw q (mid-put (512 * k) 512 d s n)
 
-pub fits-part : (d s : List ℕ) (k : ℕ) → length d ≡ 44032 → k < 86 → length s ≡ 512 → 0 + length s ≤ length (take (512 * k + 512 - 512 * k) (drop (512 * k) d))
-fits-part d s k h g n = omega (arith, lent-length d (512 * k) 512 (omega arith))
-
 pub cleared : (d p : List ℕ) (n : ℕ) → length d ≡ 44032 → n ≤ 86 → p ≡ replicate (length (take (44032 - 512 * n) (drop (512 * n) d))) 0
     → putMid (512 * n) (44032 - 512 * n) d p ≡ putAt d (512 * n) (replicate (44032 - 512 * n) 0)
 cleared d p n h g e =
@@ -126,3 +125,11 @@ module _ (a u : ℕ) (b d : List ℕ) (long : length b ≡ 40960) (sound : sound
       let lz : length (f ++ z) ≡ length d = omega (arith, length-append f z, length-replicate {A = ℕ} (44032 - 512 * n) 0) in
       let x : putAt (f ++ drop (512 * n) d) (512 * n) z ≡ f ++ z = (rw (lf, lz) at (put-grows d f z (omega arith))) ∙ rw (drop-length d, append-nil) in
       q ∙ rw (p, kn, x, ← nc, lf)
+
+-- ---- success
+
+pub all-written : (a u : ℕ) (log lent : List ℕ) {n : ℕ} {o : List ℕ} {s : Bool} → o ≡ padded 44032 (fileOf a u (recordsOf log)) → n ≡ blockCount (length (recordsOf log))
+    → length log ≡ 40960 → length lent ≡ 44032 → u ≤ 7 → s ≡ soundLog log → not s ≡ false → outcome 0 0 log o n ≡ writeOf a u log lent
+unfolding writeOf
+all-written a u log lent p q l m h e f =
+    (rw (p, q)) ∙ guards-pass u log lent lent 44032 (outcome 0 0 log (padded 44032 (fileOf a u (recordsOf log))) (blockCount (length (recordsOf log)))) l m h e f

@@ -6,12 +6,21 @@ ghost use lib.ListN.{length, replicate};
 ghost use Rattle.model.specs.Bytes.{padded, putAt};
 ghost use Rattle.model.specs.Log.{recordsOf, soundLog, vectorOf};
 ghost use Rattle.model.specs.File.{blockCount, fileBlock, fileOf};
+ghost use Rattle.model.specs.Outcome.{outcome, writeOf};
 use block::Block;
 use block::block_of;
 use block::empty_block;
+use log::check;
 use octets::clear;
 use octets::put;
 use vector::Vector;
+
+// What writing a file answers: the number, 0 for success, and the count of blocks.
+pub struct Written {
+    pub number: u8,
+    pub place: u8,
+    pub blocks: u8,
+}
 
 // How many blocks hold n records: six records a block, and one block for none.
 fn block_count(n: usize) -> usize
@@ -97,4 +106,45 @@ fn write_blocks(
     }
     clear_behind(file, n);
     n as u8
+}
+
+// The whole log is written into the lent file, six records a block, with zeros behind the last. The log is only read.
+pub fn write_file(log: &[u8], archive: u32, unit: u8, file: &mut [u8]) -> Written
+    ensures { λ r. ⌜ outcome (r .number) (r .place) (now (log .entry)) (now (file .exit)) (r .blocks) ≡ writeOf archive unit (now (log .entry)) (now (file .entry)) ⌝ }
+{
+    if log.len() != 40960 {
+        return Written {
+            number: 1,
+            place: 0,
+            blocks: 0,
+        };
+    }
+    if file.len() != 44032 {
+        return Written {
+            number: 1,
+            place: 0,
+            blocks: 0,
+        };
+    }
+    if 7 < unit {
+        return Written {
+            number: 21,
+            place: 0,
+            blocks: 0,
+        };
+    }
+    let c = check(log);
+    if !c.sound {
+        return Written {
+            number: 19,
+            place: 0,
+            blocks: 0,
+        };
+    }
+    let n = write_blocks(log, c.used, c.held, archive, unit, file);
+    Written {
+        number: 0,
+        place: 0,
+        blocks: n,
+    }
 }

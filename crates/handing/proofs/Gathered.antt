@@ -4,18 +4,18 @@ use Prim.Native.Nat.{ℕ, zero, suc, _+_, _-_, _*_, _≤_, _<_}
 use native.Mathlib.Numerals.{add-one}
 use native.Mathlib.Omega.{arith}
 use mathlib.Core.Path.{_≡_, refl, sym, ap, _∙_, subst}
-use mathlib.Core.Logic.{_⊎_, inl, inr, ⊎-elim}
+use mathlib.Core.Logic.{inl, inr}
 use mathlib.Core.Bool.{Bool, true, false, cond, not}
-use mathlib.Core.List.{List, [], _∷_, _++_, append-assoc, append-nil}
+use mathlib.Core.List.{List, [], _∷_, _++_, append-nil}
 use lib.Dec.{ltb}
-use lib.ListN.{getD, length, take, drop, replicate, take-append-drop, length-append, length-take}
-use lib.Seq.{take-suc, take-all, take-at, take-append-le, length-take-le}
+use lib.ListN.{getD, length, take, drop, replicate, take-append-drop, length-append}
+use lib.Seq.{take-suc, take-all, take-at}
 use borrow.Author.Tests.{not-true, not-false}
 use Rattle.model.specs.Bytes.{part, padded, joined, putAt}
 use Rattle.model.specs.Record.{Rec, unit, num}
 use Rattle.model.specs.Log.{recordsOf, soundLog, logBytes}
 use Rattle.model.specs.Outcome.{lacking}
-use Rattle.octets.proofs.Parts.{part-is, part-middle}
+use Rattle.octets.proofs.Parts.{part-is}
 use Rattle.octets.proofs.PutAt.{put-padded, padded-nil}
 use Rattle.blocklaws.proofs.Fields.{Sized, length-joined, joined-at, joined-append}
 use Rattle.order.specs.Members.{Has}

@@ -7,10 +7,12 @@ ghost use lib.ListN.{length, getD, take, replicate};
 ghost use Rattle.model.specs.Bytes.{padded, joined};
 ghost use Rattle.model.specs.Record.{unit, num};
 ghost use Rattle.model.specs.Log.{recordsOf, soundLog, vectorOf};
-ghost use Rattle.model.specs.Outcome.{lacking, handBlock};
+ghost use Rattle.model.specs.Outcome.{outcome, lacking, handBlock, handOf};
+use answer::Answer;
 use block::Block;
 use block::block_of;
 use block::empty_block;
+use log::check;
 use octets::put;
 use record::number_of;
 use record::unit_of;
@@ -61,4 +63,42 @@ fn block_for(log: &[u8], used: usize, held: Vector, archive: u32, unit: u8, aske
         return empty_block(archive, unit, 0, held);
     }
     block_of(archive, unit, n, 0, held, &recs)
+}
+
+// The first six or fewer records that the asked vector lacks are handed out in the lent block. The log is only read.
+pub fn hand_out(log: &[u8], archive: u32, unit: u8, asked: Vector, block: &mut [u8]) -> Answer
+    ensures { λ r. ⌜ outcome (r .number) (r .place) (now (log .entry)) (now (block .exit)) 0 ≡ handOf archive unit (now (log .entry)) (asked .counts) (now (block .entry)) ⌝ }
+{
+    if log.len() != 40960 {
+        return Answer {
+            number: 1,
+            place: 0,
+        };
+    }
+    if block.len() != 512 {
+        return Answer {
+            number: 1,
+            place: 0,
+        };
+    }
+    if 7 < unit {
+        return Answer {
+            number: 21,
+            place: 0,
+        };
+    }
+    let c = check(log);
+    if !c.sound {
+        return Answer {
+            number: 19,
+            place: 0,
+        };
+    }
+    let b = block_for(log, c.used, c.held, archive, unit, asked);
+    let bytes = b.bytes;
+    put(block, 0, &bytes);
+    Answer {
+        number: 0,
+        place: 0,
+    }
 }

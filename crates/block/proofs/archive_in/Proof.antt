@@ -1,5 +1,4 @@
 use Rattle.model.specs.Block.{archiveIn}
-use native.Mathlib.Omega.{arith}
 use borrow.Author.Needs.{needs}
 use Rattle.block.proofs.archive_in.Statement.{statement}
 use Rattle.block.proofs.archive_in.Tie as tie

@@ -1,5 +1,4 @@
 use Rattle.block.proofs.Checks.{bad-letters, bad-sum, bad-header, no-fault}
-use native.Mathlib.Omega.{arith}
 use borrow.Author.Needs.{needs}
 use Rattle.block.proofs.block_fault.Statement.{statement}
 use Rattle.block.proofs.block_fault.Tie as tie

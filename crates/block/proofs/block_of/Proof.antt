@@ -1,5 +1,4 @@
 use Rattle.block.proofs.Written.{filled-block}
-use native.Mathlib.Omega.{arith}
 use borrow.Author.Needs.{needs}
 use Rattle.block.proofs.block_of.Statement.{statement}
 use Rattle.block.proofs.block_of.Tie as tie

@@ -1,6 +1,5 @@
 use mathlib.Core.Path.{refl}
 use Rattle.model.specs.Block.{countIn}
-use native.Mathlib.Omega.{arith}
 use borrow.Author.Needs.{needs}
 use Rattle.block.proofs.count_in.Statement.{statement}
 use Rattle.block.proofs.count_in.Tie as tie

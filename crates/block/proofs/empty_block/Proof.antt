@@ -1,5 +1,4 @@
 use Rattle.block.proofs.Written.{fresh-block}
-use native.Mathlib.Omega.{arith}
 use borrow.Author.Needs.{needs}
 use Rattle.block.proofs.empty_block.Statement.{statement}
 use Rattle.block.proofs.empty_block.Tie as tie

@@ -1,5 +1,4 @@
 use Rattle.block.proofs.Checks.{bad-sender, bad-count, unused-decides}
-use native.Mathlib.Omega.{arith}
 use borrow.Author.Needs.{needs}
 use Rattle.block.proofs.header_holds.Statement.{statement}
 use Rattle.block.proofs.header_holds.Tie as tie

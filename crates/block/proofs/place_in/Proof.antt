@@ -1,5 +1,4 @@
 use Rattle.model.specs.Block.{placeIn}
-use native.Mathlib.Omega.{arith}
 use borrow.Author.Needs.{needs}
 use Rattle.block.proofs.place_in.Statement.{statement}
 use Rattle.block.proofs.place_in.Tie as tie

@@ -1,6 +1,5 @@
 use mathlib.Core.Path.{refl}
 use Rattle.model.specs.Block.{senderIn}
-use native.Mathlib.Omega.{arith}
 use borrow.Author.Needs.{needs}
 use Rattle.block.proofs.sender_in.Statement.{statement}
 use Rattle.block.proofs.sender_in.Tie as tie

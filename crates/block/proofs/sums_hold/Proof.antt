@@ -1,5 +1,4 @@
 use Rattle.block.proofs.Checks.{first-off, second-decides}
-use native.Mathlib.Omega.{arith}
 use borrow.Author.Needs.{needs}
 use Rattle.block.proofs.sums_hold.Statement.{statement}
 use Rattle.block.proofs.sums_hold.Tie as tie

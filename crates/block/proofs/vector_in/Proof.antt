@@ -1,5 +1,4 @@
 use Rattle.model.specs.Block.{vectorIn}
-use native.Mathlib.Omega.{arith}
 use borrow.Author.Needs.{needs}
 use Rattle.block.proofs.vector_in.Statement.{statement}
 use Rattle.block.proofs.vector_in.Tie as tie

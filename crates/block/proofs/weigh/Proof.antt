@@ -1,6 +1,5 @@
 use mathlib.Core.Path.{refl}
 use Rattle.block.proofs.Totals.{weight-bound}
-use borrow.Author.Needs.{needs}
 use native.Mathlib.Omega.{arith}
 use Rattle.block.proofs.weigh.Statement.{statement}
 use Rattle.block.proofs.weigh.Tie as tie

@@ -1,5 +1,4 @@
 use Rattle.model.specs.File.{blockCount}
-use native.Mathlib.Omega.{arith}
 use borrow.Author.Needs.{needs}
 use Rattle.filing.proofs.block_count.Statement.{statement}
 use Rattle.filing.proofs.block_count.Tie as tie

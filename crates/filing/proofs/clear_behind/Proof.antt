@@ -1,5 +1,4 @@
 use Rattle.filing.proofs.Blocks.{cleared}
-use native.Mathlib.Omega.{arith}
 use borrow.Author.Needs.{needs}
 use Rattle.filing.proofs.clear_behind.Statement.{statement}
 use Rattle.filing.proofs.clear_behind.Tie as tie

@@ -1,5 +1,4 @@
 use Rattle.filing.proofs.Blocks.{none-left, some-left}
-use native.Mathlib.Omega.{arith}
 use borrow.Author.Needs.{needs}
 use Rattle.filing.proofs.file_block.Statement.{statement}
 use Rattle.filing.proofs.file_block.Tie as tie

@@ -1,5 +1,7 @@
-use Rattle.filing.proofs.Blocks.{placed, fits-part}
 use native.Mathlib.Omega.{arith}
+use mathlib.Core.Path.{_≡_}
+use lib.ListN.{length, length-take, length-drop}
+use Rattle.filing.proofs.Blocks.{placed}
 use borrow.Author.Needs.{needs}
 use Rattle.filing.proofs.write_at.Statement.{statement}
 use Rattle.filing.proofs.write_at.Tie as tie
@@ -33,7 +35,9 @@ slice-aggregate-put c = search needs
 
 -- src/lib.rt:59:5
 put-requires : tie.Need-put-requires
-put-requires c κs = search (fits-part, needs)
+put-requires c κs =
+    let n : length (c .before .before .before .before .args .b .bytes) ≡ 512 = search needs in
+    simp (length-take, length-drop) (omega arith)
 
 -- src/lib.rt:53:1
 same-length : tie.Need-same-length

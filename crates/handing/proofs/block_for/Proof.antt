@@ -1,5 +1,4 @@
 use Rattle.handing.proofs.Handed.{none-lacking, some-lacking}
-use native.Mathlib.Omega.{arith}
 use borrow.Author.Needs.{needs}
 use Rattle.handing.proofs.block_for.Statement.{statement}
 use Rattle.handing.proofs.block_for.Tie as tie

@@ -2,8 +2,8 @@ use Rattle.handing.proofs.Gathered.{gathered, unit-lent, starts-long, s
 use Rattle.model.specs.Outcome.{lacking}
 use Rattle.model.specs.Bytes.{padded, joined}
 use lib.ListN.{length}
-use mathlib.Core.Path.{_≡_, refl, _∙_}
-use Prim.Native.Nat.{_+_, _-_, _*_, _≤_}
+use mathlib.Core.Path.{_≡_, refl}
+use Prim.Native.Nat.{_-_, _*_, _≤_}
 use borrow.Author.Needs.{needs}
 use native.Mathlib.Omega.{arith}
 use Rattle.handing.proofs.gather.Statement.{statement}

@@ -1,4 +1,3 @@
-use native.Mathlib.Omega.{arith}
 use borrow.Author.Needs.{needs}
 use Rattle.handing.proofs.lacks.Statement.{statement}
 use Rattle.handing.proofs.lacks.Tie as tie
