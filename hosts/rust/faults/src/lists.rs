@@ -1,0 +1,369 @@
+//! Random call lists over eight units: the static library and the plain
+//! implementation, call by call and byte by byte.
+
+use crate::study::{End, Plan, Tally, incorrect};
+use library::{LISTING, Library, Plain};
+use plain::{BLOCK, FILE, LOG, RECORD, TREE};
+use std::fmt::Debug;
+use workload::{Chance, Mix, log_of, vector_of, wish};
+
+const ARCHIVE: u32 = 0x8000_0011;
+
+/// Lists of calls; an experiment is a call.
+pub fn all(library: &dyn Library, plan: &Plan) -> Tally {
+    let mut tally = Tally::default();
+    for list in 0..plan.count(40, 2000) {
+        let mut calls = Calls::new(library, 10_000 * plan.seed + list);
+        for call in 0..plan.count(150, 400) {
+            if !tally.goes_on(plan) {
+                return tally;
+            }
+            let end = calls.one();
+            tally.count(|| format!("list {list}, call {call}"), end);
+        }
+    }
+    tally
+}
+
+struct Calls<'a> {
+    library: &'a dyn Library,
+    chance: Chance,
+    mix: Mix,
+    logs: Vec<Vec<u8>>,
+    /// Blocks and files that were written.
+    blocks: Vec<Vec<u8>>,
+    files: Vec<Vec<u8>>,
+}
+
+/// What both implementations gave for one call.
+struct Both<T> {
+    answers: [T; 2],
+    /// The lent bytes afterwards.
+    lent: [Vec<Vec<u8>>; 2],
+}
+
+impl<T: PartialEq + Debug> Both<T> {
+    /// Runs a call on both, each with copies of the lent bytes.
+    fn run(
+        ours: &dyn Library,
+        lent: &[&[u8]],
+        call: impl Fn(&dyn Library, &mut [Vec<u8>]) -> T,
+    ) -> Both<T> {
+        let mut copies =
+            [0, 1].map(|_| lent.iter().map(|bytes| bytes.to_vec()).collect::<Vec<_>>());
+        let [first, second] = &mut copies;
+        Both {
+            answers: [call(ours, first), call(&Plain, second)],
+            lent: copies,
+        }
+    }
+
+    fn compared(&self, name: &str) -> End {
+        let [ours, plain] = &self.answers;
+        if ours != plain {
+            return incorrect(format!("{name}: {ours:?}, plain {plain:?}"));
+        }
+        if self.lent[0] != self.lent[1] {
+            return incorrect(format!("{name}: {ours:?}, but other bytes"));
+        }
+        Ok(false)
+    }
+}
+
+impl Calls<'_> {
+    fn new(library: &dyn Library, seed: u64) -> Calls<'_> {
+        let mut chance = Chance::new(seed);
+        let mix = *chance.pick(&[Mix::BENCH, Mix::CONFLICTS]);
+        let held = *chance.pick(&[0, 0, 12, 60, 505, 512]);
+        let log = log_of(held, 1 + chance.below(8), 4, &mix, seed);
+        Calls {
+            library,
+            chance,
+            mix,
+            logs: vec![log; 8],
+            blocks: Vec::new(),
+            files: Vec::new(),
+        }
+    }
+
+    /// One call drawn by chance.
+    fn one(&mut self) -> End {
+        let slot = self.chance.below(8);
+        let unit = if self.chance.one_in(40) {
+            self.chance.number() as u8
+        } else {
+            slot as u8
+        };
+        match self.chance.below(100) {
+            0 => self.start(slot, unit),
+            1..40 => self.act(slot, unit),
+            40..60 => self.hand_out(slot, unit),
+            60..84 => self.take(slot, unit),
+            84..88 => self.write_file(slot, unit),
+            88..91 => self.read_file(),
+            91..95 => self.show(slot),
+            95..98 => self.listing(),
+            _ => self.compare(),
+        }
+    }
+
+    fn archive(&mut self) -> u32 {
+        if self.chance.one_in(40) {
+            ARCHIVE + 1
+        } else {
+            ARCHIVE
+        }
+    }
+
+    /// The slot's log, or seldom one that is not sound or not as long.
+    fn log(&mut self, slot: usize) -> (Vec<u8>, bool) {
+        let mut log = self.logs[slot].clone();
+        if !self.chance.one_in(30) {
+            return (log, true);
+        }
+        let used = vector_of(&log)
+            .iter()
+            .map(|count| *count as usize)
+            .sum::<usize>();
+        match self.chance.below(4) {
+            0 => log.truncate(self.chance.below(LOG)),
+            1 => log.push(0),
+            2 => log[..RECORD * used].rotate_left(RECORD.min(RECORD * used)),
+            _ => {
+                let at = self.chance.below(RECORD * (used + 1)).min(LOG - 1);
+                log[at] ^= 1 << self.chance.below(8);
+            }
+        }
+        (log, false)
+    }
+
+    /// A buffer lent for writing, seldom of another length.
+    fn lent(&mut self, length: usize) -> Vec<u8> {
+        let length = match self.chance.below(60) {
+            0 => length - 1,
+            1 => length + 1,
+            2 => 0,
+            _ => length,
+        };
+        let seed = self.chance.number() as usize;
+        (0..length)
+            .map(|i| seed.wrapping_add(31 * i) as u8)
+            .collect()
+    }
+
+    /// Keeps what the call left in the slot's log.
+    fn keep<T: PartialEq + Debug>(&mut self, slot: usize, own: bool, both: &mut Both<T>) {
+        if own {
+            self.logs[slot] = std::mem::take(&mut both.lent[0][0]);
+        }
+    }
+
+    fn start(&mut self, slot: usize, unit: u8) -> End {
+        let archive = self.archive();
+        let (log, own) = self.log(slot);
+        let mut both = Both::run(self.library, &[&log], |library, lent| {
+            library.start(&mut lent[0], archive, unit)
+        });
+        let end = both.compared("start");
+        self.keep(slot, own, &mut both);
+        end
+    }
+
+    fn act(&mut self, slot: usize, unit: u8) -> End {
+        let archive = self.archive();
+        let mut tree = [0; TREE];
+        let mut wish = match plain::show(&self.logs[slot], &mut tree) {
+            Ok(()) => wish(&mut self.chance, &self.mix, unit & 7, &tree).to_vec(),
+            Err(_) => return incorrect("a log that is not sound"),
+        };
+        let (log, own) = self.log(slot);
+        if self.chance.one_in(4) {
+            let at = self.chance.below(RECORD);
+            wish[at] = self.odd_byte();
+        }
+        if self.chance.one_in(40) {
+            wish.truncate(self.chance.below(RECORD));
+        }
+        let mut both = Both::run(self.library, &[&log], |library, lent| {
+            library.act(&mut lent[0], archive, unit, &wish)
+        });
+        let end = both.compared("act");
+        self.keep(slot, own, &mut both);
+        end
+    }
+
+    fn odd_byte(&mut self) -> u8 {
+        let any = self.chance.number() as u8;
+        *self.chance.pick(&[
+            0, 1, 2, 3, 5, 6, 7, 8, 0x1f, 0x20, 0x41, 0x7e, 0x7f, 0xff, any,
+        ])
+    }
+
+    fn hand_out(&mut self, slot: usize, unit: u8) -> End {
+        let archive = self.archive();
+        let other = self.chance.below(8);
+        let mut asked = vector_of(&self.logs[other]);
+        if self.chance.one_in(4) {
+            asked[self.chance.below(8)] = *self.chance.pick(&[0, 1, 5, 64, 513, 65_535]);
+        }
+        let (log, _) = self.log(slot);
+        let block = self.lent(BLOCK);
+        let both = Both::run(self.library, &[&block, &log], |library, lent| {
+            let [block, log] = lent else { unreachable!() };
+            library.hand_out(log, archive, unit, &asked, block)
+        });
+        if both.answers[0].is_ok() {
+            self.blocks.push(both.lent[0][0].clone());
+        }
+        both.compared("hand out")
+    }
+
+    /// A block that was written, mostly a late one and mostly whole.
+    fn block(&mut self) -> Vec<u8> {
+        let Some(last) = self.blocks.len().checked_sub(1) else {
+            return self.lent(BLOCK);
+        };
+        let back = if self.chance.one_in(3) {
+            last
+        } else {
+            last.min(4)
+        };
+        let mut block = self.blocks[last - self.chance.below(back + 1)].clone();
+        if self.chance.one_in(2) {
+            self.harm(&mut block);
+        }
+        if self.chance.one_in(40) {
+            block.truncate(self.chance.below(BLOCK));
+        }
+        block
+    }
+
+    /// Changes a block, mostly with sums put right again.
+    fn harm(&mut self, block: &mut [u8]) {
+        for _ in 0..=self.chance.below(2) {
+            let count = block[9].min(6) as usize;
+            match self.chance.below(8) {
+                0 => block[self.chance.below(28)] = self.odd_byte(),
+                1 if count > 1 => {
+                    // One record in the place of another.
+                    let (from, to) = (self.chance.below(count), self.chance.below(count));
+                    block.copy_within(28 + 80 * from..108 + 80 * from, 28 + 80 * to);
+                }
+                2 => block[self.chance.below(BLOCK)] ^= 1 << self.chance.below(8),
+                _ if count > 0 => {
+                    let record = 28 + 80 * self.chance.below(count);
+                    let at = if self.chance.one_in(2) {
+                        self.chance.below(28)
+                    } else {
+                        self.chance.below(80)
+                    };
+                    block[record + at] = self.odd_byte();
+                }
+                _ => block[9] = self.odd_byte(),
+            }
+        }
+        if !self.chance.one_in(5) {
+            seal(block);
+        }
+    }
+
+    fn take(&mut self, slot: usize, unit: u8) -> End {
+        let archive = self.archive();
+        let block = self.block();
+        let (log, own) = self.log(slot);
+        let mut both = Both::run(self.library, &[&log], |library, lent| {
+            library.take(&mut lent[0], archive, unit, &block)
+        });
+        let end = both.compared("take");
+        self.keep(slot, own, &mut both);
+        end
+    }
+
+    fn write_file(&mut self, slot: usize, unit: u8) -> End {
+        let archive = self.archive();
+        let (log, _) = self.log(slot);
+        let file = self.lent(FILE);
+        let both = Both::run(self.library, &[&file, &log], |library, lent| {
+            let [file, log] = lent else { unreachable!() };
+            library.write_file(log, archive, unit, file)
+        });
+        if let Ok(blocks) = both.answers[0] {
+            let file = both.lent[0][0][..BLOCK * blocks as usize].to_vec();
+            self.blocks.extend(file.chunks(BLOCK).map(<[u8]>::to_vec));
+            self.files.push(file);
+        }
+        both.compared("write a file")
+    }
+
+    /// A file that was written, mostly harmed.
+    fn file(&mut self) -> Vec<u8> {
+        if self.files.is_empty() {
+            return self.lent(2 * BLOCK);
+        }
+        let mut file = self.chance.pick(&self.files).clone();
+        match self.chance.below(8) {
+            0 => (),
+            1 => file.truncate(self.chance.below(file.len())),
+            2 => file.truncate(BLOCK * (1 + self.chance.below(file.len() / BLOCK))),
+            3 => {
+                let other = self.block();
+                file.extend(other);
+            }
+            _ => {
+                let at = BLOCK * self.chance.below(file.len() / BLOCK);
+                self.harm(&mut file[at..at + BLOCK]);
+            }
+        }
+        file
+    }
+
+    fn read_file(&mut self) -> End {
+        let file = self.file();
+        let log = self.lent(LOG);
+        Both::run(self.library, &[&log], |library, lent| {
+            library.read_file(&mut lent[0], &file)
+        })
+        .compared("read a file")
+    }
+
+    fn show(&mut self, slot: usize) -> End {
+        let (log, _) = self.log(slot);
+        let tree = self.lent(TREE);
+        Both::run(self.library, &[&tree, &log], |library, lent| {
+            let [tree, log] = lent else { unreachable!() };
+            library.show(log, tree)
+        })
+        .compared("show")
+    }
+
+    fn listing(&mut self) -> End {
+        let file = self.file();
+        let out = vec![0xa5; LISTING];
+        Both::run(self.library, &[&out], |library, lent| {
+            library.listing_into(&file, &mut lent[0])
+        })
+        .compared("listing")
+    }
+
+    fn compare(&mut self) -> End {
+        let one = vector_of(&self.logs[self.chance.below(8)]);
+        let mut other = vector_of(&self.logs[self.chance.below(8)]);
+        if self.chance.one_in(2) {
+            other[self.chance.below(8)] = self.chance.number() as u16;
+        }
+        Both::run(self.library, &[], |library, _| {
+            library.compare(&one, &other)
+        })
+        .compared("compare")
+    }
+}
+
+/// Writes the sums of a block.
+fn seal(block: &mut [u8]) {
+    let Ok(whole) = <&[u8; BLOCK]>::try_from(&*block) else {
+        return;
+    };
+    let (first, second) = plain::sums(whole);
+    block[508..510].copy_from_slice(&first.to_le_bytes());
+    block[510..].copy_from_slice(&second.to_le_bytes());
+}

@@ -1,0 +1,55 @@
+//! An act on a log that is mostly sound, then a hand-out and a file of it.
+
+use crate::compare::{both, show};
+use crate::input::Input;
+use crate::life::{ARCHIVE, Life, fill_in, held};
+use plain::{BLOCK, FILE, RECORD};
+use workload::vector_of;
+
+fn wish(input: &mut Input, log: &[u8], unit: u8) -> Vec<u8> {
+    let mut wish = [0; RECORD];
+    wish[0] = unit;
+    wish[1] = 1 + input.byte() % 6;
+    wish[28..32].copy_from_slice(&[0xe9, 7, 1 + input.byte() % 12, 28]);
+    fill_in(&mut wish, &vector_of(log), input);
+    if input.one_in(4) {
+        input.patch(&mut wish, RECORD);
+    }
+    let mut wish = wish.to_vec();
+    if input.one_in(32) {
+        wish.truncate(input.below(RECORD));
+    }
+    wish
+}
+
+pub fn act(data: &[u8]) {
+    let mut input = Input::new(data);
+    let life = Life::drawn(&mut input);
+    let mut log = life.log(input.below(8));
+    let unit = if input.one_in(32) {
+        input.byte()
+    } else {
+        input.byte() % 8
+    };
+    let wish = wish(&mut input, &log, unit);
+    if input.one_in(8) {
+        let end = RECORD * (held(&log) + 1);
+        input.patch(&mut log, end);
+    }
+    let (_, after) = both(4, &[&log], |library, lent| {
+        library.act(&mut lent[0], ARCHIVE, unit, &wish)
+    });
+    let log = &after[0];
+    show(log);
+    let mut asked = vector_of(log);
+    for _ in 0..input.below(4) {
+        let of_unit = input.below(8);
+        asked[of_unit] = asked[of_unit].wrapping_sub(input.byte() as u16);
+    }
+    let _ = both(5, &[&[0xa5; BLOCK]], |library, lent| {
+        library.hand_out(log, ARCHIVE, unit, &asked, &mut lent[0])
+    });
+    let _ = both(6, &[&[0xa5; FILE]], |library, lent| {
+        library.write_file(log, ARCHIVE, unit, &mut lent[0])
+    });
+}

@@ -1,0 +1,43 @@
+//! A call on both implementations.
+
+use library::{Answer, Library, Plain, Static};
+use std::fmt::Debug;
+
+/// Counters that the fuzzer reads besides the coverage: an answer that is new is
+/// worth keeping.
+#[cfg_attr(
+    target_os = "linux",
+    unsafe(link_section = "__libfuzzer_extra_counters")
+)]
+static mut ANSWERS: [u8; 4096] = [0; 4096];
+
+fn note(call: u8, number: u8, place: u8) {
+    let at = (call as usize) << 9 | (number as usize & 31) << 4 | place as usize & 15;
+    unsafe { ANSWERS[at & 4095] = 1 };
+}
+
+/// Runs a call on both, each with its own copy of the lent bytes, and compares
+/// answers and bytes. Returns the answer and the bytes.
+pub fn both<T: PartialEq + Debug>(
+    call: u8,
+    lent: &[&[u8]],
+    run: impl Fn(&dyn Library, &mut [Vec<u8>]) -> Answer<T>,
+) -> (Answer<T>, Vec<Vec<u8>>) {
+    let copy = || lent.iter().map(|bytes| bytes.to_vec()).collect::<Vec<_>>();
+    let (mut ours, mut plain) = (copy(), copy());
+    let answer = run(&Static, &mut ours);
+    let expected = run(&Plain, &mut plain);
+    assert_eq!(answer, expected, "the answers differ");
+    assert!(ours == plain, "{answer:?}: the bytes differ");
+    match &answer {
+        Ok(_) => note(call, 0, 0),
+        Err(refusal) => note(call, refusal.number, refusal.place),
+    }
+    (answer, ours)
+}
+
+/// Shows the tree of a log on both.
+pub fn show(log: &[u8]) {
+    let tree = vec![0xa5; plain::TREE];
+    let _ = both(7, &[&tree], |library, lent| library.show(log, &mut lent[0]));
+}

@@ -1,0 +1,40 @@
+//! Harnesses for a coverage-guided fuzzer. Each takes the fuzzer's bytes, makes a
+//! log and a block, file or wish of them, gives both to the static library and to
+//! the plain implementation, and ends the program if an answer or a byte differs.
+
+mod act;
+mod compare;
+mod input;
+mod life;
+mod read_file;
+mod take;
+
+pub use act::act;
+pub use read_file::read_file;
+pub use take::take;
+
+/// The fuzzer's bytes.
+///
+/// # Safety
+/// `data` points to `size` bytes.
+unsafe fn bytes<'a>(data: *const u8, size: usize) -> &'a [u8] {
+    if size == 0 {
+        return &[];
+    }
+    unsafe { std::slice::from_raw_parts(data, size) }
+}
+
+macro_rules! harness {
+    ($name:ident, $run:path) => {
+        /// # Safety
+        /// `data` points to `size` bytes.
+        #[unsafe(no_mangle)]
+        pub unsafe extern "C" fn $name(data: *const u8, size: usize) {
+            $run(unsafe { bytes(data, size) });
+        }
+    };
+}
+
+harness!(fuzz_take, take::take);
+harness!(fuzz_read_file, read_file::read_file);
+harness!(fuzz_act, act::act);

@@ -1,0 +1,139 @@
+//! Records of eight units that learn from each other, and logs of them.
+
+use crate::input::Input;
+use plain::{BLOCK, LOG, RECORD, RECORDS};
+use std::sync::OnceLock;
+use workload::{Mix, log_of, vector_of};
+
+pub const ARCHIVE: u32 = 7;
+
+type Vector = [u16; 8];
+
+/// Records in rank order, and what each unit knows of them.
+pub struct Life {
+    pub records: Vec<[u8; RECORD]>,
+    known: [Vector; 8],
+}
+
+/// A log that all units know at first: of 0, 20, 500, 507 or 512 records.
+fn common(which: usize) -> &'static [[u8; RECORD]] {
+    static FULL: OnceLock<Vec<u8>> = OnceLock::new();
+    let full = FULL.get_or_init(|| log_of(RECORDS, 4, 6, &Mix::CONFLICTS, 5));
+    let records = [0, 20, 500, 507, 512][which];
+    &full.as_chunks().0[..records]
+}
+
+pub fn get16(bytes: &[u8], at: usize) -> u16 {
+    u16::from_le_bytes([bytes[at], bytes[at + 1]])
+}
+
+fn rank(record: &[u8; RECORD]) -> (u32, u8) {
+    let sum = (0..8).map(|unit| get16(record, 4 + 2 * unit) as u32).sum();
+    (sum, record[0])
+}
+
+const LABELS: [&[u8]; 6] = [
+    b"A",
+    b"B",
+    b"Gain \"A\"",
+    b"\\",
+    b"12345678901234567890123456789012",
+    b"C",
+];
+
+impl Life {
+    pub fn drawn(input: &mut Input) -> Life {
+        let which = match input.byte() % 16 {
+            0..9 => 0,
+            9..12 => 1,
+            other => other as usize - 11,
+        };
+        let common = common(which);
+        let mut life = Life {
+            records: common.to_vec(),
+            known: [vector_of(common.as_flattened()); 8],
+        };
+        for _ in 0..input.below(24) {
+            life.make(input);
+        }
+        life.records.sort_by_key(rank);
+        life
+    }
+
+    /// A unit learns what another knows, perhaps, and makes a record.
+    fn make(&mut self, input: &mut Input) {
+        let unit = input.below(8);
+        let learn = input.byte();
+        if learn & 1 == 1 {
+            let other = self.known[learn as usize >> 1 & 7];
+            let own = &mut self.known[unit];
+            *own = std::array::from_fn(|i| own[i].max(other[i]));
+        }
+        let seen = self.known[unit];
+        let mut record = [0; RECORD];
+        record[0] = unit as u8;
+        record[1] = 1 + input.byte() % 6;
+        record[2..4].copy_from_slice(&(seen[unit] + 1).to_le_bytes());
+        for (i, count) in seen.iter().enumerate() {
+            record[4 + 2 * i..6 + 2 * i].copy_from_slice(&count.to_le_bytes());
+        }
+        record[28..32].copy_from_slice(&[0xe9, 7, 1 + input.byte() % 12, 28]);
+        fill_in(&mut record, &seen, input);
+        self.records.push(record);
+        self.known[unit][unit] += 1;
+    }
+
+    /// The records that a unit knows, at most a full log.
+    pub fn log(&self, unit: usize) -> Vec<u8> {
+        let known = &self.known[unit];
+        let mut log = Vec::with_capacity(LOG);
+        for record in &self.records {
+            if get16(record, 2) <= known[record[0] as usize] && log.len() < LOG {
+                log.extend(record);
+            }
+        }
+        log.resize(LOG, 0);
+        log
+    }
+}
+
+/// The fields that the operation uses. A record that can name nothing makes a
+/// folder in the root.
+pub fn fill_in(record: &mut [u8; RECORD], seen: &Vector, input: &mut Input) {
+    let (first, number) = (input.below(8), input.byte() as u16);
+    let named = (0..8)
+        .map(|i| (first + i) % 8)
+        .find(|unit| seen[*unit] > 0)
+        .map(|unit| (unit as u8, 1 + number % seen[unit]));
+    if record[1] > 2 && named.is_none() {
+        record[1] = 1;
+    }
+    let at = if record[1] > 2 { 20 } else { 24 };
+    let root = record[1] <= 2 && number.is_multiple_of(3);
+    if let (Some((unit, number)), false) = (named, root) {
+        record[at] = unit;
+        record[at + 2..at + 4].copy_from_slice(&number.to_le_bytes());
+    }
+    if matches!(record[1], 1 | 2 | 5) {
+        let label = LABELS[input.below(LABELS.len())];
+        record[32..32 + label.len()].copy_from_slice(label);
+    }
+    if matches!(record[1], 2 | 3) {
+        record[64..].fill(input.byte());
+    }
+}
+
+/// How many records a log holds.
+pub fn held(log: &[u8]) -> usize {
+    vector_of(log).iter().map(|count| *count as usize).sum()
+}
+
+/// Writes the sums of a block.
+pub fn seal(block: &mut [u8]) {
+    let Ok(whole) = <&[u8; BLOCK]>::try_from(&*block) else {
+        return;
+    };
+    let (first, second) = plain::sums(whole);
+    block[508..510].copy_from_slice(&first.to_le_bytes());
+    block[510..].copy_from_slice(&second.to_le_bytes());
+}

@@ -1,0 +1,78 @@
+//! A take by a log that is mostly sound, of a block that is mostly good.
+
+use crate::compare::{both, show};
+use crate::input::Input;
+use crate::life::{ARCHIVE, Life, get16, held, seal};
+use plain::{BLOCK, RECORD};
+use workload::vector_of;
+
+/// The block of some records: the first that a log lacks, or any.
+fn block(input: &mut Input, life: &Life, log: &[u8]) -> Vec<u8> {
+    let mut block = vec![0; BLOCK];
+    block[..5].copy_from_slice(b"SAB1\x07");
+    block[8] = input.byte() % 8;
+    let mode = input.byte();
+    let count = 1 + input.below(6);
+    let held = vector_of(log);
+    let lacking: Vec<&[u8; RECORD]> = life
+        .records
+        .iter()
+        .filter(|record| get16(&record[..], 2) > held[record[0] as usize])
+        .collect();
+    let all: Vec<&[u8; RECORD]> = life.records.iter().collect();
+    let from = if mode & 1 == 0 { &lacking } else { &all };
+    let mut used = 0;
+    for i in 0..count.min(from.len()) {
+        let at = if mode & 2 == 0 {
+            i
+        } else {
+            input.below(from.len())
+        };
+        block[28 + RECORD * i..108 + RECORD * i].copy_from_slice(from[at]);
+        used += 1;
+    }
+    block[9] = used;
+    if input.one_in(4) {
+        let end = 28 + RECORD * used as usize;
+        input.patch(&mut block, end);
+    }
+    seal(&mut block);
+    if input.one_in(8) {
+        input.patch(&mut block, BLOCK);
+    }
+    if input.one_in(32) {
+        block.truncate(input.below(BLOCK));
+    }
+    block
+}
+
+pub fn take(data: &[u8]) {
+    let mut input = Input::new(data);
+    let life = Life::drawn(&mut input);
+    let mut log = life.log(input.below(8));
+    if input.one_in(16) {
+        let end = RECORD * (held(&log) + 1);
+        input.patch(&mut log, end);
+    }
+    let unit = if input.one_in(32) {
+        input.byte()
+    } else {
+        input.byte() % 8
+    };
+    let archive = ARCHIVE + input.one_in(32) as u32;
+    let block = if input.one_in(16) {
+        let mut block = input.rest().to_vec();
+        block.resize(BLOCK, 0);
+        block[..5].copy_from_slice(b"SAB1\x07");
+        seal(&mut block);
+        block
+    } else {
+        block(&mut input, &life, &log)
+    };
+    let (answer, after) = both(0, &[&log], |library, lent| {
+        library.take(&mut lent[0], archive, unit, &block)
+    });
+    if answer.is_ok() {
+        show(&after[0]);
+    }
+}

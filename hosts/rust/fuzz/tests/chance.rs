@@ -1,0 +1,27 @@
+//! The harnesses on inputs drawn by chance, without the fuzzer.
+
+use workload::Chance;
+
+fn run(harness: fn(&[u8]), seed: u64) {
+    let mut chance = Chance::new(seed);
+    for _ in 0..3000 {
+        let mut input = vec![0; chance.below(400)];
+        chance.bytes(&mut input);
+        harness(&input);
+    }
+}
+
+#[test]
+fn takes() {
+    run(fuzz::take, 1);
+}
+
+#[test]
+fn files() {
+    run(fuzz::read_file, 2);
+}
+
+#[test]
+fn acts() {
+    run(fuzz::act, 3);
+}
