@@ -4,10 +4,24 @@ use Prim.Native.Nat.{ℕ}
 use mathlib.Core.Path.{_≡_, _∙_}
 use mathlib.Core.List.{List, []}
 use denote.Ref.{now}
-use Rattle.model.specs.Outcome.{Outcome, outcome, startOf}
-use Rattle.claims.specs.Ran.{RanStart}
+use Rattle.model.specs.Outcome.{Outcome, outcome, startOf, handOf, writeOf}
+use Rattle.claims.specs.Ran.{RanStart, RanHandOut, RanWriteFile}
 
 pub ran-start : (u : ℕ) (log : List ℕ) (o : Outcome) → RanStart u log o → o ≡ startOf u log
 ran-start u log o r =
     let e : outcome (r .result .number) (r .result .place) (now (r .exit .0)) [] 0 ≡ startOf (r .args .1 .1 .0) (now (r .args .0)) = r .learnt in
+    cc
+
+pub ran-hand-out : (archive u : ℕ) (log v lent : List ℕ) (o : Outcome) → RanHandOut archive u log v lent o → o ≡ handOf archive u log v lent
+ran-hand-out archive u log v lent o r =
+    let a = r .args in
+    let e : outcome (r .result .number) (r .result .place) (now (a .0)) (now (r .exit .1 .1 .1 .1 .0)) 0
+    ≡ handOf (a .1 .0) (a .1 .1 .0) (now (a .0)) (a .1 .1 .1 .0 .counts) (now (a .1 .1 .1 .1 .0)) = r .learnt in
+    cc
+
+pub ran-write-file : (archive u : ℕ) (log lent : List ℕ) (o : Outcome) → RanWriteFile archive u log lent o → o ≡ writeOf archive u log lent
+ran-write-file archive u log lent o r =
+    let a = r .args in
+    let e : outcome (r .result .number) (r .result .place) (now (a .0)) (now (r .exit .1 .1 .1 .0)) (r .result .blocks)
+    ≡ writeOf (a .1 .0) (a .1 .1 .0) (now (a .0)) (now (a .1 .1 .1 .0)) = r .learnt in
     cc

@@ -8,6 +8,10 @@ use borrow.Fn.Kinds.{Dens, resT, endedOf}
 use denote.Triple.Clauses.{AtExit}
 use denote.Ref.{now}
 use Rattle.model.specs.Outcome.{Outcome, outcome}
+use Rattle.handing.proofs.hand_out.Kinds as Hand
+use Rattle.handing.proofs.hand_out.Reads.{Learnt as HandLearnt}
+use Rattle.filing.proofs.write_file.Kinds as Write
+use Rattle.filing.proofs.write_file.Reads.{Learnt as WriteLearnt}
 use Rattle.start.proofs.start.Kinds as Start
 use Rattle.start.proofs.start.Reads.{Learnt as StartLearnt}
 
@@ -20,3 +24,23 @@ pub record RanStart (u : ℕ) (log : List ℕ) (o : Outcome) : Type 0 where
   pub learnt : StartLearnt κs args result exit
   pub given : (now (args .0) ≡ log) × (args .1 .1 .0 ≡ u)
   pub gave : o ≡ outcome (result .number) (result .place) (now (exit .0)) [] 0
+
+-- `hand_out` at unit u, on a log, to a vector asked for, into a lent block
+pub record RanHandOut (archive u : ℕ) (log v lent : List ℕ) (o : Outcome) : Type 0 where
+  pub κs : Lfts 2
+  pub args : Dens κs Hand.ps
+  pub result : resT Hand.r κs .Denot
+  pub exit : AtExit (endedOf 2 Hand.ps Hand.r) κs
+  pub learnt : HandLearnt κs args result exit
+  pub given : (now (args .0) ≡ log) × (args .1 .0 ≡ archive) × (args .1 .1 .0 ≡ u) × (args .1 .1 .1 .0 .counts ≡ v) × (now (args .1 .1 .1 .1 .0) ≡ lent)
+  pub gave : o ≡ outcome (result .number) (result .place) (now (args .0)) (now (exit .1 .1 .1 .1 .0)) 0
+
+-- `write_file` at unit u, on a log, into a lent file
+pub record RanWriteFile (archive u : ℕ) (log lent : List ℕ) (o : Outcome) : Type 0 where
+  pub κs : Lfts 2
+  pub args : Dens κs Write.ps
+  pub result : resT Write.r κs .Denot
+  pub exit : AtExit (endedOf 2 Write.ps Write.r) κs
+  pub learnt : WriteLearnt κs args result exit
+  pub given : (now (args .0) ≡ log) × (args .1 .0 ≡ archive) × (args .1 .1 .0 ≡ u) × (now (args .1 .1 .1 .0) ≡ lent)
+  pub gave : o ≡ outcome (result .number) (result .place) (now (args .0)) (now (exit .1 .1 .1 .0)) (result .blocks)
