@@ -30,6 +30,12 @@ impl Pair {
         }
     }
 
+    /// What each unit made.
+    #[cfg(feature = "sqlite")]
+    pub fn records(&self) -> [&[[u8; 80]]; 2] {
+        [0, 1].map(|unit| &self.logs[unit].as_chunks().0[..256])
+    }
+
     /// The time in which blocks pass both ways until neither lacks a record.
     pub fn run(&self, library: &dyn Library) -> u64 {
         let [mut first, mut second] = self.logs.clone();

@@ -9,6 +9,8 @@ mod calls;
 mod exchange;
 mod options;
 mod readout;
+#[cfg(feature = "sqlite")]
+mod sqlite;
 mod times;
 
 use library::{Library, Plain};
@@ -86,6 +88,30 @@ fn main() {
         }
     }
     times::row("exchange, 256 each way", &times, &yard);
+    #[cfg(feature = "sqlite")]
+    by_sqlite(&pair, options.rounds.div_ceil(20), &yard);
 
     readout::measure(&options, &file, &yard);
+}
+
+/// The exchange by SQLite: one changeset each way, and one for six records as a
+/// block has them. The times stand in the first column.
+#[cfg(feature = "sqlite")]
+fn by_sqlite(pair: &exchange::Pair, rounds: usize, yard: &Times) {
+    if !sqlite::has_sessions() {
+        println!("this SQLite has no session extension");
+        return;
+    }
+    let [first, second] = pair.records();
+    for (name, each) in [("whole", 256), ("by six", 6)] {
+        let mut times = Times::default();
+        for _ in 0..rounds {
+            times.push(sqlite::exchange(first, second, each));
+        }
+        times::row(
+            &format!("exchange, SQLite sessions, {name}"),
+            &[times],
+            yard,
+        );
+    }
 }

@@ -1,0 +1,206 @@
+/* stack FILE: the stack that each entry point uses on the first 0, 64, 256 and
+ * all 512 records of a file. Each call runs in a thread that paints its stack
+ * before; the lowest byte that lost its paint tells how far the call went. */
+
+#define _DEFAULT_SOURCE
+
+#include "limp.h"
+
+#include <pthread.h>
+#include <stdio.h>
+#include <stdlib.h>
+#include <string.h>
+#include <sys/mman.h>
+
+enum { STACK = 1 << 20, PAINT = 0xA7, ARCHIVE = 7, FULL = 512 };
+
+/* The paint begins so far below the frame that paints; less is not seen. */
+enum { MARGIN = 256 };
+
+/* The buffers that the calls get. */
+static uint8_t log_bytes[LIMP_LOG_BYTES], full[LIMP_LOG_BYTES], shorter[LIMP_LOG_BYTES],
+    block[LIMP_BLOCK_BYTES], file[LIMP_FILE_BYTES], out_file[LIMP_FILE_BYTES],
+    tree[LIMP_TREE_BYTES], listing[LIMP_LISTING_BYTES], length[LIMP_LENGTH_BYTES],
+    head[LIMP_HEAD_BYTES], asked[LIMP_VECTOR_BYTES], held[LIMP_VECTOR_BYTES],
+    wish[LIMP_RECORD_BYTES];
+static size_t file_length;
+static uint32_t result;
+
+static void run_compare(void)
+{
+    result = limp_compare(asked, sizeof asked, held, sizeof held);
+}
+
+static void run_start(void)
+{
+    result = limp_start(log_bytes, sizeof log_bytes, ARCHIVE, 0);
+}
+
+static void run_act(void)
+{
+    result = limp_act(shorter, sizeof shorter, ARCHIVE, 0, wish, sizeof wish);
+}
+
+static void run_hand_out(void)
+{
+    result = limp_hand_out(log_bytes, sizeof log_bytes, ARCHIVE, 0, asked, sizeof asked, block,
+                           sizeof block);
+}
+
+static void run_take(void)
+{
+    result = limp_take(shorter, sizeof shorter, ARCHIVE, 0, block, sizeof block);
+}
+
+static void run_write_file(void)
+{
+    result = limp_write_file(log_bytes, sizeof log_bytes, ARCHIVE, 0, out_file, sizeof out_file);
+}
+
+static void run_read_file(void)
+{
+    result = limp_read_file(log_bytes, sizeof log_bytes, file, file_length, head, sizeof head);
+}
+
+static void run_show(void)
+{
+    result = limp_show(log_bytes, sizeof log_bytes, tree, sizeof tree);
+}
+
+static void run_listing(void)
+{
+    result = limp_listing(file, file_length, log_bytes, sizeof log_bytes, tree, sizeof tree,
+                          listing, sizeof listing, length, sizeof length);
+}
+
+struct entry {
+    const char *name;
+    void (*run)(void);
+};
+
+static const struct entry ENTRIES[] = {
+    {"limp_compare", run_compare},       {"limp_start", run_start},
+    {"limp_act", run_act},               {"limp_hand_out", run_hand_out},
+    {"limp_take", run_take},             {"limp_write_file", run_write_file},
+    {"limp_read_file", run_read_file},   {"limp_show", run_show},
+    {"limp_listing", run_listing},
+};
+
+static void fail(const char *what)
+{
+    fprintf(stderr, "%s\n", what);
+    exit(1);
+}
+
+/* The stack of the thread, and what a call used of it. */
+static uint8_t *stack;
+static size_t used;
+
+static void *in_thread(void *entry)
+{
+    volatile uint8_t *at, *here = (uint8_t *)__builtin_frame_address(0);
+    for (at = stack; at < here - MARGIN; at++)
+        *at = PAINT;
+    ((const struct entry *)entry)->run();
+    for (at = stack; at < here - MARGIN && *at == PAINT;)
+        at++;
+    used = (size_t)(here - at);
+    return NULL;
+}
+
+/* Runs a call in a thread of its own. */
+static void measure(const struct entry *entry)
+{
+    pthread_attr_t how;
+    pthread_t thread;
+    if (pthread_attr_init(&how) != 0 || pthread_attr_setstack(&how, stack, STACK) != 0 ||
+        pthread_create(&thread, &how, in_thread, (void *)entry) != 0 ||
+        pthread_join(thread, NULL) != 0)
+        fail("no thread");
+    pthread_attr_destroy(&how);
+}
+
+static void counts(const uint8_t *log, uint8_t *vector)
+{
+    size_t at;
+    memset(vector, 0, LIMP_VECTOR_BYTES);
+    for (at = 0; at < LIMP_LOG_BYTES && (log[at + 2] | log[at + 3]) != 0; at += LIMP_RECORD_BYTES)
+        if (++vector[2 * log[at]] == 0)
+            vector[2 * log[at] + 1]++;
+}
+
+/* The first records of the full log. */
+static void first(uint8_t *log, size_t records)
+{
+    memset(log, 0, LIMP_LOG_BYTES);
+    memcpy(log, full, LIMP_RECORD_BYTES * records);
+}
+
+static size_t least(size_t a, size_t b)
+{
+    return a < b ? a : b;
+}
+
+/* Makes the buffers ready for a call on so many records. */
+static void prepare(const struct entry *entry, size_t records)
+{
+    uint32_t r;
+    first(log_bytes, records);
+    counts(log_bytes, held);
+    memset(asked, 0, sizeof asked);
+    r = limp_write_file(log_bytes, sizeof log_bytes, ARCHIVE, 0, file, sizeof file);
+    file_length = LIMP_BLOCK_BYTES * LIMP_COUNT(r);
+    if (entry->run == run_take) {
+        first(shorter, least(records, FULL - 6));
+        counts(shorter, asked);
+        r = limp_hand_out(full, sizeof full, ARCHIVE, 0, asked, sizeof asked, block, sizeof block);
+    } else if (entry->run == run_act) {
+        first(shorter, least(records, FULL - 1));
+    }
+    if (LIMP_NUMBER(r) != LIMP_OK)
+        fail("the file's records are refused");
+}
+
+/* Reads the file whose records are used. */
+static void read_records(const char *name)
+{
+    FILE *from = fopen(name, "rb");
+    if (from == NULL)
+        fail("no such file");
+    file_length = fread(file, 1, sizeof file, from);
+    fclose(from);
+    run_read_file();
+    if (LIMP_NUMBER(result) != LIMP_OK || LIMP_COUNT(result) != FULL)
+        fail("not a file of 512 records");
+    memcpy(full, log_bytes, sizeof full);
+}
+
+int main(int words, char **word)
+{
+    static const size_t sizes[4] = {0, 64, 256, FULL};
+    size_t i, j, most = 0;
+    if (words != 2)
+        fail("usage: stack FILE");
+    read_records(word[1]);
+    memset(wish, 0, sizeof wish);
+    memcpy(wish + 1, "\001", 1);
+    memcpy(wish + 28, "\xE9\x07\x03\x04Gain, new", 13);
+    stack = (uint8_t *)mmap(NULL, STACK, PROT_READ | PROT_WRITE, MAP_PRIVATE | MAP_ANONYMOUS, -1, 0);
+    if (stack == MAP_FAILED)
+        fail("no memory for a stack");
+    printf("| call | 0 records | 64 | 256 | 512 |\n|---|---|---|---|---|\n");
+    for (i = 0; i < sizeof ENTRIES / sizeof ENTRIES[0]; i++) {
+        printf("| %s |", ENTRIES[i].name);
+        for (j = 0; j < 4; j++) {
+            prepare(&ENTRIES[i], sizes[j]);
+            measure(&ENTRIES[i]);
+            if (LIMP_NUMBER(result) != LIMP_OK)
+                fail("a call is refused");
+            most = used > most ? used : most;
+            printf(used > MARGIN ? " %lu |" : " at most %lu |", (unsigned long)used);
+        }
+        printf("\n");
+    }
+    printf("\nmost: %lu bytes\n", (unsigned long)most);
+    return 0;
+}
