@@ -24,7 +24,7 @@ use Rattle.table.proofs.Rows.{row-length, aside-row-length}
 use Rattle.table.proofs.Writes.{part-entry, part-aside}
 use Rattle.table.proofs.Fields.{settledOne, new-row, store-entry, rename-entry, remove-entry, settle-aside, new-proper, stored-proper, renamed-proper, removed-proper}
 use Rattle.lookup.specs.Roles.{rowFrom, rowOf, noteFrom, noteOf, roleOf, slotOf, Absent, Lone, Works, Holds}
-use Rattle.lookup.proofs.Places.{change-at, note-at, not-settled}
+use Rattle.lookup.proofs.Places.{row-lone, change-at, note-at, not-settled}
 use Rattle.lookup.proofs.Working.{blankEntry, blankAside, row-none, row-some, works-long, works-row, role-note, role-no-note}
 use Rattle.judge.specs.Judged.{Asks}
 use Rattle.apply.specs.Effects.{withEntries, withAsides, Takes}
@@ -69,19 +69,6 @@ no-entry-no-change f k (x ∷ l) h = go (eqb (x .made) k && isPresent x) h (no-e
     go : (t : Bool) → cond t (some x) (entryOf k l) ≡ none → (entryOf k l ≡ none → changed f k l ≡ l) → cond t (f x ∷ l) (x ∷ changed f k l) ≡ x ∷ l
     go true q rest = absurd (let z : _≡_ {A = ℕ} 0 1 = cc in omega arith)
     go false q rest = ap (λ (y : List Entry). x ∷ y) (rest q)
-
-absent-at : (k : ℕ) (l : List Entry) (j : ℕ) (d : Entry) → Absent k l → j < length l → getD l j d .made ≡ k → ⊥
-absent-at k [] j d u h q = absurd (omega arith)
-absent-at k (e ∷ l) zero d u h q = u .0 q
-absent-at k (e ∷ l) (suc j) d u h q = absent-at k l j d (u .1) (omega arith) q
-
-row-lone : (k i : ℕ) (l : List Entry) (j : ℕ) (d : Entry) → Lone l → j < length l → getD l j d .made ≡ k → rowFrom k i l ≡ suc (i + j)
-unfolding rowFrom
-row-lone k i [] j d u h q = absurd (omega arith)
-row-lone k i (e ∷ l) zero d u h q = rw (eq-eqb (e .made) k q) (omega arith)
-row-lone k i (e ∷ l) (suc j) d u h q =
-    rw (ne-eqb (e .made) k (λ (z : e .made ≡ k). absent-at (e .made) l j d (u .0) (omega arith) (q ∙ sym z)))
-    (row-lone k (suc i) l j d (u .1) (omega arith) q ∙ omega arith)
 
 -- a change of entries, and what it does to their rows
 pub record Writes (f : Entry → Entry) (g : List ℕ → List ℕ) : Type 0 where

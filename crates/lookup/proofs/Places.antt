@@ -86,6 +86,20 @@ row-at k i (e ∷ l) j d h =
     record { from = omega (arith, r .from); inside = omega (arith, r .inside); is = rw y (r .is) })
     (eq-or-ne (e .made) k)
 
+-- no entry of a list is absent from it, and an entry is in one row only
+pub absent-at : (k : ℕ) (l : List Entry) (j : ℕ) (d : Entry) → Absent k l → j < length l → getD l j d .made ≡ k → ⊥
+absent-at k [] j d u h q = absurd (omega arith)
+absent-at k (e ∷ l) zero d u h q = u .0 q
+absent-at k (e ∷ l) (suc j) d u h q = absent-at k l j d (u .1) (omega arith) q
+
+pub row-lone : (k i : ℕ) (l : List Entry) (j : ℕ) (d : Entry) → Lone l → j < length l → getD l j d .made ≡ k → rowFrom k i l ≡ suc (i + j)
+unfolding rowFrom
+row-lone k i [] j d u h q = absurd (omega arith)
+row-lone k i (e ∷ l) zero d u h q = rw (eq-eqb (e .made) k q) (omega arith)
+row-lone k i (e ∷ l) (suc j) d u h q =
+    rw (ne-eqb (e .made) k (λ (z : e .made ≡ k). absent-at (e .made) l j d (u .0) (omega arith) (q ∙ sym z)))
+    (row-lone k (suc i) l j d (u .1) (omega arith) q ∙ omega arith)
+
 -- the entry of a row, if it is present
 abbrev pub ifPresent : Entry → Option Entry
 ifPresent e = cond (isPresent e) (some e) none

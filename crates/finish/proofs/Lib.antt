@@ -1,0 +1,5 @@
+pub mod Flags
+pub mod Compaction
+pub mod Finished
+
+

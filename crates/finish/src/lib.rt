@@ -1,0 +1,108 @@
+// A working table becomes the table shown: flags for disputed entries, present rows alone, counts.
+ghost use mathlib.Core.Path.{_≡_};
+ghost use Prim.Native.Nat.{_+_, _*_, _≤_, _<_};
+ghost use lib.ListN.{length, set, take};
+ghost use Rattle.model.specs.Bytes.{part, putAt};
+ghost use Rattle.model.specs.Table.{tableBytes};
+ghost use Rattle.table.specs.Rows.{asidesFrom, treeIn};
+ghost use Rattle.lookup.specs.Roles.{Holds};
+ghost use Rattle.finish.specs.Finishing.{Marked, Kept, Compacted};
+
+use table::Size;
+
+// A row with its flag set.
+fn flag_row(row: &mut [u8])
+    requires { ⌜ length (now row) ≡ 72 ⌝ }
+    ensures { λ _. ⌜ now (row .exit) ≡ set (now (row .entry)) 1 1 ⌝ }
+{
+    row[1] = 1;
+}
+
+// The entry that aside i marks is flagged, if the aside is open and the entry ever was made.
+pub fn flag_one(table: &mut [u8], roles: &[u16], size: Size, i: usize)
+    requires { ⌜ Marked (take i (asidesFrom (now table) 0 (size .asides))) (now table) (now roles) (size .entries) (size .asides) (treeIn (now table) (size .entries) (size .asides)) × (i < size .asides) ⌝ }
+    ensures { λ _. ⌜ Marked (take (i + 1) (asidesFrom (now (table .entry)) 0 (size .asides))) (now (table .exit)) (now (roles .entry)) (size .entries) (size .asides) (treeIn (now (table .entry)) (size .entries) (size .asides)) ⌝ }
+{
+    let note = 36868 + 12 * i;
+    if table[note + 5] != 1 {
+        return;
+    }
+    let k = table::identity_at(table, note + 8);
+    if k == 0 {
+        return;
+    }
+    let role = lookup::role_of(roles, k);
+    if role == 0 {
+        return;
+    }
+    if size.entries < role {
+        return;
+    }
+    let at = 4 + 72 * (role - 1);
+    flag_row(&mut table[at..at + 72]);
+}
+
+// The entries that open asides mark are flagged.
+pub fn flag(table: &mut [u8], roles: &[u16], size: Size)
+    requires { ⌜ Holds (now table) (now roles) (size .entries) (size .asides) ⌝ }
+    ensures { λ _. ⌜ Marked (asidesFrom (now (table .entry)) 0 (size .asides)) (now (table .exit)) (now (roles .entry)) (size .entries) (size .asides) (treeIn (now (table .entry)) (size .entries) (size .asides)) ⌝ }
+{
+    let mut i: usize = 0;
+    while i < size.asides {
+        flag_one(table, roles, size, i);
+        i += 1;
+    }
+}
+
+// Bytes move down. The first byte moves first, so the places may overlap.
+pub fn move_down(buf: &mut [u8], from: usize, to: usize, n: usize)
+    requires { ⌜ (to ≤ from) × (from + n ≤ length (now buf)) ⌝ }
+    ensures { λ _. ⌜ now (buf .exit) ≡ putAt (now (buf .entry)) to (part (now (buf .entry)) from n) ⌝ }
+{
+    let mut i: usize = 0;
+    while i < n {
+        buf[to + i] = buf[from + i];
+        i += 1;
+    }
+}
+
+// Row i becomes row j, unless its entry was removed; the row that comes next.
+pub fn keep_row(table: &mut [u8], i: usize, j: usize) -> usize
+    requires { ⌜ (length (now table) ≡ 43012) × (i < 512) × (j ≤ i) ⌝ }
+    ensures { λ r. ⌜ Kept (now (table .entry)) (now (table .exit)) i j r ⌝ }
+{
+    if table[4 + 72 * i] == 0 {
+        return j;
+    }
+    move_down(table, 4 + 72 * i, 4 + 72 * j, 72);
+    j + 1
+}
+
+// The rows of present entries move to the front.
+pub fn compact(table: &mut [u8], n: usize) -> usize
+    requires { ⌜ (length (now table) ≡ 43012) × (n ≤ 512) ⌝ }
+    ensures { λ r. ⌜ Compacted (now (table .entry)) (now (table .exit)) n r ⌝ }
+{
+    let mut j: usize = 0;
+    let mut i: usize = 0;
+    while i < n {
+        j = keep_row(table, i, j);
+        i += 1;
+    }
+    j
+}
+
+// The table shown: flags, present rows, zeros behind them, counts.
+pub fn finish(table: &mut [u8], roles: &[u16], size: Size)
+    requires { ⌜ Holds (now table) (now roles) (size .entries) (size .asides) ⌝ }
+    ensures { λ _. ⌜ now (table .exit) ≡ tableBytes (treeIn (now (table .entry)) (size .entries) (size .asides)) ⌝ }
+{
+    flag(table, roles, size);
+    let n = size.entries;
+    let j = compact(table, n);
+    let at = 4 + 72 * j;
+    let rest = 72 * (n - j);
+    octets::clear(&mut table[at..at + rest]);
+    octets::put16(table, 0, j as u16);
+    octets::put16(table, 2, size.asides as u16);
+}
