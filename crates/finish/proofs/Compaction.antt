@@ -35,6 +35,9 @@ moved-down d l from to n i h room g e =
     rw (x, set-put l (to + i) y (omega arith), e, part-snoc d from i (omega arith))
     (rw k at (put-more d to (part d from i) (y ∷ []) (omega arith)))
 
+pub moved-all : (d l : List ℕ) (from to n i : ℕ) → i ≤ n → n ≤ i → l ≡ putAt d to (part d from i) → l ≡ putAt d to (part d from n)
+moved-all d l from to n i h g e = let q : i ≡ n = omega arith in rw q at e
+
 pub moved-none : (d : List ℕ) (from to : ℕ) → d ≡ putAt d to (part d from 0)
 moved-none d from to = rw (part-none d from) (sym (put-nil d to))
 
@@ -48,7 +51,7 @@ kept-length b (suc n) h =
     let q = part-length b (4 + 72 * n) 72 (omega arith) in
     ⊎-elim (λ (e : getD b (4 + 72 * n) 0 ≡ 0). rw (eq-eqb (getD b (4 + 72 * n) 0) 0 e) r)
     (λ (e : getD b (4 + 72 * n) 0 ≡ 0 → ⊥).
-      rw (ne-eqb (getD b (4 + 72 * n) 0) 0 e) (omega (arith, length-append (keptTo b n) (part b (4 + 72 * n) 72))))
+    rw (ne-eqb (getD b (4 + 72 * n) 0) 0 e) (omega (arith, length-append (keptTo b n) (part b (4 + 72 * n) 72))))
     (eq-or-ne (getD b (4 + 72 * n) 0) 0)
 
 pub present-few : (b : List ℕ) (n : ℕ) → presentTo b n ≤ n
@@ -88,9 +91,9 @@ module _ (d b : List ℕ) (i j : ℕ) (e : b ≡ putAt d 4 (keptTo d i)) (c : j 
       ⊎-elim
       (λ (q : getD d (4 + 72 * i) 0 ≡ 0). r .rows ∙ rw (kind-stays, add-one i, eq-eqb (getD d (4 + 72 * i) 0) 0 q) e)
       (λ (q : getD d (4 + 72 * i) 0 ≡ 0 → ⊥).
-        r .rows
-        ∙ rw (kind-stays, row-stays, add-one i, ne-eqb (getD d (4 + 72 * i) 0) 0 q, e)
-        (rw z at (put-more d 4 (keptTo d i) (part d (4 + 72 * i) 72) (omega (arith, row-below)))))
+      r .rows
+      ∙ rw (kind-stays, row-stays, add-one i, ne-eqb (getD d (4 + 72 * i) 0) 0 q, e)
+      (rw z at (put-more d 4 (keptTo d i) (part d (4 + 72 * i) 72) (omega (arith, row-below)))))
       (eq-or-ne (getD d (4 + 72 * i) 0) 0)
 
   pub compact-count : (b' : List ℕ) (k : ℕ) → Kept b b' i j k → k ≡ presentTo d (i + 1)
@@ -108,7 +111,7 @@ compact-starts b = sym (put-nil b 4)
 pub compact-ends : (d b : List ℕ) (i j n : ℕ) → i ≤ n → n ≤ i → b ≡ putAt d 4 (keptTo d i) → j ≡ presentTo d i → Compacted d b n j
 compact-ends d b i j n h g e c =
     let q : i ≡ n = omega arith in
-    record { rows = rw q at e; present = rw q at c }
+    record { rows = rw q at e; present = rw q at c; few = omega (arith, present-few d i) }
 
 -- ---- the rows kept are those of the entries present
 
@@ -145,12 +148,12 @@ module _ (s : List Aside) (es : List Entry) (l : List Aside) (fit : AllProper es
       let f = flagOf s e in
       let k = kind-is i h in
       let split : entryRows s (presentOnes (take (suc i) es)) ≡ entryRows s (presentOnes (take i es)) ++ entryRows s (presentOnes (e ∷ [])) =
-        rw (take-suc es i blankEntry h, present-append (take i es) (e ∷ []), entry-rows-append s (presentOnes (take i es)) (presentOnes (e ∷ []))) in
+      rw (take-suc es i blankEntry h, present-append (take i es) (e ∷ []), entry-rows-append s (presentOnes (take i es)) (presentOnes (e ∷ []))) in
       let ih = kept-rows i (omega arith) in
       ⊎-elim
       (λ (q : e .kind ≡ 0). rw (k, eq-eqb (e .kind) 0 q, split, gone e q) (ih ∙ sym (append-nil (entryRows s (presentOnes (take i es))))))
       (λ (q : e .kind ≡ 0 → ⊥).
-        rw (k, ne-eqb (e .kind) 0 q, split, here e q, part-entry s es l fit room i blankEntry h, ih, append-nil (entryRow f e)))
+      rw (k, ne-eqb (e .kind) 0 q, split, here e q, part-entry s es l fit room i blankEntry h, ih, append-nil (entryRow f e)))
       (eq-or-ne (e .kind) 0)
 
   pub present-rows : (i : ℕ) → i ≤ length es → presentTo (flagged s es l) i ≡ length (presentOnes (take i es))
@@ -160,7 +163,7 @@ module _ (s : List Aside) (es : List Entry) (l : List Aside) (fit : AllProper es
       let e = getD es i blankEntry in
       let k = kind-is i h in
       let split : length (presentOnes (take (suc i) es)) ≡ length (presentOnes (take i es)) + length (presentOnes (e ∷ [])) =
-        rw (take-suc es i blankEntry h, present-append (take i es) (e ∷ []), length-append (presentOnes (take i es)) (presentOnes (e ∷ []))) in
+      rw (take-suc es i blankEntry h, present-append (take i es) (e ∷ []), length-append (presentOnes (take i es)) (presentOnes (e ∷ []))) in
       let ih = present-rows i (omega arith) in
       ⊎-elim
       (λ (q : e .kind ≡ 0). rw (k, eq-eqb (e .kind) 0 q, split, gone e q) (omega arith))

@@ -16,7 +16,7 @@ use Rattle.table.specs.Rows.{entriesFrom, asidesFrom, treeIn, flagged, workByte
 use Rattle.table.proofs.Rows.{rows-length}
 use Rattle.table.proofs.Writes.{rows-written, flagged-long}
 use Rattle.lookup.specs.Roles.{Works, Holds}
-use Rattle.finish.specs.Finishing.{Marked, keptTo, presentTo, Compacted}
+use Rattle.finish.specs.Finishing.{Marked, keptTo, presentTo, Compacted, trimmed}
 use Rattle.finish.proofs.Compaction.{kept-length, present-few, kept-rows, present-rows}
 
 padded-zeros : (n c : ℕ) (x : List ℕ) → length x + c ≤ n → padded n (x ++ replicate c 0) ≡ padded n x
@@ -43,10 +43,10 @@ module _ (es : List Entry) (l : List Aside) (n m : ℕ) (fit : AllProper es) (ro
   table-long = flagged-long l es l fit (omega arith) (omega arith)
 
   -- the present rows in the place of all, and zeros behind them
-  trimmed : (j : ℕ) → j ≡ presentTo (flagged l es l) n
+  trimmed-rows : (j : ℕ) → j ≡ presentTo (flagged l es l) n
       → putAt (flagged l es l) 4 (keptTo (flagged l es l) n ++ replicate (72 * (n - j)) 0)
       ≡ (0 ∷ 0 ∷ 0 ∷ 0 ∷ []) ++ (padded 36864 (entryRows l (presentOnes es)) ++ padded 6144 (asideRows l))
-  trimmed j c =
+  trimmed-rows j c =
       let b = flagged l es l in
       let k = keptTo b n in
       let z : List ℕ = replicate (72 * (n - j)) 0 in
@@ -57,62 +57,43 @@ module _ (es : List Entry) (l : List Aside) (n m : ℕ) (fit : AllProper es) (ro
       rows-written l es l fit (omega arith) 0 (k ++ z) (omega arith)
       ∙ rw (put-whole (entryRows l es) (k ++ z) xl, padded-zeros 36864 (72 * (n - j)) k (omega arith), all-kept)
 
-  -- what `finish` is asked, over plain values
-  finished : (b d ys e f : List ℕ) (j : ℕ) → b ≡ flagged l es l → Compacted b d n j
-      → ys ≡ replicate (length (take (4 + 72 * j + 72 * (n - j) - (4 + 72 * j)) (drop (4 + 72 * j) d))) 0
-      → e ≡ putAt (putMid (4 + 72 * j) (4 + 72 * j + 72 * (n - j) - (4 + 72 * j)) d ys) 0 (two j)
-      → f ≡ putAt e 2 (two m)
-      → f ≡ tableBytes (record { entries = es; asides = l })
-  unfolding tableBytes
-  finished b d ys e f j hb c hy he hf =
-      let g = flagged l es l in
-      let k = keptTo g n in
+  finished : trimmed (flagged l es l) n m ≡ tableBytes (record { entries = es; asides = l })
+  unfolding tableBytes trimmed
+  finished =
+      let t = flagged l es l in
+      let j = presentTo t n in
+      let k = keptTo t n in
       let z : List ℕ = replicate (72 * (n - j)) 0 in
-      let hj : j ≡ presentTo g n = c .present ∙ ap (λ (x : List ℕ). presentTo x n) hb in
-      let hd : d ≡ putAt g 4 k = c .rows ∙ rw hb in
-      let kl : length k ≡ 72 * j = kept-length g n (omega (arith, table-long)) ∙ ap (λ (x : ℕ). 72 * x) (sym hj) in
-      let jl : j ≤ n = omega (arith, present-few g n) in
-      let dl : length d ≡ 43012 = ap (λ (x : List ℕ). length x) hd ∙ length-put g 4 k (omega (arith, table-long)) ∙ table-long in
-      let yl : ys ≡ z = hy ∙ ap (λ (x : ℕ). replicate {A = ℕ} x 0) (lent-length d (4 + 72 * j) (72 * (n - j)) (omega arith)) in
-      let zl : length ys ≡ 72 * (n - j) = ap (λ (x : List ℕ). length x) yl ∙ length-replicate {A = ℕ} (72 * (n - j)) 0 in
-      let mid = mid-put (4 + 72 * j) (72 * (n - j)) d ys zl in
-      let more : putAt d (4 + 72 * j) z ≡ putAt g 4 (k ++ z) = rw hd (rw kl at (put-more g 4 k z (omega (arith, table-long)))) in
-      let count : j ≡ length (presentOnes es) = hj ∙ all-present in
+      let kl : length k ≡ 72 * j = kept-length t n (omega (arith, table-long)) in
+      let more : putAt (putAt t 4 k) (4 + 72 * j) z ≡ putAt t 4 (k ++ z) = rw kl at (put-more t 4 k z (omega (arith, table-long, present-few t n))) in
       let y = padded 36864 (entryRows l (presentOnes es)) ++ padded 6144 (asideRows l) in
-      hf ∙ rw (he, mid, yl, more, trimmed j hj) (counted y j m ∙ rw (count, notes))
+      rw (more, trimmed-rows j refl) (counted y j m ∙ rw (all-present, notes))
+
+-- what `clear_rows` and `finish` are asked, over plain values
+
+pub rows-cleared : (b ys : List ℕ) (i j : ℕ) → length b ≡ 43012 → i ≤ j → j ≤ 512
+    → ys ≡ replicate (length (take (4 + 72 * i + 72 * (j - i) - (4 + 72 * i)) (drop (4 + 72 * i) b))) 0
+    → putMid (4 + 72 * i) (4 + 72 * i + 72 * (j - i) - (4 + 72 * i)) b ys ≡ putAt b (4 + 72 * i) (replicate (72 * (j - i)) 0)
+rows-cleared b ys i j long h room e =
+    let y : ys ≡ replicate (72 * (j - i)) 0 = e ∙ ap (λ (x : ℕ). replicate {A = ℕ} x 0) (lent-length b (4 + 72 * i) (72 * (j - i)) (omega arith)) in
+    let n : length ys ≡ 72 * (j - i) = ap (λ (x : List ℕ). length x) y ∙ length-replicate {A = ℕ} (72 * (j - i)) 0 in
+    mid-put (4 + 72 * i) (72 * (j - i)) b ys n ∙ ap (λ (x : List ℕ). putAt b (4 + 72 * i) x) y
+
+pub trim-done : (b d g e f : List ℕ) (n m j : ℕ) → Compacted b d n j → g ≡ putAt d (4 + 72 * j) (replicate (72 * (n - j)) 0) → e ≡ putAt g 0 (two j) → f ≡ putAt e 2 (two m)
+    → f ≡ trimmed b n m
+unfolding trimmed
+trim-done b d g e f n m j c hg he hf = hf ∙ rw (he, hg, c .rows, c .present)
 
 module _ (b₀ b roles : List ℕ) (n m : ℕ) (k : Marked (asidesFrom b₀ 0 m) b roles n m (treeIn b₀ n m)) where
-  pub marked-rows : n ≤ 512
-  marked-rows = k .works .rows-fit
-
-  pub marked-notes : m ≤ 512
-  marked-notes = k .works .notes-fit
-
   pub marked-long : length b ≡ 43012
   unfolding treeIn
   marked-long =
       ap (λ (x : List ℕ). length x) (k .bytes)
       ∙ table-long (entriesFrom b₀ 0 n) (asidesFrom b₀ 0 m) n m (k .works .proper) (k .works .rows) (k .works .rows-fit) (k .works .notes) (k .works .notes-fit)
 
-  module _ (d : List ℕ) (j : ℕ) (c : Compacted b d n j) where
-    pub present-below : j ≤ n
-    present-below = omega (arith, c .present, present-few b n)
-
-    pub rest-inside : 4 + 72 * j + 72 * (n - j) ≤ length d
-    rest-inside =
-        let r = marked-rows in
-        let q = marked-long in
-        let p = present-below in
-        let kl = kept-length b n (omega arith) in
-        let e = c .present in
-        omega (arith, ap (λ (x : List ℕ). length x) (c .rows) ∙ length-put b 4 (keptTo b n) (omega arith))
-
-    pub finish-done : (ys e f : List ℕ)
-        → ys ≡ replicate (length (take (4 + 72 * j + 72 * (n - j) - (4 + 72 * j)) (drop (4 + 72 * j) d))) 0
-        → e ≡ putAt (putMid (4 + 72 * j) (4 + 72 * j + 72 * (n - j) - (4 + 72 * j)) d ys) 0 (two j)
-        → f ≡ putAt e 2 (two m)
-        → f ≡ tableBytes (treeIn b₀ n m)
-    unfolding treeIn
-    finish-done ys e f hy he hf =
-        finished (entriesFrom b₀ 0 n) (asidesFrom b₀ 0 m) n m (k .works .proper) (k .works .rows) (k .works .rows-fit) (k .works .notes) (k .works .notes-fit)
-        b d ys e f j (k .bytes) c hy he hf
+  pub finish-done : (f : List ℕ) → f ≡ trimmed b n m → f ≡ tableBytes (treeIn b₀ n m)
+  unfolding treeIn
+  finish-done f e =
+      e
+      ∙ ap (λ (x : List ℕ). trimmed x n m) (k .bytes)
+      ∙ finished (entriesFrom b₀ 0 n) (asidesFrom b₀ 0 m) n m (k .works .proper) (k .works .rows) (k .works .rows-fit) (k .works .notes) (k .works .notes-fit)

@@ -84,7 +84,7 @@ rows-flagged s a (e ∷ l) (suc j) d o h g u p =
     let row = entryRow (flagOf s e) e in
     let n : 72 * suc j ≡ length row + 72 * j = omega (arith, row-length (flagOf s e) e (p .0)) in
     let f : flagOf (s ++ (a ∷ [])) e ≡ flagOf s e =
-      flag-same s a e (apart-test a (e .made) (λ (z : e .made ≡ a .marked). absent-at (e .made) l j d (u .0) (omega arith) (g ∙ sym z))) in
+    flag-same s a e (apart-test a (e .made) (λ (z : e .made ≡ a .marked). absent-at (e .made) l j d (u .0) (omega arith) (g ∙ sym z))) in
     rw (f, n, put-in-back row (entryRows s l) (72 * j) (entryRow 1 (getD l j d)), rows-flagged s a l j d o (omega arith) g (u .1) (p .1))
 
 absent-zero : (es : List Entry) → AllProper es → Absent 0 es
@@ -123,6 +123,31 @@ module _ (b roles : List ℕ) (n m i : ℕ) (k : Marked (take i (asidesFrom b 0 
   one-more =
       let notes = k .works .notes in
       rw (add-one i, take-suc (asidesFrom b 0 m) i blankAside (omega arith), asides-at b 0 m i blankAside h, zero-add i)
+
+  table-long : length b ≡ 43012
+  unfolding treeIn
+  table-long =
+      let fit = k .works .rows-fit in
+      let notes = k .works .notes in
+      let rows = k .works .rows in
+      let nf = k .works .notes-fit in
+      ap (λ (y : List ℕ). length y) (k .bytes)
+      ∙ flagged-long (take i (asidesFrom b 0 m)) (entriesFrom b 0 n) (asidesFrom b 0 m) (k .works .proper) (omega arith) (omega arith)
+
+  pub state-inside : 36868 + 12 * i + 5 < length b
+  state-inside =
+      let nf = k .works .notes-fit in
+      omega (arith, table-long)
+
+  pub mark-inside : 36868 + 12 * i + 8 + 3 < length b
+  mark-inside =
+      let nf = k .works .notes-fit in
+      omega (arith, table-long)
+
+  pub flag-end : (role : ℕ) → (role ≡ 0 → ⊥) → role ≤ n → 4 + 72 * (role - 1) + 72 ≤ length b
+  flag-end role g f =
+      let fit = k .works .rows-fit in
+      omega (arith, table-long)
 
   same-rows : entryRows (take i (asidesFrom b 0 m) ++ (asideIn b (36868 + 12 * i) ∷ [])) (entriesFrom b 0 n) ≡ entryRows (take i (asidesFrom b 0 m)) (entriesFrom b 0 n)
       → Marked (take (i + 1) (asidesFrom b 0 m)) b roles n m (treeIn b n m)
@@ -168,18 +193,6 @@ module _ (b roles : List ℕ) (n m i : ℕ) (k : Marked (take i (asidesFrom b 0 
       pub flag-aside : n < role → Marked (take (i + 1) (asidesFrom b 0 m)) b roles n m (treeIn b n m)
       flag-aside g = no-row (inr g)
 
-      pub flag-end : (role ≡ 0 → ⊥) → role ≤ n → 4 + 72 * (role - 1) + 72 ≤ length b
-      unfolding treeIn
-      flag-end g f =
-          let fit = k .works .rows-fit in
-          let notes = k .works .notes in
-          let rows = k .works .rows in
-          let nf = k .works .notes-fit in
-          let s = take i (asidesFrom b 0 m) in
-          let long : length b ≡ 43012 =
-            ap (λ (y : List ℕ). length y) (k .bytes) ∙ flagged-long s (entriesFrom b 0 n) (asidesFrom b 0 m) (k .works .proper) (omega arith) (omega arith) in
-          omega arith
-
       pub flag-done : getD b (36868 + 12 * i + 5) 0 ≡ 1 → (role ≡ 0 → ⊥) → role ≤ n → (ys : List ℕ)
           → ys ≡ set (take (4 + 72 * (role - 1) + 72 - (4 + 72 * (role - 1))) (drop (4 + 72 * (role - 1)) b)) 1 1
           → Marked
@@ -203,13 +216,13 @@ module _ (b roles : List ℕ) (n m i : ℕ) (k : Marked (take i (asidesFrom b 0 
           let at = row-at x 0 es j blankEntry c in
           let d : getD es j blankEntry .made ≡ x = rw sub-zero at (at .is) in
           let v : ys ≡ entryRow 1 (getD es j blankEntry) =
-            y ∙ rw (part-is b (4 + 72 * j) 72) (flag-part s es l j b (k .bytes) (w .proper) (omega arith) (omega (arith, at .inside))) in
+          y ∙ rw (part-is b (4 + 72 * j) 72) (flag-part s es l j b (k .bytes) (w .proper) (omega arith) (omega (arith, at .inside))) in
           let n72 : length ys ≡ 72 = ap (λ (q : List ℕ). length q) v ∙ row-length 1 (getD es j blankEntry) (proper-at es j blankEntry (omega (arith, at .inside)) (w .proper)) in
           let u : putAt b (4 + 72 * j) (entryRow 1 (getD es j blankEntry)) ≡ flagged (s ++ (a ∷ [])) es l =
-            ap (λ (q : List ℕ). putAt q (4 + 72 * j) (entryRow 1 (getD es j blankEntry))) (k .bytes)
-            ∙ flagged-row s a es l j (w .proper) (omega arith) (eq-eqb (getD b (36868 + 12 * i + 5) 0) 1 o) (omega (arith, at .inside)) (d ∙ q) (w .lone) in
+          ap (λ (q : List ℕ). putAt q (4 + 72 * j) (entryRow 1 (getD es j blankEntry))) (k .bytes)
+          ∙ flagged-row s a es l j (w .proper) (omega arith) (eq-eqb (getD b (36868 + 12 * i + 5) 0) 1 o) (omega (arith, at .inside)) (d ∙ q) (w .lone) in
           let e : putMid (4 + 72 * j) (4 + 72 * j + 72 - (4 + 72 * j)) b ys ≡ flagged (take (i + 1) l) es l =
-            mid-put (4 + 72 * j) 72 b ys n72 ∙ ap (λ (q : List ℕ). putAt b (4 + 72 * j) q) v ∙ u ∙ ap (λ (q : List Aside). flagged q es l) (sym one-more) in
+          mid-put (4 + 72 * j) 72 b ys n72 ∙ ap (λ (q : List ℕ). putAt b (4 + 72 * j) q) v ∙ u ∙ ap (λ (q : List Aside). flagged q es l) (sym one-more) in
           record { bytes = e; works = w }
 
 -- ---- what `flag` is asked

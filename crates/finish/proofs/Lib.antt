@@ -1,5 +1,3 @@
 pub mod Flags
 pub mod Compaction
 pub mod Finished
-
-

@@ -1,12 +1,12 @@
 -- Tables on the way from the working table to the table shown.
 -- Assumes nothing.
-use Prim.Native.Nat.{ℕ, zero, suc, _+_, _*_}
+use Prim.Native.Nat.{ℕ, zero, suc, _+_, _-_, _*_, _≤_}
 use mathlib.Core.Path.{_≡_}
 use mathlib.Core.Bool.{cond}
 use mathlib.Core.List.{List, [], _++_}
 use lib.Dec.{eqb}
-use lib.ListN.{getD}
-use Rattle.model.specs.Bytes.{part, putAt}
+use lib.ListN.{getD, replicate}
+use Rattle.model.specs.Bytes.{two, part, putAt}
 use Rattle.model.specs.Replay.{Aside, Tree}
 use Rattle.table.specs.Rows.{flagged, workBytes}
 use Rattle.lookup.specs.Roles.{Works}
@@ -35,3 +35,12 @@ pub record Kept (b b' : List ℕ) (i j next : ℕ) : Type 0 where
 pub record Compacted (b b' : List ℕ) (n count : ℕ) : Type 0 where
   pub rows : b' ≡ putAt b 4 (keptTo b n)
   pub present : count ≡ presentTo b n
+  pub few : count ≤ n
+
+-- the rows of present entries among the first n alone, zeros behind them, and the counts
+unfoldable pub trimmed : List ℕ → ℕ → ℕ → List ℕ
+trimmed b n m =
+    putAt
+    (putAt (putAt (putAt b 4 (keptTo b n)) (4 + 72 * presentTo b n) (replicate (72 * (n - presentTo b n)) 0)) 0 (two (presentTo b n)))
+    2
+    (two m)

@@ -1,13 +1,12 @@
 // A working table becomes the table shown: flags for disputed entries, present rows alone, counts.
 ghost use mathlib.Core.Path.{_≡_};
-ghost use Prim.Native.Nat.{_+_, _*_, _≤_, _<_};
-ghost use lib.ListN.{length, set, take};
+ghost use Prim.Native.Nat.{_+_, _-_, _*_, _≤_, _<_};
+ghost use lib.ListN.{length, set, take, replicate};
 ghost use Rattle.model.specs.Bytes.{part, putAt};
 ghost use Rattle.model.specs.Table.{tableBytes};
 ghost use Rattle.table.specs.Rows.{asidesFrom, treeIn};
 ghost use Rattle.lookup.specs.Roles.{Holds};
-ghost use Rattle.finish.specs.Finishing.{Marked, Kept, Compacted};
-
+ghost use Rattle.finish.specs.Finishing.{Marked, Kept, Compacted, trimmed};
 use table::Size;
 
 // A row with its flag set.
@@ -92,17 +91,32 @@ pub fn compact(table: &mut [u8], n: usize) -> usize
     j
 }
 
-// The table shown: flags, present rows, zeros behind them, counts.
+// The rows from one up to another become zero.
+pub fn clear_rows(table: &mut [u8], from: usize, to: usize)
+    requires { ⌜ (length (now table) ≡ 43012) × (from ≤ to) × (to ≤ 512) ⌝ }
+    ensures { λ _. ⌜ now (table .exit) ≡ putAt (now (table .entry)) (4 + 72 * from) (replicate (72 * (to - from)) 0) ⌝ }
+{
+    let at = 4 + 72 * from;
+    let n = 72 * (to - from);
+    octets::clear(&mut table[at..at + n]);
+}
+
+// The rows of present entries alone, zeros behind them, and the counts.
+pub fn trim(table: &mut [u8], n: usize, m: usize)
+    requires { ⌜ (length (now table) ≡ 43012) × (n ≤ 512) × (m ≤ 512) ⌝ }
+    ensures { λ _. ⌜ now (table .exit) ≡ trimmed (now (table .entry)) n m ⌝ }
+{
+    let present = compact(table, n);
+    clear_rows(table, present, n);
+    octets::put16(table, 0, present as u16);
+    octets::put16(table, 2, m as u16);
+}
+
+// The table shown: flags for disputed entries, then present rows alone.
 pub fn finish(table: &mut [u8], roles: &[u16], size: Size)
     requires { ⌜ Holds (now table) (now roles) (size .entries) (size .asides) ⌝ }
     ensures { λ _. ⌜ now (table .exit) ≡ tableBytes (treeIn (now (table .entry)) (size .entries) (size .asides)) ⌝ }
 {
     flag(table, roles, size);
-    let n = size.entries;
-    let j = compact(table, n);
-    let at = 4 + 72 * j;
-    let rest = 72 * (n - j);
-    octets::clear(&mut table[at..at + rest]);
-    octets::put16(table, 0, j as u16);
-    octets::put16(table, 2, size.asides as u16);
+    trim(table, size.entries, size.asides);
 }
