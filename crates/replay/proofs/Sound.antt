@@ -150,8 +150,8 @@ empty-rows : (b : List ℕ) → treeIn b 0 0 ≡ emptyTree
 unfolding treeIn emptyTree entriesFrom asidesFrom
 empty-rows b = refl
 
-pub start-holds : (b roles : List ℕ) → b ≡ replicate 43012 0 → roles ≡ replicate 4096 0 → Holds b roles 0 0
-start-holds b roles e f = works-holds b roles 0 0 emptyTree (start-works b roles e f)
+pub start-holds : (b₀ roles₀ b roles : List ℕ) → length b₀ ≡ 43012 → length roles₀ ≡ 4096 → b ≡ replicate (length b₀) 0 → roles ≡ replicate (length roles₀) 0 → Holds b roles 0 0
+start-holds b₀ roles₀ b roles p q e f = works-holds b roles 0 0 emptyTree (start-works b roles (rw p at e) (rw q at f))
 
 module _ (b : List ℕ) (n : ℕ) (c : n ≡ length (recordsOf b)) where
   pub log-room : 0 + n ≤ 512

@@ -49,11 +49,24 @@ pub fn replay(
     size
 }
 
-// The n records of a sound log, from the root alone on: table and roles are all zero before.
+// Every role becomes 0.
+pub fn clear_roles(roles: &mut [u16])
+    ensures { λ _. ⌜ now (roles .exit) ≡ replicate (length (now (roles .entry))) 0 ⌝ }
+{
+    let mut i = 0;
+    while i < roles.len() {
+        roles[i] = 0;
+        i += 1;
+    }
+}
+
+// The n records of a sound log, from the root alone on. Table and roles may hold anything before.
 pub fn replay_log(log: &[u8], n: usize, table: &mut [u8], roles: &mut [u16]) -> Size
-    requires { ⌜ (length (now log) ≡ 40960) × (soundLog (now log) ≡ true) × (n ≡ length (recordsOf (now log))) × (now table ≡ replicate 43012 0) × (now roles ≡ replicate 4096 0) ⌝ }
+    requires { ⌜ (length (now log) ≡ 40960) × (soundLog (now log) ≡ true) × (n ≡ length (recordsOf (now log))) × (length (now table) ≡ 43012) × (length (now roles) ≡ 4096) ⌝ }
     ensures { λ r. ⌜ Works (now (table .exit)) (now (roles .exit)) (r .entries) (r .asides) (replayOf (recordsOf (now (log .entry)))) ⌝ }
 {
+    octets::clear(table);
+    clear_roles(roles);
     replay(
         log,
         Layout::Log,

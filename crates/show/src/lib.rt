@@ -1,0 +1,57 @@
+// Showing the tree: the replay of a sound log, laid in a lent table.
+ghost use mathlib.Core.Path.{_≡_};
+ghost use mathlib.Core.Bool.{true};
+ghost use lib.ListN.{length};
+ghost use Rattle.model.specs.Log.{recordsOf, soundLog};
+ghost use Rattle.model.specs.Replay.{replay};
+ghost use Rattle.model.specs.Table.{tableBytes};
+ghost use Rattle.model.specs.Outcome.{outcome, showOf};
+use answer::Answer;
+
+// The tree of the n records of a sound log is laid in a table. Table and roles may hold anything before.
+pub fn lay_tree(log: &[u8], n: usize, tree: &mut [u8], roles: &mut [u16])
+    requires { ⌜ (length (now log) ≡ 40960) × (soundLog (now log) ≡ true) × (n ≡ length (recordsOf (now log))) × (length (now tree) ≡ 43012) × (length (now roles) ≡ 4096) ⌝ }
+    ensures { λ _. ⌜ now (tree .exit) ≡ tableBytes (replay (recordsOf (now (log .entry)))) ⌝ }
+{
+    let size = replay::replay_log(log, n, tree, roles);
+    finish::finish(tree, roles, size);
+}
+
+// The same, with roles of its own.
+fn lay(log: &[u8], n: usize, tree: &mut [u8])
+    requires { ⌜ (length (now log) ≡ 40960) × (soundLog (now log) ≡ true) × (n ≡ length (recordsOf (now log))) × (length (now tree) ≡ 43012) ⌝ }
+    ensures { λ _. ⌜ now (tree .exit) ≡ tableBytes (replay (recordsOf (now (log .entry)))) ⌝ }
+{
+    let mut roles = [0u16; 4096];
+    lay_tree(log, n, tree, &mut roles);
+}
+
+// The lent table shows the tree and the asides of the lent log. A refusal leaves the table as it was.
+pub fn show_tree(log: &[u8], tree: &mut [u8]) -> Answer
+    ensures { λ r. ⌜ outcome (r .number) (r .place) (now (log .entry)) (now (tree .exit)) 0 ≡ showOf (now (log .entry)) (now (tree .entry)) ⌝ }
+{
+    if log.len() != 40960 {
+        return Answer {
+            number: 1,
+            place: 0,
+        };
+    }
+    if tree.len() != 43012 {
+        return Answer {
+            number: 1,
+            place: 0,
+        };
+    }
+    let c = log::check(log);
+    if !c.sound {
+        return Answer {
+            number: 19,
+            place: 0,
+        };
+    }
+    lay(log, c.used, tree);
+    Answer {
+        number: 0,
+        place: 0,
+    }
+}
