@@ -87,6 +87,10 @@ module _ (n k : ℕ) (first b : List ℕ) {p : ℕ} (ep : p ≡ placeIn b) where
 
 -- ---- a block of a file
 
+pub blocks-counted : (f : List ℕ) (n : ℕ) → length f ≡ 512 * n → blocksIn f ≡ n
+unfolding blocksIn
+blocks-counted f n whole = rw whole (omega arith)
+
 module _ (f : List ℕ) (n k : ℕ) (whole : length f ≡ 512 * n) where
   lent : take (512 * k + 512 - 512 * k) (drop (512 * k) f) ≡ blockAt f k
   unfolding blockAt
@@ -95,10 +99,6 @@ module _ (f : List ℕ) (n k : ℕ) (whole : length f ≡ 512 * n) where
   lent-first : take (512 - 0) (drop 0 f) ≡ blockAt f 0
   unfolding blockAt part
   lent-first = refl
-
-  pub counted : blocksIn f ≡ n
-  unfolding blocksIn
-  counted = rw whole (omega arith)
 
   module _ {x : ℕ} (ex : x ≡ blockFault (take (512 * k + 512 - 512 * k) (drop (512 * k) f))) where
     alone : x ≡ blockFault (blockAt f k)
@@ -110,7 +110,7 @@ module _ (f : List ℕ) (n k : ℕ) (whole : length f ≡ 512 * n) where
 
     module _ {t : Bool} (z : x ≡ 0) (et : t ≡ agrees n k (take (512 - 0) (drop 0 f)) (take (512 * k + 512 - 512 * k) (drop (512 * k) f))) where
       beside : t ≡ agrees (blocksIn f) k (blockAt f 0) (blockAt f k)
-      beside = rw (counted, ← lent, ← lent-first) et
+      beside = rw (blocks-counted f n whole, ← lent, ← lent-first) et
 
       pub disagrees : not t ≡ true → 20 ≡ fileBlockFault f k
       unfolding fileBlockFault

@@ -24,7 +24,7 @@ use Rattle.filelaws.proofs.Blocks.{Bytes, bytes-part, headerIn, block-a
 -- ---- what acceptance means
 
 -- neither of two faults, if the first of them is none
-no-fault : (a b : Fault) → orElse a b .number ≡ 0 → (a .number ≡ 0) × (b .number ≡ 0)
+pub no-fault : (a b : Fault) → orElse a b .number ≡ 0 → (a .number ≡ 0) × (b .number ≡ 0)
 unfolding orElse
 no-fault a b e =
     ⊎-elim
@@ -48,7 +48,7 @@ read-accepted log f e =
     (λ (a : eqb (length log) 40960 ≡ false). let z : _≡_ {A = ℕ} 1 0 = rw a at e in absurd (omega arith))
     (bool-cases (eqb (length log) 40960))
 
-blocks-passed : (f : List ℕ) (n k : ℕ) → blocksFault f k n .number ≡ 0 → (j : ℕ) → k ≤ j → j < k + n → fileBlockFault f j ≡ 0
+pub blocks-passed : (f : List ℕ) (n k : ℕ) → blocksFault f k n .number ≡ 0 → (j : ℕ) → k ≤ j → j < k + n → fileBlockFault f j ≡ 0
 unfolding blocksFault fault
 blocks-passed f zero k e j a b = absurd (omega arith)
 blocks-passed f (suc n) k e j a b =
@@ -62,15 +62,15 @@ blocks-passed f (suc n) k e j a b =
     (bool-cases (eqb (fileBlockFault f k) 0))
 
 -- block k of n agrees with its place and the first block
-record Agreeing (f : List ℕ) (n k : ℕ) : Type 0 where
-  good : blockFault (blockAt f k) ≡ 0
-  placed : placeIn (blockAt f k) ≡ k
-  sent : senderIn (blockAt f k) ≡ senderIn (blockAt f 0)
-  archived : archiveIn (blockAt f k) ≡ archiveIn (blockAt f 0)
-  vectored : vectorIn (blockAt f k) ≡ vectorIn (blockAt f 0)
-  filled : countFits n k (countIn (blockAt f k)) ≡ true
+pub record Agreeing (f : List ℕ) (n k : ℕ) : Type 0 where
+  pub good : blockFault (blockAt f k) ≡ 0
+  pub placed : placeIn (blockAt f k) ≡ k
+  pub sent : senderIn (blockAt f k) ≡ senderIn (blockAt f 0)
+  pub archived : archiveIn (blockAt f k) ≡ archiveIn (blockAt f 0)
+  pub vectored : vectorIn (blockAt f k) ≡ vectorIn (blockAt f 0)
+  pub filled : countFits n k (countIn (blockAt f k)) ≡ true
 
-block-passed : (f : List ℕ) (k : ℕ) → fileBlockFault f k ≡ 0 → Agreeing f (blocksIn f) k
+pub block-passed : (f : List ℕ) (k : ℕ) → fileBlockFault f k ≡ 0 → Agreeing f (blocksIn f) k
 unfolding fileBlockFault agrees
 block-passed f k e =
     ⊎-elim
