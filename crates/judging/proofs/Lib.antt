@@ -1,0 +1,3 @@
+pub mod Checks
+pub mod Beside
+pub mod Going
