@@ -1,0 +1,106 @@
+-- The ways out of taking a block, over plain values.
+-- Assumes nothing.
+use Prim.Native.Nat.{ℕ, zero, suc, _+_, _≤_, _<_}
+use native.Mathlib.Omega.{arith}
+use mathlib.Core.Path.{_≡_, refl, sym, ap, _∙_}
+use mathlib.Core.Logic.{_⊎_, inl, inr, ⊎-elim}
+use mathlib.Core.Bool.{Bool, true, false, cond, not}
+use mathlib.Core.List.{List, []}
+use lib.Dec.{eqb}
+use lib.ListN.{length}
+use borrow.Author.Tests.{le-leb, lt-leb, eq-eqb, ne-eqb, not-true, not-false}
+use Rattle.model.specs.Log.{recordsOf, soundLog, logBytes}
+use Rattle.model.specs.Block.{archiveIn, countIn, blockFault, recordAt, recordsFrom, blockRecords}
+use Rattle.model.specs.Outcome.{Outcome, outcome, refusal, guarded, refused, taken, takeAll, givenFault, tookAll, tookBlock, takeOf}
+use Rattle.octets.proofs.Numbers.{eq-or-ne}
+use Rattle.blocklaws.proofs.Faults.{header-right, stored-header}
+use Rattle.images.proofs.Logs.{sound-records, sound-bytes, sound-few}
+use Rattle.index.specs.Tables.{Indexed}
+use Rattle.log.specs.declared.Layout.the-variants.{Log}
+use Rattle.log.specs.Places.{laidAt}
+use Rattle.log.specs.InOrder.{CheckGives}
+use Rattle.judging.specs.Judging.{afterTo, JudgeGives}
+use Rattle.taking.specs.Stored.{Stored}
+
+-- ---- a block without a fault
+
+module _ (archive : ℕ) (b : List ℕ) (f : ℕ) (e : f ≡ givenFault archive b) where
+  pub block-bad : (log : List ℕ) → (f ≡ 0 → ⊥) → outcome f 0 log [] 0 ≡ tookBlock log b (givenFault archive b)
+  unfolding tookBlock
+  block-bad log h = rw (← e) (go f h)
+    where
+      go : (n : ℕ) → (n ≡ 0 → ⊥) → outcome n 0 log [] 0 ≡ tookBlock log b n
+      go zero h = absurd (h refl)
+      go (suc n) h = refl
+
+  module _ (z : f ≡ 0) where
+    no-fault : givenFault archive b ≡ 0
+    no-fault = sym e ∙ z
+
+    both : (length b ≡ 512) × (blockFault b ≡ 0)
+    unfolding givenFault
+    both =
+        ⊎-elim
+        (λ (n : length b ≡ 512).
+        ⊎-elim
+        (λ (g : blockFault b ≡ 0). (n, g))
+        (λ (g : blockFault b ≡ 0 → ⊥). absurd (g (rw (eq-eqb (length b) 512 n, ne-eqb (blockFault b) 0 g) at no-fault)))
+        (eq-or-ne (blockFault b) 0))
+        (λ (n : length b ≡ 512 → ⊥). absurd (let q : _≡_ {A = ℕ} 2 0 = rw (ne-eqb (length b) 512 n) at no-fault in omega arith))
+        (eq-or-ne (length b) 512)
+
+    pub given-long : length b ≡ 512
+    given-long = both .0
+
+    pub given-few : (n : ℕ) → n ≡ countIn b → n ≤ 6
+    given-few n q = rw q (stored-header b (header-right b (both .1)) .1)
+
+    module _ (log : List ℕ) (n k : ℕ) (j : JudgeGives (recordsOf log) b n k) where
+      pub block-refused : (k ≡ 0 → ⊥) → outcome k 0 log [] 0 ≡ tookBlock log b (givenFault archive b)
+      unfolding tookBlock tookAll
+      block-refused h = rw (no-fault, j .refuses h)
+
+      pub block-taken : k ≡ 0 → (m : List ℕ) → m ≡ logBytes (afterTo (recordsOf log) (recordAt b) n) → outcome 0 0 m [] 0 ≡ tookBlock log b (givenFault archive b)
+      unfolding tookBlock tookAll
+      block-taken h m q = rw (no-fault, j .accepts h, q)
+
+pub block-passed : (log b : List ℕ) (n k : ℕ) → JudgeGives (recordsOf log) b n k → n ≡ countIn b → k ≡ 0 → takeAll (recordsOf log) (recordsFrom b 0 n) ≡ taken (afterTo (recordsOf log) (recordAt b) n)
+unfolding blockRecords
+block-passed log b n k j q h = rw (← q) at (j .accepts h)
+
+-- a sound log is stored
+pub log-stored : (log : List ℕ) (used : ℕ) (held places seens : List ℕ) → length log ≡ 40960 → soundLog log ≡ true → used ≡ length (recordsOf log)
+    → Indexed (laidAt Log log) used (recordsOf log) held places seens → Stored (recordsOf log) log used held
+log-stored log used held places seens n s u i =
+    record { bytes = sym (sound-bytes log n s); sound = sound-records log s; few = sound-few log; used-is = u; counts = i .counts }
+
+-- ---- the checks that come first
+
+module _ (archive u : ℕ) (log b : List ℕ) where
+  pub other-length : (length log ≡ 40960 → ⊥) → outcome 1 0 log [] 0 ≡ takeOf archive u log b
+  unfolding takeOf guarded
+  other-length h = rw (ne-eqb (length log) 40960 h)
+
+  module _ (n : length log ≡ 40960) where
+    pub no-unit : 7 < u → outcome 21 0 log [] 0 ≡ takeOf archive u log b
+    unfolding takeOf guarded
+    no-unit h = rw (eq-eqb (length log) 40960 n, lt-leb u 7 h)
+
+    module _ (h : u ≤ 7) (t : Bool) (c : t ≡ soundLog log) where
+      pub not-sound : not t ≡ true → outcome 19 0 log [] 0 ≡ takeOf archive u log b
+      unfolding takeOf guarded
+      not-sound g = rw (eq-eqb (length log) 40960 n, le-leb u 7 h, ← c, not-true t g)
+
+      pub took : not t ≡ false → (o : Outcome) → o ≡ tookBlock log b (givenFault archive b) → o ≡ takeOf archive u log b
+      unfolding takeOf guarded
+      took g o q = q ∙ rw (eq-eqb (length log) 40960 n, le-leb u 7 h, ← c, not-false t g)
+
+module _ (log : List ℕ) (t : Bool) (used : ℕ) (held places seens : List ℕ) (c : CheckGives log t used held places seens) where
+  pub checked-used : used ≡ length (recordsOf log)
+  checked-used = c .used-is
+
+  pub checked-sound : not t ≡ false → soundLog log ≡ true
+  checked-sound g = sym (c .sound-is) ∙ not-false t g
+
+  pub checked-indexed : not t ≡ false → Indexed (laidAt Log log) used (recordsOf log) held places seens
+  checked-indexed g = c .holds (checked-sound g)

@@ -1,0 +1,112 @@
+// Taking a block: wholly, or not at all.
+ghost use mathlib.Core.Path.{_≡_};
+ghost use mathlib.Core.Bool.{true};
+ghost use mathlib.Core.List.{[]};
+ghost use Prim.Native.Nat.{_≤_};
+ghost use lib.ListN.{length};
+ghost use Rattle.model.specs.Log.{recordsOf, soundLog, logBytes};
+ghost use Rattle.model.specs.Block.{recordAt, recordsFrom};
+ghost use Rattle.model.specs.Outcome.{outcome, taken, takeOne, takeAll, givenFault, tookBlock, takeOf};
+ghost use Rattle.index.specs.Tables.{Indexed};
+ghost use Rattle.log.specs.declared.Layout.the-variants.{Log};
+ghost use Rattle.log.specs.Places.{laidAt};
+ghost use Rattle.judging.specs.Judging.{after, afterTo};
+ghost use Rattle.taking.specs.Stored.{Stored};
+use answer::Answer;
+use vector::Vector;
+
+// What a log holds: how many records, and their counts.
+pub struct Stock {
+    pub used: usize,
+    pub held: Vector,
+}
+
+// A record that passed is stored: a new one by rank, a held one not again.
+pub fn store_record(log: &mut [u8], rec: &[u8], s: Stock) -> Stock
+    requires { ⌜ (length (now log) ≡ 40960) × (length (now rec) ≡ 80) × Stored (recordsOf (now log)) (now log) (s .used) (s .held .counts) × (takeOne (recordsOf (now log)) (now rec) ≡ taken (after (recordsOf (now log)) (now rec))) ⌝ }
+    ensures { λ r. ⌜ Stored (after (recordsOf (now (log .entry))) (now (rec .entry))) (now (log .exit)) (r .used) (r .held .counts) ⌝ }
+{
+    let u = record::unit_of(rec) as usize;
+    let held = s.held;
+    if record::number_of(rec) <= held.counts[u] {
+        return s;
+    }
+    let n = s.used;
+    inserting::insert_record(log, n, rec);
+    let more = vector::bump(held, u);
+    Stock {
+        used: n + 1,
+        held: more,
+    }
+}
+
+// The n records of a block that passed are stored, one after another.
+pub fn store(log: &mut [u8], b: &[u8], n: usize, s: Stock)
+    requires { ⌜ (length (now log) ≡ 40960) × (length (now b) ≡ 512) × (n ≤ 6) × Stored (recordsOf (now log)) (now log) (s .used) (s .held .counts) × (takeAll (recordsOf (now log)) (recordsFrom (now b) 0 n) ≡ taken (afterTo (recordsOf (now log)) (recordAt (now b)) n)) ⌝ }
+    ensures { λ _. ⌜ now (log .exit) ≡ logBytes (afterTo (recordsOf (now (log .entry))) (recordAt (now (b .entry))) n) ⌝ }
+{
+    let mut cur = s;
+    let mut j: usize = 0;
+    while j < n {
+        let at = 28 + 80 * j;
+        let next = store_record(log, &b[at..at + 80], cur);
+        cur = next;
+        j += 1;
+    }
+}
+
+// A block is taken into a sound log, or refused: 2 to 6, then each record 7, and 10 if held, else 8, 9, 11.
+pub fn take_block(
+    log: &mut [u8],
+    archive: u32,
+    b: &[u8],
+    used: usize,
+    held: Vector,
+    places: &mut [u16],
+    seens: &mut [u16],
+) -> u8
+    requires { ⌜ (length (now log) ≡ 40960) × (soundLog (now log) ≡ true) × (used ≡ length (recordsOf (now log))) × (length (now places) ≡ 4096) × (length (now seens) ≡ 4144) × Indexed (laidAt Log (now log)) used (recordsOf (now log)) (held .counts) (now places) (now seens) ⌝ }
+    ensures { λ r. ⌜ outcome r 0 (now (log .exit)) [] 0 ≡ tookBlock (now (log .entry)) (now (b .entry)) (givenFault archive (now (b .entry))) ⌝ }
+{
+    let f = judging::given_fault(archive, b);
+    if f != 0 {
+        return f;
+    }
+    let n = block::count_in(b) as usize;
+    let k = judging::judge_block(b, n, log, held, used, places, seens);
+    if k != 0 {
+        return k;
+    }
+    store(log, b, n, Stock { used, held });
+    0
+}
+
+// A block is taken into the log. Checked in this order: 1, 21, 19, 2 to 6, then each record 7, and 10 if held, else 8, 9, 11.
+pub fn take(log: &mut [u8], archive: u32, unit: u8, b: &[u8]) -> Answer
+    ensures { λ r. ⌜ outcome (r .number) (r .place) (now (log .exit)) [] 0 ≡ takeOf archive unit (now (log .entry)) (now (b .entry)) ⌝ }
+{
+    if log.len() != 40960 {
+        return Answer {
+            number: 1,
+            place: 0,
+        };
+    }
+    if 7 < unit {
+        return Answer {
+            number: 21,
+            place: 0,
+        };
+    }
+    let mut places = log::fresh_places();
+    let mut seens = log::fresh_seens();
+    let c = log::check_into(log, &mut places, &mut seens);
+    if !c.sound {
+        return Answer {
+            number: 19,
+            place: 0,
+        };
+    }
+    let held = c.held;
+    let number = take_block(log, archive, b, c.used, held, &mut places, &mut seens);
+    Answer { number, place: 0 }
+}
