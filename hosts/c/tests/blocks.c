@@ -211,6 +211,13 @@ static void test_full(struct lent log, struct lent block)
     put16(record + 2, 1);
     seal(block.bytes);
     CHECK(take(log, 0, block) == LIMP_FULL_LOG);
+    put16(record + 4, 1);
+    put16(record + 6, 171);
+    seal(block.bytes);
+    CHECK(take(log, 0, block) == LIMP_NOT_CLOSED);
+    put16(record + 6, 172);
+    seal(block.bytes);
+    CHECK(take(log, 0, block) == LIMP_NOT_NEXT);
 }
 
 void test_take(void)

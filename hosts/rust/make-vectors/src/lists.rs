@@ -25,6 +25,7 @@ pub fn all() -> Vec<(&'static str, String)> {
         ("damage", damage("anything goes, four units", 13, 110)),
         ("refusals", refusals()),
         ("full", full()),
+        ("reasons", reasons()),
     ]
 }
 
@@ -316,9 +317,84 @@ fn full() -> String {
     assert_eq!(list.act(7, Own, 3, 7, &store), 7);
     let mut last = file_of(&records[507..513], 3, 5);
     assert_eq!(list.take(7, Own, 3, 7, &last), 11);
+    // On a full log too, 8 and 9 come before 11.
+    let record = 28 + 400;
+    let own = record + 4 + 2 * last[record] as usize;
+    let good = last.clone();
+    last[record + 2] += 1;
+    last[own] += 1;
+    seal(&mut last);
+    assert_eq!(list.take(7, Own, 3, 7, &last), 8);
+    last = good;
+    let named = [last[record], last[record + 20]];
+    let other = (0..7)
+        .find(|unit| !named.contains(unit))
+        .expect("a third unit");
+    let other = record + 4 + 2 * other as usize;
+    last[other..other + 2].fill(0);
+    seal(&mut last);
+    assert_eq!(list.take(7, Own, 3, 7, &last), 9);
     last[9] = 5;
     last[28 + 400..508].fill(0);
     seal(&mut last);
     assert_eq!(list.take(7, Own, 3, 7, &last), 0);
     list.end()
+}
+
+/// Two units; where two reasons hold, the first in the paper's order counts.
+fn reasons() -> String {
+    let mut list = List::new("two reasons at once");
+    let make = |unit: u8, operation: u8, folder: u8, label: &str| {
+        let mut wish = [0; 80];
+        wish[..2].copy_from_slice(&[unit, operation]);
+        wish[26] = folder;
+        wish[28..32].copy_from_slice(&[0xe9, 7, 3, 3]);
+        wish[32..32 + label.len()].copy_from_slice(label.as_bytes());
+        wish
+    };
+    let on = |unit: u8, operation: u8, object: u8, label: &str| {
+        let mut wish = make(unit, operation, 0, label);
+        wish[22] = object;
+        wish
+    };
+    let act = |list: &mut List, wish: [u8; 80]| {
+        let unit = wish[0];
+        assert_eq!(list.act(unit as usize, Own, 7, unit, &wish), 0);
+    };
+    act(&mut list, make(0, 1, 0, "F"));
+    pass(&mut list, 0, 1);
+    // 1.3 removes 0.1, in which 0.2 stands and whose new label it has not seen.
+    act(&mut list, make(0, 2, 1, "T"));
+    act(&mut list, on(0, 5, 1, "G"));
+    act(&mut list, make(1, 2, 0, "a"));
+    act(&mut list, make(1, 2, 0, "b"));
+    act(&mut list, on(1, 4, 1, ""));
+    pass(&mut list, 0, 1);
+    pass(&mut list, 1, 0);
+    list.show(0, Own);
+    // 1.6 renames 0.4, whose new label it has not seen, to a label that is held.
+    act(&mut list, make(0, 2, 0, "R"));
+    pass(&mut list, 0, 1);
+    act(&mut list, on(0, 5, 4, "S"));
+    act(&mut list, make(0, 2, 0, "Q"));
+    act(&mut list, make(1, 2, 0, "c"));
+    act(&mut list, make(1, 2, 0, "d"));
+    act(&mut list, on(1, 5, 4, "Q"));
+    pass(&mut list, 1, 0);
+    pass(&mut list, 0, 1);
+    list.show(1, Own);
+    list.end()
+}
+
+/// Passes all that the other slot lacks.
+fn pass(list: &mut List, from: usize, to: usize) {
+    loop {
+        let asked = vector_of(&list.logs[to]);
+        list.hand_out(from, Own, 7, from as u8, &asked, (BLOCK, 1));
+        let block = list.given.last().expect("a block was given").clone();
+        assert_eq!(list.take(to, Own, 7, to as u8, &block), 0);
+        if block[9] == 0 {
+            return;
+        }
+    }
 }
