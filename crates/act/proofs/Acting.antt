@@ -1,0 +1,120 @@
+-- The reason for which an act is refused, the log with its record, and the ways out of acting, over plain values.
+-- Assumes nothing.
+use Prim.Native.Nat.{ℕ, zero, suc, _+_, _*_, _≤_, _<_}
+use native.Mathlib.Omega.{arith}
+use mathlib.Core.Path.{_≡_, refl, sym, ap, ap₂, _∙_}
+use mathlib.Core.Logic.{⊎-elim}
+use mathlib.Core.Bool.{Bool, true, false, not}
+use mathlib.Core.List.{List, [], _∷_, _++_, append-nil}
+use lib.ListN.{getD, length}
+use borrow.Author.Tests.{ne-eqb, lt-ltb, le-ltb, not-true, not-false}
+use Rattle.model.specs.Bytes.{putAt, padded, joined}
+use Rattle.model.specs.Record.{Rec}
+use Rattle.model.specs.Log.{recordsOf, soundLog, vectorOf, logBytes}
+use Rattle.model.specs.Replay.{Tree, judge, replay}
+use Rattle.model.specs.Outcome.{outcome, refusal, stamped, wishFits, reasonOf, actNumber, acted, actOf}
+use Rattle.octets.proofs.Numbers.{eq-or-ne}
+use Rattle.octets.proofs.PutAt.{put-padded}
+use Rattle.blocklaws.proofs.Fields.{length-joined, joined-append}
+use Rattle.order.proofs.Act.{stamped-seen, wish-fits}
+use Rattle.order.proofs.Tests.{vectorOf-getD}
+use Rattle.images.proofs.Logs.{sound-proper, proper-sized, sound-records, sound-bytes, sound-few}
+use Rattle.table.specs.Rows.{treeIn}
+use Rattle.lookup.specs.Roles.{Works}
+use Rattle.lookup.proofs.Working.{works-tree}
+use Rattle.judge.specs.Judged.{verdictOf, Asks}
+use Rattle.replay.proofs.Sound.{formed-asks, count-few}
+use Rattle.answer.proofs.Guards.{log-unsound, guards-pass}
+use Rattle.act.specs.Stamp.{stampedBy, fitsAs}
+use Rattle.act.proofs.Stamping.{stamped-is, fits-is}
+
+-- ---- the reason
+
+verdict-reason : (n k : ℕ) → reasonOf (verdictOf n k) ≡ n
+unfolding verdictOf reasonOf
+verdict-reason n k = ⊎-elim (λ (e : n ≡ 0). rw e) (λ (e : n ≡ 0 → ⊥). rw (ne-eqb n 0 e)) (eq-or-ne n 0)
+
+pub judged-reason : (b roles : List ℕ) (x y : ℕ) (t : Tree) (r : Rec) (n k : ℕ) → Works b roles x y t → verdictOf n k ≡ judge r (treeIn b x y) → n ≡ reasonOf (judge r t)
+judged-reason b roles x y t r n k w e =
+    sym (verdict-reason n k) ∙ ap reasonOf (e ∙ ap (judge r) (works-tree b roles x y t w))
+
+-- ---- a record put behind those of a sound log
+
+joined-one : (r : Rec) → joined (r ∷ []) ≡ r
+unfolding joined
+joined-one r = append-nil r
+
+pub put-last : (b : List ℕ) (r : Rec) → length b ≡ 40960 → soundLog b ≡ true → putAt b (80 * length (recordsOf b)) r ≡ logBytes (recordsOf b ++ (r ∷ []))
+unfolding logBytes
+put-last b r n s =
+    let l : List Rec = recordsOf b in
+    let z = proper-sized l (sound-proper l (sound-records b s)) in
+    let j : joined (l ++ (r ∷ [])) ≡ joined l ++ r = joined-append l (r ∷ []) ∙ rw (joined-one r) in
+    let back : logBytes l ≡ b = sound-bytes b n s in
+    ap₂ (λ (x : List ℕ) (k : ℕ). putAt x k r) (sym back) (sym (length-joined l z)) ∙ put-padded 40960 (joined l) r ∙ ap (padded 40960) (sym j)
+
+-- ---- what is asked on the way of `act_on`
+
+pub place-free : (log : List ℕ) (n : ℕ) (r : Rec) → length log ≡ 40960 → n < 512 → length r ≡ 80 → 80 * n + length r ≤ length log
+place-free log n r a b c = omega arith
+
+module _ (u : ℕ) (log w : List ℕ) {h : List ℕ} (low : u < 8) (held : h ≡ vectorOf (recordsOf log)) where
+  pub count-small : getD h u 0 < 65535
+  count-small =
+      let l : List Rec = recordsOf log in
+      rw (held, vectorOf-getD l u low) (omega (arith, count-few u l, sound-few log))
+
+  module _ {r : Rec} {f : Bool} (own : r ≡ stampedBy (getD h u 0 + 1) h w) (fit : f ≡ fitsAs u w r) where
+    record-is : r ≡ stamped u (recordsOf log) w
+    record-is = own ∙ stamped-is u (recordsOf log) w low held
+
+    fit-is : f ≡ wishFits u (recordsOf log) w
+    fit-is = fit ∙ fits-is u (recordsOf log) w record-is
+
+    pub stamped-asks : length w ≡ 80 → not f ≡ false → Asks r
+    stamped-asks wide g =
+        let l : List Rec = recordsOf log in
+        let (a, b) = wish-fits u l w (sym fit-is ∙ not-false f g) in
+        rw record-is (formed-asks (stamped u l w) b (λ v k. omega (arith, stamped-seen u l w wide v k, count-few v l, sound-few log)))
+
+    -- ---- its ways out
+
+    pub not-fitting : not f ≡ true → refusal 7 log [] ≡ acted u log w (actNumber u (recordsOf log) w)
+    unfolding acted actNumber
+    not-fitting g = rw (← fit-is, not-true f g)
+
+    module _ {n : ℕ} (g : not f ≡ false) (used : n ≡ length (recordsOf log)) where
+      pub no-place : 512 ≤ n → refusal 11 log [] ≡ acted u log w (actNumber u (recordsOf log) w)
+      unfolding acted actNumber
+      no-place k = rw (← fit-is, not-false f g, ← used, le-ltb n 512 k)
+
+      module _ {x : ℕ} (k : n < 512) (why : x ≡ reasonOf (judge r (replay (recordsOf log)))) where
+        number-is : actNumber u (recordsOf log) w ≡ x
+        unfolding actNumber
+        number-is = rw (← fit-is, not-false f g, ← used, lt-ltb n 512 k, why, record-is)
+
+        pub stands-aside : (x ≡ 0 → ⊥) → refusal x log [] ≡ acted u log w (actNumber u (recordsOf log) w)
+        unfolding acted
+        stands-aside z = rw number-is (go x z)
+          where
+            go : (y : ℕ) → (y ≡ 0 → ⊥) → refusal y log [] ≡ acted u log w y
+            go zero q = absurd (q refl)
+            go (suc y) q = refl
+
+        pub added : {o : List ℕ} → length log ≡ 40960 → soundLog log ≡ true → x ≡ 0 → o ≡ putAt log (80 * n) r
+            → outcome 0 0 o [] 0 ≡ acted u log w (actNumber u (recordsOf log) w)
+        unfolding acted
+        added long s z e =
+            let b = put-last log (stamped u (recordsOf log) w) long s in
+            rw (number-is, z, e, used, record-is, b)
+
+-- ---- the ways out of `act`
+
+module _ (u : ℕ) (log w : List ℕ) {s : Bool} (long : length log ≡ 40960) (wide : length w ≡ 80) (low : u ≤ 7) (judged : s ≡ soundLog log) where
+  pub act-unsound : not s ≡ true → refusal 19 log [] ≡ actOf u log w
+  unfolding actOf
+  act-unsound h = log-unsound u log [] w 80 (acted u log w (actNumber u (recordsOf log) w)) long wide low judged h
+
+  pub act-done : (x : ℕ) (o : List ℕ) → not s ≡ false → outcome x 0 o [] 0 ≡ acted u log w (actNumber u (recordsOf log) w) → outcome x 0 o [] 0 ≡ actOf u log w
+  unfolding actOf
+  act-done x o h e = e ∙ guards-pass u log [] w 80 (acted u log w (actNumber u (recordsOf log) w)) long wide low judged h

@@ -1,0 +1,115 @@
+// Acting: a wish is given its number and the held vector, judged, and put behind the records of the log.
+ghost use mathlib.Core.Path.{_≡_};
+ghost use mathlib.Core.Bool.{true};
+ghost use mathlib.Core.List.{[]};
+ghost use Prim.Native.Nat.{_+_, _<_};
+ghost use lib.ListN.{length, getD};
+ghost use Rattle.model.specs.Log.{recordsOf, soundLog, vectorOf};
+ghost use Rattle.model.specs.Replay.{judge as judgeOf, replay as replayOf};
+ghost use Rattle.model.specs.Outcome.{reasonOf, actNumber, acted, outcome, actOf};
+ghost use Rattle.judge.specs.Judged.{Asks};
+ghost use Rattle.act.specs.Stamp.{stampedBy, fitsAs};
+use answer::Answer;
+use log::check;
+use vector::Vector;
+
+// A record that was stamped.
+pub struct Stamped {
+    pub bytes: [u8; 80],
+}
+
+// The wish with the unit's next number and the held vector.
+pub fn stamp(wish: &[u8], unit: u8, held: Vector) -> Stamped
+    requires { ⌜ (length (now wish) ≡ 80) × (unit < 8) × (getD (held .counts) unit 0 < 65535) ⌝ }
+    ensures { λ r. ⌜ r .bytes ≡ stampedBy (getD (held .counts) unit 0 + 1) (held .counts) (now (wish .entry)) ⌝ }
+{
+    let mut bytes = [0u8; 80];
+    octets::put(&mut bytes, 0, wish);
+    let next = held.counts[unit as usize] + 1;
+    octets::put16(&mut bytes, 2, next);
+    vector::put_vector(&mut bytes, 4, held);
+    Stamped { bytes }
+}
+
+// The wish is the unit's own, its number and seen are zero, and it is well formed as the record.
+pub fn wish_fits(wish: &[u8], unit: u8, rec: &[u8]) -> bool
+    requires { ⌜ length (now wish) ≡ 80 ⌝ }
+    ensures { λ r. ⌜ r ≡ fitsAs unit (now (wish .entry)) (now (rec .entry)) ⌝ }
+{
+    if wish[0] != unit {
+        return false;
+    }
+    if !octets::is_blank(&wish[2..20]) {
+        return false;
+    }
+    record::well_formed(rec)
+}
+
+// The reason under which a record would stand aside behind the records of a sound log, or 0.
+pub fn reason(log: &[u8], used: usize, rec: &[u8]) -> u8
+    requires { ⌜ (length (now log) ≡ 40960) × (soundLog (now log) ≡ true) × (used ≡ length (recordsOf (now log))) × Asks (now rec) ⌝ }
+    ensures { λ r. ⌜ r ≡ reasonOf (judgeOf (now (rec .entry)) (replayOf (recordsOf (now (log .entry))))) ⌝ }
+{
+    let mut table = [0u8; 43012];
+    let mut roles = [0u16; 4096];
+    let size = replay::replay_log(log, used, &mut table, &mut roles);
+    let j = judge::judge(rec, &table, &roles, size);
+    j.reason
+}
+
+// A wish in a sound log: its record is put behind the others and 0 is answered, or it is refused and the log is left.
+pub fn act_on(log: &mut [u8], used: usize, held: Vector, unit: u8, wish: &[u8]) -> u8
+    requires { ⌜ (length (now log) ≡ 40960) × (soundLog (now log) ≡ true) × (used ≡ length (recordsOf (now log))) × (held .counts ≡ vectorOf (recordsOf (now log))) × (unit < 8) × (length (now wish) ≡ 80) ⌝ }
+    ensures { λ r. ⌜ outcome r 0 (now (log .exit)) [] 0 ≡ acted unit (now (log .entry)) (now (wish .entry)) (actNumber unit (recordsOf (now (log .entry))) (now (wish .entry))) ⌝ }
+{
+    let s = stamp(wish, unit, held);
+    let rec = s.bytes;
+    if !wish_fits(wish, unit, &rec) {
+        return 7;
+    }
+    if 512 <= used {
+        return 11;
+    }
+    let n = reason(log, used, &rec);
+    if n != 0 {
+        return n;
+    }
+    octets::put(log, 80 * used, &rec);
+    0
+}
+
+// One act of the own unit: its record is put behind those of the log, or it is refused and the log is left. The archive is not asked.
+pub fn act(log: &mut [u8], archive: u32, unit: u8, wish: &[u8]) -> Answer
+    ensures { λ r. ⌜ outcome (r .number) (r .place) (now (log .exit)) [] 0 ≡ actOf unit (now (log .entry)) (now (wish .entry)) ⌝ }
+{
+    if log.len() != 40960 {
+        return Answer {
+            number: 1,
+            place: 0,
+        };
+    }
+    if wish.len() != 80 {
+        return Answer {
+            number: 1,
+            place: 0,
+        };
+    }
+    if 7 < unit {
+        return Answer {
+            number: 21,
+            place: 0,
+        };
+    }
+    let c = check(log);
+    if !c.sound {
+        return Answer {
+            number: 19,
+            place: 0,
+        };
+    }
+    let n = act_on(log, c.used, c.held, unit, wish);
+    Answer {
+        number: n,
+        place: 0,
+    }
+}
