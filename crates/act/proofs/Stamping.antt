@@ -1,12 +1,11 @@
 -- A wish that is stamped, and whether it may be acted on, over plain values.
 -- Assumes nothing.
-use Prim.Native.Nat.{ℕ, suc, _+_, _-_, _<_}
+use Prim.Native.Nat.{ℕ, _+_, _-_, _<_}
 use native.Mathlib.Numerals.{add-one}
 use native.Mathlib.Omega.{arith}
-use mathlib.Core.Path.{_≡_, sym, ap, _∙_}
+use mathlib.Core.Path.{_≡_, sym, _∙_}
 use mathlib.Core.Bool.{Bool, true, false, not}
 use mathlib.Core.List.{List, _++_, append-assoc}
-use lib.Dec.{eqb}
 use lib.ListN.{getD, length, take, drop, replicate, length-append, length-replicate}
 use borrow.Author.Tests.{eq-eqb, ne-eqb, not-true, not-false}
 use Rattle.model.specs.Bytes.{two, blank, part, putAt}
@@ -14,7 +13,6 @@ use Rattle.model.specs.Vector.{vectorBytes}
 use Rattle.model.specs.Record.{Rec, wellFormed}
 use Rattle.model.specs.Log.{count, vectorOf}
 use Rattle.model.specs.Outcome.{stamped, wishFits}
-use Rattle.octets.proofs.Parts.{part-is}
 use Rattle.octets.proofs.PutAt.{put-whole, put-more}
 use Rattle.vector.proofs.InBytes.{vectorBytes-length}
 use Rattle.order.proofs.Tests.{vectorOf-getD}

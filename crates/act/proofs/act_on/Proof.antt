@@ -1,5 +1,4 @@
 use Rattle.act.proofs.Acting.{place-free, count-small, stamped-asks, not-fitting, no-place, stands-aside, added}
-use native.Mathlib.Omega.{arith}
 use borrow.Author.Needs.{needs}
 use Rattle.act.proofs.act_on.Statement.{statement}
 use Rattle.act.proofs.act_on.Tie as tie

@@ -1,6 +1,5 @@
 use Rattle.lookup.proofs.Working.{works-holds}
 use Rattle.act.proofs.Acting.{judged-reason}
-use native.Mathlib.Omega.{arith}
 use borrow.Author.Needs.{needs}
 use Rattle.act.proofs.reason.Statement.{statement}
 use Rattle.act.proofs.reason.Tie as tie

@@ -1,5 +1,4 @@
 use Rattle.act.proofs.Stamping.{stamp-writes}
-use native.Mathlib.Omega.{arith}
 use borrow.Author.Needs.{needs}
 use Rattle.act.proofs.stamp.Statement.{statement}
 use Rattle.act.proofs.stamp.Tie as tie

@@ -1,5 +1,4 @@
 use Rattle.act.proofs.Stamping.{other-unit, not-zero, fits-formed}
-use native.Mathlib.Omega.{arith}
 use borrow.Author.Needs.{needs}
 use Rattle.act.proofs.wish_fits.Statement.{statement}
 use Rattle.act.proofs.wish_fits.Tie as tie
