@@ -25,9 +25,9 @@
  *   static data. The log is what the last call left in the lent bytes. To keep
  *   it over a power cut, store it (or the file of it) after a call has returned.
  *   A cut inside a call may leave the lent log half written, so do not lend the
- *   only copy: a log in memory that outlives the power is copied first. (A torn
- *   log is told from a sound one: 19. What it held is then lost here, and is
- *   had again from a stored file or from the other units.)
+ *   only copy: a log in memory that outlives the power is copied first. (Every
+ *   call checks the log it is lent, and a torn one will mostly be refused with
+ *   19; do not count on it.)
  * - One unit number for one analyser, and its own log for each call. A number
  *   is not a name tag that can be passed on: two analysers with one number make
  *   different records under one identity, which others refuse (10, 8 or 9).
@@ -49,8 +49,11 @@
  * - Dates are shown and order nothing.
  *
  * Calls may run at the same time on different buffers. Bytes need no alignment.
- * The stack that each call needs stands in docs/PERFORMANCE.md. The archive,
- * liblimp.a, is for x86-64 Linux.
+ * The stack that each call needs stands in docs/PERFORMANCE.md.
+ *
+ * `rt staticlib limp` writes the archive, for x86-64 Linux. To link it:
+ *
+ *     cc -Iinclude yours.c target/staticlib/liblimp.a
  *
  *
  * RESULTS
