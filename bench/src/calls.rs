@@ -69,6 +69,10 @@ pub fn cases(log: &[u8]) -> Vec<Case> {
         case("show the tree", show(lent.clone()));
         case("listing", listing(&lent));
     }
+    cases.push(Case {
+        name: "compare, 1000 times".to_string(),
+        run: compare(vector_of(log)),
+    });
     cases
 }
 
@@ -171,5 +175,17 @@ fn listing(log: &[u8]) -> Run {
     Box::new(move |library| {
         library.listing_into(&file, &mut out)?;
         Some(clock(|| library.listing_into(black_box(&file), &mut out)))
+    })
+}
+
+fn compare(vector: [u16; 8]) -> Run {
+    let mut other = vector;
+    other[7] += 1;
+    Box::new(move |library| {
+        Some(clock(|| {
+            for _ in 0..1000 {
+                black_box(library.compare(black_box(&vector), black_box(&other)));
+            }
+        }))
     })
 }
