@@ -11,9 +11,25 @@ mod power;
 mod study;
 mod world;
 
+use library::Library;
 use std::process::ExitCode;
 use std::time::Duration;
 use study::{Plan, Tally};
+
+type Study = fn(&dyn Library, &Plan) -> Tally;
+
+const STUDIES: [(&str, Study); 10] = [
+    ("meetings, no fault", cuts::none),
+    ("changed byte, block", bytes::blocks),
+    ("changed byte, file", bytes::files),
+    ("file copied short", bytes::short_files),
+    ("cut between blocks", cuts::between),
+    ("cut inside a block", cuts::inside),
+    ("orders of meetings", orders::all),
+    ("power lost", power::lost),
+    ("file half stored", power::half_stored),
+    ("call lists", lists::all),
+];
 
 const USAGE: &str = "usage: faults [--long] [--seconds N] [--seed N]";
 
@@ -37,27 +53,19 @@ fn main() -> ExitCode {
         eprintln!("{USAGE}");
         return ExitCode::from(2);
     };
-    let library = &library::Static;
-    let studies = [
-        ("meetings, no fault", cuts::none(library, &plan)),
-        ("changed byte, block", bytes::blocks(library, &plan)),
-        ("changed byte, file", bytes::files(library, &plan)),
-        ("file copied short", bytes::short_files(library, &plan)),
-        ("cut between blocks", cuts::between(library, &plan)),
-        ("cut inside a block", cuts::inside(library, &plan)),
-        ("orders of meetings", orders::all(library, &plan)),
-        ("power lost", power::lost(library, &plan)),
-        ("file half stored", power::half_stored(library, &plan)),
-        ("call lists", lists::all(library, &plan)),
-    ];
+    let mut tallies = Vec::new();
+    for (i, (name, study)) in STUDIES.into_iter().enumerate() {
+        plan.share_time(STUDIES.len() - i);
+        tallies.push((name, study(&library::Static, &plan)));
+    }
     Tally::head();
-    for (name, tally) in &studies {
+    for (name, tally) in &tallies {
         tally.row(name);
     }
-    let passed: u64 = studies.iter().map(|(_, tally)| tally.correct).sum();
-    let failed: u64 = studies.iter().map(|(_, tally)| tally.failed()).sum();
+    let passed: u64 = tallies.iter().map(|(_, tally)| tally.correct).sum();
+    let failed: u64 = tallies.iter().map(|(_, tally)| tally.failed()).sum();
     println!("\n{passed} passed, {failed} failed");
-    if failed == 0 && studies.iter().all(|(_, tally)| tally.correct > 0) {
+    if failed == 0 && tallies.iter().all(|(_, tally)| tally.correct > 0) {
         ExitCode::SUCCESS
     } else {
         ExitCode::FAILURE

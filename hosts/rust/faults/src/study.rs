@@ -1,5 +1,6 @@
 //! How experiments are counted and bounded.
 
+use std::cell::Cell;
 use std::time::{Duration, Instant};
 
 /// Failures that are told one by one, for each study.
@@ -30,16 +31,27 @@ pub fn manual<T>(what: impl Into<String>) -> Result<T, Wrong> {
 pub struct Plan {
     pub long: bool,
     pub seed: u64,
-    deadline: Instant,
+    /// When the run ends, and when the study does.
+    end: Instant,
+    study_end: Cell<Instant>,
 }
 
 impl Plan {
     pub fn new(long: bool, time: Duration, seed: u64) -> Plan {
+        let end = Instant::now() + time;
         Plan {
             long,
             seed,
-            deadline: Instant::now() + time,
+            end,
+            study_end: Cell::new(end),
         }
+    }
+
+    /// Gives the next study its share of the time, with so many still to run.
+    pub fn share_time(&self, studies: usize) {
+        let now = Instant::now();
+        let left = self.end.saturating_duration_since(now);
+        self.study_end.set(now + left / studies as u32);
     }
 
     /// A count for a short run or a long one.
@@ -83,7 +95,7 @@ impl Tally {
 
     /// There is time for more.
     pub fn goes_on(&mut self, plan: &Plan) -> bool {
-        self.stopped |= Instant::now() >= plan.deadline;
+        self.stopped |= Instant::now() >= plan.study_end.get();
         !self.stopped
     }
 
