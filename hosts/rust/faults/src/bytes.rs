@@ -14,7 +14,7 @@ fn expected(place: usize) -> u8 {
 /// Every other value of every byte of several blocks, given to a take.
 pub fn blocks(library: &dyn Library, plan: &Plan) -> Tally {
     let mut tally = Tally::default();
-    for round in 0..plan.count(3, 24) {
+    for round in 0..plan.count(2, 24) {
         let logs = apart(
             2,
             [3, 16, 60, 200][round % 4],
@@ -92,7 +92,7 @@ pub fn files(library: &dyn Library, plan: &Plan) -> Tally {
     let mut tally = Tally::default();
     let before = lent();
     let mut log = before.clone();
-    let sizes: &[usize] = plan.count(&[0, 13], &[0, 1, 6, 13, 60, 200, 512]);
+    let sizes: &[usize] = plan.count(&[0, 7], &[0, 1, 6, 13, 60, 200, 512]);
     for (round, size) in sizes.iter().enumerate() {
         let good = file_of(&log_of(
             *size,

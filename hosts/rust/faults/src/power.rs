@@ -98,26 +98,29 @@ impl Hosts<'_> {
     }
 }
 
-/// What each unit wishes: makes in the root, some under the same label.
+/// What each unit wishes: makes in the root, every third under a label that the
+/// other wishes too.
 fn wishes(seed: u64, count: usize) -> Vec<Vec<[u8; 80]>> {
-    let empty = [0; plain::TREE];
+    let mix = Mix {
+        weights: [1, 1, 0, 0, 0, 0],
+        labels: 1,
+    };
+    let label = |unit: u64, i: usize| match i % 3 {
+        1 => format!("W{i}"),
+        _ => format!("W{i} of {unit}"),
+    };
     (0..2)
         .map(|unit| {
             let mut chance = Chance::new(seed + unit);
-            let mix = Mix {
-                weights: [1, 1, 0, 0, 0, 0],
-                labels: 4000,
-            };
-            let mut wishes = Vec::new();
-            while wishes.len() < count {
-                let mut wish = wish(&mut chance, &mix, unit as u8, &empty);
-                if wishes.len() % 3 == 1 {
+            (0..count)
+                .map(|i| {
+                    let mut wish = wish(&mut chance, &mix, unit as u8, &[0; plain::TREE]);
+                    let label = label(unit, i);
                     wish[32..64].fill(0);
-                    wish[32..36].copy_from_slice(format!("W{:03}", wishes.len()).as_bytes());
-                }
-                wishes.push(wish);
-            }
-            wishes
+                    wish[32..32 + label.len()].copy_from_slice(label.as_bytes());
+                    wish
+                })
+                .collect()
         })
         .collect()
 }
