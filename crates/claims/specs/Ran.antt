@@ -8,6 +8,12 @@ use borrow.Fn.Kinds.{Dens, resT, endedOf}
 use denote.Triple.Clauses.{AtExit}
 use denote.Ref.{now}
 use Rattle.model.specs.Outcome.{Outcome, outcome}
+use Rattle.act.proofs.act.Kinds as Act
+use Rattle.act.proofs.act.Reads.{Learnt as ActLearnt}
+use Rattle.taking.proofs.take.Kinds as Take
+use Rattle.taking.proofs.take.Reads.{Learnt as TakeLearnt}
+use Rattle.show.proofs.show_tree.Kinds as Show
+use Rattle.show.proofs.show_tree.Reads.{Learnt as ShowLearnt}
 use Rattle.handing.proofs.hand_out.Kinds as Hand
 use Rattle.handing.proofs.hand_out.Reads.{Learnt as HandLearnt}
 use Rattle.filing.proofs.write_file.Kinds as Write
@@ -44,3 +50,33 @@ pub record RanWriteFile (archive u : ℕ) (log lent : List ℕ) (o : Outcome) : 
   pub learnt : WriteLearnt κs args result exit
   pub given : (now (args .0) ≡ log) × (args .1 .0 ≡ archive) × (args .1 .1 .0 ≡ u) × (now (args .1 .1 .1 .0) ≡ lent)
   pub gave : o ≡ outcome (result .number) (result .place) (now (args .0)) (now (exit .1 .1 .1 .0)) (result .blocks)
+
+-- `act` at unit u, on a log, with a wish
+pub record RanAct (u : ℕ) (log w : List ℕ) (o : Outcome) : Type 0 where
+  pub κs : Lfts 2
+  pub args : Dens κs Act.ps
+  pub result : resT Act.r κs .Denot
+  pub exit : AtExit (endedOf 2 Act.ps Act.r) κs
+  pub learnt : ActLearnt κs args result exit
+  pub given : (now (args .0) ≡ log) × (args .1 .1 .0 ≡ u) × (now (args .1 .1 .1 .0) ≡ w)
+  pub gave : o ≡ outcome (result .number) (result .place) (now (exit .0)) [] 0
+
+-- `take` at unit u, on a log, of a block
+pub record RanTake (archive u : ℕ) (log b : List ℕ) (o : Outcome) : Type 0 where
+  pub κs : Lfts 2
+  pub args : Dens κs Take.ps
+  pub result : resT Take.r κs .Denot
+  pub exit : AtExit (endedOf 2 Take.ps Take.r) κs
+  pub learnt : TakeLearnt κs args result exit
+  pub given : (now (args .0) ≡ log) × (args .1 .0 ≡ archive) × (args .1 .1 .0 ≡ u) × (now (args .1 .1 .1 .0) ≡ b)
+  pub gave : o ≡ outcome (result .number) (result .place) (now (exit .0)) [] 0
+
+-- `show_tree` of a log, into a lent tree table
+pub record RanShow (log lent : List ℕ) (o : Outcome) : Type 0 where
+  pub κs : Lfts 2
+  pub args : Dens κs Show.ps
+  pub result : resT Show.r κs .Denot
+  pub exit : AtExit (endedOf 2 Show.ps Show.r) κs
+  pub learnt : ShowLearnt κs args result exit
+  pub given : (now (args .0) ≡ log) × (now (args .1 .0) ≡ lent)
+  pub gave : o ≡ outcome (result .number) (result .place) (now (args .0)) (now (exit .1 .0)) 0

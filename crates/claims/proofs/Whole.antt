@@ -1,0 +1,54 @@
+-- Demand 3 of the code, proved.
+-- Assumes nothing.
+use Prim.Native.Nat.{ℕ}
+use mathlib.Core.Path.{_≡_, sym, ap, subst, _∙_}
+use mathlib.Core.Bool.{true}
+use mathlib.Core.List.{List, _++_}
+use Rattle.model.specs.Outcome.{Outcome, showOf}
+use Rattle.machine.specs.Machine.{Call, starts, acts, handsOut, writes, takes, Bench, bare, heldVector, blockGiven, done, play, outcomes}
+use Rattle.machine.specs.Runs.{Runs}
+use Rattle.machine.specs.Claim.{distinct, Claim}
+use Rattle.machine.proofs.Runs.{runs-are}
+use Rattle.machine.proofs.Demand.{demand}
+use Rattle.claims.specs.Ran.{RanShow}
+use Rattle.claims.specs.Whole.{Ran, Meets, CodeClaim, Demand3}
+use Rattle.claims.proofs.Ran.{ran-start, ran-act, ran-hand-out, ran-write-file, ran-take, ran-show}
+use Rattle.start.proofs.start.Met.{met as start-met}
+use Rattle.act.proofs.act.Met.{met as act-met}
+use Rattle.handing.proofs.hand_out.Met.{met as hand-out-met}
+use Rattle.filing.proofs.write_file.Met.{met as write-file-met}
+use Rattle.taking.proofs.take.Met.{met as take-met}
+use Rattle.show.proofs.show_tree.Met.{met as show-tree-met}
+
+-- the outcome of a run is the machine's
+ran : (archive : ℕ) (s : Bench) (c : Call) (o : Outcome) → Ran archive s c o → o ≡ done archive s c
+unfolding done
+ran archive s (starts u) o r = ran-start u (s .logs u) o r
+ran archive s (acts u w) o r = ran-act u (s .logs u) w o r
+ran archive s (handsOut u v lent) o r = ran-hand-out archive u (s .logs u) v lent o r
+ran archive s (writes u lent) o r = ran-write-file archive u (s .logs u) lent o r
+ran archive s (takes u n) o r = ran-take archive u (s .logs u) (blockGiven s n .bytes) o r
+
+code-claim : (archive : ℕ) (before cs : List Call) (os : List Outcome) (t : Bench) → Runs (Ran archive) bare (before ++ cs) os t → CodeClaim archive before cs os t
+code-claim archive before cs os t r =
+    let (p, q) = runs-are archive (Ran archive) (ran archive) (before ++ cs) bare os t r in
+    let claim : distinct (t .used) ≡ true → Claim archive before cs = λ d. demand archive before cs (rw q at d) in
+    record {
+      answers = p;
+      bench = q;
+      claim = claim;
+      shown = λ d u v lent o x e f g.
+          let s : Bench = play archive bare (before ++ cs) in
+          let h : heldVector s u ≡ heldVector s v = rw q at e in
+          let w : showOf (t .logs u) lent ≡ showOf (t .logs v) lent = rw q (claim d .converged u v .shown h lent) in
+          let a = ran-show (t .logs u) lent o f in
+          let b = ran-show (t .logs v) lent x g in
+          (ap (λ (y : Outcome). y .number) (a ∙ w ∙ sym b), ap (λ (y : Outcome). y .lent) (a ∙ w ∙ sym b));
+    }
+
+pub demand-3 : {M : Type 1} → Demand3 M
+demand-3 =
+    record {
+      code = record { start = start-met; act = act-met; hand-out = hand-out-met; write-file = write-file-met; take = take-met; show-tree = show-tree-met };
+      runs = code-claim;
+    }

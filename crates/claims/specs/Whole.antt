@@ -1,0 +1,52 @@
+-- Demand 3 of the code: whatever the contracts of the entry points allow, over any list of calls, is what the plain machine does,
+-- and the claim about the list holds of it.
+-- Assumes nothing.
+use Prim.Native.Nat.{ℕ}
+use mathlib.Core.Path.{_≡_}
+use mathlib.Core.Bool.{true}
+use mathlib.Core.List.{List, _++_}
+use Rattle.model.specs.Outcome.{Outcome}
+use Rattle.machine.specs.Machine.{Call, starts, acts, handsOut, writes, takes, Bench, bare, heldVector, blockGiven, play, outcomes}
+use Rattle.machine.specs.Runs.{Runs}
+use Rattle.machine.specs.Claim.{distinct, Claim}
+use Rattle.claims.specs.Ran.{RanStart, RanAct, RanHandOut, RanWriteFile, RanTake, RanShow}
+use Rattle.start.proofs.start.Statement.{statement as StartMeets}
+use Rattle.act.proofs.act.Statement.{statement as ActMeets}
+use Rattle.handing.proofs.hand_out.Statement.{statement as HandOutMeets}
+use Rattle.filing.proofs.write_file.Statement.{statement as WriteFileMeets}
+use Rattle.taking.proofs.take.Statement.{statement as TakeMeets}
+use Rattle.show.proofs.show_tree.Statement.{statement as ShowMeets}
+
+-- a run of a call on a bench: the entry point gets the common archive, its unit's number and its unit's log, and a take a copy of
+-- the block given
+abbrev pub Ran : ℕ → Bench → Call → Outcome → Type 0
+Ran archive s (starts u) o = RanStart u (s .logs u) o
+Ran archive s (acts u w) o = RanAct u (s .logs u) w o
+Ran archive s (handsOut u v lent) o = RanHandOut archive u (s .logs u) v lent o
+Ran archive s (writes u lent) o = RanWriteFile archive u (s .logs u) lent o
+Ran archive s (takes u n) o = RanTake archive u (s .logs u) (blockGiven s n .bytes) o
+
+-- the routine of each entry point meets its contract
+pub record Meets (M : Type 1) : Type 2 where
+  pub start : StartMeets M
+  pub act : ActMeets M
+  pub hand-out : HandOutMeets M
+  pub write-file : WriteFileMeets M
+  pub take : TakeMeets M
+  pub show-tree : ShowMeets M
+
+-- what runs of the code over a list of calls, from empty logs, come to
+pub record CodeClaim (archive : ℕ) (before cs : List Call) (os : List Outcome) (t : Bench) : Type 0 where
+  -- D1: answers, logs and given bytes are the machine's
+  pub answers : os ≡ outcomes archive bare (before ++ cs)
+  pub bench : t ≡ play archive bare (before ++ cs)
+  -- D2, D3: the claim, where no number was used a second time by its unit
+  pub claim : distinct (t .used) ≡ true → Claim archive before cs
+  -- and units with equal vectors are shown alike
+  pub shown : distinct (t .used) ≡ true → (u v : ℕ) (lent : List ℕ) (o p : Outcome) → heldVector t u ≡ heldVector t v
+      → RanShow (t .logs u) lent o → RanShow (t .logs v) lent p → (o .number ≡ p .number) × (o .lent ≡ p .lent)
+
+-- the code meets its contracts, and whatever they allow keeps the claim
+pub record Demand3 (M : Type 1) : Type 2 where
+  pub code : Meets M
+  pub runs : (archive : ℕ) (before cs : List Call) (os : List Outcome) (t : Bench) → Runs (Ran archive) bare (before ++ cs) os t → CodeClaim archive before cs os t
