@@ -1,20 +1,18 @@
 -- What admitting a record does to the tables, told by the list of the records before.
 -- Assumes nothing.
-use Prim.Native.Nat.{ℕ, zero, suc, _+_, _≤_, _<_}
+use Prim.Native.Nat.{ℕ, suc, _≤_, _<_}
 use native.Mathlib.Numerals.{add-one}
 use native.Mathlib.Omega.{arith}
 use mathlib.Core.Path.{_≡_, refl, sym, ap, _∙_}
-use mathlib.Core.Logic.{_⊎_, inl, inr, ⊎-elim}
-use mathlib.Core.Bool.{Bool, true, false, cond}
+use mathlib.Core.Logic.{⊎-elim}
 use mathlib.Core.List.{List, _∷_}
-use lib.Dec.{eqb}
 use lib.ListN.{length}
-use borrow.Author.Tests.{eq-eqb, ne-eqb}
+use borrow.Author.Tests.{ne-eqb}
 use Rattle.model.specs.Record.{Rec, unit, num}
 use Rattle.model.specs.Log.{rank, count, recordFault}
 use Rattle.octets.proofs.Numbers.{eq-or-ne}
 use Rattle.order.proofs.Formed.{well-unit}
-use Rattle.index.specs.Tables.{faultBy, floorOf, Spare, Indexed, Noted, noted, admitOf}
+use Rattle.index.specs.Tables.{faultBy, floorOf, Spare, Indexed, Noted, admitOf}
 use Rattle.index.proofs.Counts.{count-few}
 use Rattle.index.proofs.Tables.{held-at, fault-is, indexed-note}
 use Rattle.index.proofs.Faults.{no-fault}

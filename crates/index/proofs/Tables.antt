@@ -1,23 +1,21 @@
 -- What the tables say of the records held, and what one record more does to them.
 -- Assumes nothing.
-use Prim.Native.Nat.{ℕ, zero, suc, _+_, _-_, _*_, _≤_, _<_}
-use native.Mathlib.Numerals.{add-one}
+use Prim.Native.Nat.{ℕ, zero, suc, _+_, _*_, _≤_, _<_}
 use native.Mathlib.Omega.{arith}
-use mathlib.Core.Path.{_≡_, refl, sym, ap, _∙_, subst}
+use mathlib.Core.Path.{_≡_, refl, sym, _∙_, subst}
 use mathlib.Core.Logic.{_⊎_, inl, inr, ⊎-elim}
 use mathlib.Core.Bool.{Bool, true, false, cond, _&&_}
-use mathlib.Core.Option.{Option, none, some}
-use mathlib.Core.List.{List, [], _∷_, _++_}
-use lib.Dec.{ltb, leb, eqb}
+use mathlib.Core.Option.{none}
+use mathlib.Core.List.{List, [], _∷_}
+use lib.Dec.{leb, eqb}
 use lib.ListN.{getD, length, set, replicate, length-set}
 use lib.Seq.{getD-set-same, getD-set-other}
-use borrow.Author.Tests.{lt-ltb, le-ltb, le-leb, lt-leb, eq-eqb, ne-eqb, leb-true, eqb-true}
-use Rattle.model.specs.Bytes.{part, putAt}
+use borrow.Author.Tests.{lt-ltb, le-ltb, le-leb, lt-leb, ne-eqb}
+use Rattle.model.specs.Bytes.{putAt}
 use Rattle.model.specs.Vector.{covers}
-use Rattle.model.specs.Record.{Rec, unit, num, seen, seenVector, wellFormed, headFits}
+use Rattle.model.specs.Record.{Rec, unit, num, seen, seenVector, wellFormed}
 use Rattle.model.specs.Log.{rank, count, vectorOf, countsTo, byId, allTo, isNext, isWithin, isClosed, nowhereAbove, rises, recordFault}
-use Rattle.octets.proofs.Numbers.{lt-or-ge, eq-or-ne, and-true, bool-cases}
-use Rattle.octets.proofs.Parts.{part-length}
+use Rattle.octets.proofs.Numbers.{lt-or-ge, eq-or-ne, bool-cases}
 use Rattle.octets.proofs.PutAt.{length-put, part-put, part-put-before}
 use Rattle.index.specs.Tables.{slotOf, positionOf, rowAt, unitClosed, closedBy, faultBy, floorOf, Placed, Stands, Indexed}
 use Rattle.index.proofs.Counts.{count-few, vector-cons, byId-same, byId-other, Alike, alike-vector}

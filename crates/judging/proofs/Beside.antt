@@ -1,20 +1,19 @@
 -- What judging a record by the tables says of taking it into the list of the records held.
 -- Assumes nothing.
-use Prim.Native.Nat.{ℕ, zero, suc, _+_, _-_, _≤_, _<_}
-use native.Mathlib.Numerals.{add-one}
+use Prim.Native.Nat.{ℕ, zero, suc, _≤_, _<_}
 use native.Mathlib.Omega.{arith}
 use mathlib.Core.Path.{_≡_, refl, sym, ap, _∙_, subst}
 use mathlib.Core.Logic.{_⊎_, inl, inr, ⊎-elim}
 use mathlib.Core.Bool.{Bool, true, false, cond, _&&_}
-use mathlib.Core.Option.{none, some}
+use mathlib.Core.Option.{none}
 use mathlib.Core.List.{List, [], _∷_, _++_}
-use lib.Dec.{ltb, leb, eqb}
+use lib.Dec.{ltb}
 use lib.ListN.{getD, length}
-use borrow.Author.Tests.{lt-ltb, le-ltb, le-leb, lt-leb, eq-eqb, ne-eqb}
+use borrow.Author.Tests.{lt-ltb, le-ltb, le-leb, lt-leb, ne-eqb}
 use Rattle.model.specs.Bytes.{sameBytes}
 use Rattle.model.specs.Vector.{covers}
 use Rattle.model.specs.Record.{Rec, unit, num, seenVector, wellFormed}
-use Rattle.model.specs.Log.{rank, insert, count, byId, isNext, isWithin, isClosed}
+use Rattle.model.specs.Log.{rank, insert, count, byId, isNext, isClosed}
 use Rattle.model.specs.Outcome.{Took, refused, taken, takeNew, takeHeld, takeOne}
 use Rattle.octets.proofs.Numbers.{lt-or-ge, eq-or-ne, bool-cases}
 use Rattle.order.proofs.Formed.{well-unit, well-own}

@@ -1,14 +1,14 @@
 -- The ways out of the single checks of a block and its records, over plain values.
 -- Assumes nothing.
-use Prim.Native.Nat.{ℕ, zero, suc, _+_, _-_, _*_, _≤_, _<_}
+use Prim.Native.Nat.{ℕ, suc, _+_, _-_, _*_, _≤_, _<_}
 use native.Mathlib.Omega.{arith}
-use mathlib.Core.Path.{_≡_, refl, sym, ap, _∙_}
+use mathlib.Core.Path.{_≡_, refl, sym, _∙_}
 use mathlib.Core.Bool.{Bool, true, false, cond, not, _&&_}
 use mathlib.Core.List.{List}
-use lib.Dec.{ltb, leb, eqb}
+use lib.Dec.{ltb, eqb}
 use lib.ListN.{getD, length, take, drop, set}
 use borrow.Author.Tests.{lt-ltb, le-ltb, ltb-true, le-leb, lt-leb, eq-eqb, ne-eqb, eqb-true, not-true, not-false}
-use Rattle.model.specs.Bytes.{sameBytes, part, putAt}
+use Rattle.model.specs.Bytes.{sameBytes, putAt}
 use Rattle.model.specs.Vector.{covers}
 use Rattle.model.specs.Record.{Rec, unit, num, seenVector, wellFormed}
 use Rattle.model.specs.Block.{archiveIn, blockFault, recordAt}
@@ -16,7 +16,6 @@ use Rattle.model.specs.Outcome.{givenFault}
 use Rattle.octets.proofs.Parts.{part-is}
 use Rattle.order.proofs.Formed.{well-unit, well-own}
 use Rattle.index.specs.Tables.{slotOf, positionOf, closedBy, Placed}
-use Rattle.log.specs.declared.Layout.the-variants.{Log}
 use Rattle.log.specs.Places.{offsetOf, laidAt}
 use Rattle.judging.specs.Judging.{Counted, heldAt, Step, step, heldBy, newBy, newStep, takeBy}
 

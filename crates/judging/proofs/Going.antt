@@ -1,20 +1,16 @@
 -- What the loop over the records of a block is asked, over plain values.
 -- Assumes nothing.
-use Prim.Native.Nat.{ℕ, zero, suc, _+_, _-_, _*_, _≤_, _<_}
+use Prim.Native.Nat.{ℕ, suc, _+_, _-_, _*_, _≤_, _<_}
 use native.Mathlib.Nat.{sub-self, sub-zero}
 use native.Mathlib.Numerals.{add-one}
 use native.Mathlib.Omega.{arith}
-use mathlib.Core.Path.{_≡_, refl, sym, ap, _∙_, subst}
-use mathlib.Core.Bool.{Bool, true, false, cond}
+use mathlib.Core.Path.{_≡_, refl, sym, _∙_}
 use mathlib.Core.List.{List, [], _∷_}
-use lib.Dec.{ltb}
 use lib.ListN.{length, take, drop}
 use borrow.Author.Tests.{lt-ltb, le-ltb}
-use Rattle.model.specs.Bytes.{part}
-use Rattle.model.specs.Record.{Rec}
 use Rattle.model.specs.Log.{recordsOf}
 use Rattle.model.specs.Block.{countIn, recordAt, recordsFrom, blockRecords}
-use Rattle.model.specs.Outcome.{refused, taken, takeOne, takeAll}
+use Rattle.model.specs.Outcome.{refused, takeOne, takeAll}
 use Rattle.octets.proofs.Parts.{part-is}
 use Rattle.order.proofs.Take.{takeAll-nil, takeAll-goes, takeAll-stops}
 use Rattle.index.specs.Tables.{Indexed, Placed}
@@ -22,7 +18,7 @@ use Rattle.index.proofs.Tables.{indexed-placed, indexed-where}
 use Rattle.log.specs.declared.Layout.the-variants.{Log}
 use Rattle.log.specs.Places.{laidAt}
 use Rattle.judging.specs.Judging.{Counted, heldAt, Step, step, takeBy, after, afterTo, JudgeGives}
-use Rattle.judging.proofs.Beside.{counted, Accepts, beside-refused, beside-taken}
+use Rattle.judging.proofs.Beside.{counted, beside-refused, beside-taken}
 
 -- the first j records of a block are taken: the tables have all records held, and the rest is still to come
 pub record Going (log block : List ℕ) (n j : ℕ) (held : List ℕ) (used : ℕ) (places seens : List ℕ) : Type 0 where

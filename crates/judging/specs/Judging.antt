@@ -2,17 +2,16 @@
 -- Assumes nothing.
 use Prim.Native.Nat.{ℕ, zero, suc, _+_, _-_, _*_, _≤_, _<_}
 use mathlib.Core.Path.{_≡_}
-use mathlib.Core.Bool.{Bool, true, false, cond, _&&_}
-use mathlib.Core.List.{List, [], _∷_}
+use mathlib.Core.Bool.{cond, _&&_}
+use mathlib.Core.List.{List}
 use lib.Dec.{ltb, leb, eqb}
-use lib.ListN.{getD, length, set}
+use lib.ListN.{getD, set}
 use Rattle.model.specs.Numbers.{malformed, notNext, notClosed, otherBytes, fullLog}
 use Rattle.model.specs.Bytes.{sameBytes, putAt}
 use Rattle.model.specs.Vector.{covers}
 use Rattle.model.specs.Record.{Rec, unit, num, seenVector, wellFormed}
-use Rattle.model.specs.Log.{recordsOf, soundLog, vectorOf}
 use Rattle.model.specs.Block.{recordAt, blockRecords}
-use Rattle.model.specs.Outcome.{Took, refused, taken, takeOne, takeAll}
+use Rattle.model.specs.Outcome.{refused, taken, takeOne, takeAll}
 use Rattle.index.specs.Tables.{slotOf, positionOf, closedBy}
 use Rattle.log.specs.declared.Layout.the-variants.{Log}
 use Rattle.log.specs.Places.{laidAt}

@@ -1,6 +1,6 @@
 -- Where records stand, by cases of the layout.
 -- Assumes nothing.
-use Prim.Native.Nat.{ℕ, _+_, _*_, _/_, _%_, _≤_, _<_}
+use Prim.Native.Nat.{ℕ, _+_, _*_, _/_, _%_}
 use mathlib.Core.Path.{_≡_}
 use Rattle.log.specs.declared.Layout.{Layout}
 use Rattle.log.specs.declared.Layout.the-variants.{Log, File}

@@ -1,28 +1,27 @@
 -- What the pass over records in order is asked, over plain values.
 -- Assumes nothing.
-use Prim.Native.Nat.{ℕ, zero, suc, _+_, _-_, _*_, _≤_, _<_}
+use Prim.Native.Nat.{ℕ, suc, _+_, _-_, _≤_, _<_}
 use native.Mathlib.Nat.{sub-self, zero-add}
 use native.Mathlib.Numerals.{add-one}
 use native.Mathlib.Omega.{arith}
-use mathlib.Core.Path.{_≡_, refl, sym, ap, _∙_, subst}
-use mathlib.Core.Bool.{Bool, true, false, cond}
+use mathlib.Core.Path.{_≡_, refl, sym, ap, _∙_}
+use mathlib.Core.Bool.{cond}
 use mathlib.Core.Option.{none}
 use mathlib.Core.List.{List, [], _∷_, _++_, append-nil}
 use lib.Dec.{eqb}
 use lib.ListN.{length, take, drop, replicate}
 use borrow.Author.Tests.{eq-eqb, ne-eqb}
 use Rattle.model.specs.Bytes.{part}
-use Rattle.model.specs.Record.{Rec, unit, num, wellFormed}
-use Rattle.model.specs.Log.{count, byId, recordFault}
+use Rattle.model.specs.Record.{Rec, unit, num}
+use Rattle.model.specs.Log.{byId, recordFault}
 use Rattle.octets.proofs.Parts.{part-is}
-use Rattle.order.proofs.Formed.{well-unit}
 use Rattle.index.specs.Tables.{Indexed, Placed, Spare, floorOf, noted, admitOf}
 use Rattle.index.proofs.Counts.{Alike, alike-cons, alike-trans, alike-inside}
-use Rattle.index.proofs.Tables.{held-at, indexed-placed, indexed-alike, indexed-none}
+use Rattle.index.proofs.Tables.{indexed-placed, indexed-alike, indexed-none}
 use Rattle.index.proofs.Admits.{indexed-spare, admit-fault, admit-indexed, admit-floor, admit-next}
 use Rattle.log.specs.declared.Layout.{Layout}
 use Rattle.log.specs.Places.{offsetOf, laidAt, Laid}
-use Rattle.log.specs.InOrder.{listed, before, Found, found, firstFault, ScanGives}
+use Rattle.log.specs.InOrder.{listed, before, found, firstFault, ScanGives}
 use Rattle.log.proofs.Lists.{before-length, listed-length, listed-more}
 
 -- the first i records have no fault: they are in the tables, the next must rank above the last, and in order they are alike

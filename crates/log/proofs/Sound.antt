@@ -1,8 +1,7 @@
 -- The places in use of a log, and what the pass over them says of its soundness.
 -- Assumes nothing.
 use Prim.Native.Nat.{ℕ, zero, suc, _+_, _-_, _*_, _≤_, _<_}
-use native.Mathlib.Nat.{zero-add, add-zero, sub-self}
-use native.Mathlib.Numerals.{add-one}
+use native.Mathlib.Nat.{zero-add, add-zero}
 use native.Mathlib.Omega.{arith}
 use mathlib.Core.Path.{_≡_, refl, sym, ap, _∙_, subst}
 use mathlib.Core.Logic.{⊎-elim}
@@ -17,11 +16,11 @@ use Rattle.model.specs.Record.{Rec}
 use Rattle.model.specs.Log.{vectorOf, recordFault, soundAfter, recordsIn, recordsOf, soundLog}
 use Rattle.octets.proofs.Numbers.{cond-cases, eq-or-ne, and-true}
 use Rattle.octets.proofs.Parts.{part-is}
-use Rattle.images.proofs.Logs.{few-records, sound-few}
+use Rattle.images.proofs.Logs.{sound-few}
 use Rattle.index.specs.Tables.{Indexed}
 use Rattle.log.specs.declared.Layout.the-variants.{Log}
 use Rattle.log.specs.Places.{offsetOf, laidAt, Laid}
-use Rattle.log.specs.InOrder.{listed, before, Found, found, firstFault, ScanGives, CheckGives}
+use Rattle.log.specs.InOrder.{listed, before, Found, firstFault, ScanGives, CheckGives}
 
 -- ---- the records of a log, place by place
 

@@ -1,14 +1,14 @@
 -- What storing the records of a block that passed is asked, over plain values.
 -- Assumes nothing.
-use Prim.Native.Nat.{ℕ, zero, suc, _+_, _-_, _*_, _≤_, _<_}
+use Prim.Native.Nat.{ℕ, suc, _+_, _-_, _*_, _≤_, _<_}
 use native.Mathlib.Nat.{sub-zero}
 use native.Mathlib.Numerals.{add-one}
 use native.Mathlib.Omega.{arith}
 use mathlib.Core.Path.{_≡_, refl, sym, ap, _∙_, subst}
-use mathlib.Core.Logic.{_⊎_, inl, inr, ⊎-elim}
+use mathlib.Core.Logic.{_⊎_, ⊎-elim}
 use mathlib.Core.Bool.{true}
 use mathlib.Core.List.{List, [], _∷_}
-use lib.ListN.{getD, length, set, take, drop}
+use lib.ListN.{getD, set, take, drop}
 use lib.Seq.{ext-getD}
 use Rattle.model.specs.Record.{Rec, unit, num, wellFormed}
 use Rattle.model.specs.Log.{insert, count, vectorOf, recordsOf, soundLog, logBytes}
@@ -16,11 +16,10 @@ use Rattle.model.specs.Block.{recordAt, recordsFrom}
 use Rattle.model.specs.Outcome.{Took, refused, taken, takeOne, takeAll}
 use Rattle.octets.proofs.Parts.{part-is}
 use Rattle.order.specs.Members.{Has}
-use Rattle.order.specs.Sound.{Sound}
 use Rattle.order.proofs.Formed.{well-unit}
 use Rattle.order.proofs.Counts.{count-nil, formed, number-held}
 use Rattle.order.proofs.Insert.{length-insert, count-insert, insert-sound}
-use Rattle.order.proofs.Take.{New, one-from, refused-taken, takeAll-nil, takeAll-goes, takeAll-stops}
+use Rattle.order.proofs.Take.{New, one-from, refused-taken, takeAll-goes, takeAll-stops}
 use Rattle.order.proofs.Tests.{vectorOf-length, vectorOf-getD}
 use Rattle.images.proofs.Logs.{log-sound}
 use Rattle.images.proofs.Calls.{sound-back}

@@ -1,17 +1,16 @@
 -- The ways out of taking a block, over plain values.
 -- Assumes nothing.
-use Prim.Native.Nat.{ℕ, zero, suc, _+_, _≤_, _<_}
+use Prim.Native.Nat.{ℕ, zero, suc, _≤_, _<_}
 use native.Mathlib.Omega.{arith}
-use mathlib.Core.Path.{_≡_, refl, sym, ap, _∙_}
-use mathlib.Core.Logic.{_⊎_, inl, inr, ⊎-elim}
-use mathlib.Core.Bool.{Bool, true, false, cond, not}
+use mathlib.Core.Path.{_≡_, refl, sym, _∙_}
+use mathlib.Core.Logic.{⊎-elim}
+use mathlib.Core.Bool.{Bool, true, false, not}
 use mathlib.Core.List.{List, []}
-use lib.Dec.{eqb}
 use lib.ListN.{length}
 use borrow.Author.Tests.{le-leb, lt-leb, eq-eqb, ne-eqb, not-true, not-false}
 use Rattle.model.specs.Log.{recordsOf, soundLog, logBytes}
-use Rattle.model.specs.Block.{archiveIn, countIn, blockFault, recordAt, recordsFrom, blockRecords}
-use Rattle.model.specs.Outcome.{Outcome, outcome, refusal, guarded, refused, taken, takeAll, givenFault, tookAll, tookBlock, takeOf}
+use Rattle.model.specs.Block.{countIn, blockFault, recordAt, recordsFrom, blockRecords}
+use Rattle.model.specs.Outcome.{Outcome, outcome, guarded, taken, takeAll, givenFault, tookAll, tookBlock, takeOf}
 use Rattle.octets.proofs.Numbers.{eq-or-ne}
 use Rattle.blocklaws.proofs.Faults.{header-right, stored-header}
 use Rattle.images.proofs.Logs.{sound-records, sound-bytes, sound-few}

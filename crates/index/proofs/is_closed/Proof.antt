@@ -1,5 +1,5 @@
 use Prim.Native.Nat.{_≤_, _<_, _-_}
-use mathlib.Core.Path.{_≡_, refl, _∙_}
+use mathlib.Core.Path.{_≡_, refl}
 use mathlib.Core.Bool.{true}
 use Rattle.model.specs.Vector.{coversTo}
 use Rattle.model.specs.Log.{allTo}
@@ -9,9 +9,6 @@ use borrow.Author.Needs.{needs}
 use native.Mathlib.Omega.{arith}
 use Rattle.index.proofs.is_closed.Statement.{statement}
 use Rattle.index.proofs.is_closed.Tie as tie
-use Rattle.index.proofs.is_closed.Reads as reads
-use Rattle.index.proofs.is_closed.Lts as lts
-use Rattle.index.proofs.position.Reads as position-reads
 
 abbrev Inv-loop : tie.InvT-loop
 Inv-loop places seens s closed₀ u c p v₀ closed v = (v ≤ 8) × (closed ≡ closed₀) × (p < 518) × (coversTo (s .counts) (rowAt seens p) v ≡ true)
@@ -25,93 +22,71 @@ Inv-units places seens s closed₀ u₀ closed u = (u ≤ 8) × (closed ≡ true
 abbrev μ-units : tie.MeasureT-units
 μ-units places seens s closed₀ u₀ closed u = 8 - u
 
--- src/lib.rt:42:5
 units-holds : tie.Need-units-holds Inv-loop μ-loop Inv-units μ-units
 unfolding allTo
 units-holds c = (omega arith, refl, refl)
 
--- src/lib.rt:43:17
 mul-c : tie.Need-mul-c Inv-loop μ-loop Inv-units μ-units
 mul-c c = search needs
 
--- src/lib.rt:43:17
 element-copy-out-c : tie.Need-element-copy-out-c Inv-loop μ-loop Inv-units μ-units
 element-copy-out-c c = search needs
 
--- src/lib.rt:45:13
 add-u : tie.Need-add-u Inv-loop μ-loop Inv-units μ-units
 add-u c = search needs
 
--- src/lib.rt:42:5
 units-less : tie.Need-units-less Inv-loop μ-loop Inv-units μ-units
 units-less c = search needs
 
--- src/lib.rt:42:5
 units-again : tie.Need-units-again Inv-loop μ-loop Inv-units μ-units
 units-again c = (omega arith, search needs, search (none-counted))
 
--- src/lib.rt:47:13
 position-requires : tie.Need-position-requires Inv-loop μ-loop Inv-units μ-units
 position-requires c κs = (search needs, search needs, omega arith, search (few-seen))
 
--- src/lib.rt:48:9
 loop-holds : tie.Need-loop-holds Inv-loop μ-loop Inv-units μ-units
 unfolding coversTo
 loop-holds c = (omega arith, refl, search (place-inside), refl)
 
--- src/lib.rt:49:16
 mul-if2 : tie.Need-mul-if2 Inv-loop μ-loop Inv-units μ-units
 mul-if2 c = search needs
 
--- src/lib.rt:49:16
 element-copy-out-if2 : tie.Need-element-copy-out-if2 Inv-loop μ-loop Inv-units μ-units
 element-copy-out-if2 c = search needs
 
--- src/lib.rt:49:36
 mul-if2-2 : tie.Need-mul-if2-2 Inv-loop μ-loop Inv-units μ-units
 mul-if2-2 c = search needs
 
--- src/lib.rt:49:36
 add-if2 : tie.Need-add-if2 Inv-loop μ-loop Inv-units μ-units
 add-if2 c = search needs
 
--- src/lib.rt:49:30
 mul-if2-3 : tie.Need-mul-if2-3 Inv-loop μ-loop Inv-units μ-units
 mul-if2-3 c = search needs
 
--- src/lib.rt:49:30
 shared-slice-read-if2 : tie.Need-shared-slice-read-if2 Inv-loop μ-loop Inv-units μ-units
 shared-slice-read-if2 c = search needs
 
--- src/lib.rt:48:13
 add-v : tie.Need-add-v Inv-loop μ-loop Inv-units μ-units
 add-v c = search needs
 
--- src/lib.rt:48:9
 loop-less : tie.Need-loop-less Inv-loop μ-loop Inv-units μ-units
 loop-less c = search needs
 
--- src/lib.rt:48:9
 loop-again : tie.Need-loop-again Inv-loop μ-loop Inv-units μ-units
 loop-again c = (omega arith, search needs, search needs, search (row-next))
 
--- src/lib.rt:42:17
 add-u-2 : tie.Need-add-u-2 Inv-loop μ-loop Inv-units μ-units
 add-u-2 c = search needs
 
--- src/lib.rt:42:5
 units-less-2 : tie.Need-units-less-2 Inv-loop μ-loop Inv-units μ-units
 units-less-2 c = search needs
 
--- src/lib.rt:42:5
 units-again-2 : tie.Need-units-again-2 Inv-loop μ-loop Inv-units μ-units
 units-again-2 c = (omega arith, cc, search (none-above))
 
--- src/lib.rt:37:1
 returns : tie.Need-returns Inv-loop μ-loop Inv-units μ-units
 returns c = search (all-closed)
 
--- src/lib.rt:37:1
 returns-2 : tie.Need-returns-2 Inv-loop μ-loop Inv-units μ-units
 returns-2 c = search (one-above)
 

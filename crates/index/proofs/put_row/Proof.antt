@@ -8,8 +8,6 @@ use borrow.Author.Needs.{needs}
 use native.Mathlib.Omega.{arith}
 use Rattle.index.proofs.put_row.Statement.{statement}
 use Rattle.index.proofs.put_row.Tie as tie
-use Rattle.index.proofs.put_row.Reads as reads
-use Rattle.index.proofs.put_row.Lts as lts
 
 abbrev Inv-loop : tie.InvT-loop
 Inv-loop seens₀ p s v₀ seens v = (v ≤ 8) × (length seens ≡ length seens₀) × (seens ≡ paste seens₀ (8 * p) (s .counts) v)
@@ -17,43 +15,33 @@ Inv-loop seens₀ p s v₀ seens v = (v ≤ 8) × (length seens ≡ length seens
 abbrev μ-loop : tie.MeasureT-loop
 μ-loop seens₀ p s v₀ seens v = 8 - v
 
--- src/lib.rt:63:5
 loop-holds : tie.Need-loop-holds Inv-loop μ-loop
 loop-holds c = (omega arith, refl, search (paste-zero))
 
--- src/lib.rt:64:28
 mul-seens : tie.Need-mul-seens Inv-loop μ-loop
 mul-seens c = search needs
 
--- src/lib.rt:64:28
 element-copy-out-seens : tie.Need-element-copy-out-seens Inv-loop μ-loop
 element-copy-out-seens c = search needs
 
--- src/lib.rt:64:15
 mul-seens-2 : tie.Need-mul-seens-2 Inv-loop μ-loop
 mul-seens-2 c = search needs
 
--- src/lib.rt:64:15
 add-seens : tie.Need-add-seens Inv-loop μ-loop
 add-seens c = search needs
 
--- src/lib.rt:64:9
 mul-seens-3 : tie.Need-mul-seens-3 Inv-loop μ-loop
 mul-seens-3 c = search needs
 
--- src/lib.rt:64:9
 slice-write-seens : tie.Need-slice-write-seens Inv-loop μ-loop
 slice-write-seens c = search needs
 
--- src/lib.rt:63:9
 add-v : tie.Need-add-v Inv-loop μ-loop
 add-v c = search needs
 
--- src/lib.rt:63:5
 loop-less : tie.Need-loop-less Inv-loop μ-loop
 loop-less c = search needs
 
--- src/lib.rt:63:5
 loop-again : tie.Need-loop-again Inv-loop μ-loop
 loop-again c =
     let l = c .before .before .loop in
@@ -61,11 +49,9 @@ loop-again c =
     let n : length (a .t3 .counts) ≡ 8 = search needs in
     (omega arith, simp length-set (l .inv .1), rw (l .inv .2, add-one) (paste-suc (a .seens .now) (8 * a .p) (a .t3 .counts) (l .v) 0 (omega arith) (omega arith)))
 
--- src/lib.rt:59:1
 same-length : tie.Need-same-length Inv-loop μ-loop
 same-length c = search needs
 
--- src/lib.rt:59:1
 returns : tie.Need-returns Inv-loop μ-loop
 returns c =
     let a = c .before .before .args in

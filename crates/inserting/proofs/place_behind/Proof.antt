@@ -8,9 +8,6 @@ use borrow.Author.Needs.{needs}
 use native.Mathlib.Omega.{arith}
 use Rattle.inserting.proofs.place_behind.Statement.{statement}
 use Rattle.inserting.proofs.place_behind.Tie as tie
-use Rattle.inserting.proofs.place_behind.Reads as reads
-use Rattle.inserting.proofs.place_behind.Lts as lts
-use Rattle.record.proofs.rank_of.Reads as rank-of-reads
 
 abbrev Inv-loop : tie.InvT-loop
 Inv-loop log n k i₀ i = (i ≤ n) × (placeBehind (laidAt Log log) k i ≡ placeBehind (laidAt Log log) k n)
@@ -18,55 +15,42 @@ Inv-loop log n k i₀ i = (i ≤ n) × (placeBehind (laidAt Log log) k i ≡ pla
 abbrev μ-loop : tie.MeasureT-loop
 μ-loop log n k i₀ i = i
 
--- src/lib.rt:17:5
 loop-holds : tie.Need-loop-holds Inv-loop μ-loop
 loop-holds c = (omega arith, refl)
 
--- src/lib.rt:18:24
 sub-at : tie.Need-sub-at Inv-loop μ-loop
 sub-at c = search needs
 
--- src/lib.rt:18:18
 mul-at : tie.Need-mul-at Inv-loop μ-loop
 mul-at c = search needs
 
--- src/lib.rt:19:37
 add-rank-of : tie.Need-add-rank-of Inv-loop μ-loop
 add-rank-of c = search needs
 
--- src/lib.rt:19:28
 sub-rank-of : tie.Need-sub-rank-of Inv-loop μ-loop
 sub-rank-of c = search needs
 
--- src/lib.rt:19:28
 part-rank-of-start : tie.Need-part-rank-of-start Inv-loop μ-loop
 part-rank-of-start c = search needs
 
--- src/lib.rt:19:28
 part-rank-of-end : tie.Need-part-rank-of-end Inv-loop μ-loop
 part-rank-of-end c = search needs
 
--- src/lib.rt:19:12
 rank-of-requires : tie.Need-rank-of-requires Inv-loop μ-loop
 rank-of-requires c κs = search needs
 
--- src/lib.rt:20:13
 returns : tie.Need-returns Inv-loop μ-loop
 returns c = (search (behind-stops), search needs)
 
--- src/lib.rt:22:9
 sub-i : tie.Need-sub-i Inv-loop μ-loop
 sub-i c = search needs
 
--- src/lib.rt:17:5
 loop-less : tie.Need-loop-less Inv-loop μ-loop
 loop-less c = search needs
 
--- src/lib.rt:17:5
 loop-again : tie.Need-loop-again Inv-loop μ-loop
 loop-again c = (omega arith, search (behind-next))
 
--- src/lib.rt:12:1
 returns-2 : tie.Need-returns-2 Inv-loop μ-loop
 returns-2 c = (search (behind-none), search needs)
 

@@ -6,9 +6,6 @@ use borrow.Author.Needs.{needs}
 use native.Mathlib.Omega.{arith}
 use Rattle.judging.proofs.judge_block.Statement.{statement}
 use Rattle.judging.proofs.judge_block.Tie as tie
-use Rattle.judging.proofs.judge_block.Reads as reads
-use Rattle.judging.proofs.judge_block.Lts as lts
-use Rattle.judging.proofs.take_record.Reads as take-record-reads
 
 abbrev Inv-loop : tie.InvT-loop
 Inv-loop b n log m places₀ seens₀ held₀ used₀ j₀ places seens held used j =
@@ -17,75 +14,57 @@ Inv-loop b n log m places₀ seens₀ held₀ used₀ j₀ places seens held use
 abbrev μ-loop : tie.MeasureT-loop
 μ-loop b n log m places₀ seens₀ held₀ used₀ j₀ places seens held used j = n - j
 
--- src/lib.rt:119:5
 loop-holds : tie.Need-loop-holds Inv-loop μ-loop
 loop-holds c = (omega arith, search needs, search needs, search (going-starts))
 
--- src/lib.rt:120:23
 mul-at : tie.Need-mul-at Inv-loop μ-loop
 mul-at c = search needs
 
--- src/lib.rt:120:18
 add-at : tie.Need-add-at Inv-loop μ-loop
 add-at c = search needs
 
--- src/lib.rt:121:36
 add-take-record : tie.Need-add-take-record Inv-loop μ-loop
 add-take-record c = search needs
 
--- src/lib.rt:121:29
 sub-take-record : tie.Need-sub-take-record Inv-loop μ-loop
 sub-take-record c = search needs
 
--- src/lib.rt:121:29
 part-take-record-start : tie.Need-part-take-record-start Inv-loop μ-loop
 part-take-record-start c = search needs
 
--- src/lib.rt:121:29
 part-take-record-end : tie.Need-part-take-record-end Inv-loop μ-loop
 part-take-record-end c = search needs
 
--- src/lib.rt:121:46
 add-take-record-2 : tie.Need-add-take-record-2 Inv-loop μ-loop
 add-take-record-2 c = search needs
 
--- src/lib.rt:121:13
 take-record-requires : tie.Need-take-record-requires Inv-loop μ-loop
 take-record-requires c κs = (search needs, search needs, search (going-few), search needs, search needs, search needs, search needs, search (going-placed), search (going-counted))
 
--- src/lib.rt:123:13
 same-length : tie.Need-same-length Inv-loop μ-loop
 same-length c = search needs
 
--- src/lib.rt:123:13
 same-length-2 : tie.Need-same-length-2 Inv-loop μ-loop
 same-length-2 c = search needs
 
--- src/lib.rt:123:13
 returns : tie.Need-returns Inv-loop μ-loop
 returns c = search (going-stops)
 
--- src/lib.rt:128:9
 add-j : tie.Need-add-j Inv-loop μ-loop
 add-j c = search needs
 
--- src/lib.rt:119:5
 loop-less : tie.Need-loop-less Inv-loop μ-loop
 loop-less c = search needs
 
--- src/lib.rt:119:5
 loop-again : tie.Need-loop-again Inv-loop μ-loop
 loop-again c = (omega arith, search needs, search needs, search (going-next))
 
--- src/lib.rt:112:1
 same-length-3 : tie.Need-same-length-3 Inv-loop μ-loop
 same-length-3 c = search needs
 
--- src/lib.rt:112:1
 same-length-4 : tie.Need-same-length-4 Inv-loop μ-loop
 same-length-4 c = search needs
 
--- src/lib.rt:112:1
 returns-2 : tie.Need-returns-2 Inv-loop μ-loop
 returns-2 c = search (going-ends)
 

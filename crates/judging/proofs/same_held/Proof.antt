@@ -1,71 +1,52 @@
 use Rattle.judging.proofs.Checks.{held-in-log, held-in-block}
-use native.Mathlib.Omega.{arith}
 use borrow.Author.Needs.{needs}
 use Rattle.judging.proofs.same_held.Statement.{statement}
 use Rattle.judging.proofs.same_held.Tie as tie
-use Rattle.judging.proofs.same_held.Reads as reads
-use Rattle.judging.proofs.same_held.Lts as lts
-use Rattle.octets.proofs.same.Reads as same-reads
 
 ruleset ways = (held-in-log, held-in-block)
 
--- src/lib.rt:36:18
 mul-at : tie.Need-mul-at
 mul-at c = search needs
 
--- src/lib.rt:37:38
 add-same : tie.Need-add-same
 add-same c = search needs
 
--- src/lib.rt:37:29
 sub-same : tie.Need-sub-same
 sub-same c = search needs
 
--- src/lib.rt:37:29
 part-same-start : tie.Need-part-same-start
 part-same-start c = search needs
 
--- src/lib.rt:37:29
 part-same-end : tie.Need-part-same-end
 part-same-end c = search needs
 
--- src/lib.rt:37:9
 same-requires : tie.Need-same-requires
 same-requires c κs = search needs
 
--- src/lib.rt:37:9
 returns : tie.Need-returns
 returns c = search ways
 
--- src/lib.rt:39:19
 mul-at-2 : tie.Need-mul-at-2
 mul-at-2 c = search needs
 
--- src/lib.rt:39:14
 add-at : tie.Need-add-at
 add-at c = search needs
 
--- src/lib.rt:40:25
 add-same-2 : tie.Need-add-same-2
 add-same-2 c = search needs
 
--- src/lib.rt:40:18
 sub-same-2 : tie.Need-sub-same-2
 sub-same-2 c = search needs
 
--- src/lib.rt:40:18
 part-same-start-2 : tie.Need-part-same-start-2
 part-same-start-2 c = search needs
 
--- src/lib.rt:40:18
 part-same-end-2 : tie.Need-part-same-end-2
 part-same-end-2 c = search needs
 
--- src/lib.rt:40:5
 same-requires-2 : tie.Need-same-requires-2
 same-requires-2 c κs = search needs
 
--- src/lib.rt:31:1
 returns-2 : tie.Need-returns-2
 returns-2 c = search ways
 

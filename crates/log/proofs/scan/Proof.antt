@@ -9,11 +9,6 @@ use borrow.Author.Needs.{needs}
 use native.Mathlib.Omega.{arith}
 use Rattle.log.proofs.scan.Statement.{statement}
 use Rattle.log.proofs.scan.Tie as tie
-use Rattle.log.proofs.scan.Reads as reads
-use Rattle.log.proofs.scan.Lts as lts
-use Rattle.index.proofs.admit.Reads as admit-reads
-use Rattle.log.proofs.offset.Reads as offset-reads
-use Rattle.vector.proofs.zero_vector.Reads as zero-vector-reads
 
 abbrev Inv-loop : tie.InvT-loop
 Inv-loop bytes layout n places₀ seens₀ none b₀ i₀ places seens b i =
@@ -26,71 +21,54 @@ Inv-loop bytes layout n places₀ seens₀ none b₀ i₀ places seens b i =
 abbrev μ-loop : tie.MeasureT-loop
 μ-loop bytes layout n places₀ seens₀ none b₀ i₀ places seens b i = n - i
 
--- src/lib.rt:39:9
 zero-vector-requires : tie.Need-zero-vector-requires Inv-loop μ-loop
 zero-vector-requires c κs = search needs
 
--- src/lib.rt:42:5
 loop-holds : tie.Need-loop-holds Inv-loop μ-loop
 loop-holds c = (omega arith, search needs, search needs, rw sub-zero, search (passed-none))
 
--- src/lib.rt:43:13
 offset-requires : tie.Need-offset-requires Inv-loop μ-loop
 offset-requires c κs = search needs
 
--- src/lib.rt:44:41
 add-admit : tie.Need-add-admit Inv-loop μ-loop
 add-admit c = search needs
 
--- src/lib.rt:44:30
 sub-admit : tie.Need-sub-admit Inv-loop μ-loop
 sub-admit c = search needs
 
--- src/lib.rt:44:30
 part-admit-start : tie.Need-part-admit-start Inv-loop μ-loop
 part-admit-start c = search needs
 
--- src/lib.rt:44:30
 part-admit-end : tie.Need-part-admit-end Inv-loop μ-loop
 part-admit-end c = search (laid-inside)
 
--- src/lib.rt:44:13
 admit-requires : tie.Need-admit-requires Inv-loop μ-loop
 admit-requires c κs = (search needs, search needs, search needs, search needs, search (passed-placed), search (passed-spare))
 
--- src/lib.rt:46:13
 same-length : tie.Need-same-length Inv-loop μ-loop
 same-length c = search needs
 
--- src/lib.rt:46:13
 same-length-2 : tie.Need-same-length-2 Inv-loop μ-loop
 same-length-2 c = search needs
 
--- src/lib.rt:46:13
 returns : tie.Need-returns Inv-loop μ-loop
 returns c = search (scan-stops)
 
--- src/lib.rt:50:9
 add-i : tie.Need-add-i Inv-loop μ-loop
 add-i c = search needs
 
--- src/lib.rt:42:5
 loop-less : tie.Need-loop-less Inv-loop μ-loop
 loop-less c = search needs
 
--- src/lib.rt:42:5
 loop-again : tie.Need-loop-again Inv-loop μ-loop
 loop-again c = (omega arith, search needs, search needs, search (scan-first), search (scan-passed))
 
--- src/lib.rt:35:1
 same-length-3 : tie.Need-same-length-3 Inv-loop μ-loop
 same-length-3 c = search needs
 
--- src/lib.rt:35:1
 same-length-4 : tie.Need-same-length-4 Inv-loop μ-loop
 same-length-4 c = search needs
 
--- src/lib.rt:35:1
 returns-2 : tie.Need-returns-2 Inv-loop μ-loop
 returns-2 c = search (scan-ends)
 

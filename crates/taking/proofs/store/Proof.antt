@@ -7,9 +7,6 @@ use borrow.Author.Needs.{needs}
 use native.Mathlib.Omega.{arith}
 use Rattle.taking.proofs.store.Statement.{statement}
 use Rattle.taking.proofs.store.Tie as tie
-use Rattle.taking.proofs.store.Reads as reads
-use Rattle.taking.proofs.store.Lts as lts
-use Rattle.taking.proofs.store_record.Reads as store-record-reads
 
 abbrev Inv-loop : tie.InvT-loop
 Inv-loop log₀ b n cur₀ j₀ log cur j = (j ≤ n) × (length log ≡ length log₀) × Storing (recordsOf log₀) b n j log (cur .used) (cur .held .counts)
@@ -17,55 +14,42 @@ Inv-loop log₀ b n cur₀ j₀ log cur j = (j ≤ n) × (length log ≡ length 
 abbrev μ-loop : tie.MeasureT-loop
 μ-loop log₀ b n cur₀ j₀ log cur j = n - j
 
--- src/lib.rt:43:5
 loop-holds : tie.Need-loop-holds Inv-loop μ-loop
 loop-holds c = (omega arith, refl, search (storing-starts))
 
--- src/lib.rt:44:23
 mul-at : tie.Need-mul-at Inv-loop μ-loop
 mul-at c = search needs
 
--- src/lib.rt:44:18
 add-at : tie.Need-add-at Inv-loop μ-loop
 add-at c = search needs
 
--- src/lib.rt:45:45
 add-store-record : tie.Need-add-store-record Inv-loop μ-loop
 add-store-record c = search needs
 
--- src/lib.rt:45:38
 sub-store-record : tie.Need-sub-store-record Inv-loop μ-loop
 sub-store-record c = search needs
 
--- src/lib.rt:45:38
 part-store-record-start : tie.Need-part-store-record-start Inv-loop μ-loop
 part-store-record-start c = search needs
 
--- src/lib.rt:45:38
 part-store-record-end : tie.Need-part-store-record-end Inv-loop μ-loop
 part-store-record-end c = search needs
 
--- src/lib.rt:45:13
 store-record-requires : tie.Need-store-record-requires Inv-loop μ-loop
 store-record-requires c κs = (search needs, search needs, search (storing-stored), search (storing-takes))
 
--- src/lib.rt:47:9
 add-j : tie.Need-add-j Inv-loop μ-loop
 add-j c = search needs
 
--- src/lib.rt:43:5
 loop-less : tie.Need-loop-less Inv-loop μ-loop
 loop-less c = search needs
 
--- src/lib.rt:43:5
 loop-again : tie.Need-loop-again Inv-loop μ-loop
 loop-again c = (omega arith, search needs, search (storing-next))
 
--- src/lib.rt:37:1
 same-length : tie.Need-same-length Inv-loop μ-loop
 same-length c = search needs
 
--- src/lib.rt:37:1
 returns : tie.Need-returns Inv-loop μ-loop
 returns c = search (storing-ends)
 
