@@ -14,6 +14,7 @@ use Rattle.octets.proofs.Numbers.{and-true}
 use Rattle.octets.proofs.Parts.{part-split, part-none, part-length, part-start}
 use Rattle.octets.proofs.PutAt.{put-front}
 use Rattle.octets.proofs.Compare.{blank-eq, blank-drop}
+use Rattle.blocklaws.proofs.Fields.{joined-append}
 use Rattle.order.specs.Sound.{Sound}
 use Rattle.images.proofs.Logs.{sound-records}
 use Rattle.log.specs.declared.Layout.the-variants.{Log}
@@ -22,11 +23,6 @@ use Rattle.log.specs.InOrder.{listed}
 use Rattle.log.proofs.Sound.{listed-records}
 use Rattle.inserting.specs.Where.{placeBehind}
 use Rattle.inserting.proofs.Ranked.{place-at-most, insert-at}
-
-joined-append : (a b : List Rec) → joined (a ++ b) ≡ joined a ++ joined b
-unfolding joined
-joined-append [] b = refl
-joined-append (r ∷ a) b = rw (joined-append a b, append-assoc r (joined a) (joined b))
 
 joined-cons : (r : Rec) (l : List Rec) → joined (r ∷ l) ≡ r ++ joined l
 unfolding joined
