@@ -1,28 +1,21 @@
 -- A working table after one change: a row more, a row changed, an aside more, an aside settled.
 -- Assumes nothing.
-use Prim.Native.Nat.{ℕ, zero, suc, _+_, _-_, _*_, _/_, _%_, _≤_, _<_}
-use native.Mathlib.Numerals.{add-one}
-use native.Mathlib.Nat.{add-zero, zero-add}
+use Prim.Native.Nat.{ℕ, zero, suc, _+_, _*_, _/_, _%_, _≤_, _<_}
 use native.Mathlib.Omega.{arith}
-use mathlib.Core.Path.{_≡_, refl, sym, ap, _∙_}
+use mathlib.Core.Path.{_≡_, refl, sym, _∙_}
 use mathlib.Core.Logic.{_⊎_, inl, inr, ⊎-elim}
-use mathlib.Core.Bool.{Bool, true, false, cond, not, _&&_, true≢false, false≢true}
-use mathlib.Core.Option.{Option, none, some}
 use mathlib.Core.List.{List, [], _∷_, _++_}
-use lib.Dec.{eqb}
 use lib.ListN.{getD, length, set, length-append, length-set}
 use lib.Seq.{getD-set-same, getD-set-other}
-use borrow.Author.Tests.{eq-eqb, ne-eqb, eqb-true, eqb-false}
 use Rattle.model.specs.Bytes.{part, putAt}
-use Rattle.model.specs.Record.{Rec, selfOf, objectOf}
-use Rattle.model.specs.Replay.{Entry, Aside, Tree, isPresent, isDisputed, entryOf, changed, settled, newEntry}
+use Rattle.model.specs.Replay.{Entry, Aside, Tree, isDisputed}
 use Rattle.model.specs.Table.{entryRow, asideRow}
-use Rattle.octets.proofs.Numbers.{eq-or-ne, lt-or-ge, bool-cases}
-use Rattle.table.specs.Rows.{entryIn, entriesFrom, treeIn, rowIn, flagged, workBytes, newAside, InRange, Proper, AllProper}
+use Rattle.octets.proofs.Numbers.{eq-or-ne, lt-or-ge}
+use Rattle.table.specs.Rows.{flagged, workBytes, InRange, Proper, AllProper}
 use Rattle.table.proofs.Writes.{add-entry, set-entry, part-entry, add-aside, set-aside, part-aside}
 use Rattle.table.proofs.Fields.{settledOne}
-use Rattle.lookup.specs.Roles.{rowFrom, noteFrom, rowOf, noteOf, behindRows, roleOf, slotOf, Absent, Lone, MarksFit, Works, Holds}
-use Rattle.lookup.proofs.Places.{row-absent, row-set, note-set, row-more, row-new, note-more, note-new, lone-set, lone-more, note-at}
+use Rattle.lookup.specs.Roles.{rowFrom, noteFrom, rowOf, noteOf, behindRows, roleOf, slotOf, MarksFit, Works}
+use Rattle.lookup.proofs.Places.{row-absent, row-set, note-set, row-more, row-new, note-more, note-new, lone-set, lone-more}
 use Rattle.lookup.proofs.Working.{blankEntry, blankAside, behind-cases}
 use Rattle.apply.specs.Effects.{withEntries, withAsides}
 

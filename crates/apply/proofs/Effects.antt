@@ -1,34 +1,32 @@
 -- What the functions that change a table are asked, over plain values.
 -- Assumes nothing.
-use Prim.Native.Nat.{ℕ, zero, suc, _+_, _-_, _*_, _≤_, _<_}
+use Prim.Native.Nat.{ℕ, suc, _+_, _-_, _*_, _≤_, _<_}
 use native.Mathlib.Nat.{zero-add, sub-zero}
 use native.Mathlib.Omega.{arith}
 use mathlib.Core.Path.{_≡_, refl, sym, ap, _∙_}
-use mathlib.Core.Logic.{_⊎_, inl, inr, ⊎-elim}
-use mathlib.Core.Bool.{Bool, true, false, cond, not, _&&_, true≢false, false≢true}
-use mathlib.Core.Option.{Option, none, some}
+use mathlib.Core.Logic.{_⊎_, ⊎-elim}
+use mathlib.Core.Bool.{Bool, true, false, cond, _&&_}
+use mathlib.Core.Option.{none, some}
 use mathlib.Core.List.{List, [], _∷_, _++_}
-use lib.Dec.{leb, eqb}
+use lib.Dec.{eqb}
 use lib.ListN.{getD, length, set, take, drop}
-use borrow.Author.Tests.{eq-eqb, ne-eqb, eqb-true, lt-leb, le-leb}
+use borrow.Author.Tests.{ne-eqb, eqb-true, lt-leb, le-leb}
 use borrow.Rule.Slice.PartMut.{putMid}
-use Rattle.model.specs.Bytes.{part, putAt}
+use Rattle.model.specs.Bytes.{part}
 use Rattle.model.specs.Record.{Rec, op, selfOf, objectOf, folderOf}
-use Rattle.model.specs.Replay.{Entry, Aside, Tree, isPresent, isDisputed, entryOf, changed, settled, newEntry, stored, renamed, removed, effect}
+use Rattle.model.specs.Replay.{Entry, Tree, isPresent, entryOf, changed, settled, newEntry, stored, renamed, removed, effect}
 use Rattle.model.specs.Table.{entryRow, asideRow}
-use Rattle.octets.proofs.Numbers.{and-true, bool-cases}
+use Rattle.octets.proofs.Numbers.{and-true}
 use Rattle.octets.proofs.Parts.{part-is, part-length}
 use Rattle.octets.proofs.PutAt.{mid-put}
-use Rattle.table.specs.Rows.{entryIn, entriesFrom, asidesFrom, treeIn, rowIn, workBytes, newAside, newRow, storedRow, renamedRow, InRange, Proper}
+use Rattle.table.specs.Rows.{entryIn, entriesFrom, asidesFrom, treeIn, rowIn, newAside, newRow, storedRow, renamedRow, InRange, Proper}
 use Rattle.table.proofs.Rows.{row-length, aside-row-length}
-use Rattle.table.proofs.Writes.{part-entry, part-aside}
 use Rattle.table.proofs.Fields.{settledOne, new-row, store-entry, rename-entry, remove-entry, settle-aside, new-proper, stored-proper, renamed-proper, removed-proper}
-use Rattle.lookup.specs.Roles.{rowFrom, rowOf, noteFrom, noteOf, roleOf, slotOf, Absent, Lone, Works, Holds}
+use Rattle.lookup.specs.Roles.{rowFrom, noteOf, slotOf, Works, Holds}
 use Rattle.lookup.proofs.Places.{row-lone, change-at, note-at, not-settled}
 use Rattle.lookup.proofs.Working.{blankEntry, blankAside, row-none, row-some, works-long, works-row, role-note, role-no-note}
-use Rattle.judge.specs.Judged.{Asks}
 use Rattle.apply.specs.Effects.{withEntries, withAsides, Takes}
-use Rattle.apply.proofs.Changes.{proper-at, works-part, works-part-aside, works-change, works-settle, works-make, works-aside, slot-low}
+use Rattle.apply.proofs.Changes.{proper-at, works-part, works-part-aside, works-change, works-settle, works-make, works-aside}
 
 -- ---- numbers that fit
 

@@ -1,21 +1,20 @@
 -- The table shown, from the flagged table: present rows, zeros behind them, counts.
 -- Assumes nothing.
-use Prim.Native.Nat.{ℕ, zero, suc, _+_, _-_, _*_, _≤_, _<_}
+use Prim.Native.Nat.{ℕ, _+_, _-_, _*_, _≤_}
 use native.Mathlib.Omega.{arith}
 use mathlib.Core.Path.{_≡_, refl, sym, ap, _∙_}
 use mathlib.Core.List.{List, [], _∷_, _++_, append-assoc}
-use lib.ListN.{getD, length, take, drop, replicate, length-append, length-replicate, replicate-append-replicate}
+use lib.ListN.{length, take, drop, replicate, length-append, length-replicate, replicate-append-replicate}
 use lib.Seq.{take-all}
 use borrow.Rule.Slice.PartMut.{putMid}
 use Rattle.model.specs.Bytes.{two, padded, putAt}
-use Rattle.model.specs.Replay.{Entry, Aside, Tree, presentOnes}
+use Rattle.model.specs.Replay.{Entry, Aside, presentOnes}
 use Rattle.model.specs.Table.{entryRows, asideRows, tableBytes}
 use Rattle.octets.proofs.Parts.{lent-length}
-use Rattle.octets.proofs.PutAt.{mid-put, put-more, put-whole, length-put}
-use Rattle.table.specs.Rows.{entriesFrom, asidesFrom, treeIn, flagged, workBytes, AllProper}
+use Rattle.octets.proofs.PutAt.{mid-put, put-more, put-whole}
+use Rattle.table.specs.Rows.{entriesFrom, asidesFrom, treeIn, flagged, AllProper}
 use Rattle.table.proofs.Rows.{rows-length}
 use Rattle.table.proofs.Writes.{rows-written, flagged-long}
-use Rattle.lookup.specs.Roles.{Works, Holds}
 use Rattle.finish.specs.Finishing.{Marked, keptTo, presentTo, Compacted, trimmed}
 use Rattle.finish.proofs.Compaction.{kept-length, present-few, kept-rows, present-rows}
 

@@ -6,20 +6,20 @@ use native.Mathlib.Nat.{zero-add, sub-zero}
 use native.Mathlib.Omega.{arith}
 use mathlib.Core.Path.{_≡_, refl, sym, ap, subst, _∙_}
 use mathlib.Core.Logic.{_⊎_, inl, inr, ⊎-elim}
-use mathlib.Core.Bool.{Bool, true, false, cond, _&&_, _||_}
+use mathlib.Core.Bool.{Bool, true, false, _&&_, _||_}
 use mathlib.Core.List.{List, [], _∷_, _++_}
 use lib.Dec.{eqb}
 use lib.ListN.{getD, length, set, take, drop}
 use lib.Seq.{take-suc, take-all}
 use borrow.Author.Tests.{eq-eqb, ne-eqb}
 use borrow.Rule.Slice.PartMut.{putMid}
-use Rattle.model.specs.Bytes.{part, padded, putAt}
+use Rattle.model.specs.Bytes.{part, putAt}
 use Rattle.model.specs.Record.{identityAt}
 use Rattle.model.specs.Replay.{Entry, Aside, Tree, isDisputed}
-use Rattle.model.specs.Table.{entryRow, entryRows, asideRows}
+use Rattle.model.specs.Table.{entryRow, entryRows}
 use Rattle.octets.proofs.Parts.{part-is}
 use Rattle.octets.proofs.PutAt.{put-in-back, mid-put}
-use Rattle.table.specs.Rows.{entryIn, asideIn, entriesFrom, asidesFrom, treeIn, flagged, flagOf, workBytes, InRange, Proper, AllProper}
+use Rattle.table.specs.Rows.{asideIn, entriesFrom, asidesFrom, treeIn, flagged, flagOf, workBytes, InRange, AllProper}
 use Rattle.table.proofs.Rows.{row-length, rows-length, tree-back}
 use Rattle.table.proofs.Writes.{rows-written, part-entry, flagged-long}
 use Rattle.table.proofs.Fields.{put-field}

@@ -4,14 +4,13 @@ use Prim.Native.Nat.{ℕ, zero, suc, _+_, _-_, _≤_, _<_}
 use native.Mathlib.Nat.{add-zero, sub-zero}
 use native.Mathlib.Omega.{arith}
 use mathlib.Core.Path.{_≡_, refl, sym, ap, _∙_}
-use mathlib.Core.Logic.{_⊎_, inl, inr, ⊎-elim}
-use mathlib.Core.Bool.{Bool, true, false, cond, not, _&&_}
+use mathlib.Core.Logic.{⊎-elim}
+use mathlib.Core.Bool.{Bool, true, false, cond}
 use mathlib.Core.Option.{Option, none, some}
 use mathlib.Core.List.{List, [], _∷_, _++_}
-use lib.Dec.{eqb}
 use lib.ListN.{getD, length, set}
-use borrow.Author.Tests.{eqb-true, eqb-false, eq-eqb, ne-eqb}
-use Rattle.model.specs.Replay.{Entry, Aside, Tree, isPresent, entryOf, standsAside, changed, settled}
+use borrow.Author.Tests.{eq-eqb, ne-eqb}
+use Rattle.model.specs.Replay.{Entry, Aside, isPresent, entryOf, standsAside, changed, settled}
 use Rattle.octets.proofs.Numbers.{eq-or-ne}
 use Rattle.table.proofs.Fields.{settledOne}
 use Rattle.lookup.specs.Roles.{rowFrom, noteFrom, Absent, Lone}

@@ -1,23 +1,21 @@
 -- What the rows and the roles of a working table say of its tree.
 -- Assumes nothing.
-use Prim.Native.Nat.{ℕ, zero, suc, _+_, _-_, _*_, _/_, _%_, _≤_, _<_}
+use Prim.Native.Nat.{ℕ, zero, suc, _+_, _-_, _*_, _≤_, _<_}
 use native.Mathlib.Nat.{add-zero, zero-add}
 use native.Mathlib.Omega.{arith}
 use mathlib.Core.Path.{_≡_, refl, sym, ap, _∙_}
 use mathlib.Core.Logic.{_⊎_, inl, inr, ⊎-elim}
-use mathlib.Core.Bool.{Bool, true, false, cond, not, _&&_}
-use mathlib.Core.Option.{Option, none, some}
-use mathlib.Core.List.{List, [], _∷_, _++_}
-use lib.Dec.{ltb, eqb}
-use lib.ListN.{getD, length, set}
+use mathlib.Core.Bool.{false}
+use mathlib.Core.Option.{none, some}
+use mathlib.Core.List.{List, []}
+use lib.ListN.{getD, length}
 use borrow.Author.Tests.{eq-eqb, ne-eqb, lt-ltb, le-ltb}
-use Rattle.model.specs.Replay.{Entry, Aside, Tree, Verdict, fits, aside, isPresent, entryOf, standsAside, changed, settled}
-use Rattle.octets.proofs.Numbers.{eq-or-ne, lt-or-ge}
+use Rattle.model.specs.Replay.{Entry, Aside, Tree, isPresent, entryOf}
 use Rattle.table.specs.Rows.{entryIn, asideIn, entriesFrom, asidesFrom, treeIn, rowIn, workBytes, InRange}
 use Rattle.table.proofs.Rows.{tree-back}
 use Rattle.table.proofs.Writes.{flagged-long}
-use Rattle.lookup.specs.Roles.{rowFrom, noteFrom, rowOf, noteOf, behindRows, roleOf, slotOf, Works, Holds}
-use Rattle.lookup.proofs.Places.{row-at, no-entry, entry-at, ifPresent, stands, stands-not}
+use Rattle.lookup.specs.Roles.{rowFrom, rowOf, noteOf, behindRows, roleOf, slotOf, Works, Holds}
+use Rattle.lookup.proofs.Places.{row-at, no-entry, entry-at, ifPresent}
 
 -- an entry of no table, for places behind the rows
 pub blankEntry : Entry

@@ -1,13 +1,12 @@
 -- Records replayed one after another.
 -- Assumes nothing.
-use Prim.Native.Nat.{ℕ, zero, suc, _+_, _-_, _*_, _≤_, _<_}
+use Prim.Native.Nat.{ℕ, zero, suc, _+_, _-_, _≤_, _<_}
 use native.Mathlib.Numerals.{add-one}
 use native.Mathlib.Nat.{zero-add}
 use native.Mathlib.Omega.{arith}
-use mathlib.Core.Path.{_≡_, refl, sym, ap, _∙_}
-use mathlib.Core.List.{List, [], _∷_, _++_}
-use lib.ListN.{getD, length, take, drop}
-use Rattle.model.specs.Bytes.{part}
+use mathlib.Core.Path.{_≡_, refl, sym, _∙_}
+use mathlib.Core.List.{List, [], _∷_}
+use lib.ListN.{length, take, drop}
 use Rattle.model.specs.Record.{Rec, selfOf}
 use Rattle.model.specs.Replay.{Tree, step, replayFrom}
 use Rattle.octets.proofs.Parts.{part-is}

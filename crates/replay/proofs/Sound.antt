@@ -1,24 +1,24 @@
 -- The records of a sound log may be replayed from the root alone on.
 -- Assumes nothing.
-use Prim.Native.Nat.{ℕ, zero, suc, _+_, _-_, _*_, _/_, _%_, _≤_, _<_}
+use Prim.Native.Nat.{ℕ, zero, suc, _+_, _≤_, _<_}
 use native.Mathlib.Omega.{arith}
 use mathlib.Core.Path.{_≡_, refl, sym, ap, ap₂, _∙_}
-use mathlib.Core.Logic.{_⊎_, inl, inr, ⊎-elim}
-use mathlib.Core.Bool.{Bool, true, false, cond}
+use mathlib.Core.Logic.{inl, inr, ⊎-elim}
+use mathlib.Core.Bool.{true}
 use mathlib.Core.List.{List, [], _∷_, _++_}
 use lib.Dec.{eqb}
 use lib.ListN.{getD, length, replicate, length-replicate, replicate-append-replicate}
-use Rattle.model.specs.Bytes.{word, padded}
-use Rattle.model.specs.Record.{Rec, root, identity, unit, num, seen, op, identityAt, selfOf, objectOf, folderOf, wellFormed}
+use Rattle.model.specs.Bytes.{padded}
+use Rattle.model.specs.Record.{Rec, root, identity, unit, num, seen, identityAt, selfOf, objectOf, folderOf, wellFormed}
 use Rattle.model.specs.Log.{rank, count, recordsOf, soundLog}
-use Rattle.model.specs.Replay.{Tree, emptyTree, replayFrom, replay}
+use Rattle.model.specs.Replay.{emptyTree, replayFrom, replay}
 use Rattle.model.specs.Table.{entryRows, asideRows}
 use Rattle.octets.proofs.Numbers.{eq-or-ne}
 use Rattle.octets.proofs.PutAt.{padded-nil}
 use Rattle.order.specs.Members.{Has}
-use Rattle.order.specs.Sound.{Next, SoundAfter, Sound}
+use Rattle.order.specs.Sound.{SoundAfter, Sound}
 use Rattle.order.proofs.Formed.{well-length, well-unit}
-use Rattle.order.proofs.Counts.{count-cons, above-all, formed, number-held, seen-within}
+use Rattle.order.proofs.Counts.{above-all, formed, number-held, seen-within}
 use Rattle.order.proofs.Same.{unique}
 use Rattle.images.proofs.Logs.{sound-records, sound-few}
 use Rattle.record.specs.WellFormed.{Named}
@@ -30,7 +30,7 @@ use Rattle.lookup.specs.Roles.{rowFrom, noteFrom, rowOf, noteOf, behindRows, ro
 use Rattle.lookup.proofs.Working.{works-holds}
 use Rattle.judge.specs.Judged.{Asks}
 use Rattle.log.specs.declared.Layout.the-variants.{Log}
-use Rattle.log.specs.Places.{laidAt, Laid}
+use Rattle.log.specs.Places.{laidAt}
 use Rattle.log.specs.InOrder.{listed}
 use Rattle.log.proofs.Sound.{listed-records}
 use Rattle.replay.specs.Playable.{Playable}

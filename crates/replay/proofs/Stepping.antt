@@ -1,23 +1,22 @@
 -- What one record changes of lengths and roles, and the table after it.
 -- Assumes nothing.
-use Prim.Native.Nat.{ℕ, zero, suc, _+_, _-_, _*_, _≤_, _<_}
+use Prim.Native.Nat.{ℕ, suc, _≤_}
 use native.Mathlib.Omega.{arith}
-use mathlib.Core.Path.{_≡_, refl, sym, ap, ap₂, _∙_}
-use mathlib.Core.Logic.{_⊎_, inl, inr, ⊎-elim}
-use mathlib.Core.Bool.{Bool, true, false, cond, _&&_}
+use mathlib.Core.Path.{_≡_, refl, ap}
+use mathlib.Core.Logic.{_⊎_}
+use mathlib.Core.Bool.{true, false, _&&_}
 use mathlib.Core.List.{List, [], _∷_, _++_}
 use lib.Dec.{eqb}
-use lib.ListN.{getD, length, length-append}
+use lib.ListN.{length, length-append}
 use borrow.Author.Tests.{ne-eqb}
 use Rattle.model.specs.Record.{Rec, selfOf, objectOf}
-use Rattle.model.specs.Replay.{Entry, Aside, Tree, Verdict, fits, aside, isPresent, changed, settled, newEntry, stored, renamed, removed, judge, effect, apply, step}
+use Rattle.model.specs.Replay.{Entry, Aside, Tree, fits, aside, isPresent, changed, settled, newEntry, stored, renamed, removed, judge, effect, apply, step}
 use Rattle.replaylaws.proofs.Steps.{cond-elim, effect-elim, step-elim}
-use Rattle.table.specs.Rows.{treeIn, entriesFrom, asidesFrom, newAside, InRange}
-use Rattle.lookup.specs.Roles.{rowFrom, noteFrom, rowOf, noteOf, behindRows, roleOf, Works, Holds}
+use Rattle.table.specs.Rows.{treeIn, asidesFrom, newAside, InRange}
+use Rattle.lookup.specs.Roles.{rowFrom, noteFrom, rowOf, noteOf, roleOf, Works, Holds}
 use Rattle.lookup.proofs.Places.{row-more, note-more}
 use Rattle.judge.specs.Judged.{verdictOf}
 use Rattle.apply.specs.Effects.{withAsides}
-use Rattle.apply.proofs.Changes.{fresh-row, fresh-note}
 use Rattle.replay.proofs.Marks.{marked-fits}
 
 -- ---- changes keep places and lengths

@@ -1,10 +1,9 @@
 -- What showing the tree is asked, over plain values: each way out with the tests that lead there.
 -- Assumes nothing.
 use Prim.Native.Nat.{ℕ}
-use mathlib.Core.Path.{_≡_, refl, sym, ap, _∙_}
-use mathlib.Core.Bool.{Bool, true, false, cond, not, _&&_}
+use mathlib.Core.Path.{_≡_, ap, _∙_}
+use mathlib.Core.Bool.{Bool, true, false, not}
 use mathlib.Core.List.{List}
-use lib.Dec.{eqb}
 use lib.ListN.{length}
 use borrow.Author.Tests.{eq-eqb, ne-eqb, not-true, not-false}
 use Rattle.model.specs.Log.{recordsOf, soundLog}
@@ -21,12 +20,6 @@ pub laid : (b roles : List ℕ) (n m : ℕ) (t : Tree) (f : List ℕ) → Works 
 laid b roles n m t f w e = e ∙ ap tableBytes (works-tree b roles n m t w)
 
 -- ---- the answers
-
-pub sound-log : (log : List ℕ) (s : Bool) → s ≡ soundLog log → not s ≡ false → soundLog log ≡ true
-sound-log log s e h = sym e ∙ not-false s h
-
-pub used-all : (log : List ℕ) (s : Bool) (n : ℕ) → s ≡ soundLog log → not s ≡ false → (soundLog log ≡ true → n ≡ length (recordsOf log)) → n ≡ length (recordsOf log)
-used-all log s n e h f = f (sound-log log s e h)
 
 module _ (log tree : List ℕ) where
   pub bad-log : (length log ≡ 40960 → ⊥) → outcome 1 0 log tree 0 ≡ showOf log tree

@@ -1,19 +1,19 @@
 -- The fields of one row, written one after another.
 -- Assumes nothing.
-use Prim.Native.Nat.{ℕ, zero, suc, _+_, _-_, _*_, _/_, _%_, _≤_, _<_}
+use Prim.Native.Nat.{ℕ, _+_, _/_, _%_, _≤_}
 use native.Mathlib.Numerals.{add-one}
-use native.Mathlib.Nat.{zero-add, add-zero, add-assoc}
+use native.Mathlib.Nat.{add-zero}
 use native.Mathlib.Omega.{arith}
-use mathlib.Core.Path.{_≡_, refl, sym, ap, ap₂, _∙_}
-use mathlib.Core.Bool.{Bool, true, false, cond}
+use mathlib.Core.Path.{_≡_, refl, sym, ap, _∙_}
+use mathlib.Core.Bool.{false}
 use mathlib.Core.List.{List, [], _∷_, _++_, append-assoc, append-nil}
-use lib.ListN.{getD, length, take, drop, set, replicate, length-append, length-replicate}
+use lib.ListN.{length, set, length-append}
 use Rattle.model.specs.Bytes.{two, part, putAt}
 use Rattle.model.specs.Record.{Rec, op, selfOf, folderOf, dateBytes, labelOf, markOf}
 use Rattle.model.specs.Replay.{Entry, Aside, newEntry, stored, renamed, removed}
 use Rattle.model.specs.Table.{identityBytes, entryRow, asideRow}
 use Rattle.octets.proofs.Parts.{part-length, part-split}
-use Rattle.octets.proofs.PutAt.{put-whole, put-in-front, put-in-back, put-more, length-put, sets-put}
+use Rattle.octets.proofs.PutAt.{put-whole, put-in-front, put-in-back, put-more, sets-put}
 use Rattle.table.specs.Rows.{newAside, newRow, storedRow, renamedRow, InRange, Proper}
 
 -- a field in the place of another of its length

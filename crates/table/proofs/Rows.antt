@@ -1,23 +1,21 @@
 -- What rows of a tree table show is what was laid in them.
 -- Assumes nothing.
-use Prim.Native.Nat.{ℕ, zero, suc, _+_, _-_, _*_, _/_, _%_, _≤_, _<_}
-use native.Mathlib.Numerals.{add-one}
-use native.Mathlib.Nat.{zero-add, add-zero, add-assoc}
+use Prim.Native.Nat.{ℕ, suc, _+_, _-_, _*_, _/_, _%_, _≤_}
+use native.Mathlib.Nat.{add-zero, add-assoc}
 use native.Mathlib.Omega.{arith}
-use mathlib.Core.Path.{_≡_, refl, sym, ap, ap₂, _∙_}
+use mathlib.Core.Path.{_≡_, refl, _∙_}
 use mathlib.Core.Bool.{Bool, true, false, cond}
-use mathlib.Core.List.{List, [], _∷_, _++_, append-assoc, append-nil}
+use mathlib.Core.List.{List, [], _∷_, _++_, append-assoc}
 use lib.Dec.{eqb}
-use lib.ListN.{getD, length, take, drop, replicate, length-append, length-replicate}
-use lib.Seq.{getD-append-add, take-at, drop-at, take-append-seam, drop-append-seam}
-use Rattle.model.specs.Bytes.{word, two, part, padded}
+use lib.ListN.{length, take, drop, replicate, length-append, length-replicate}
+use lib.Seq.{getD-append-add, take-at, drop-at}
+use Rattle.model.specs.Bytes.{word, part, padded}
 use Rattle.model.specs.Record.{identity, identityAt}
 use Rattle.model.specs.Replay.{Entry, Aside, Tree}
 use Rattle.model.specs.Table.{identityBytes, entryRow, asideRow, entryRows, asideRows}
-use Rattle.octets.proofs.Parts.{part-behind, part-middle}
-use Rattle.octets.proofs.PutAt.{length-padded}
+use Rattle.octets.proofs.Parts.{part-behind}
 use Rattle.octets.proofs.Words.{word-behind}
-use Rattle.table.specs.Rows.{entryIn, asideIn, entriesFrom, asidesFrom, treeIn, flagged, workBytes, flagOf, Proper, AllProper}
+use Rattle.table.specs.Rows.{entryIn, asideIn, entriesFrom, asidesFrom, treeIn, flagged, flagOf, Proper, AllProper}
 
 -- ---- behind other bytes
 

@@ -1,13 +1,12 @@
 -- What writing a row leaves: a row behind the others joins them, a row in the place of another takes that place.
 -- Assumes nothing.
 use Prim.Native.Nat.{ℕ, zero, suc, _+_, _-_, _*_, _≤_, _<_}
-use native.Mathlib.Nat.{zero-add, add-zero, add-assoc}
 use native.Mathlib.Omega.{arith}
-use mathlib.Core.Path.{_≡_, refl, sym, ap, ap₂, _∙_}
+use mathlib.Core.Path.{_≡_, refl, sym, ap, _∙_}
 use mathlib.Core.List.{List, [], _∷_, _++_, append-assoc, append-nil}
-use lib.ListN.{getD, length, take, drop, set, replicate, length-append, length-replicate}
+use lib.ListN.{getD, length, set, replicate, length-append}
 use Rattle.model.specs.Bytes.{part, padded, putAt}
-use Rattle.model.specs.Replay.{Entry, Aside, Tree}
+use Rattle.model.specs.Replay.{Entry, Aside}
 use Rattle.model.specs.Table.{entryRow, asideRow, entryRows, asideRows}
 use Rattle.octets.proofs.Parts.{part-front, part-behind, part-whole}
 use Rattle.octets.proofs.PutAt.{put-whole, put-in-front, put-in-back, put-padded, length-put, length-padded}

@@ -1,79 +1,56 @@
 use Rattle.apply.proofs.Effects.{aside-added, next-note-end, who-low, marked-low}
-use native.Mathlib.Omega.{arith}
 use borrow.Author.Needs.{needs}
 use Rattle.apply.proofs.stand_aside.Statement.{statement}
 use Rattle.apply.proofs.stand_aside.Tie as tie
-use Rattle.apply.proofs.stand_aside.Reads as reads
-use Rattle.apply.proofs.stand_aside.Lts as lts
-use Rattle.lookup.proofs.slot.Reads as slot-reads
-use Rattle.table.proofs.fill_aside.Reads as fill-aside-reads
-use Rattle.table.proofs.self_of.Reads as self-of-reads
 
--- src/lib.rt:103:9
 self-of-requires : tie.Need-self-of-requires
 self-of-requires c κs = search needs
 
--- src/lib.rt:104:22
 mul-at : tie.Need-mul-at
 mul-at c = search needs
 
--- src/lib.rt:104:14
 add-at : tie.Need-add-at
 add-at c = search needs
 
--- src/lib.rt:105:38
 add-fill-aside : tie.Need-add-fill-aside
 add-fill-aside c = search needs
 
--- src/lib.rt:105:23
 sub-fill-aside : tie.Need-sub-fill-aside
 sub-fill-aside c = search needs
 
--- src/lib.rt:105:23
 part-fill-aside-start : tie.Need-part-fill-aside-start
 part-fill-aside-start c = search needs
 
--- src/lib.rt:105:23
 part-fill-aside-end : tie.Need-part-fill-aside-end
 part-fill-aside-end c = search (next-note-end)
 
--- src/lib.rt:105:5
 fill-aside-requires : tie.Need-fill-aside-requires
 fill-aside-requires c κs = (search needs, search (who-low), search (marked-low))
 
--- src/lib.rt:106:9
 slot-requires : tie.Need-slot-requires
 slot-requires c κs = search needs
 
--- src/lib.rt:107:17
 add-roles : tie.Need-add-roles
 add-roles c = search needs
 
--- src/lib.rt:107:16
 cast-roles : tie.Need-cast-roles
 cast-roles c = search needs
 
--- src/lib.rt:107:5
 mul-roles : tie.Need-mul-roles
 mul-roles c = search needs
 
--- src/lib.rt:107:5
 slice-write-roles : tie.Need-slice-write-roles
 slice-write-roles c = search needs
 
--- src/lib.rt:110:17
 add-t10 : tie.Need-add-t10
 add-t10 c = search needs
 
--- src/lib.rt:99:1
 same-length : tie.Need-same-length
 same-length c = search needs
 
--- src/lib.rt:99:1
 same-length-2 : tie.Need-same-length-2
 same-length-2 c = search needs
 
--- src/lib.rt:99:1
 returns : tie.Need-returns
 returns c = search (aside-added)
 

@@ -8,9 +8,6 @@ use Rattle.finish.specs.Finishing.{keptTo, presentTo}
 use Rattle.finish.proofs.Compaction.{row-below, compact-rows, compact-count, compact-starts, compact-ends}
 use Rattle.finish.proofs.compact.Statement.{statement}
 use Rattle.finish.proofs.compact.Tie as tie
-use Rattle.finish.proofs.compact.Reads as reads
-use Rattle.finish.proofs.compact.Lts as lts
-use Rattle.finish.proofs.keep_row.Reads as keep-row-reads
 
 abbrev Inv-loop : tie.InvT-loop
 Inv-loop table₀ n j₀ i₀ table j i = (i ≤ n) × (length table ≡ length table₀) × (table ≡ putAt table₀ 4 (keptTo table₀ i)) × (j ≡ presentTo table₀ i)

@@ -3,24 +3,16 @@ use native.Mathlib.Omega.{arith}
 use borrow.Author.Needs.{needs}
 use Rattle.finish.proofs.finish.Statement.{statement}
 use Rattle.finish.proofs.finish.Tie as tie
-use Rattle.finish.proofs.finish.Reads as reads
-use Rattle.finish.proofs.finish.Lts as lts
-use Rattle.finish.proofs.flag.Reads as flag-reads
-use Rattle.finish.proofs.trim.Reads as trim-reads
 
--- src/lib.rt:121:5
 flag-requires : tie.Need-flag-requires
 flag-requires c κs = search needs
 
--- src/lib.rt:122:5
 trim-requires : tie.Need-trim-requires
 trim-requires c κs = (search (marked-long), omega arith, omega arith)
 
--- src/lib.rt:117:1
 same-length : tie.Need-same-length
 same-length c = search needs
 
--- src/lib.rt:117:1
 returns : tie.Need-returns
 returns c = search (finish-done)
 

@@ -8,9 +8,6 @@ use borrow.Author.Needs.{needs}
 use native.Mathlib.Omega.{arith}
 use Rattle.finish.proofs.flag.Statement.{statement}
 use Rattle.finish.proofs.flag.Tie as tie
-use Rattle.finish.proofs.flag.Reads as reads
-use Rattle.finish.proofs.flag.Lts as lts
-use Rattle.finish.proofs.flag_one.Reads as flag-one-reads
 
 abbrev Inv-loop : tie.InvT-loop
 Inv-loop table₀ roles size i₀ table i = (i ≤ size .asides) × (length table ≡ length table₀) × Marked (take i (asidesFrom table₀ 0 (size .asides))) table roles (size .entries) (size .asides) (treeIn table₀ (size .entries) (size .asides))
@@ -18,31 +15,24 @@ Inv-loop table₀ roles size i₀ table i = (i ≤ size .asides) × (length tabl
 abbrev μ-loop : tie.MeasureT-loop
 μ-loop table₀ roles size i₀ table i = size .asides - i
 
--- src/lib.rt:51:5
 loop-holds : tie.Need-loop-holds Inv-loop μ-loop
 loop-holds c = (omega arith, refl, search (no-flags))
 
--- src/lib.rt:52:9
 flag-one-requires : tie.Need-flag-one-requires Inv-loop μ-loop
 flag-one-requires c κs = (search (flag-turn), omega arith)
 
--- src/lib.rt:53:9
 add-i : tie.Need-add-i Inv-loop μ-loop
 add-i c = search needs
 
--- src/lib.rt:51:5
 loop-less : tie.Need-loop-less Inv-loop μ-loop
 loop-less c = search needs
 
--- src/lib.rt:51:5
 loop-again : tie.Need-loop-again Inv-loop μ-loop
 loop-again c = (omega arith, search needs, search (flag-next))
 
--- src/lib.rt:46:1
 same-length : tie.Need-same-length Inv-loop μ-loop
 same-length c = search needs
 
--- src/lib.rt:46:1
 returns : tie.Need-returns Inv-loop μ-loop
 returns c = search (flags-end)
 

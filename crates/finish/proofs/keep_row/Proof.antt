@@ -1,11 +1,7 @@
-use native.Mathlib.Omega.{arith}
 use borrow.Author.Needs.{needs}
 use Rattle.finish.proofs.Compaction.{keeps-none, keeps-row}
 use Rattle.finish.proofs.keep_row.Statement.{statement}
 use Rattle.finish.proofs.keep_row.Tie as tie
-use Rattle.finish.proofs.keep_row.Reads as reads
-use Rattle.finish.proofs.keep_row.Lts as lts
-use Rattle.finish.proofs.move_down.Reads as move-down-reads
 
 mul-if1 : tie.Need-mul-if1
 mul-if1 c = search needs

@@ -1,41 +1,29 @@
 use Rattle.judge.proofs.Reasons.{label-held, label-free}
 use Rattle.model.specs.Record.{labelOf}
 use Rattle.model.specs.Bytes.{part}
-use native.Mathlib.Omega.{arith}
 use borrow.Author.Needs.{needs}
 use Rattle.judge.proofs.free_label.Statement.{statement}
 use Rattle.judge.proofs.free_label.Tie as tie
-use Rattle.judge.proofs.free_label.Reads as reads
-use Rattle.judge.proofs.free_label.Lts as lts
-use Rattle.lookup.proofs.holder.Reads as holder-reads
-use Rattle.table.proofs.made_at.Reads as made-at-reads
 
--- src/lib.rt:34:43
 sub-holder : tie.Need-sub-holder
 sub-holder c = search needs
 
--- src/lib.rt:34:43
 part-holder-start : tie.Need-part-holder-start
 part-holder-start c = search needs
 
--- src/lib.rt:34:43
 part-holder-end : tie.Need-part-holder-end
 part-holder-end c = search needs
 
--- src/lib.rt:34:9
 holder-requires : tie.Need-holder-requires
 holder-requires c κs = search needs
 
--- src/lib.rt:38:21
 made-at-requires : tie.Need-made-at-requires
 made-at-requires c κs = search needs
 
--- src/lib.rt:36:9
 returns : tie.Need-returns
 unfolding labelOf part
 returns c = search (label-held)
 
--- src/lib.rt:30:1
 returns-2 : tie.Need-returns-2
 unfolding labelOf part
 returns-2 c = search (label-free)

@@ -3,14 +3,11 @@ use Prim.Native.Nat.{_≤_, _-_}
 use mathlib.Core.Path.{_≡_}
 use Rattle.table.specs.Rows.{entriesFrom}
 use native.Mathlib.Nat.{sub-zero}
-use Rattle.model.specs.Replay.{holderOf, hasEntries}
+use Rattle.model.specs.Replay.{holderOf}
 use borrow.Author.Needs.{needs}
 use native.Mathlib.Omega.{arith}
 use Rattle.lookup.proofs.holder.Statement.{statement}
 use Rattle.lookup.proofs.holder.Tie as tie
-use Rattle.lookup.proofs.holder.Reads as reads
-use Rattle.lookup.proofs.holder.Lts as lts
-use Rattle.lookup.proofs.holds_label.Reads as holds-label-reads
 
 abbrev Inv-loop : tie.InvT-loop
 Inv-loop table n f label i₀ i = (i ≤ n) × (holderOf f label (entriesFrom table i (n - i)) ≡ holderOf f label (entriesFrom table 0 n))
@@ -18,31 +15,24 @@ Inv-loop table n f label i₀ i = (i ≤ n) × (holderOf f label (entriesFrom ta
 abbrev μ-loop : tie.MeasureT-loop
 μ-loop table n f label i₀ i = n - i
 
--- src/lib.rt:83:5
 loop-holds : tie.Need-loop-holds Inv-loop μ-loop
 loop-holds c = (omega arith, rw sub-zero)
 
--- src/lib.rt:84:12
 holds-label-requires : tie.Need-holds-label-requires Inv-loop μ-loop
 holds-label-requires c κs = search needs
 
--- src/lib.rt:85:13
 returns : tie.Need-returns Inv-loop μ-loop
 returns c = search (holder-here)
 
--- src/lib.rt:87:9
 add-i : tie.Need-add-i Inv-loop μ-loop
 add-i c = search needs
 
--- src/lib.rt:83:5
 loop-less : tie.Need-loop-less Inv-loop μ-loop
 loop-less c = search needs
 
--- src/lib.rt:83:5
 loop-again : tie.Need-loop-again Inv-loop μ-loop
 loop-again c = (omega arith, search (holder-later))
 
--- src/lib.rt:78:1
 returns-2 : tie.Need-returns-2 Inv-loop μ-loop
 returns-2 c = search (holder-none)
 

@@ -4,30 +4,22 @@ use native.Mathlib.Omega.{arith}
 use borrow.Author.Needs.{needs}
 use Rattle.lookup.proofs.slot.Statement.{statement}
 use Rattle.lookup.proofs.slot.Tie as tie
-use Rattle.lookup.proofs.slot.Reads as reads
-use Rattle.lookup.proofs.slot.Lts as lts
 
--- src/lib.rt:17:12
 cast-result : tie.Need-cast-result
 cast-result c = search needs
 
--- src/lib.rt:17:5
 mul-result : tie.Need-mul-result
 mul-result c = search needs
 
--- src/lib.rt:17:33
 cast-result-2 : tie.Need-cast-result-2
 cast-result-2 c = search needs
 
--- src/lib.rt:17:33
 sub-result : tie.Need-sub-result
 sub-result c = search needs
 
--- src/lib.rt:17:5
 add-result : tie.Need-add-result
 add-result c = search needs
 
--- src/lib.rt:13:1
 returns : tie.Need-returns
 unfolding slotOf
 returns c = (refl, omega arith)

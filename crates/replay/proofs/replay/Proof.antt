@@ -11,10 +11,6 @@ use borrow.Author.Needs.{needs}
 use native.Mathlib.Omega.{arith}
 use Rattle.replay.proofs.replay.Statement.{statement}
 use Rattle.replay.proofs.replay.Tie as tie
-use Rattle.replay.proofs.replay.Reads as reads
-use Rattle.replay.proofs.replay.Lts as lts
-use Rattle.log.proofs.offset.Reads as offset-reads
-use Rattle.replay.proofs.step.Reads as step-reads
 
 abbrev Inv-loop : tie.InvT-loop
 Inv-loop bytes layout n table₀ roles₀ size₀ i₀ table roles size i = (i ≤ n) × (length table ≡ length table₀) × (length roles ≡ length roles₀) × Works table roles (size .entries) (size .asides) (replayFrom (treeIn table₀ (size₀ .entries) (size₀ .asides)) (listed (laidAt layout bytes) 0 i))
@@ -22,55 +18,42 @@ Inv-loop bytes layout n table₀ roles₀ size₀ i₀ table roles size i = (i �
 abbrev μ-loop : tie.MeasureT-loop
 μ-loop bytes layout n table₀ roles₀ size₀ i₀ table roles size i = n - i
 
--- src/lib.rt:44:5
 loop-holds : tie.Need-loop-holds Inv-loop μ-loop
 loop-holds c = (omega arith, refl, refl, search (play-starts))
 
--- src/lib.rt:45:13
 offset-requires : tie.Need-offset-requires Inv-loop μ-loop
 offset-requires c κs = omega arith
 
--- src/lib.rt:46:36
 add-step : tie.Need-add-step Inv-loop μ-loop
 add-step c = omega arith
 
--- src/lib.rt:46:25
 sub-step : tie.Need-sub-step Inv-loop μ-loop
 sub-step c = search needs
 
--- src/lib.rt:46:25
 part-step-start : tie.Need-part-step-start Inv-loop μ-loop
 part-step-start c = search needs
 
--- src/lib.rt:46:25
 part-step-end : tie.Need-part-step-end Inv-loop μ-loop
 part-step-end c = search (turn-inside)
 
--- src/lib.rt:46:13
 step-requires : tie.Need-step-requires Inv-loop μ-loop
 step-requires c κs = (search (turn-takes), search (turn-holds), search (turn-entries), search (turn-asides))
 
--- src/lib.rt:48:9
 add-i : tie.Need-add-i Inv-loop μ-loop
 add-i c = search needs
 
--- src/lib.rt:44:5
 loop-less : tie.Need-loop-less Inv-loop μ-loop
 loop-less c = search needs
 
--- src/lib.rt:44:5
 loop-again : tie.Need-loop-again Inv-loop μ-loop
 loop-again c = (omega arith, search needs, search needs, search (turn-goes))
 
--- src/lib.rt:31:1
 same-length : tie.Need-same-length Inv-loop μ-loop
 same-length c = search needs
 
--- src/lib.rt:31:1
 same-length-2 : tie.Need-same-length-2 Inv-loop μ-loop
 same-length-2 c = search needs
 
--- src/lib.rt:31:1
 returns : tie.Need-returns Inv-loop μ-loop
 returns c = search (play-ends)
 

@@ -1,36 +1,24 @@
 use Rattle.log.proofs.Sound.{log-laid}
 use Rattle.replay.proofs.Sound.{start-holds, log-room, log-playable, log-replayed}
-use native.Mathlib.Omega.{arith}
 use borrow.Author.Needs.{needs}
 use Rattle.replay.proofs.replay_log.Statement.{statement}
 use Rattle.replay.proofs.replay_log.Tie as tie
-use Rattle.replay.proofs.replay_log.Reads as reads
-use Rattle.replay.proofs.replay_log.Lts as lts
-use Rattle.octets.proofs.clear.Reads as clear-reads
-use Rattle.replay.proofs.clear_roles.Reads as clear-roles-reads
-use Rattle.replay.proofs.replay.Reads as replay-reads
 
--- src/lib.rt:68:5
 clear-requires : tie.Need-clear-requires
 clear-requires c κs = search needs
 
--- src/lib.rt:69:5
 clear-roles-requires : tie.Need-clear-roles-requires
 clear-roles-requires c κs = search needs
 
--- src/lib.rt:70:5
 replay-requires : tie.Need-replay-requires
 replay-requires c κs = (search (log-laid), search (log-playable), search (start-holds), search (log-room), search (log-room))
 
--- src/lib.rt:64:1
 same-length : tie.Need-same-length
 same-length c = search needs
 
--- src/lib.rt:64:1
 same-length-2 : tie.Need-same-length-2
 same-length-2 c = search needs
 
--- src/lib.rt:64:1
 returns : tie.Need-returns
 returns c = search (log-replayed)
 

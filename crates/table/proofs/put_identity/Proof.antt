@@ -4,43 +4,31 @@ use native.Mathlib.Omega.{arith}
 use borrow.Author.Needs.{needs}
 use Rattle.table.proofs.put_identity.Statement.{statement}
 use Rattle.table.proofs.put_identity.Tie as tie
-use Rattle.table.proofs.put_identity.Reads as reads
-use Rattle.table.proofs.put_identity.Lts as lts
-use Rattle.octets.proofs.put16.Reads as put16-reads
 
--- src/lib.rt:55:15
 cast-dst : tie.Need-cast-dst
 cast-dst c = search needs
 
--- src/lib.rt:55:5
 slice-write-dst : tie.Need-slice-write-dst
 slice-write-dst c = search needs
 
--- src/lib.rt:56:9
 add-dst : tie.Need-add-dst
 add-dst c = search needs
 
--- src/lib.rt:56:5
 slice-write-dst-2 : tie.Need-slice-write-dst-2
 slice-write-dst-2 c = simp length-set (omega arith)
 
--- src/lib.rt:57:24
 add-put16 : tie.Need-add-put16
 add-put16 c = search needs
 
--- src/lib.rt:57:32
 cast-put16 : tie.Need-cast-put16
 cast-put16 c = search needs
 
--- src/lib.rt:57:5
 put16-requires : tie.Need-put16-requires
 put16-requires c κs = simp length-set (omega arith)
 
--- src/lib.rt:51:1
 same-length : tie.Need-same-length
 same-length c = omega (arith, simp length-set at (c .before .before .put16 .kept .0))
 
--- src/lib.rt:51:1
 returns : tie.Need-returns
 returns c = search (identity-put)
 

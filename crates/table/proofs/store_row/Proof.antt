@@ -1,61 +1,43 @@
 use Rattle.model.specs.Bytes.{part}
 use Rattle.table.specs.Rows.{storedRow}
 use Rattle.model.specs.Record.{dateBytes, markOf}
-use native.Mathlib.Omega.{arith}
 use borrow.Author.Needs.{needs}
 use Rattle.table.proofs.store_row.Statement.{statement}
 use Rattle.table.proofs.store_row.Tie as tie
-use Rattle.table.proofs.store_row.Reads as reads
-use Rattle.table.proofs.store_row.Lts as lts
-use Rattle.octets.proofs.put.Reads as put-reads
-use Rattle.table.proofs.put_identity.Reads as put-identity-reads
-use Rattle.table.proofs.self_of.Reads as self-of-reads
 
--- src/lib.rt:120:27
 self-of-requires : tie.Need-self-of-requires
 self-of-requires c κs = search needs
 
--- src/lib.rt:120:5
 put-identity-requires : tie.Need-put-identity-requires
 put-identity-requires c κs = search needs
 
--- src/lib.rt:121:26
 sub-put : tie.Need-sub-put
 sub-put c = search needs
 
--- src/lib.rt:121:26
 part-put-start : tie.Need-part-put-start
 part-put-start c = search needs
 
--- src/lib.rt:121:26
 part-put-end : tie.Need-part-put-end
 part-put-end c = search needs
 
--- src/lib.rt:121:5
 put-requires : tie.Need-put-requires
 put-requires c κs = search needs
 
--- src/lib.rt:122:26
 sub-put-2 : tie.Need-sub-put-2
 sub-put-2 c = search needs
 
--- src/lib.rt:122:26
 part-put-start-2 : tie.Need-part-put-start-2
 part-put-start-2 c = search needs
 
--- src/lib.rt:122:26
 part-put-end-2 : tie.Need-part-put-end-2
 part-put-end-2 c = search needs
 
--- src/lib.rt:122:5
 put-requires-2 : tie.Need-put-requires-2
 put-requires-2 c κs = search needs
 
--- src/lib.rt:116:1
 same-length : tie.Need-same-length
 same-length c = search needs
 
--- src/lib.rt:116:1
 returns : tie.Need-returns
 unfolding storedRow dateBytes markOf part
 returns c = cc
