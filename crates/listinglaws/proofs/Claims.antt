@@ -9,46 +9,52 @@ use lib.Dec.{eqb}
 use lib.ListN.{length, length-append}
 use borrow.Author.Tests.{eqb-true}
 use Rattle.model.specs.Numbers.{badLength}
+use Rattle.model.specs.Record.{Rec}
 use Rattle.model.specs.Replay.{Tree, replay, presentOnes}
 use Rattle.model.specs.Table.{tableBytes}
 use Rattle.model.specs.Block.{archiveIn, senderIn, vectorIn}
 use Rattle.model.specs.File.{fileLength, fileFault, blockAt, recordsCounted, fileRecords}
 use Rattle.model.specs.Listing.{headLine, seenLine, treeLines, refusedLine, acceptedLines, listingOf}
 use Rattle.vector.proofs.InBytes.{vectorAt-length}
+use Rattle.order.specs.Sound.{Sound}
 use Rattle.order.proofs.Tests.{sound-means}
 use Rattle.images.proofs.Reading.{file-records}
 use Rattle.replaylaws.proofs.Steps.{cond-elim}
 use Rattle.listinglaws.proofs.Lines.{head-line-length, seen-line-length, refused-line-length, tree-lines-length}
 use Rattle.listinglaws.proofs.Rows.{sound-rows, rows-within, entries-counted, asides-counted, row-lines}
 
--- of an accepted file at most 512 rows are shown, an entry in 148 bytes at most
-module _ (f : List ℕ) (accepted : fileFault f .number ≡ 0) where
-  pub rows-fit : length (presentOnes (replay (fileRecords f) .entries)) + length (replay (fileRecords f) .asides) ≤ 512
-  rows-fit = omega (arith, rows-within (fileRecords f), file-records f accepted .1)
+-- of a sound log at most 512 rows are shown, an entry in 148 bytes at most
+module _ (l : List Rec) (sound : Sound l) (few : length l ≤ 512) where
+  pub rows-fit : length (presentOnes (replay l .entries)) + length (replay l .asides) ≤ 512
+  rows-fit = omega (arith, rows-within l)
 
-  pub tree-lines-fit : length (treeLines (tableBytes (replay (fileRecords f)))) ≤ 75776
+  pub tree-lines-fit : length (treeLines (tableBytes (replay l))) ≤ 75776
   tree-lines-fit =
-      let t : Tree = replay (fileRecords f) in
-      let (s, few) = file-records f accepted in
-      let a = sound-rows (fileRecords f) (sound-means (fileRecords f) s) few in
+      let t : Tree = replay l in
       let n = rows-fit in
-      let lines = row-lines t (omega arith) a in
+      let lines = row-lines t (omega arith) (sound-rows l sound few) in
       omega (arith, tree-lines-length (tableBytes t) (length (presentOnes (t .entries))) (length (t .asides)) (entries-counted t) (asides-counted t) lines)
 
-  pub accepted-fits : length (acceptedLines f) ≤ 75923
-  unfolding acceptedLines vectorIn
-  accepted-fits =
-      let head : List ℕ = headLine (archiveIn (blockAt f 0)) (senderIn (blockAt f 0)) (recordsCounted f) in
-      let seen : List ℕ = seenLine (vectorIn (blockAt f 0)) in
-      let lines : List ℕ = treeLines (tableBytes (replay (fileRecords f))) in
+  pub log-lines-fit : (archive u n : ℕ) (v : List ℕ) → length v ≡ 8 → length (headLine archive u n ++ (seenLine v ++ treeLines (tableBytes (replay l)))) ≤ 75923
+  log-lines-fit archive u n v eight =
+      let head : List ℕ = headLine archive u n in
+      let seen : List ℕ = seenLine v in
+      let lines : List ℕ = treeLines (tableBytes (replay l)) in
       omega (
         arith,
         length-append head (seen ++ lines),
         length-append seen lines,
-        head-line-length (archiveIn (blockAt f 0)) (senderIn (blockAt f 0)) (recordsCounted f),
-        seen-line-length (vectorIn (blockAt f 0)) (vectorAt-length (blockAt f 0) 12),
+        head-line-length archive u n,
+        seen-line-length v eight,
         tree-lines-fit,
       )
+
+accepted-fits : (f : List ℕ) → fileFault f .number ≡ 0 → length (acceptedLines f) ≤ 75923
+unfolding acceptedLines vectorIn
+accepted-fits f e =
+    let (s, few) = file-records f e in
+    let b : List ℕ = blockAt f 0 in
+    log-lines-fit (fileRecords f) (sound-means (fileRecords f) s) few (archiveIn b) (senderIn b) (recordsCounted f) (vectorIn b) (vectorAt-length b 12)
 
 pub listing-fits : (f : List ℕ) → length (listingOf f) ≤ 76800
 unfolding listingOf
