@@ -1,0 +1,170 @@
+-- What each way out of listing a file answers and leaves, over plain values.
+-- Assumes nothing.
+use Prim.Native.Nat.{ℕ, _+_, _≤_, _<_}
+use native.Mathlib.Omega.{arith}
+use mathlib.Core.Path.{_≡_, refl, sym, ap, ap₂, _∙_}
+use mathlib.Core.Logic.{_⊎_, ⊎-elim}
+use mathlib.Core.Bool.{true, false}
+use mathlib.Core.List.{List, _++_}
+use lib.Dec.{eqb}
+use lib.ListN.{length}
+use borrow.Author.Tests.{eq-eqb, ne-eqb}
+use Rattle.model.specs.Bytes.{word, putAt}
+use Rattle.model.specs.Log.{recordsOf, soundLog}
+use Rattle.model.specs.Replay.{replay}
+use Rattle.model.specs.Table.{tableBytes}
+use Rattle.model.specs.File.{fileLength, fileFault, recordsCounted, fileRecords, ReadBack, notRead, readBack, readOf}
+use Rattle.model.specs.Outcome.{showOf}
+use Rattle.model.specs.Listing.{headLine, seenLine, treeLines, refusedLine, acceptedLines, listingOf}
+use Rattle.octets.proofs.Numbers.{bool-cases}
+use Rattle.order.proofs.Tests.{sound-means}
+use Rattle.images.proofs.Logs.{log-sound, length-logBytes, sound-proper, proper-sized, sound-records, sound-few}
+use Rattle.images.proofs.Calls.{sound-back}
+use Rattle.images.proofs.Reading.{file-records}
+use Rattle.filelaws.proofs.Records.{length-fileRecords}
+use Rattle.filelaws.proofs.Rewritten.{read-accepted}
+use Rattle.listinglaws.proofs.Rows.{entries-counted, asides-counted}
+use Rattle.listinglaws.proofs.Lines.{refused-line-length}
+use Rattle.listinglaws.proofs.Claims.{rows-fit, log-lines-fit}
+use Rattle.text.specs.Written.{Wrote}
+use Rattle.reading.specs.Outcome.{readBackOf}
+use Rattle.listinglaws.proofs.Lines.{refused-line-length}
+use Rattle.reading.specs.Outcome.{readBackOf}
+use Rattle.listing.specs.Left.{left, lentWell, treeLeft, listedOf, logLines, Lists}
+
+-- ---- a lent length that is wrong
+
+module _ (f log tree text : List ℕ) where
+  pub wrong-log : (length log ≡ 40960 → ⊥) → left 1 0 0 log tree text ≡ listedOf f log tree text
+  unfolding listedOf lentWell
+  wrong-log a = rw (ne-eqb (length log) 40960 a)
+
+  pub wrong-tree : length log ≡ 40960 → (length tree ≡ 43012 → ⊥) → left 1 0 0 log tree text ≡ listedOf f log tree text
+  unfolding listedOf lentWell
+  wrong-tree a b = rw (eq-eqb (length log) 40960 a, ne-eqb (length tree) 43012 b)
+
+  pub wrong-text : length log ≡ 40960 → length tree ≡ 43012 → (length text ≡ 76800 → ⊥) → left 1 0 0 log tree text ≡ listedOf f log tree text
+  unfolding listedOf lentWell
+  wrong-text a b c = rw (eq-eqb (length log) 40960 a, eq-eqb (length tree) 43012 b, ne-eqb (length text) 76800 c)
+
+-- ---- a refused file
+
+module _ (log f : List ℕ) (long : length log ≡ 40960) (no : readOf log f .number ≡ 0 → ⊥) where
+  refused-is : (listingOf f ≡ refusedLine (readOf log f .number) (readOf log f .place)) × (readOf log f .log ≡ log)
+  unfolding readOf readBack notRead listingOf
+  refused-is =
+      ⊎-elim
+      (λ (b : fileLength f ≡ true).
+      ⊎-elim
+      (λ (c : eqb (fileFault f .number) 0 ≡ true). absurd (no (rw (eq-eqb (length log) 40960 long, b, c))))
+      (λ (c : eqb (fileFault f .number) 0 ≡ false). rw (eq-eqb (length log) 40960 long, b, c) (refl, refl))
+      (bool-cases (eqb (fileFault f .number) 0)))
+      (λ (b : fileLength f ≡ false). rw (eq-eqb (length log) 40960 long, b) (refl, refl))
+      (bool-cases (fileLength f))
+
+-- ---- an accepted file
+
+module _ (log f : List ℕ) (yes : readOf log f .number ≡ 0) where
+  place-none : readOf log f .place ≡ 0
+  unfolding readBack
+  place-none = ap (λ (x : ReadBack). x .place) (read-accepted log f yes .2)
+
+  log-good : soundLog (readOf log f .log) ≡ true
+  unfolding readBack
+  log-good =
+      let (a, b, c) = read-accepted log f yes in
+      let (t, few) = file-records f b in
+      rw c (log-sound (fileRecords f) (sound-means (fileRecords f) t) few)
+
+  log-long : length (readOf log f .log) ≡ 40960
+  unfolding readBack
+  log-long =
+      let (a, b, c) = read-accepted log f yes in
+      let (t, few) = file-records f b in
+      rw c (length-logBytes (fileRecords f) (proper-sized (fileRecords f) (sound-proper (fileRecords f) (sound-means (fileRecords f) t))) few)
+
+  log-records : recordsOf (readOf log f .log) ≡ fileRecords f
+  unfolding readBack
+  log-records =
+      let (a, b, c) = read-accepted log f yes in
+      let (t, few) = file-records f b in
+      rw c (sound-back (fileRecords f) (sound-means (fileRecords f) t) few)
+
+  count-is : readOf log f .records ≡ length (recordsOf (readOf log f .log))
+  unfolding readBack fileRecords
+  count-is =
+      let (a, b, c) = read-accepted log f yes in
+      rw (log-records, c) (sym (length-fileRecords f 0 (recordsCounted f)))
+
+  accepted-is : logLines (readOf log f .archive) (readOf log f .sender) (readOf log f .records) (readOf log f .vector) (readOf log f .log) ≡ listingOf f
+  unfolding logLines listingOf acceptedLines readBack
+  accepted-is = let (a, b, c) = read-accepted log f yes in rw (log-records, c, a, eq-eqb (fileFault f .number) 0 b)
+
+  shown-is : (tree : List ℕ) → length tree ≡ 43012 → showOf (readOf log f .log) tree .lent ≡ tableBytes (replay (recordsOf (readOf log f .log)))
+  unfolding showOf
+  shown-is tree h = rw (eq-eqb (length (readOf log f .log)) 40960 log-long, eq-eqb (length tree) 43012 h, log-good)
+
+-- ---- the lines of a sound log
+
+module _ (log tree′ : List ℕ) (table-is : tree′ ≡ tableBytes (replay (recordsOf log))) (sound : soundLog log ≡ true) where
+  pub few-entries : word tree′ 0 ≤ 512
+  few-entries = rw table-is (omega (arith, entries-counted (replay (recordsOf log)), rows-fit (recordsOf log) (sound-records log sound) (sound-few log)))
+
+  pub few-asides : word tree′ 2 ≤ 512
+  few-asides = rw table-is (omega (arith, asides-counted (replay (recordsOf log)), rows-fit (recordsOf log) (sound-records log sound) (sound-few log)))
+
+  module _ (archive u n : ℕ) (v : List ℕ) (eight : length v ≡ 8) where
+    lines-length : length (headLine archive u n ++ (seenLine v ++ treeLines tree′)) ≤ 75923
+    lines-length = rw table-is (log-lines-fit (recordsOf log) (sound-records log sound) (sound-few log) archive u n v eight)
+
+    pub lines-fit : (text : List ℕ) → length text ≡ 76800 → length (headLine archive u n ++ (seenLine v ++ treeLines tree′)) ≤ length text
+    lines-fit text e = omega (arith, lines-length)
+
+    pub lines-small : {text text′ : List ℕ} {r : ℕ} → Wrote text text′ 0 r (headLine archive u n ++ (seenLine v ++ treeLines tree′)) → r < 4294967296
+    lines-small w = omega (arith, lines-length, w .next)
+
+  pub log-listed : {archive u n : ℕ} {v text text′ : List ℕ} {r : ℕ} → Wrote text text′ 0 r (headLine archive u n ++ (seenLine v ++ treeLines tree′)) → Lists archive u n v log tree′ text text′ r
+  unfolding logLines
+  log-listed w = record { table = table-is; lines = rw (← table-is) w }
+
+-- ---- the line of a refused file
+
+pub refused-fits : (n p : ℕ) (text : List ℕ) → length text ≡ 76800 → 0 + length (refusedLine n p) ≤ length text
+refused-fits n p text e = omega (arith, refused-line-length n p)
+
+pub refused-small : {text text′ : List ℕ} {r : ℕ} (n p : ℕ) → Wrote text text′ 0 r (refusedLine n p) → r < 4294967296
+refused-small n p w = omega (arith, refused-line-length n p, w .next)
+
+-- ---- listing a file
+
+module _ (f log tree text log′ v : List ℕ) (n p a u k : ℕ) (back : readBackOf n p a u k v log′ ≡ readOf log f) (long : length log ≡ 40960) (wide : length tree ≡ 43012) (room : length text ≡ 76800)
+  where
+    whole : lentWell log tree text ≡ true
+    unfolding lentWell
+    whole = rw (eq-eqb (length log) 40960 long, eq-eqb (length tree) 43012 wide, eq-eqb (length text) 76800 room)
+
+    number-is : n ≡ readOf log f .number
+    number-is = ap (λ (x : ReadBack). x .number) back
+
+    pub refused-left : {text′ : List ℕ} {r : ℕ} → (n ≡ 0 → ⊥) → Wrote text text′ 0 r (refusedLine n p) → left n p r log′ tree text′ ≡ listedOf f log tree text
+    unfolding listedOf treeLeft
+    refused-left {text′} {r} bad w =
+        let bad′ : readOf log f .number ≡ 0 → ⊥ = λ z. bad (number-is ∙ z) in
+        let e : refusedLine n p ≡ listingOf f = ap₂ refusedLine number-is (ap (λ (x : ReadBack). x .place) back) ∙ sym (refused-is log f long bad′ .0) in
+        let size : r ≡ length (listingOf f) = w .next ∙ rw e (omega arith) in
+        rw (whole, ne-eqb (readOf log f .number) 0 bad′, ← back, size, w .bytes, e)
+
+    pub sound-left : n ≡ 0 → soundLog log′ ≡ true
+    sound-left z = ap (λ (x : ReadBack). soundLog (x .log)) back ∙ log-good log f (sym number-is ∙ z)
+
+    pub count-left : n ≡ 0 → k ≡ length (recordsOf log′)
+    count-left z = ap (λ (x : ReadBack). x .records) back ∙ count-is log f (sym number-is ∙ z) ∙ sym (ap (λ (x : ReadBack). length (recordsOf (x .log))) back)
+
+    pub accepted-left : {tree′ text′ : List ℕ} {r : ℕ} → n ≡ 0 → Lists a u k v log′ tree′ text text′ r → left 0 0 r log′ tree′ text′ ≡ listedOf f log tree text
+    unfolding listedOf treeLeft
+    accepted-left {tree′} {text′} {r} z w =
+        let yes : readOf log f .number ≡ 0 = sym number-is ∙ z in
+        let e : logLines a u k v log′ ≡ listingOf f = ap (λ (x : ReadBack). logLines (x .archive) (x .sender) (x .records) (x .vector) (x .log)) back ∙ accepted-is log f yes in
+        let size : r ≡ length (listingOf f) = w .lines .next ∙ rw e (omega arith) in
+        let t : tree′ ≡ showOf (readOf log f .log) tree .lent = w .table ∙ ap (λ (x : ReadBack). tableBytes (replay (recordsOf (x .log)))) back ∙ sym (shown-is log f yes tree wide) in
+        rw (whole, eq-eqb (readOf log f .number) 0 yes, yes, place-none log f yes, t, size, w .lines .bytes, e) (ap (λ (x : List ℕ). left 0 0 (length (listingOf f)) x (showOf (readOf log f .log) tree .lent) (putAt text 0 (listingOf f))) (ap (λ (x : ReadBack). x .log) back))

@@ -1,0 +1,110 @@
+// The listing of a file: what `readout` prints, written into lent memory.
+ghost use mathlib.Core.Path.{_≡_};
+ghost use mathlib.Core.List.{_++_};
+ghost use Prim.Native.Nat.{_+_, _≤_};
+ghost use lib.ListN.{length};
+ghost use Rattle.model.specs.Bytes.{word};
+ghost use Rattle.model.specs.Log.{recordsOf, soundLog};
+ghost use Rattle.model.specs.Replay.{replay};
+ghost use Rattle.model.specs.Table.{tableBytes};
+ghost use Rattle.model.specs.Listing.{headLine, seenLine, treeLines, refusedLine};
+ghost use mathlib.Core.Bool.{true};
+ghost use Rattle.text.specs.Written.{Wrote};
+ghost use Rattle.listing.specs.Left.{Lists, left, listedOf};
+use vector::Vector;
+
+// The lines of an accepted file: its head, its vector and its tree.
+fn file_lines(out: &mut [u8], tree: &[u8], archive: u32, unit: u8, records: u16, v: Vector) -> usize
+    requires { ⌜ (length (now tree) ≡ 43012) × (word (now tree) 0 ≤ 512) × (word (now tree) 2 ≤ 512)
+        × (length (headLine archive unit records ++ (seenLine (v .counts) ++ treeLines (now tree))) ≤ length (now out)) ⌝ }
+    ensures { λ r. ⌜ Wrote (now (out .entry)) (now (out .exit)) 0 r (headLine archive unit records ++ (seenLine (v .counts) ++ treeLines (now (tree .entry)))) ⌝ }
+{
+    let a = heads::head_line(out, 0, archive, unit, records);
+    let b = heads::seen_line(out, a, v);
+    treelines::tree_lines(out, b, tree)
+}
+
+// The tree of the n records of a sound log is laid in the lent table.
+fn lay(log: &[u8], n: usize, tree: &mut [u8])
+    requires { ⌜ (length (now log) ≡ 40960) × (soundLog (now log) ≡ true) × (n ≡ length (recordsOf (now log))) × (length (now tree) ≡ 43012) ⌝ }
+    ensures { λ _. ⌜ now (tree .exit) ≡ tableBytes (replay (recordsOf (now (log .entry)))) ⌝ }
+{
+    let mut roles = [0u16; 4096];
+    show::lay_tree(log, n, tree, &mut roles);
+}
+
+// The lines of a sound log, behind its archive number, unit, record count and vector; the lent table shows its tree.
+fn log_lines(
+    text: &mut [u8],
+    log: &[u8],
+    tree: &mut [u8],
+    archive: u32,
+    unit: u8,
+    records: u16,
+    v: Vector,
+) -> u32
+    requires { ⌜ (length (now text) ≡ 76800) × (length (now log) ≡ 40960) × (soundLog (now log) ≡ true) × (records ≡ length (recordsOf (now log))) × (length (now tree) ≡ 43012) ⌝ }
+    ensures { λ r. ⌜ Lists archive unit records (v .counts) (now (log .entry)) (now (tree .exit)) (now (text .entry)) (now (text .exit)) r ⌝ }
+{
+    lay(log, records as usize, tree);
+    file_lines(text, tree, archive, unit, records, v) as u32
+}
+
+// The line of a refused file.
+fn refuse(text: &mut [u8], number: u8, place: u8) -> u32
+    requires { ⌜ length (now text) ≡ 76800 ⌝ }
+    ensures { λ r. ⌜ Wrote (now (text .entry)) (now (text .exit)) 0 r (refusedLine number place) ⌝ }
+{
+    heads::refused_line(text, 0, number, place) as u32
+}
+
+// What listing a file answers: the number and place of the file's check, and the length of the listing.
+pub struct Listed {
+    pub number: u8,
+    pub place: u8,
+    pub length: u32,
+}
+
+// A file is listed into the lent text, by way of the lent log and tree table; a refused one gives its line. Lent memory that is not of its
+// stated length is 1, and then all is left as it was.
+pub fn listing(file: &[u8], log: &mut [u8], tree: &mut [u8], text: &mut [u8]) -> Listed
+    ensures { λ r. ⌜ left (r .number) (r .place) (r .length) (now (log .exit)) (now (tree .exit)) (now (text .exit)) ≡ listedOf (now (file .entry)) (now (log .entry)) (now (tree .entry)) (now (text .entry)) ⌝ }
+{
+    if log.len() != 40960 {
+        return Listed {
+            number: 1,
+            place: 0,
+            length: 0,
+        };
+    }
+    if tree.len() != 43012 {
+        return Listed {
+            number: 1,
+            place: 0,
+            length: 0,
+        };
+    }
+    if text.len() != 76800 {
+        return Listed {
+            number: 1,
+            place: 0,
+            length: 0,
+        };
+    }
+    let r = reading::read_file(log, file);
+    if r.number != 0 {
+        let n = refuse(text, r.number, r.place);
+        return Listed {
+            number: r.number,
+            place: r.place,
+            length: n,
+        };
+    }
+    let v = r.vector;
+    let n = log_lines(text, log, tree, r.archive, r.unit, r.records, v);
+    Listed {
+        number: 0,
+        place: 0,
+        length: n,
+    }
+}
