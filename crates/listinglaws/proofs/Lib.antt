@@ -2,3 +2,4 @@ pub mod Texts
 pub mod Lines
 pub mod Rows
 pub mod Claims
+pub mod Example

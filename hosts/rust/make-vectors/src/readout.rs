@@ -61,6 +61,7 @@ fn good() -> Vec<Case> {
         good("three-blocks", file_of(&blocks_of_six(3), 0, 3)),
         good("settles", file_of(&settles(), 1, 1)),
         good("removed-marked", file_of(&removed_marked(), 1, 1)),
+        good("longest", file_of(&longest(), 4_294_967_295, 7)),
         good(
             "full",
             file_of(&records_of(log_of(512, 8, 4, &Mix::CONFLICTS, 31)), 9, 2),
@@ -128,6 +129,24 @@ fn removed_marked() -> Vec<[u8; 80]> {
         wished(1, 3, Some(0), "", 3),
         wished(1, 2, None, "A", 4),
     ])
+}
+
+/// The longest listing that 512 records give: traces with labels of quotes and
+/// backslashes, in the folder of the longest number that is there by then.
+fn longest() -> Vec<[u8; 80]> {
+    let label = |i: usize| -> String {
+        let byte = |bit: usize| if (i >> bit) & 1 == 0 { '"' } else { '\\' };
+        (0..32).map(byte).collect()
+    };
+    let wishes: Vec<Wished> = (0..512)
+        .map(|i| {
+            let operation = if i == 9 || i == 99 { 1 } else { 2 };
+            let folder = [99, 9].into_iter().find(|folder| *folder < i);
+            let mark = if operation == 2 { 0xff } else { 0 };
+            wished(7, operation, folder, &label(i), mark)
+        })
+        .collect();
+    chain(&wishes)
 }
 
 fn wrong_lengths() -> Vec<Case> {
