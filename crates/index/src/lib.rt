@@ -44,7 +44,8 @@ pub fn position(places: &[u16], u: usize, c: u16) -> usize
     index(places[i])
 }
 
-// For each unit u with count c above 0, the seen of record u.c is nowhere above s.
+// For each unit u with count c above 0, the seen of record u.c is nowhere above s. Document 01 asks for this form: nested loops over units
+// and counts, left by a label at the first count that breaks closure.
 pub fn is_closed(places: &[u16], seens: &[u16], s: Vector) -> bool
     requires { ⌜ (length (now places) ≡ 4096) × (length (now seens) ≡ 4144) × Placed (s .counts) (now places) ⌝ }
     ensures { λ r. ⌜ r ≡ closedBy (now (places .entry)) (now (seens .entry)) (s .counts) ⌝ }
