@@ -12,28 +12,58 @@ pub struct Wished {
     pub mark: u8,
 }
 
+/// A record's fields; its number follows from what it has seen.
+pub struct Fields<'a> {
+    pub unit: u8,
+    pub operation: u8,
+    /// Counts of the units from 0 on; of the rest 0.
+    pub seen: &'a [u16],
+    /// Folder or object; the root is 0.0.
+    pub named: (u8, u16),
+    pub date: (u16, u8, u8),
+    pub label: &'a str,
+    /// Each byte of the mark.
+    pub mark: u8,
+}
+
+impl Fields<'_> {
+    pub fn record(&self) -> [u8; 80] {
+        let mut counts = [0; 8];
+        counts[..self.seen.len()].copy_from_slice(self.seen);
+        let number = counts[self.unit as usize] + 1;
+        let named = if self.operation <= 2 { 24 } else { 20 };
+        let mut record = [0; 80];
+        record[0] = self.unit;
+        record[1] = self.operation;
+        record[2..4].copy_from_slice(&number.to_le_bytes());
+        put_vector(&mut record[4..20], &counts);
+        record[named] = self.named.0;
+        record[named + 2..named + 4].copy_from_slice(&self.named.1.to_le_bytes());
+        record[28..30].copy_from_slice(&self.date.0.to_le_bytes());
+        record[30..32].copy_from_slice(&[self.date.1, self.date.2]);
+        record[32..32 + self.label.len()].copy_from_slice(self.label.as_bytes());
+        record[64..].fill(self.mark);
+        record
+    }
+}
+
 /// The records of a chain; each sees all before it.
 pub fn chain(wished: &[Wished]) -> Vec<[u8; 80]> {
     let mut counts = [0u16; 8];
     let mut records: Vec<[u8; 80]> = Vec::new();
     for wish in wished {
-        let mut record = [0; 80];
-        record[0] = wish.unit;
-        record[1] = wish.operation;
-        put_vector(&mut record[4..20], &counts);
+        let identity = |record: &[u8; 80]| (record[0], u16::from_le_bytes([record[2], record[3]]));
+        let record = Fields {
+            unit: wish.unit,
+            operation: wish.operation,
+            seen: &counts,
+            named: wish.named.map_or((0, 0), |at| identity(&records[at])),
+            date: (2025, 3, 1 + (records.len() % 28) as u8),
+            label: &wish.label,
+            mark: wish.mark,
+        };
+        records.push(record.record());
         counts[wish.unit as usize] += 1;
-        record[2..4].copy_from_slice(&counts[wish.unit as usize].to_le_bytes());
-        if let Some(named) = wish.named {
-            let at = if wish.operation <= 2 { 24 } else { 20 };
-            record[at] = records[named][0];
-            let number = [records[named][2], records[named][3]];
-            record[at + 2..at + 4].copy_from_slice(&number);
-        }
-        let day = 1 + records.len() % 28;
-        record[28..32].copy_from_slice(&[0xe9, 7, 3, day as u8]);
-        record[32..32 + wish.label.len()].copy_from_slice(wish.label.as_bytes());
-        record[64..].fill(wish.mark);
-        records.push(record);
     }
     records
 }

@@ -21,6 +21,11 @@ pub struct List {
     pub given: Vec<Vec<u8>>,
 }
 
+/// The number that a call answers.
+fn number<T>(answer: &Answer<T>) -> u8 {
+    answer.as_ref().map_or_else(|refusal| refusal.number, |_| 0)
+}
+
 /// Number and place; only these numbers have a place.
 fn answer<T>(answer: &Answer<T>) -> String {
     match answer {
@@ -39,6 +44,11 @@ impl List {
             logs: std::array::from_fn(|_| vec![0; LOG]),
             given: Vec::new(),
         }
+    }
+
+    /// A line that no call stands in.
+    pub fn remark(&mut self, remark: &str) {
+        self.line(format!("# {remark}"));
     }
 
     fn line(&mut self, line: String) {
@@ -60,17 +70,18 @@ impl List {
         }
     }
 
-    pub fn start(&mut self, slot: usize, log: Lent, archive: u32, unit: u8) {
+    pub fn start(&mut self, slot: usize, log: Lent, archive: u32, unit: u8) -> u8 {
         let (mut after, word) = self.lent(slot, log);
-        let came = answer(&plain::start(&mut after, archive, unit));
+        let came = plain::start(&mut after, archive, unit);
         self.line(format!(
-            "start {slot} {word} {archive} {unit} = {came} {}",
+            "start {slot} {word} {archive} {unit} = {} {}",
+            answer(&came),
             hash(&after)
         ));
         self.keep(slot, log, after);
+        number(&came)
     }
 
-    /// Says whether the wish was accepted.
     pub fn act(&mut self, slot: usize, log: Lent, archive: u32, unit: u8, wish: &[u8]) -> u8 {
         let (mut after, word) = self.lent(slot, log);
         let came = plain::act(&mut after, archive, unit, wish);
@@ -81,7 +92,7 @@ impl List {
             hash(&after)
         ));
         self.keep(slot, log, after);
-        came.map_or_else(|refusal| refusal.number, |()| 0)
+        number(&came)
     }
 
     pub fn take(&mut self, slot: usize, log: Lent, archive: u32, unit: u8, block: &[u8]) -> u8 {
@@ -94,7 +105,7 @@ impl List {
             hash(&after)
         ));
         self.keep(slot, log, after);
-        came.map_or_else(|refusal| refusal.number, |()| 0)
+        number(&came)
     }
 
     pub fn hand_out(
@@ -105,7 +116,7 @@ impl List {
         unit: u8,
         asked: &[u16; 8],
         (length, seed): (usize, u8),
-    ) {
+    ) -> u8 {
         let (after, word) = self.lent(slot, log);
         let mut block = lent(length, seed);
         let came = plain::hand_out(&after, archive, unit, asked, &mut block);
@@ -119,6 +130,7 @@ impl List {
         if came.is_ok() {
             self.given.push(block);
         }
+        number(&came)
     }
 
     pub fn write(
@@ -129,7 +141,7 @@ impl List {
         unit: u8,
         length: usize,
         seed: u8,
-    ) {
+    ) -> u8 {
         let (after, word) = self.lent(slot, log);
         let mut file = lent(length, seed);
         let came = plain::write_file(&after, archive, unit, &mut file);
@@ -145,9 +157,10 @@ impl List {
             self.given
                 .extend(file.chunks(512).take(count as usize).map(<[u8]>::to_vec));
         }
+        number(&came)
     }
 
-    pub fn show(&mut self, slot: usize, log: Lent) {
+    pub fn show(&mut self, slot: usize, log: Lent) -> u8 {
         let (after, word) = self.lent(slot, log);
         let mut tree = vec![0; TREE];
         let came = plain::show(&after, &mut tree);
@@ -171,6 +184,7 @@ impl List {
         for line in lines {
             self.line(format!("> {line}"));
         }
+        number(&came)
     }
 
     /// The list with what the slots hold at its end.

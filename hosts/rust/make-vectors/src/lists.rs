@@ -68,8 +68,12 @@ fn meetings(remark: &str, seed: u64, units: usize, calls: usize, mix: &Mix) -> S
                     list.take(slot, Own, archive, own, &block);
                 }
             }
-            98 => list.write(slot, Own, archive, own, FILE, seed),
-            _ => list.show(slot, Own),
+            98 => {
+                list.write(slot, Own, archive, own, FILE, seed);
+            }
+            _ => {
+                list.show(slot, Own);
+            }
         }
         if call % 60 == 59 {
             list.show(slot, Own);
@@ -127,16 +131,16 @@ fn damage(remark: &str, seed: u64, calls: usize) -> String {
                 block.truncate(if odd { 508 } else { BLOCK });
                 list.take(slot, log, archive, unit, &block);
             }
-            92..95 => list.write(
-                slot,
-                log,
-                archive,
-                unit,
-                if odd { FILE - 1 } else { FILE },
-                seed,
-            ),
-            95..98 => list.show(slot, log),
-            _ => list.start(slot, log, archive, unit),
+            92..95 => {
+                let length = if odd { FILE - 1 } else { FILE };
+                list.write(slot, log, archive, unit, length, seed);
+            }
+            95..98 => {
+                list.show(slot, log);
+            }
+            _ => {
+                list.start(slot, log, archive, unit);
+            }
         }
     }
     list.end()
@@ -280,7 +284,7 @@ fn refused_blocks(list: &mut List, sound: &[u8], first: &[u8], second: &[u8]) {
 }
 
 /// A log filled to 512 by takes; then nothing new is taken or made.
-fn full() -> String {
+pub fn full() -> String {
     let mut list = List::new("a log filled to 512 records");
     let mut wished: Vec<Wished> = (0..6)
         .map(|i| Wished {
@@ -387,7 +391,7 @@ fn reasons() -> String {
 }
 
 /// Passes all that the other slot lacks.
-fn pass(list: &mut List, from: usize, to: usize) {
+pub fn pass(list: &mut List, from: usize, to: usize) {
     loop {
         let asked = vector_of(&list.logs[to]);
         list.hand_out(from, Own, 7, from as u8, &asked, (BLOCK, 1));

@@ -3,13 +3,7 @@
 //! implementation does; where a case is made for one refusal, that it comes is
 //! checked here.
 
-mod chain;
-mod list;
-mod lists;
-mod readout;
-mod tables;
-mod text;
-
+use make_vectors::{lists, readout, tables};
 use std::fs;
 use std::io;
 use std::path::Path;

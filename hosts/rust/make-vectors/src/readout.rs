@@ -2,6 +2,7 @@
 //! middle and a last block.
 
 use crate::chain::{Wished, blocks_of_six, chain, file_of, seal};
+use crate::examples;
 use plain::BLOCK;
 use workload::{Mix, log_of};
 
@@ -56,7 +57,7 @@ fn good() -> Vec<Case> {
             .collect::<Vec<_>>()
     };
     let mut cases = vec![
-        good("example", file_of(&example(), 7, 0)),
+        good("example", file_of(&examples::paper(), 7, 0)),
         good("empty", file_of(&[], 4_294_967_295, 7)),
         good("three-blocks", file_of(&blocks_of_six(3), 0, 3)),
         good("settles", file_of(&settles(), 1, 1)),
@@ -85,25 +86,6 @@ fn wished(unit: u8, operation: u8, named: Option<usize>, label: &str, mark: u8) 
         label: label.to_string(),
         mark,
     }
-}
-
-/// Takes what unit 0 made at a place of a chain out of a later record's seen.
-fn unsee(record: &mut [u8; 80]) {
-    record[4] -= 1;
-}
-
-/// The example of document 01.
-fn example() -> Vec<[u8; 80]> {
-    let mut records = chain(&[
-        wished(0, 1, None, "Bench", 0),
-        wished(0, 2, Some(0), "Gain \"A\"", 0x11),
-        wished(1, 2, Some(0), "Gain \"A\"", 0x22),
-    ]);
-    unsee(&mut records[2]);
-    for (record, day) in records.iter_mut().zip(3..) {
-        record[31] = day;
-    }
-    records
 }
 
 /// An aside settled twice, a settle that stands aside, and its settle.

@@ -1,0 +1,47 @@
+//! The example files, by name.
+
+use library::{LISTING, Library};
+use make_vectors::chain::file_of;
+use make_vectors::examples::{operations, paper, reasons, removed};
+
+const LOG: usize = 40_960;
+const FILE: usize = 44_032;
+
+/// A file that the library wrote, and its listing.
+pub struct Example {
+    pub file: Vec<u8>,
+    pub listing: String,
+}
+
+/// The example of a name.
+pub fn example(library: &dyn Library, name: &str) -> Option<Example> {
+    let (archive, unit, records) = match name {
+        "empty" => (7, 0, Vec::new()),
+        "paper" => (7, 0, paper()),
+        "operations" => (7, 1, operations()),
+        "reasons" => (7, 0, reasons()),
+        "removed" => (4_294_967_295, 2, removed()),
+        _ => return None,
+    };
+    Some(written(library, archive, unit, &records))
+}
+
+/// The records go through the library: read into a log, written again and
+/// listed.
+fn written(library: &dyn Library, archive: u32, unit: u8, records: &[[u8; 80]]) -> Example {
+    let laid = file_of(records, archive, unit);
+    let (mut log, mut file) = (vec![0; LOG], vec![0; FILE]);
+    library
+        .read_file(&mut log, &laid)
+        .expect("an example is a good file");
+    let blocks = library
+        .write_file(&log, archive, unit, &mut file)
+        .expect("a log that was read is sound");
+    file.truncate(512 * blocks as usize);
+    let mut out = vec![0; LISTING];
+    let length = library
+        .listing_into(&file, &mut out)
+        .expect("both implementations list");
+    let listing = String::from_utf8(out[..length].to_vec()).expect("a listing is ASCII");
+    Example { file, listing }
+}

@@ -1,0 +1,10 @@
+//! Records, files, call lists and cases in the making, for programs that write
+//! test vectors. What is expected is what the plain implementation does.
+
+pub mod chain;
+pub mod examples;
+pub mod list;
+pub mod lists;
+pub mod readout;
+pub mod tables;
+pub mod text;
