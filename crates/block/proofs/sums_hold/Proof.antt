@@ -4,7 +4,7 @@ use Rattle.block.proofs.sums_hold.Statement.{statement}
 use Rattle.block.proofs.sums_hold.Tie as tie
 use Rattle.block.proofs.sums_hold.Reads as reads
 use Rattle.block.proofs.sums_hold.Lts as lts
-use Rattle.block.proofs.block_sums.Reads as block-sums-reads
+use Rattle.sums.proofs.block_sums.Reads as block-sums-reads
 use Rattle.octets.proofs.le16.Reads as le16-reads
 
 -- src/lib.rt:62:9

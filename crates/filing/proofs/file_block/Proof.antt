@@ -4,8 +4,8 @@ use Rattle.filing.proofs.file_block.Statement.{statement}
 use Rattle.filing.proofs.file_block.Tie as tie
 use Rattle.filing.proofs.file_block.Reads as reads
 use Rattle.filing.proofs.file_block.Lts as lts
-use Rattle.block.proofs.block_of.Reads as block-of-reads
-use Rattle.block.proofs.empty_block.Reads as empty-block-reads
+use Rattle.sealing.proofs.block_of.Reads as block-of-reads
+use Rattle.sealing.proofs.empty_block.Reads as empty-block-reads
 use Rattle.filing.proofs.count_at.Reads as count-at-reads
 
 -- src/lib.rt:44:9

@@ -4,8 +4,8 @@ use Rattle.handing.proofs.block_for.Statement.{statement}
 use Rattle.handing.proofs.block_for.Tie as tie
 use Rattle.handing.proofs.block_for.Reads as reads
 use Rattle.handing.proofs.block_for.Lts as lts
-use Rattle.block.proofs.block_of.Reads as block-of-reads
-use Rattle.block.proofs.empty_block.Reads as empty-block-reads
+use Rattle.sealing.proofs.block_of.Reads as block-of-reads
+use Rattle.sealing.proofs.empty_block.Reads as empty-block-reads
 use Rattle.handing.proofs.gather.Reads as gather-reads
 
 -- src/lib.rt:59:38

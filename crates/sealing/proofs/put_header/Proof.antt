@@ -1,10 +1,10 @@
-use Rattle.block.proofs.Written.{headed}
+use Rattle.sealing.proofs.Written.{headed}
 use native.Mathlib.Omega.{arith}
 use borrow.Author.Needs.{needs}
-use Rattle.block.proofs.put_header.Statement.{statement}
-use Rattle.block.proofs.put_header.Tie as tie
-use Rattle.block.proofs.put_header.Reads as reads
-use Rattle.block.proofs.put_header.Lts as lts
+use Rattle.sealing.proofs.put_header.Statement.{statement}
+use Rattle.sealing.proofs.put_header.Tie as tie
+use Rattle.sealing.proofs.put_header.Reads as reads
+use Rattle.sealing.proofs.put_header.Lts as lts
 use Rattle.octets.proofs.put.Reads as put-reads
 use Rattle.octets.proofs.put16.Reads as put16-reads
 use Rattle.octets.proofs.put32.Reads as put32-reads

@@ -1,10 +1,10 @@
-use Rattle.block.proofs.Written.{seals}
+use Rattle.sealing.proofs.Written.{seals}
 use borrow.Author.Needs.{needs}
-use Rattle.block.proofs.seal.Statement.{statement}
-use Rattle.block.proofs.seal.Tie as tie
-use Rattle.block.proofs.seal.Reads as reads
-use Rattle.block.proofs.seal.Lts as lts
-use Rattle.block.proofs.block_sums.Reads as block-sums-reads
+use Rattle.sealing.proofs.seal.Statement.{statement}
+use Rattle.sealing.proofs.seal.Tie as tie
+use Rattle.sealing.proofs.seal.Reads as reads
+use Rattle.sealing.proofs.seal.Lts as lts
+use Rattle.sums.proofs.block_sums.Reads as block-sums-reads
 use Rattle.octets.proofs.put16.Reads as put16-reads
 
 -- src/lib.rt:139:9

@@ -1,11 +1,11 @@
-use Rattle.block.proofs.Written.{fresh-block}
+use Rattle.sealing.proofs.Written.{fresh-block}
 use borrow.Author.Needs.{needs}
-use Rattle.block.proofs.empty_block.Statement.{statement}
-use Rattle.block.proofs.empty_block.Tie as tie
-use Rattle.block.proofs.empty_block.Reads as reads
-use Rattle.block.proofs.empty_block.Lts as lts
-use Rattle.block.proofs.put_header.Reads as put-header-reads
-use Rattle.block.proofs.seal.Reads as seal-reads
+use Rattle.sealing.proofs.empty_block.Statement.{statement}
+use Rattle.sealing.proofs.empty_block.Tie as tie
+use Rattle.sealing.proofs.empty_block.Reads as reads
+use Rattle.sealing.proofs.empty_block.Lts as lts
+use Rattle.sealing.proofs.put_header.Reads as put-header-reads
+use Rattle.sealing.proofs.seal.Reads as seal-reads
 
 -- src/lib.rt:178:16
 slice-aggregate-put-header : tie.Need-slice-aggregate-put-header

@@ -1,10 +1,10 @@
 use mathlib.Core.Path.{refl}
-use Rattle.block.proofs.Totals.{weight-bound}
+use Rattle.sums.proofs.Totals.{weight-bound}
 use native.Mathlib.Omega.{arith}
-use Rattle.block.proofs.weigh.Statement.{statement}
-use Rattle.block.proofs.weigh.Tie as tie
-use Rattle.block.proofs.weigh.Reads as reads
-use Rattle.block.proofs.weigh.Lts as lts
+use Rattle.sums.proofs.weigh.Statement.{statement}
+use Rattle.sums.proofs.weigh.Tie as tie
+use Rattle.sums.proofs.weigh.Reads as reads
+use Rattle.sums.proofs.weigh.Lts as lts
 
 -- src/lib.rt:27:5
 mul-result : tie.Need-mul-result

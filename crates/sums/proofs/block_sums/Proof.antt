@@ -1,13 +1,13 @@
-use Rattle.block.proofs.Totals.{firstTotal, weighted, first-on, second-on, first-done, second-done}
+use Rattle.sums.proofs.Totals.{firstTotal, weighted, first-on, second-on, first-done, second-done}
 use mathlib.Core.Path.{_≡_, refl}
 use Prim.Native.Nat.{_+_, _-_, _*_, _≤_}
 use borrow.Author.Needs.{needs}
 use native.Mathlib.Omega.{arith}
-use Rattle.block.proofs.block_sums.Statement.{statement}
-use Rattle.block.proofs.block_sums.Tie as tie
-use Rattle.block.proofs.block_sums.Reads as reads
-use Rattle.block.proofs.block_sums.Lts as lts
-use Rattle.block.proofs.weigh.Reads as weigh-reads
+use Rattle.sums.proofs.block_sums.Statement.{statement}
+use Rattle.sums.proofs.block_sums.Tie as tie
+use Rattle.sums.proofs.block_sums.Reads as reads
+use Rattle.sums.proofs.block_sums.Lts as lts
+use Rattle.sums.proofs.weigh.Reads as weigh-reads
 use Rattle.octets.proofs.le16.Reads as le16-reads
 use Rattle.octets.proofs.wider.Reads as wider-reads
 

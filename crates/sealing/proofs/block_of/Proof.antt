@@ -1,11 +1,11 @@
-use Rattle.block.proofs.Written.{filled-block}
+use Rattle.sealing.proofs.Written.{filled-block}
 use borrow.Author.Needs.{needs}
-use Rattle.block.proofs.block_of.Statement.{statement}
-use Rattle.block.proofs.block_of.Tie as tie
-use Rattle.block.proofs.block_of.Reads as reads
-use Rattle.block.proofs.block_of.Lts as lts
-use Rattle.block.proofs.put_header.Reads as put-header-reads
-use Rattle.block.proofs.seal.Reads as seal-reads
+use Rattle.sealing.proofs.block_of.Statement.{statement}
+use Rattle.sealing.proofs.block_of.Tie as tie
+use Rattle.sealing.proofs.block_of.Reads as reads
+use Rattle.sealing.proofs.block_of.Lts as lts
+use Rattle.sealing.proofs.put_header.Reads as put-header-reads
+use Rattle.sealing.proofs.seal.Reads as seal-reads
 use Rattle.octets.proofs.put.Reads as put-reads
 
 -- src/lib.rt:189:16
