@@ -7,12 +7,12 @@ ghost use Rattle.model.specs.Bytes.{padded, putAt};
 ghost use Rattle.model.specs.Log.{recordsOf, soundLog, vectorOf};
 ghost use Rattle.model.specs.File.{blockCount, fileBlock, fileOf};
 ghost use Rattle.model.specs.Outcome.{outcome, writeOf};
-use sealing::Block;
-use sealing::block_of;
-use sealing::empty_block;
 use log::check;
 use octets::clear;
 use octets::put;
+use sealing::Block;
+use sealing::block_of;
+use sealing::empty_block;
 use vector::Vector;
 
 // What writing a file answers: the number, 0 for success, and the count of blocks.

@@ -9,13 +9,13 @@ ghost use Rattle.model.specs.Record.{unit, num};
 ghost use Rattle.model.specs.Log.{recordsOf, soundLog, vectorOf};
 ghost use Rattle.model.specs.Outcome.{outcome, lacking, handBlock, handOf};
 use answer::Answer;
-use sealing::Block;
-use sealing::block_of;
-use sealing::empty_block;
 use log::check;
 use octets::put;
 use record::number_of;
 use record::unit_of;
+use sealing::Block;
+use sealing::block_of;
+use sealing::empty_block;
 use vector::Vector;
 
 // A vector does not count the record.
