@@ -1,0 +1,194 @@
+//! Acts accepted and refused.
+
+use crate::blocks::unsound_logs;
+use crate::damaged::MALFORMED;
+use crate::kit::{Calls, Written, lent, log_of};
+use make_vectors::chain::blocks_of_six;
+use make_vectors::examples::{ROOT, record};
+use make_vectors::list::{Lent, List};
+use plain::LOG;
+
+pub fn list() -> Written {
+    let mut calls = Calls::new("acts: each operation, and each refusal of a wish");
+    lengths(&mut calls);
+    malformed(&mut calls);
+    refused(&mut calls);
+    accepted(&mut calls);
+    calls.written("acts", "wishes given to an act")
+}
+
+/// A wish of a unit: operation, folder or object, label, mark.
+fn wish(unit: u8, operation: u8, named: (u8, u16), label: &str, mark: u8) -> [u8; 80] {
+    let mut wish = record(unit, &[], operation, named, label, mark, 3);
+    wish[2..20].fill(0);
+    wish
+}
+
+fn act(log: &[u8], wish: &[u8]) -> impl FnOnce(&mut List) -> u8 {
+    move |list| list.act(0, lent(log), 7, 0, wish)
+}
+
+fn lengths(calls: &mut Calls) {
+    let none = vec![0; LOG];
+    let make = wish(0, 1, ROOT, "A", 0);
+    calls.call(1, "a log one byte short", act(&none[1..], &make));
+    calls.call(1, "a wish of 79 bytes", act(&none, &make[..79]));
+    calls.call(
+        1,
+        "a wish of 81 bytes",
+        act(&none, &[&make[..], &[0]].concat()),
+    );
+    calls.call(1, "no wish and own unit 8: 1", |list| {
+        list.act(0, lent(&none), 7, 8, &[])
+    });
+    calls.call(21, "own unit 8", |list| {
+        list.act(0, lent(&none), 7, 8, &make)
+    });
+    let (what, log) = &unsound_logs()[0];
+    calls.call(19, &format!("a lent log with {what}"), act(log, &make));
+    calls.call(
+        19,
+        "an unsound log and a malformed wish: 19",
+        act(log, &[0; 80]),
+    );
+}
+
+/// Six records: the folder 0.1 with the trace 0.2, renamed; 1.1, a remove of 0.1,
+/// stands aside and was settled by 2.1.
+fn held() -> Vec<u8> {
+    log_of(&blocks_of_six(1))
+}
+
+fn malformed(calls: &mut Calls) {
+    let log = held();
+    let make = wish(0, 1, ROOT, "A", 0);
+    let with = |at: usize, byte: u8| {
+        let mut wish = make;
+        wish[at] = byte;
+        wish
+    };
+    calls.call(7, "a wish of another unit", act(&log, &with(0, 1)));
+    calls.call(7, "a wish with its number", act(&log, &with(2, 5)));
+    calls.call(7, "a wish with what it has seen", act(&log, &with(4, 4)));
+    calls.call(7, "a wish of zeros", act(&log, &[0; 80]));
+    calls.call(
+        7,
+        "an object beyond the vector: 7, not 12",
+        act(&log, &wish(0, 4, (0, 5), "", 0)),
+    );
+    calls.call(
+        7,
+        "a folder beyond the vector: 7, not 13",
+        act(&log, &wish(0, 1, (2, 2), "A", 0)),
+    );
+    calls.call(
+        7,
+        "a settle beyond the vector: 7, not 18",
+        act(&log, &wish(0, 6, (3, 1), "", 0)),
+    );
+    // The wishes of the six operations, each malformed in one way.
+    let wishes = [
+        wish(0, 1, ROOT, "Bench 1", 0),
+        wish(0, 2, (0, 1), "Gain", 1),
+        wish(0, 3, (0, 2), "", 2),
+        wish(0, 5, (0, 2), "Gain \"1\"", 0),
+        wish(0, 4, (0, 1), "", 0),
+        wish(0, 6, (1, 1), "", 0),
+    ];
+    for (name, shows, operation, changes) in MALFORMED {
+        if changes.iter().any(|(at, _)| *at < 20 && *at != 1) || name.ends_with("itself") {
+            continue;
+        }
+        let mut wish = wishes[*operation];
+        changes.iter().for_each(|(at, byte)| wish[*at] = *byte);
+        calls.call(7, &format!("malformed: {shows}"), act(&log, &wish));
+    }
+}
+
+fn refused(calls: &mut Calls) {
+    let log = held();
+    let mut call = |number, shows, wish: [u8; 80]| calls.call(number, shows, act(&log, &wish));
+    call(
+        12,
+        "a store into a record that is no make",
+        wish(0, 3, (0, 3), "", 1),
+    );
+    call(
+        12,
+        "a remove of a record that is no make",
+        wish(0, 4, (1, 1), "", 0),
+    );
+    call(
+        12,
+        "a rename of a record that is no make",
+        wish(0, 5, (0, 4), "A", 0),
+    );
+    call(
+        13,
+        "a make in a record that is no make",
+        wish(0, 2, (0, 3), "A", 1),
+    );
+    call(14, "a make in a trace", wish(0, 1, (0, 2), "A", 0));
+    call(14, "a store into a folder", wish(0, 3, (0, 1), "", 1));
+    call(
+        15,
+        "a make under a label that is held",
+        wish(0, 2, ROOT, "Bench 0", 1),
+    );
+    call(
+        15,
+        "a rename to the label that the entry has",
+        wish(0, 5, (0, 1), "Bench 0", 0),
+    );
+    call(
+        16,
+        "a remove of a folder with an entry",
+        wish(0, 4, (0, 1), "", 0),
+    );
+    call(
+        18,
+        "a settle of a make that acts",
+        wish(0, 6, (0, 1), "", 0),
+    );
+    call(
+        18,
+        "a settle of a settle that fitted",
+        wish(0, 6, (2, 1), "", 0),
+    );
+}
+
+fn accepted(calls: &mut Calls) {
+    let mut call = |number, shows: &str, wish: [u8; 80]| {
+        calls.call(number, shows, |list| list.act(0, Lent::Own, 7, 0, &wish))
+    };
+    call(0, "0.1 makes a folder", wish(0, 1, ROOT, "F", 0));
+    call(0, "0.2 makes a trace in it, with a label of 32 bytes", {
+        wish(0, 2, (0, 1), "ABCDEFGHIJKLMNOPQRSTUVWXYZ012345", 0x41)
+    });
+    call(0, "0.3 stores into the trace", wish(0, 3, (0, 2), "", 0xff));
+    call(0, "0.4 renames the folder", wish(0, 5, (0, 1), "G", 0));
+    call(15, "the new label is held", wish(0, 1, ROOT, "G", 0));
+    call(
+        0,
+        "0.5 makes a folder under the old label",
+        wish(0, 1, ROOT, "F", 0),
+    );
+    call(0, "0.6 removes the trace", wish(0, 4, (0, 2), "", 0));
+    call(
+        12,
+        "the trace is not there any more",
+        wish(0, 3, (0, 2), "", 1),
+    );
+    call(
+        0,
+        "0.7 removes the folder, which is empty",
+        wish(0, 4, (0, 1), "", 0),
+    );
+    call(
+        13,
+        "the folder is not there any more",
+        wish(0, 2, (0, 1), "A", 1),
+    );
+    call(18, "nothing stands aside", wish(0, 6, (0, 7), "", 0));
+    calls.call(0, "what is shown then", |list| list.show(0, Lent::Own));
+}

@@ -1,0 +1,340 @@
+//! Good files.
+
+use crate::kit::{Case, good};
+use make_vectors::chain::{Fields, blocks_of_six, file_of};
+use make_vectors::examples::{ROOT, operations, paper, reasons, record, removed};
+use workload::{Mix, log_of};
+
+pub fn all() -> Vec<Case> {
+    let mut cases = vec![
+        good(
+            "empty",
+            "an empty log: one block of count 0; the greatest archive number",
+            file_of(&[], u32::MAX, 7),
+        ),
+        good(
+            "paper",
+            "the worked example of docs/FORMAT.md: quotes in a label, a disputed trace",
+            file_of(&paper(), 7, 0),
+        ),
+        good(
+            "operations",
+            "each operation once, in one full block; a settled aside (docs/EXAMPLES.md)",
+            file_of(&operations(), 7, 1),
+        ),
+        good(
+            "reasons",
+            "an aside of each reason 12 to 18, in three blocks (docs/EXAMPLES.md)",
+            file_of(&reasons(), 7, 0),
+        ),
+        good(
+            "removed",
+            "asides that mark a removed entry, a settled and an open one (docs/EXAMPLES.md)",
+            file_of(&removed(), u32::MAX, 2),
+        ),
+        good(
+            "seven-records",
+            "seven records: a full block and one of count 1; a sender that made none",
+            file_of(&blocks_of_six(2)[..7], 0, 5),
+        ),
+        good(
+            "512-records",
+            "a full log: 86 blocks, the last of count 2",
+            full(),
+        ),
+    ];
+    cases.extend(fields());
+    cases.extend(settling());
+    cases.extend(trees());
+    cases.extend(sums());
+    cases
+}
+
+/// The records of a log drawn by chance.
+fn full() -> Vec<u8> {
+    let log = log_of(512, 8, 4, &Mix::CONFLICTS, 41);
+    let (records, _) = log.as_chunks::<80>();
+    file_of(&records[..512], 9, 2)
+}
+
+/// A trace in the root with its date, label and mark.
+fn trace(seen: u16, date: (u16, u8, u8), label: &str, mark: [u8; 16]) -> [u8; 80] {
+    let mut record = Fields {
+        unit: 0,
+        operation: 2,
+        seen: &[seen],
+        named: ROOT,
+        date,
+        label,
+        mark: 0,
+    }
+    .record();
+    record[64..].copy_from_slice(&mark);
+    record
+}
+
+/// Fields with their first and last legal values.
+fn fields() -> Vec<Case> {
+    let dates = [
+        (1990, 1, 1),
+        (2199, 12, 31),
+        (2000, 2, 29),
+        (2024, 2, 29),
+        (2100, 2, 28),
+        (2025, 4, 30),
+    ];
+    let dated: Vec<[u8; 80]> = (0..)
+        .zip(dates)
+        .map(|(seen, date)| trace(seen, date, &format!("T{seen}"), [0; 16]))
+        .collect();
+    let labels = [
+        "~",
+        "!\"#$%&'()*+,-./0123456789:;<=>?@",
+        "ABCDEFGHIJKLMNOPQRSTUVWXYZ[\\]^_`",
+        "a  b",
+        "a",
+        "A",
+    ];
+    let labelled: Vec<[u8; 80]> = (0..)
+        .zip(labels)
+        .map(|(seen, label)| trace(seen, (2025, 3, 3), label, [0; 16]))
+        .collect();
+    let marks = [
+        std::array::from_fn(|i| 16 * i as u8 + i as u8),
+        std::array::from_fn(|i| 0xf0 - 15 * i as u8),
+        [0; 16],
+        [0xff; 16],
+    ];
+    let marked: Vec<[u8; 80]> = (0..)
+        .zip(marks)
+        .map(|(seen, mark)| trace(seen, (2025, 3, 3), &format!("M{seen}"), mark))
+        .collect();
+    vec![
+        good(
+            "dates",
+            "the first and the last date, leap days, the last day of a short month",
+            file_of(&dated, 7, 0),
+        ),
+        good(
+            "labels",
+            "labels of 1 and 32 bytes, every printable kind of byte, spaces within, capitals that \
+             differ from small letters",
+            file_of(&labelled, 7, 0),
+        ),
+        good(
+            "marks",
+            "marks of many bytes, zeros and all ones: digits in the order of the bytes",
+            file_of(&marked, 7, 0),
+        ),
+    ]
+}
+
+/// Asides settled in every way.
+fn settling() -> Vec<Case> {
+    vec![
+        good(
+            "settled-twice",
+            "a second settle of an aside fits; a settle of a settle that fitted stands aside (18); a \
+             settle of that one fits",
+            file_of(
+                &[
+                    record(0, &[], 2, ROOT, "A", 1, 3),
+                    record(1, &[], 2, ROOT, "A", 2, 3),
+                    record(0, &[1, 1], 6, (1, 1), "", 0, 4),
+                    record(1, &[2, 1], 6, (1, 1), "", 0, 5),
+                    record(0, &[2, 2], 6, (0, 2), "", 0, 6),
+                    record(1, &[3, 2], 6, (0, 3), "", 0, 7),
+                ],
+                7,
+                0,
+            ),
+        ),
+        good(
+            "still-disputed",
+            "of two asides that mark one entry one is settled: the entry is still disputed",
+            file_of(
+                &[
+                    record(0, &[], 1, ROOT, "A", 0, 3),
+                    record(1, &[], 1, ROOT, "A", 0, 3),
+                    record(2, &[], 2, ROOT, "A", 3, 3),
+                    record(0, &[1, 1, 1], 6, (2, 1), "", 0, 4),
+                ],
+                7,
+                0,
+            ),
+        ),
+        good(
+            "no-longer-disputed",
+            "the only aside that marks an entry is settled: the entry is not disputed",
+            file_of(
+                &[
+                    record(0, &[], 2, ROOT, "A", 1, 3),
+                    record(1, &[], 2, ROOT, "A", 2, 3),
+                    record(1, &[1, 1], 6, (1, 1), "", 0, 4),
+                ],
+                7,
+                1,
+            ),
+        ),
+    ]
+}
+
+/// What the rules of replay leave in the tree.
+fn trees() -> Vec<Case> {
+    vec![
+        good(
+            "store-and-rename",
+            "a store and a rename that did not see each other both fit: date and mark of the store, \
+             label of the rename",
+            file_of(
+                &[
+                    record(0, &[], 2, ROOT, "A", 1, 3),
+                    record(0, &[1], 3, (0, 1), "", 2, 9),
+                    record(1, &[1], 5, (0, 1), "B", 0, 5),
+                ],
+                7,
+                0,
+            ),
+        ),
+        good(
+            "stores-apart",
+            "of two stores that did not see each other the one of higher rank stands aside (17), \
+             whatever the dates say",
+            file_of(
+                &[
+                    record(0, &[], 2, ROOT, "A", 1, 3),
+                    record(0, &[1], 3, (0, 1), "", 2, 9),
+                    record(1, &[1], 3, (0, 1), "", 3, 5),
+                ],
+                7,
+                0,
+            ),
+        ),
+        good(
+            "rename-unseen-first",
+            "a rename that has not seen the last rename, to a label that is held: 17, not 15",
+            file_of(
+                &[
+                    record(0, &[], 2, ROOT, "A", 1, 3),
+                    record(0, &[1], 2, ROOT, "B", 2, 3),
+                    record(0, &[2], 5, (0, 1), "C", 0, 4),
+                    record(1, &[2], 5, (0, 1), "B", 0, 4),
+                ],
+                7,
+                0,
+            ),
+        ),
+        good(
+            "remove-full-first",
+            "a remove of a folder with an entry, which has not seen its last rename: 16, not 17",
+            file_of(
+                &[
+                    record(0, &[], 1, ROOT, "F", 0, 3),
+                    record(0, &[1], 5, (0, 1), "G", 0, 4),
+                    record(1, &[1], 2, ROOT, "X", 4, 4),
+                    record(0, &[2], 2, (0, 1), "T", 2, 4),
+                    record(1, &[1, 1], 2, ROOT, "Y", 4, 4),
+                    record(1, &[1, 2], 4, (0, 1), "", 0, 4),
+                ],
+                7,
+                0,
+            ),
+        ),
+        good(
+            "own-label",
+            "a rename to the label that the entry has: 15, marks the entry itself",
+            file_of(
+                &[
+                    record(0, &[], 1, ROOT, "F", 0, 3),
+                    record(0, &[1], 5, (0, 1), "F", 0, 4),
+                ],
+                7,
+                0,
+            ),
+        ),
+        good(
+            "label-free-again",
+            "a label is free again after a rename and after a remove; the same label in another folder \
+             is another's",
+            file_of(
+                &[
+                    record(0, &[], 2, ROOT, "A", 1, 3),
+                    record(0, &[1], 5, (0, 1), "B", 0, 3),
+                    record(0, &[2], 1, ROOT, "A", 0, 4),
+                    record(0, &[3], 4, (0, 1), "", 0, 4),
+                    record(0, &[4], 2, ROOT, "B", 5, 5),
+                    record(0, &[5], 2, (0, 3), "B", 6, 5),
+                ],
+                7,
+                0,
+            ),
+        ),
+        good(
+            "folder-renamed",
+            "a folder is renamed and keeps what lies in it; a folder in a folder",
+            file_of(
+                &[
+                    record(0, &[], 1, ROOT, "F", 0, 3),
+                    record(0, &[1], 1, (0, 1), "G", 0, 3),
+                    record(1, &[2], 2, (0, 2), "T", 3, 3),
+                    record(0, &[2, 1], 5, (0, 1), "H", 0, 4),
+                ],
+                7,
+                0,
+            ),
+        ),
+        good(
+            "named-no-make",
+            "a store names a store, a make stands in an aside make, a remove names a removed entry: 12, \
+             13, 12",
+            file_of(
+                &[
+                    record(0, &[], 1, ROOT, "A", 0, 3),
+                    record(1, &[], 1, ROOT, "A", 0, 3),
+                    record(0, &[1, 1], 2, (1, 1), "T", 1, 4),
+                    record(0, &[2, 1], 4, (0, 1), "", 0, 4),
+                    record(0, &[3, 1], 4, (0, 1), "", 0, 4),
+                    record(0, &[4, 1], 3, (0, 3), "", 1, 4),
+                ],
+                7,
+                0,
+            ),
+        ),
+        good(
+            "rank-by-unit",
+            "eight makes of one label with the sum 0: the lowest unit acts, the others stand aside by \
+             rising unit",
+            file_of(
+                &(0..8)
+                    .map(|unit| record(unit, &[], 2, ROOT, "A", unit, 11 - unit))
+                    .collect::<Vec<_>>(),
+                7,
+                3,
+            ),
+        ),
+    ]
+}
+
+/// Blocks whose sums are 0, which is stored as 0.
+fn sums() -> Vec<Case> {
+    vec![
+        good(
+            "first-sum-zero",
+            "an archive number that makes the first sum 0",
+            zero_sum(0),
+        ),
+        good(
+            "second-sum-zero",
+            "an archive number that makes the second sum 0",
+            zero_sum(1),
+        ),
+    ]
+}
+
+/// The paper's file with the least archive number that makes a sum 0.
+pub fn zero_sum(which: usize) -> Vec<u8> {
+    (0..65_521)
+        .map(|archive| file_of(&paper(), archive, 0))
+        .find(|file| file[508 + 2 * which..510 + 2 * which] == [0, 0])
+        .expect("a sum runs through all its values")
+}

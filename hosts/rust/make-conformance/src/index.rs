@@ -1,0 +1,60 @@
+//! The kit's page: how to use it, and what each case shows.
+
+use crate::kit::{Case, Shown, Written};
+
+const HEAD: &str = "\
+# Conformance kit
+
+Cases for a program that reads or writes the format of docs/FORMAT.md, with the answer to each. This page and all cases are written by
+`make-conformance`; do not change them by hand.
+
+    readout/NAME.in    a file
+    readout/NAME.out   its listing, byte for byte
+    lists/NAME.txt     calls, one a line, with what each must answer and leave
+    tables.txt         small functions, one call a line
+
+The form of a line is told in vectors/README.md. In the lists and tables a line that begins with `#` says what the next line shows.
+
+A reader only needs the files: give it each `.in` and compare what it prints with the `.out`. In this repository
+
+    scripts/readout-cases conformance/readout PROGRAM
+
+does so for any program that reads standard input and prints a listing, and
+
+    cd hosts/rust/vectors && cargo run --release --features static -- ../../../conformance
+
+runs all cases on the static library; with `-- --plain` in place of `--features static --` they are run on the plain implementation. To
+write the kit again:
+
+    cd hosts/rust && cargo run --release -p make-conformance -- ../../conformance
+";
+
+pub fn page(good: &[Case], damaged: &[Case], lists: &[Written], tables: &Written) -> String {
+    let mut page = HEAD.to_string();
+    page += "\n## Good files\n\n| file | bytes | what it shows |\n|---|---|---|\n";
+    for case in good {
+        page += &format!("| {} | {} | {} |\n", case.name, case.file.len(), case.shows);
+    }
+    page += "\n## Files that are refused\n\n";
+    page += "In most of them a good file of two blocks was changed in one way, and its sums put right again.\n\n";
+    page += "| file | answer | what it shows |\n|---|---|---|\n";
+    for case in damaged {
+        let answer = case.listing.trim_end().trim_start_matches("refused ");
+        page += &format!("| {} | {answer} | {} |\n", case.name, case.shows);
+    }
+    for list in lists {
+        page += &format!("\n## lists/{}.txt: {}\n\n", list.name, list.about);
+        page += &rows(&list.cases);
+    }
+    page += &format!("\n## tables.txt: {}\n\n", tables.about);
+    page + &rows(&tables.cases)
+}
+
+/// The cases of a list, by number where they come one after the other.
+fn rows(cases: &[Shown]) -> String {
+    let mut text = String::from("| | answer | what it shows |\n|---|---|---|\n");
+    for (case, number) in cases.iter().zip(1..) {
+        text += &format!("| {number} | {} | {} |\n", case.answer, case.shows);
+    }
+    text
+}

@@ -1,0 +1,59 @@
+//! `make-conformance DIR`: writes the conformance kit into a directory, the same
+//! bytes each time: files with their listings, call lists, tables, and an index
+//! that says what each case shows. Each case names its answer, and that the plain
+//! implementation gives it is checked here.
+
+mod acts;
+mod blocks;
+mod calls;
+mod damaged;
+mod good;
+mod index;
+mod kit;
+mod tables;
+
+use kit::{Case, Written};
+use std::fs;
+use std::io;
+use std::path::Path;
+
+fn write(directory: &Path) -> io::Result<()> {
+    let (good, damaged): (Vec<Case>, Vec<Case>) = (good::all(), damaged::all());
+    let lists: Vec<Written> = vec![
+        blocks::list(),
+        acts::list(),
+        calls::list(),
+        calls::meeting(),
+        calls::full(),
+    ];
+    let tables = tables::all();
+
+    fs::create_dir_all(directory.join("lists"))?;
+    fs::create_dir_all(directory.join("readout"))?;
+    for case in good.iter().chain(&damaged) {
+        let path = directory.join("readout").join(&case.name);
+        fs::write(path.with_extension("in"), &case.file)?;
+        fs::write(path.with_extension("out"), &case.listing)?;
+    }
+    for list in &lists {
+        fs::write(
+            directory.join("lists").join(format!("{}.txt", list.name)),
+            &list.text,
+        )?;
+    }
+    fs::write(directory.join("tables.txt"), &tables.text)?;
+    fs::write(
+        directory.join("README.md"),
+        index::page(&good, &damaged, &lists, &tables),
+    )
+}
+
+fn main() -> io::Result<()> {
+    match std::env::args().nth(1) {
+        Some(directory) => write(Path::new(&directory)),
+        None => {
+            eprintln!("usage: make-conformance DIR");
+            std::process::exit(2);
+        }
+    }
+}
