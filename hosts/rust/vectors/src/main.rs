@@ -1,6 +1,7 @@
 //! `vectors [--plain] DIR`: runs the call lists, tables and readout cases of a
-//! directory and says how many passed and failed. Any failure, also a
-//! directory without a case, gives an exit status other than 0.
+//! directory against the static library, or against the plain implementation,
+//! and says how many passed and failed. Any failure, also a directory without a
+//! case, gives an exit status other than 0.
 
 mod lists;
 mod readout;
@@ -151,7 +152,7 @@ fn main() -> ExitCode {
         return ExitCode::from(2);
     };
     let Some(library) = chosen(!options.is_empty()) else {
-        eprintln!("built without the static library: build with --features static, or say --plain");
+        eprintln!("built without the static library: only --plain can be run");
         return ExitCode::from(2);
     };
     let tally = run(&*library, Path::new(directory));
