@@ -1,18 +1,17 @@
 // Writing a file: the whole log in blocks of six records, and zeros behind them.
 ghost use mathlib.Core.Path.{_≡_};
 ghost use mathlib.Core.Bool.{true};
-ghost use Prim.Native.Nat.{_*_, _-_, _<_, _≤_, min};
+ghost use Prim.Native.Nat.{_*_, _-_, _<_, _≤_};
 ghost use lib.ListN.{length, replicate};
 ghost use Rattle.model.specs.Bytes.{padded, putAt};
 ghost use Rattle.model.specs.Log.{recordsOf, soundLog, vectorOf};
-ghost use Rattle.model.specs.File.{blockCount, fileBlock, fileOf};
+ghost use Rattle.model.specs.File.{blockCount, fileOf};
 ghost use Rattle.model.specs.Outcome.{outcome, writeOf};
+use fileout::block_count;
+use fileout::file_block;
+use fileout::write_at;
 use log::check;
 use octets::clear;
-use octets::put;
-use sealing::Block;
-use sealing::block_of;
-use sealing::empty_block;
 use vector::Vector;
 
 // What writing a file answers: the number, 0 for success, and the count of blocks.
@@ -20,59 +19,6 @@ pub struct Written {
     pub number: u8,
     pub place: u8,
     pub blocks: u8,
-}
-
-// How many blocks hold n records: six records a block, and one block for none.
-fn block_count(n: usize) -> usize
-    requires { ⌜ n ≤ 512 ⌝ }
-    ensures { λ r. ⌜ r ≡ blockCount n ⌝ }
-{
-    if n == 0 {
-        return 1;
-    }
-    (n + 5) / 6
-}
-
-// How many of n records stand in block k.
-fn count_at(n: usize, k: usize) -> usize
-    requires { ⌜ (n ≤ 512) × (6 * k ≤ n) ⌝ }
-    ensures { λ r. ⌜ r ≡ min 6 (n - 6 * k) ⌝ }
-{
-    let left = n - 6 * k;
-    if left < 6 {
-        return left;
-    }
-    6
-}
-
-// Block k of the file of a log.
-fn file_block(log: &[u8], used: usize, held: Vector, archive: u32, unit: u8, k: usize) -> Block
-    requires { ⌜ (length (now log) ≡ 40960) × (soundLog (now log) ≡ true) × (used ≡ length (recordsOf (now log))) × (held .counts ≡ vectorOf (recordsOf (now log))) × (used ≤ 512) × (6 * k ≤ used) ⌝ }
-    ensures { λ r. ⌜ r .bytes ≡ fileBlock archive unit (recordsOf (now (log .entry))) k ⌝ }
-{
-    let n = count_at(used, k);
-    if n == 0 {
-        return empty_block(archive, unit, k as u16, held);
-    }
-    let at = 480 * k;
-    block_of(
-        archive,
-        unit,
-        n as u8,
-        k as u16,
-        held,
-        &log[at..at + 80 * n],
-    )
-}
-
-// A block is written into the part of the file that starts at its place.
-fn write_at(file: &mut [u8], k: usize, b: Block)
-    requires { ⌜ (length (now file) ≡ 44032) × (k < 86) ⌝ }
-    ensures { λ _. ⌜ now (file .exit) ≡ putAt (now (file .entry)) (512 * k) (b .bytes) ⌝ }
-{
-    let bytes = b.bytes;
-    let at = 512 * k;
-    put(&mut file[at..at + 512], 0, &bytes);
 }
 
 // Zeros are written behind the first n blocks.

@@ -21,8 +21,8 @@ use Rattle.order.proofs.Insert.{length-insert}
 use Rattle.index.specs.Tables.{positionOf, closedBy, Indexed}
 use Rattle.index.proofs.Counts.{Alike, alike-inside, count-few}
 use Rattle.index.proofs.Tables.{held-at, next-is, within-is, closed-is, indexed-note, indexed-alike, indexed-where}
-use Rattle.judging.specs.Judging.{Counted, Step, step, heldBy, newBy, newStep, takeBy, after}
-use Rattle.judging.proofs.Checks.{new-free}
+use Rattle.beside.specs.Judging.{Counted, Step, step, heldBy, newBy, newStep, takeBy, after}
+use Rattle.beside.proofs.Checks.{new-free}
 
 -- ---- insertion puts the record somewhere
 

@@ -17,7 +17,7 @@ use Rattle.index.specs.Tables.{Indexed, Placed}
 use Rattle.index.proofs.Tables.{indexed-placed, indexed-where}
 use Rattle.log.specs.declared.Layout.the-variants.{Log}
 use Rattle.log.specs.Places.{laidAt}
-use Rattle.judging.specs.Judging.{Counted, heldAt, Step, step, takeBy, after, afterTo, JudgeGives}
+use Rattle.beside.specs.Judging.{Counted, heldAt, Step, step, takeBy, after, afterTo, JudgeGives}
 use Rattle.judging.proofs.Beside.{counted, beside-refused, beside-taken}
 
 -- the first j records of a block are taken: the tables have all records held, and the rest is still to come

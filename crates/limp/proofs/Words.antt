@@ -12,7 +12,7 @@ use Rattle.model.specs.File.{readOf}
 use Rattle.model.specs.Outcome.{Outcome, outcome, handOf}
 use Rattle.octets.proofs.PutAt.{put-more, put-whole}
 use Rattle.vector.proofs.InBytes.{vectorBytes-length}
-use Rattle.reading.specs.Outcome.{readBackOf}
+use Rattle.filechecks.specs.Outcome.{readBackOf}
 use Rattle.listing.specs.Left.{left, listedOf}
 use Rattle.limp.specs.Called.{packed, called, wrongBuffer, told, handedOf, headOf, headLeft, loadedOf, comparedOf, printed, sizeLeft, printedOf}
 

@@ -27,9 +27,9 @@ use Rattle.listinglaws.proofs.Rows.{entries-counted, asides-counted}
 use Rattle.listinglaws.proofs.Lines.{refused-line-length}
 use Rattle.listinglaws.proofs.Claims.{rows-fit, log-lines-fit}
 use Rattle.text.specs.Written.{Wrote}
-use Rattle.reading.specs.Outcome.{readBackOf}
+use Rattle.filechecks.specs.Outcome.{readBackOf}
 use Rattle.listinglaws.proofs.Lines.{refused-line-length}
-use Rattle.reading.specs.Outcome.{readBackOf}
+use Rattle.filechecks.specs.Outcome.{readBackOf}
 use Rattle.listing.specs.Left.{left, lentWell, treeLeft, listedOf, logLines, Lists}
 
 -- ---- a lent length that is wrong

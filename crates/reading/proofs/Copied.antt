@@ -22,9 +22,9 @@ use Rattle.log.specs.declared.Layout.the-variants.{File}
 use Rattle.log.specs.Places.{offsetOf, laidAt}
 use Rattle.log.proofs.Lists.{listed-more}
 use Rattle.fileblocks.proofs.Agreement.{blocks-counted}
-use Rattle.reading.specs.Outcome.{readBackOf}
-use Rattle.reading.proofs.Records.{file-listed}
-use Rattle.reading.proofs.Checks.{few-in-blocks}
+use Rattle.filechecks.specs.Outcome.{readBackOf}
+use Rattle.filechecks.proofs.Records.{file-listed}
+use Rattle.filechecks.proofs.Checks.{few-in-blocks}
 
 -- ---- how many
 

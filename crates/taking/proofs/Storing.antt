@@ -24,7 +24,7 @@ use Rattle.order.proofs.Tests.{vectorOf-length, vectorOf-getD}
 use Rattle.images.proofs.Logs.{log-sound}
 use Rattle.images.proofs.Calls.{sound-back}
 use Rattle.index.proofs.Counts.{count-few, vector-cons}
-use Rattle.judging.specs.Judging.{after, afterTo}
+use Rattle.beside.specs.Judging.{after, afterTo}
 use Rattle.judging.proofs.Beside.{after-taken}
 use Rattle.taking.specs.Stored.{Stored}
 

@@ -18,7 +18,7 @@ use Rattle.index.specs.Tables.{Indexed}
 use Rattle.log.specs.declared.Layout.the-variants.{Log}
 use Rattle.log.specs.Places.{laidAt}
 use Rattle.log.specs.InOrder.{CheckGives}
-use Rattle.judging.specs.Judging.{afterTo, JudgeGives}
+use Rattle.beside.specs.Judging.{afterTo, JudgeGives}
 use Rattle.taking.specs.Stored.{Stored}
 
 -- ---- a block without a fault

@@ -10,7 +10,7 @@ ghost use Rattle.model.specs.Outcome.{outcome, taken, takeOne, takeAll, givenFa
 ghost use Rattle.index.specs.Tables.{Indexed};
 ghost use Rattle.log.specs.declared.Layout.the-variants.{Log};
 ghost use Rattle.log.specs.Places.{laidAt};
-ghost use Rattle.judging.specs.Judging.{after, afterTo};
+ghost use Rattle.beside.specs.Judging.{after, afterTo};
 ghost use Rattle.taking.specs.Stored.{Stored};
 use answer::Answer;
 use vector::Vector;
@@ -68,7 +68,7 @@ pub fn take_block(
     requires { ⌜ (length (now log) ≡ 40960) × (soundLog (now log) ≡ true) × (used ≡ length (recordsOf (now log))) × (length (now places) ≡ 4096) × (length (now seens) ≡ 4144) × Indexed (laidAt Log (now log)) used (recordsOf (now log)) (held .counts) (now places) (now seens) ⌝ }
     ensures { λ r. ⌜ outcome r 0 (now (log .exit)) [] 0 ≡ tookBlock (now (log .entry)) (now (b .entry)) (givenFault archive (now (b .entry))) ⌝ }
 {
-    let f = judging::given_fault(archive, b);
+    let f = beside::given_fault(archive, b);
     if f != 0 {
         return f;
     }

@@ -1,4 +1,4 @@
-use Rattle.filing.proofs.Blocks.{cleared}
+use Rattle.filing.proofs.Whole.{cleared}
 use borrow.Author.Needs.{needs}
 use Rattle.filing.proofs.clear_behind.Statement.{statement}
 use Rattle.filing.proofs.clear_behind.Tie as tie

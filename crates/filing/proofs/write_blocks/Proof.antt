@@ -1,4 +1,4 @@
-use Rattle.filing.proofs.Blocks.{few-used, few, begun, all-counted, goes-on, ends}
+use Rattle.filing.proofs.Whole.{few-used, few, begun, all-counted, goes-on, ends}
 use Rattle.model.specs.File.{fileTo}
 use Rattle.model.specs.Log.{recordsOf}
 use lib.ListN.{length, drop}
@@ -11,10 +11,10 @@ use Rattle.filing.proofs.write_blocks.Statement.{statement}
 use Rattle.filing.proofs.write_blocks.Tie as tie
 use Rattle.filing.proofs.write_blocks.Reads as reads
 use Rattle.filing.proofs.write_blocks.Lts as lts
-use Rattle.filing.proofs.block_count.Reads as block-count-reads
+use Rattle.fileout.proofs.block_count.Reads as block-count-reads
 use Rattle.filing.proofs.clear_behind.Reads as clear-behind-reads
-use Rattle.filing.proofs.file_block.Reads as file-block-reads
-use Rattle.filing.proofs.write_at.Reads as write-at-reads
+use Rattle.fileout.proofs.file_block.Reads as file-block-reads
+use Rattle.fileout.proofs.write_at.Reads as write-at-reads
 
 abbrev Inv-loop : tie.InvT-loop
 Inv-loop log used held archive unit file₀ n k₀ file k =

@@ -1,4 +1,4 @@
-use Rattle.filing.proofs.Blocks.{all-written}
+use Rattle.filing.proofs.Whole.{all-written}
 use Rattle.answer.proofs.Guards.{log-length, buffer-length, unit-above, log-unsound, known-sound, known-used, known-held}
 use Rattle.model.specs.Outcome.{writeOf}
 use borrow.Author.Needs.{needs}

@@ -6,7 +6,7 @@ use Rattle.handing.proofs.block_for.Reads as reads
 use Rattle.handing.proofs.block_for.Lts as lts
 use Rattle.sealing.proofs.block_of.Reads as block-of-reads
 use Rattle.sealing.proofs.empty_block.Reads as empty-block-reads
-use Rattle.handing.proofs.gather.Reads as gather-reads
+use Rattle.gathering.proofs.gather.Reads as gather-reads
 
 -- src/lib.rt:59:38
 slice-aggregate-gather : tie.Need-slice-aggregate-gather

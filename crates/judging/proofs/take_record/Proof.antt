@@ -1,4 +1,4 @@
-use Rattle.judging.proofs.Checks.{take-malformed, judged-well, unit-judged, take-unheld, held-least, held-most, held-inside, take-held, take-differs}
+use Rattle.beside.proofs.Checks.{take-malformed, judged-well, unit-judged, take-unheld, held-least, held-most, held-inside, take-held, take-differs}
 use borrow.Author.Needs.{needs}
 use Rattle.judging.proofs.take_record.Statement.{statement}
 use Rattle.judging.proofs.take_record.Tie as tie

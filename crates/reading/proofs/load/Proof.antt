@@ -8,7 +8,7 @@ use Rattle.block.proofs.archive_in.Reads as archive-in-reads
 use Rattle.block.proofs.sender_in.Reads as sender-in-reads
 use Rattle.block.proofs.vector_in.Reads as vector-in-reads
 use Rattle.reading.proofs.copy_records.Reads as copy-records-reads
-use Rattle.reading.proofs.records_counted.Reads as records-counted-reads
+use Rattle.filechecks.proofs.records_counted.Reads as records-counted-reads
 
 -- src/lib.rt:159:9
 records-counted-requires : tie.Need-records-counted-requires

@@ -1,11 +1,11 @@
-use Rattle.reading.proofs.Checks.{whole, some-block, few-blocks, log-length, file-length, file-refused, file-read, faultless}
+use Rattle.filechecks.proofs.Checks.{whole, some-block, few-blocks, log-length, file-length, file-refused, file-read, faultless}
 use borrow.Author.Needs.{needs}
 use Rattle.reading.proofs.read_file.Statement.{statement}
 use Rattle.reading.proofs.read_file.Tie as tie
 use Rattle.reading.proofs.read_file.Reads as reads
 use Rattle.reading.proofs.read_file.Lts as lts
 use Rattle.fileblocks.proofs.whole_blocks.Reads as whole-blocks-reads
-use Rattle.reading.proofs.file_fault.Reads as file-fault-reads
+use Rattle.filechecks.proofs.file_fault.Reads as file-fault-reads
 use Rattle.reading.proofs.load.Reads as load-reads
 use Rattle.reading.proofs.refused.Reads as refused-reads
 
