@@ -21,10 +21,9 @@ A reader only needs the files: give it each `.in` and compare what it prints wit
 
 does so for any program that reads standard input and prints a listing, and
 
-    cd hosts/rust/vectors && cargo run --release --features static -- ../../../conformance
+    cd hosts/rust/vectors && cargo run --release -- ../../../conformance
 
-runs all cases on the static library; with `-- --plain` in place of `--features static --` they are run on the plain implementation. To
-write the kit again:
+runs all cases on the static library; with `-- --plain` in place of `--` they are run on the plain implementation. To write the kit again:
 
     cd hosts/rust && cargo run --release -p make-conformance -- ../../conformance
 ";
