@@ -1,20 +1,17 @@
 -- What each call of the static library returns in its one word, and what it leaves of the lent buffers.
 -- Assumes nothing.
-use Prim.Native.Nat.{ℕ, _+_, _*_}
+use Prim.Native.Nat.{ℕ}
 use mathlib.Core.Bool.{cond, _&&_}
-use mathlib.Core.List.{List, [], _∷_, _++_}
+use mathlib.Core.List.{List}
 use lib.Dec.{eqb}
 use lib.ListN.{length}
 use Rattle.model.specs.Numbers.{badBuffer}
-use Rattle.model.specs.Bytes.{two, four}
-use Rattle.model.specs.Vector.{compareOf, vectorAt, vectorBytes}
+use Rattle.model.specs.Bytes.{four}
+use Rattle.model.specs.Vector.{compareOf, vectorAt}
 use Rattle.model.specs.File.{ReadBack, readOf}
 use Rattle.model.specs.Outcome.{Outcome, handOf}
 use Rattle.listing.specs.Left.{Left, listedOf}
-
--- number, place and count in one word: bits 0 to 7, 8 to 15, 16 to 31
-unfoldable pub packed : ℕ → ℕ → ℕ → ℕ
-packed number place count = number + 256 * place + 65536 * count
+use Rattle.words.specs.Words.{packed, headOf}
 
 -- the word returned, the log left, and the block, file, tree table or head lent for writing as it is left
 pub record Called : Type 0 where
@@ -37,10 +34,6 @@ told o = called (packed (o .number) (o .place) (o .blocks)) (o .log) (o .lent)
 unfoldable pub handedOf : ℕ → ℕ → List ℕ → List ℕ → List ℕ → Called
 handedOf archive u log asked lent =
     cond (eqb (length asked) 16) (told (handOf archive u log (vectorAt asked 0) lent)) (wrongBuffer log lent)
-
--- what a file says of itself, in 24 bytes: archive, unit, zero, record count, vector
-unfoldable pub headOf : ℕ → ℕ → ℕ → List ℕ → List ℕ
-headOf archive u n v = four archive ++ ((u ∷ 0 ∷ []) ++ (two n ++ vectorBytes v))
 
 -- the head of an accepted file; a refused one leaves the head
 unfoldable pub headLeft : ReadBack → List ℕ → List ℕ

@@ -1,37 +1,13 @@
 // The entry points as C and Rust programs call them: numbers and byte slices in, one word out. include/limp.h is the manual.
 ghost use mathlib.Core.Path.{_≡_};
 ghost use mathlib.Core.List.{[]};
-ghost use lib.ListN.{length};
 ghost use Rattle.model.specs.Outcome.{startOf, actOf, takeOf, writeOf, showOf};
-ghost use Rattle.limp.specs.Called.{packed, called, told, handedOf, headOf, loadedOf, comparedOf, printed, printedOf};
-use octets::put;
-use octets::put16;
+ghost use Rattle.limp.specs.Called.{called, told, handedOf, loadedOf, comparedOf, printed, printedOf};
 use octets::put32;
 use octets::wide;
-use octets::wide32;
-use octets::wider;
-use vector::Vector;
-use vector::put_vector;
 use vector::vector_at;
-
-// Number, place and count in one word.
-fn pack(number: u8, place: u8, count: u16) -> u32
-    ensures { λ r. ⌜ r ≡ packed number place count ⌝ }
-{
-    wide32(number) + 256 * wide32(place) + 65536 * wider(count)
-}
-
-// What a file says of itself is written.
-fn put_head(head: &mut [u8], archive: u32, unit: u8, records: u16, v: Vector)
-    requires { ⌜ length (now head) ≡ 24 ⌝ }
-    ensures { λ _. ⌜ now (head .exit) ≡ headOf archive unit records (v .counts) ⌝ }
-{
-    let pair = [unit, 0];
-    put32(head, 0, archive);
-    put(head, 4, &pair);
-    put16(head, 6, records);
-    put_vector(head, 8, v);
-}
+use words::pack;
+use words::put_head;
 
 // Starts a unit.
 #[no_mangle]

@@ -1,11 +1,11 @@
-use Rattle.limp.proofs.Words.{tells}
+use Rattle.limp.proofs.Calls.{tells}
 use borrow.Author.Needs.{needs}
 use Rattle.limp.proofs.limp_act.Statement.{statement}
 use Rattle.limp.proofs.limp_act.Tie as tie
 use Rattle.limp.proofs.limp_act.Reads as reads
 use Rattle.limp.proofs.limp_act.Lts as lts
 use Rattle.act.proofs.act.Reads as act-reads
-use Rattle.limp.proofs.pack.Reads as pack-reads
+use Rattle.words.proofs.pack.Reads as pack-reads
 
 -- src/lib.rt:50:9
 act-requires : tie.Need-act-requires

@@ -1,10 +1,10 @@
-use Rattle.limp.proofs.Words.{first-wrong, second-wrong, compares}
+use Rattle.limp.proofs.Calls.{first-wrong, second-wrong, compares}
 use borrow.Author.Needs.{needs}
 use Rattle.limp.proofs.limp_compare.Statement.{statement}
 use Rattle.limp.proofs.limp_compare.Tie as tie
 use Rattle.limp.proofs.limp_compare.Reads as reads
 use Rattle.limp.proofs.limp_compare.Lts as lts
-use Rattle.limp.proofs.pack.Reads as pack-reads
+use Rattle.words.proofs.pack.Reads as pack-reads
 use Rattle.octets.proofs.wide.Reads as wide-reads
 use Rattle.vector.proofs.compare.Reads as compare-reads
 use Rattle.vector.proofs.vector_at.Reads as vector-at-reads

@@ -1,11 +1,11 @@
-use Rattle.limp.proofs.Words.{asks-wrong, hands}
+use Rattle.limp.proofs.Calls.{asks-wrong, hands}
 use borrow.Author.Needs.{needs}
 use Rattle.limp.proofs.limp_hand_out.Statement.{statement}
 use Rattle.limp.proofs.limp_hand_out.Tie as tie
 use Rattle.limp.proofs.limp_hand_out.Reads as reads
 use Rattle.limp.proofs.limp_hand_out.Lts as lts
 use Rattle.handing.proofs.hand_out.Reads as hand-out-reads
-use Rattle.limp.proofs.pack.Reads as pack-reads
+use Rattle.words.proofs.pack.Reads as pack-reads
 use Rattle.vector.proofs.vector_at.Reads as vector-at-reads
 
 -- src/lib.rt:66:9

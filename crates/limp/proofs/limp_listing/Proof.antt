@@ -1,10 +1,10 @@
-use Rattle.limp.proofs.Words.{size-wrong, prints-not, prints}
+use Rattle.limp.proofs.Calls.{size-wrong, prints-not, prints}
 use borrow.Author.Needs.{needs}
 use Rattle.limp.proofs.limp_listing.Statement.{statement}
 use Rattle.limp.proofs.limp_listing.Tie as tie
 use Rattle.limp.proofs.limp_listing.Reads as reads
 use Rattle.limp.proofs.limp_listing.Lts as lts
-use Rattle.limp.proofs.pack.Reads as pack-reads
+use Rattle.words.proofs.pack.Reads as pack-reads
 use Rattle.listing.proofs.listing.Reads as listing-reads
 use Rattle.octets.proofs.put32.Reads as put32-reads
 

@@ -1,11 +1,11 @@
-use Rattle.limp.proofs.Words.{head-wrong, loads-not, loads}
+use Rattle.limp.proofs.Calls.{head-wrong, loads-not, loads}
 use borrow.Author.Needs.{needs}
 use Rattle.limp.proofs.limp_read_file.Statement.{statement}
 use Rattle.limp.proofs.limp_read_file.Tie as tie
 use Rattle.limp.proofs.limp_read_file.Reads as reads
 use Rattle.limp.proofs.limp_read_file.Lts as lts
-use Rattle.limp.proofs.pack.Reads as pack-reads
-use Rattle.limp.proofs.put_head.Reads as put-head-reads
+use Rattle.words.proofs.pack.Reads as pack-reads
+use Rattle.words.proofs.put_head.Reads as put-head-reads
 use Rattle.reading.proofs.read_file.Reads as read-file-reads
 
 -- src/lib.rt:97:9

@@ -1,10 +1,10 @@
-use Rattle.limp.proofs.Words.{tells}
+use Rattle.limp.proofs.Calls.{tells}
 use borrow.Author.Needs.{needs}
 use Rattle.limp.proofs.limp_show.Statement.{statement}
 use Rattle.limp.proofs.limp_show.Tie as tie
 use Rattle.limp.proofs.limp_show.Reads as reads
 use Rattle.limp.proofs.limp_show.Lts as lts
-use Rattle.limp.proofs.pack.Reads as pack-reads
+use Rattle.words.proofs.pack.Reads as pack-reads
 use Rattle.show.proofs.show_tree.Reads as show-tree-reads
 
 -- src/lib.rt:113:9

@@ -1,10 +1,10 @@
-use Rattle.limp.proofs.Words.{tells}
+use Rattle.limp.proofs.Calls.{tells}
 use borrow.Author.Needs.{needs}
 use Rattle.limp.proofs.limp_start.Statement.{statement}
 use Rattle.limp.proofs.limp_start.Tie as tie
 use Rattle.limp.proofs.limp_start.Reads as reads
 use Rattle.limp.proofs.limp_start.Lts as lts
-use Rattle.limp.proofs.pack.Reads as pack-reads
+use Rattle.words.proofs.pack.Reads as pack-reads
 use Rattle.start.proofs.start.Reads as start-reads
 
 -- src/lib.rt:41:9

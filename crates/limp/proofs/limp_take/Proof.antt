@@ -1,10 +1,10 @@
-use Rattle.limp.proofs.Words.{tells}
+use Rattle.limp.proofs.Calls.{tells}
 use borrow.Author.Needs.{needs}
 use Rattle.limp.proofs.limp_take.Statement.{statement}
 use Rattle.limp.proofs.limp_take.Tie as tie
 use Rattle.limp.proofs.limp_take.Reads as reads
 use Rattle.limp.proofs.limp_take.Lts as lts
-use Rattle.limp.proofs.pack.Reads as pack-reads
+use Rattle.words.proofs.pack.Reads as pack-reads
 use Rattle.taking.proofs.take.Reads as take-reads
 
 -- src/lib.rt:78:9

@@ -1,11 +1,11 @@
-use Rattle.limp.proofs.Words.{tells-blocks}
+use Rattle.limp.proofs.Calls.{tells-blocks}
 use borrow.Author.Needs.{needs}
 use Rattle.limp.proofs.limp_write_file.Statement.{statement}
 use Rattle.limp.proofs.limp_write_file.Tie as tie
 use Rattle.limp.proofs.limp_write_file.Reads as reads
 use Rattle.limp.proofs.limp_write_file.Lts as lts
 use Rattle.filing.proofs.write_file.Reads as write-file-reads
-use Rattle.limp.proofs.pack.Reads as pack-reads
+use Rattle.words.proofs.pack.Reads as pack-reads
 use Rattle.octets.proofs.wide.Reads as wide-reads
 
 -- src/lib.rt:87:9

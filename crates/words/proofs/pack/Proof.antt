@@ -1,10 +1,10 @@
-use Rattle.limp.specs.Called.{packed}
+use Rattle.words.specs.Words.{packed}
 use native.Mathlib.Omega.{arith}
 use borrow.Author.Needs.{needs}
-use Rattle.limp.proofs.pack.Statement.{statement}
-use Rattle.limp.proofs.pack.Tie as tie
-use Rattle.limp.proofs.pack.Reads as reads
-use Rattle.limp.proofs.pack.Lts as lts
+use Rattle.words.proofs.pack.Statement.{statement}
+use Rattle.words.proofs.pack.Tie as tie
+use Rattle.words.proofs.pack.Reads as reads
+use Rattle.words.proofs.pack.Lts as lts
 use Rattle.octets.proofs.wide32.Reads as wide32-reads
 use Rattle.octets.proofs.wider.Reads as wider-reads
 

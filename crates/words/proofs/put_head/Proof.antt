@@ -1,10 +1,10 @@
-use Rattle.limp.proofs.Words.{heads}
+use Rattle.words.proofs.Heads.{heads}
 use native.Mathlib.Omega.{arith}
 use borrow.Author.Needs.{needs}
-use Rattle.limp.proofs.put_head.Statement.{statement}
-use Rattle.limp.proofs.put_head.Tie as tie
-use Rattle.limp.proofs.put_head.Reads as reads
-use Rattle.limp.proofs.put_head.Lts as lts
+use Rattle.words.proofs.put_head.Statement.{statement}
+use Rattle.words.proofs.put_head.Tie as tie
+use Rattle.words.proofs.put_head.Reads as reads
+use Rattle.words.proofs.put_head.Lts as lts
 use Rattle.octets.proofs.put.Reads as put-reads
 use Rattle.octets.proofs.put16.Reads as put16-reads
 use Rattle.octets.proofs.put32.Reads as put32-reads

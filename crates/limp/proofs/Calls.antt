@@ -1,20 +1,19 @@
 -- What each way out of a call returns and leaves, over plain values.
 -- Assumes nothing.
 use Prim.Native.Nat.{ℕ}
-use native.Mathlib.Omega.{arith}
 use mathlib.Core.Path.{_≡_, sym}
-use mathlib.Core.List.{List, [], _∷_, _++_}
+use mathlib.Core.List.{List}
 use lib.ListN.{length}
 use borrow.Author.Tests.{eq-eqb, ne-eqb}
-use Rattle.model.specs.Bytes.{two, four, putAt}
-use Rattle.model.specs.Vector.{compareOf, vectorAt, vectorBytes}
+use Rattle.model.specs.Bytes.{four, putAt}
+use Rattle.model.specs.Vector.{compareOf, vectorAt}
 use Rattle.model.specs.File.{readOf}
 use Rattle.model.specs.Outcome.{Outcome, outcome, handOf}
-use Rattle.octets.proofs.PutAt.{put-more, put-whole}
-use Rattle.vector.proofs.InBytes.{vectorBytes-length}
+use Rattle.octets.proofs.PutAt.{put-whole}
 use Rattle.filechecks.specs.Outcome.{readBackOf}
 use Rattle.listing.specs.Left.{left, listedOf}
-use Rattle.limp.specs.Called.{packed, called, wrongBuffer, told, handedOf, headOf, headLeft, loadedOf, comparedOf, printed, sizeLeft, printedOf}
+use Rattle.words.specs.Words.{packed, headOf}
+use Rattle.limp.specs.Called.{called, wrongBuffer, told, handedOf, headLeft, loadedOf, comparedOf, printed, sizeLeft, printedOf}
 
 -- ---- an outcome in one word
 
@@ -38,19 +37,6 @@ module _ (archive u : ℕ) {r : ℕ} (log asked lent : List ℕ) where
   hands v a h e w = rw (eq-eqb (length asked) 16 a, ← h) (tells e w)
 
 -- ---- reading a file
-
--- the fields of the head are written one behind another
-pub heads : (d : List ℕ) (a u k : ℕ) (v : List ℕ) → length d ≡ 24
-    → putAt (putAt (putAt (putAt d 0 (four a)) 4 (u ∷ 0 ∷ [])) 6 (two k)) 8 (vectorBytes v) ≡ headOf a u k v
-unfolding headOf
-heads d a u k v n =
-    let h₁ = four a in
-    let h₂ = h₁ ++ (u ∷ 0 ∷ []) in
-    let h₃ = h₂ ++ two k in
-    let g₁ : putAt (putAt d 0 h₁) 4 (u ∷ 0 ∷ []) ≡ putAt d 0 h₂ = put-more d 0 h₁ (u ∷ 0 ∷ []) (omega arith) in
-    let g₂ : putAt (putAt d 0 h₂) 6 (two k) ≡ putAt d 0 h₃ = put-more d 0 h₂ (two k) (omega arith) in
-    let g₃ : putAt (putAt d 0 h₃) 8 (vectorBytes v) ≡ putAt d 0 (h₃ ++ vectorBytes v) = put-more d 0 h₃ (vectorBytes v) (omega arith) in
-    rw (g₁, g₂, g₃) (put-whole d (h₃ ++ vectorBytes v) (omega (arith, vectorBytes-length v)))
 
 module _ {r : ℕ} (log f head : List ℕ) where
   pub head-wrong : (length head ≡ 24 → ⊥) → r ≡ packed 1 0 0 → called r log head ≡ loadedOf log f head
