@@ -108,7 +108,7 @@ date-exact y m d = (date-means y m d, real-date y m d)
 
 -- ---- labels
 
-text-within : (t : List ℕ) → textLength t ≤ length t
+pub text-within : (t : List ℕ) → textLength t ≤ length t
 unfolding textLength
 text-within [] = omega arith
 text-within (x ∷ t) = go (eqb x 0) (text-within t)

@@ -2,3 +2,4 @@ pub mod Tests
 pub mod Date
 pub mod Label
 pub mod Claims
+pub mod Follow

@@ -1,2 +1,3 @@
 pub mod RealDate
 pub mod Label
+pub mod Follow

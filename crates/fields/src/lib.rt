@@ -1,9 +1,10 @@
 // The fields of a record that have rules of their own: the date and the label.
 ghost use mathlib.Core.Path.{_≡_};
-ghost use Prim.Native.Nat.{_≤_};
+ghost use Prim.Native.Nat.{_+_, _≤_, _<_};
 ghost use lib.ListN.{length};
 ghost use Rattle.model.specs.Date.{isLeap, daysOf, isDate};
-ghost use Rattle.model.specs.Record.{textLength, printable, isLabel};
+ghost use Rattle.model.specs.Record.{textLength, isLabel};
+ghost use Rattle.fields.specs.Follow.{follows, followTo};
 
 // A year of 366 days.
 fn is_leap(y: u16) -> bool
@@ -54,39 +55,67 @@ pub fn text_length(t: &[u8]) -> usize
     i
 }
 
-// Every byte is hexadecimal 20 to 7E.
-fn is_printable(t: &[u8]) -> bool
-    ensures { λ r. ⌜ r ≡ printable (now (t .entry)) ⌝ }
+// In a label y may stand behind x: a zero behind no space, or a byte of hexadecimal 20 to 7E behind no zero.
+fn follows(x: u8, y: u8) -> bool
+    ensures { λ r. ⌜ r ≡ follows x y ⌝ }
 {
-    let mut i: usize = 0;
-    while i < t.len() {
-        if t[i] < 32 {
-            return false;
-        }
-        if 126 < t[i] {
-            return false;
-        }
-        i += 1;
+    ((y == 0) & (x != 32)) | ((x != 0) & ((32 <= y) & (y <= 126)))
+}
+
+// Each of the 16 bytes behind a place may stand behind the one before it. No byte ends the loop early: all are judged at once.
+fn sixteen_follow(t: &[u8], at: usize) -> bool
+    requires { ⌜ at + 16 < length (now t) ⌝ }
+    ensures { λ r. ⌜ r ≡ followTo (now (t .entry)) at 16 ⌝ }
+{
+    let mut fine = true;
+    for i in 0..16 {
+        fine = fine & follows(t[at + i], t[at + i + 1]);
     }
-    true
+    fine
+}
+
+// The same of the n bytes behind a place.
+fn run_follows(t: &[u8], at: usize, n: usize) -> bool
+    requires { ⌜ at + n < length (now t) ⌝ }
+    ensures { λ r. ⌜ r ≡ followTo (now (t .entry)) at n ⌝ }
+{
+    let mut fine = true;
+    for i in 0..n {
+        fine = fine & follows(t[at + i], t[at + i + 1]);
+    }
+    fine
+}
+
+// The same of the n bytes behind the first. Of 31, as a record has them, the first 16 and the last 16 are judged.
+fn all_follow(t: &[u8], n: usize) -> bool
+    requires { ⌜ n < length (now t) ⌝ }
+    ensures { λ r. ⌜ r ≡ followTo (now (t .entry)) 0 n ⌝ }
+{
+    if n != 31 {
+        return run_follows(t, 0, n);
+    }
+    if !sixteen_follow(t, 0) {
+        return false;
+    }
+    sixteen_follow(t, 15)
 }
 
 // A text of at least one byte, no space first or last, then zeros.
 pub fn is_label(t: &[u8]) -> bool
     ensures { λ r. ⌜ r ≡ isLabel (now (t .entry)) ⌝ }
 {
-    let n = text_length(t);
-    if n < 1 {
+    if t.len() < 1 {
         return false;
     }
-    if !is_printable(&t[0..n]) {
+    let last = t.len() - 1;
+    if !all_follow(t, last) {
         return false;
     }
-    if t[0] == 32 {
+    if t[0] < 33 {
         return false;
     }
-    if t[n - 1] == 32 {
+    if 126 < t[0] {
         return false;
     }
-    octets::is_blank(&t[n..t.len()])
+    t[last] != 32
 }

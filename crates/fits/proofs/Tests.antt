@@ -2,13 +2,14 @@
 -- Assumes nothing.
 use Prim.Native.Nat.{ℕ, _+_, _-_, _*_, _≤_, _<_}
 use mathlib.Core.Path.{_≡_, refl, sym}
-use mathlib.Core.Bool.{Bool, true, false, cond, not}
+use mathlib.Core.Bool.{Bool, true, false, cond, not, _&&_}
 use lib.Dec.{leb, eqb}
 use lib.ListN.{getD, take, drop}
 use borrow.Author.Tests.{eq-eqb, ne-eqb, le-leb, lt-leb, not-true, not-false}
 use Rattle.model.specs.Bytes.{word, blank, part}
 use Rattle.model.specs.Date.{isDate}
 use Rattle.model.specs.Record.{Rec, unit, op, num, seen, labelOf, isLabel, usesObject, usesFolder, usesLabel, usesMark, unused, names, headFits, objectFits, folderFits, dateFits, labelFits, markFits}
+use Rattle.fits.proofs.Blanks.{two-sixteens}
 
 -- ---- which fields an operation uses
 
@@ -81,33 +82,33 @@ module _ (r : Rec) {u : Bool} where
   unfolding objectFits op
   object-used e h f = rw (← e, h, f)
 
-  pub object-unused : {b : Bool} → u ≡ usesObject (getD r 1 0) → u ≡ false → b ≡ blank (take 4 (drop 20 r)) → b ≡ objectFits r
-  unfolding objectFits op unused part
+  pub object-unused : {b : Bool} → u ≡ usesObject (getD r 1 0) → u ≡ false → b ≡ blank (part r 20 4) → b ≡ objectFits r
+  unfolding objectFits op unused
   object-unused e h f = rw (← e, h, f)
 
   pub label-used : {b : Bool} → u ≡ usesLabel (getD r 1 0) → u ≡ true → b ≡ isLabel (take 32 (drop 32 r)) → b ≡ labelFits r
   unfolding labelFits op labelOf part
   label-used e h f = rw (← e, h, f)
 
-  pub label-unused : {b : Bool} → u ≡ usesLabel (getD r 1 0) → u ≡ false → b ≡ blank (take 32 (drop 32 r)) → b ≡ labelFits r
-  unfolding labelFits op unused part
-  label-unused e h f = rw (← e, h, f)
+  pub label-unused : {a b : Bool} → u ≡ usesLabel (getD r 1 0) → u ≡ false → a ≡ blank (part r 32 16) → b ≡ blank (part r 48 16) → (a && b) ≡ labelFits r
+  unfolding labelFits op unused
+  label-unused e h f g = rw (← e, h, f, g) (two-sixteens r 32)
 
   pub mark-used : u ≡ usesMark (getD r 1 0) → u ≡ true → true ≡ markFits r
   unfolding markFits op
   mark-used e h = rw (← e, h)
 
-  pub mark-unused : {b : Bool} → u ≡ usesMark (getD r 1 0) → u ≡ false → b ≡ blank (take 16 (drop 64 r)) → b ≡ markFits r
-  unfolding markFits op unused part
+  pub mark-unused : {b : Bool} → u ≡ usesMark (getD r 1 0) → u ≡ false → b ≡ blank (part r 64 16) → b ≡ markFits r
+  unfolding markFits op unused
   mark-unused e h f = rw (← e, h, f)
 
 pub date-used : (r : Rec) {b : Bool} {y : ℕ} → y ≡ word r 28 → b ≡ isDate y (getD r 30 0) (getD r 31 0) → b ≡ dateFits r
 unfolding dateFits
 date-used r e f = rw (f, e)
 
-module _ (r : Rec) {z : Bool} (e : z ≡ blank (take 4 (drop 24 r))) where
+module _ (r : Rec) {z : Bool} (e : z ≡ blank (part r 24 4)) where
   pub folder-zero : z ≡ true → true ≡ folderFits r
-  unfolding folderFits unused part
+  unfolding folderFits unused
   folder-zero h = rw (← e, h) (sym (go (usesFolder (op r))))
     where
       go : (t : Bool) → cond t true true ≡ true
@@ -116,9 +117,9 @@ module _ (r : Rec) {z : Bool} (e : z ≡ blank (take 4 (drop 24 r))) where
 
   module _ {u : Bool} (h : z ≡ false) (f : u ≡ usesFolder (getD r 1 0)) where
     pub folder-unused : not u ≡ true → false ≡ folderFits r
-    unfolding folderFits op unused part
+    unfolding folderFits op unused
     folder-unused g = rw (← f, not-true u g, ← e, h)
 
     pub folder-used : {b : Bool} → not u ≡ false → b ≡ names r 24 → b ≡ folderFits r
-    unfolding folderFits op unused part
+    unfolding folderFits op unused
     folder-used g k = rw (← f, not-false u g, ← e, h, k)

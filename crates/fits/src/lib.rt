@@ -1,10 +1,11 @@
 // The fields of an 80-byte record, each judged by the operation.
 ghost use mathlib.Core.Path.{_≡_};
-ghost use Prim.Native.Nat.{_≤_};
+ghost use Prim.Native.Nat.{_+_, _≤_};
 ghost use lib.ListN.{length};
+ghost use Rattle.model.specs.Bytes.{blank, part};
 ghost use Rattle.model.specs.Record.{usesObject, usesFolder, usesLabel, usesMark, names, headFits, objectFits, folderFits, dateFits, labelFits, markFits};
-use octets::is_blank;
 use octets::le16;
+use octets::le32;
 
 // ---- which fields an operation uses
 
@@ -34,6 +35,24 @@ fn uses_mark(op: u8) -> bool
     ensures { λ r. ⌜ r ≡ usesMark op ⌝ }
 {
     op == 2 || op == 3
+}
+
+// ---- unused fields
+
+// The four bytes from a place on are zero.
+fn blank_4(rec: &[u8], at: usize) -> bool
+    requires { ⌜ at + 4 ≤ length (now rec) ⌝ }
+    ensures { λ r. ⌜ r ≡ blank (part (now (rec .entry)) at 4) ⌝ }
+{
+    le32(rec, at) == 0
+}
+
+// The 16 bytes from a place on are zero.
+fn blank_16(rec: &[u8], at: usize) -> bool
+    requires { ⌜ at + 16 ≤ length (now rec) ⌝ }
+    ensures { λ r. ⌜ r ≡ blank (part (now (rec .entry)) at 16) ⌝ }
+{
+    blank_4(rec, at) & blank_4(rec, at + 4) & blank_4(rec, at + 8) & blank_4(rec, at + 12)
 }
 
 // ---- the fields
@@ -88,7 +107,7 @@ pub fn object_fits(rec: &[u8]) -> bool
     if uses_object(rec[1]) {
         return names(rec, 20);
     }
-    is_blank(&rec[20..24])
+    blank_4(rec, 20)
 }
 
 // A used folder is the root or named, an unused one is zero.
@@ -96,7 +115,7 @@ pub fn folder_fits(rec: &[u8]) -> bool
     requires { ⌜ length (now rec) ≡ 80 ⌝ }
     ensures { λ r. ⌜ r ≡ folderFits (now (rec .entry)) ⌝ }
 {
-    if is_blank(&rec[24..28]) {
+    if blank_4(rec, 24) {
         return true;
     }
     if !uses_folder(rec[1]) {
@@ -121,7 +140,7 @@ pub fn label_fits(rec: &[u8]) -> bool
     if uses_label(rec[1]) {
         return fields::is_label(&rec[32..64]);
     }
-    is_blank(&rec[32..64])
+    blank_16(rec, 32) & blank_16(rec, 48)
 }
 
 // A used mark is any bytes, an unused one is zero.
@@ -132,5 +151,5 @@ pub fn mark_fits(rec: &[u8]) -> bool
     if uses_mark(rec[1]) {
         return true;
     }
-    is_blank(&rec[64..80])
+    blank_16(rec, 64)
 }

@@ -6,14 +6,15 @@ use native.Mathlib.Omega.{arith}
 use mathlib.Core.Path.{_≡_, sym, _∙_}
 use mathlib.Core.Logic.{⊎-elim}
 use mathlib.Core.Bool.{Bool, true, false}
-use mathlib.Core.List.{List}
-use lib.ListN.{getD}
-use borrow.Author.Tests.{eq-eqb, ne-eqb}
+use mathlib.Core.List.{List, [], _∷_}
+use lib.ListN.{getD, length}
+use borrow.Author.Tests.{eq-eqb, ne-eqb, le-leb}
 use Rattle.model.specs.Vector.{covers, coversTo}
 use Rattle.model.specs.Log.{allTo}
 use Rattle.octets.proofs.Numbers.{lt-or-ge, and-wrong}
-use Rattle.octets.proofs.Parts.{getD-part}
+use Rattle.octets.proofs.Parts.{part-length, getD-part}
 use Rattle.vector.proofs.Dominance.{less-fails, covers-next, covers-ends}
+use Rattle.vector.proofs.Higher.{eight}
 use Rattle.index.specs.Tables.{positionOf, rowAt, unitClosed, closedBy, Placed}
 
 all-false : (n : ℕ) (p : ℕ → Bool) (u : ℕ) → u < n → p u ≡ false → allTo n p ≡ false
@@ -34,8 +35,14 @@ module _ (places seens s : List ℕ) where
   unfolding rowAt
   row-at p v h = getD-part seens (8 * p) 8 v h
 
+  row-length : (p : ℕ) → length seens ≡ 4144 → p < 518 → length (rowAt seens p) ≡ 8
+  unfolding rowAt
+  row-length p n h = part-length seens (8 * p) 8 (omega arith)
+
   pub row-next : (p v : ℕ) → v < 8 → coversTo s (rowAt seens p) v ≡ true → getD seens (8 * p + v) 0 ≤ getD s v 0 → coversTo s (rowAt seens p) (v + 1) ≡ true
-  row-next p v h e k = covers-next s (rowAt seens p) v e (rw (row-at p v h) k)
+  row-next p v h e k =
+      let c : getD (rowAt seens p) v 0 ≤ getD s v 0 = rw (row-at p v h) k in
+      sym (covers-next s (rowAt seens p) v true (sym e)) ∙ le-leb (getD (rowAt seens p) v 0) (getD s v 0) c
 
   -- the counts seen, and the positions of their records, lie in the tables
   pub few-seen : (u : ℕ) → Placed s places → u < 8 → getD s u 0 ≤ 512
@@ -56,10 +63,24 @@ module _ (places seens s : List ℕ) where
   pub none-counted : (u : ℕ) → allTo u (unitClosed places seens s) ≡ true → getD s u 0 ≡ 0 → allTo (u + 1) (unitClosed places seens s) ≡ true
   none-counted u a e = all-next u (unitClosed places seens s) a (zero-closed u e)
 
+  -- the eight counts of a row, written out
+  pub row-flat : (p : ℕ) → length seens ≡ 4144 → p < 518
+      → getD seens (8 * p) 0 ∷ getD seens (8 * p + 1) 0 ∷ getD seens (8 * p + 2) 0 ∷ getD seens (8 * p + 3) 0 ∷ getD seens (8 * p + 4) 0 ∷ getD seens (8 * p + 5) 0 ∷ getD seens (8 * p + 6) 0 ∷ getD seens (8 * p + 7) 0 ∷ [] ≡ rowAt seens p
+  row-flat p n h =
+      let z : 8 * p + 0 ≡ 8 * p = omega arith in
+      let first : getD (rowAt seens p) 0 0 ≡ getD seens (8 * p) 0 = rw z at (row-at p 0 (omega arith)) in
+      rw (← first, ← row-at p 1 (omega arith), ← row-at p 2 (omega arith), ← row-at p 3 (omega arith), ← row-at p 4 (omega arith), ← row-at p 5 (omega arith), ← row-at p 6 (omega arith), ← row-at p 7 (omega arith))
+      (eight (rowAt seens p) (row-length p n h))
+
+  -- a unit whose last record seen is covered at once
+  pub row-covered : (u p : ℕ) (row : List ℕ) (t : Bool) → allTo u (unitClosed places seens s) ≡ true → (getD s u 0 ≡ 0 → ⊥) → p ≡ positionOf places u (getD s u 0)
+      → row ≡ rowAt seens p → t ≡ covers s row → t ≡ true → allTo (u + 1) (unitClosed places seens s) ≡ true
+  row-covered u p row t a e q r c h = all-next u (unitClosed places seens s) a (unit-is u e p q ∙ ((rw r at (sym c)) ∙ h))
+
   -- a unit whose last record seen is nowhere above
   pub none-above : (u p v : ℕ) → allTo u (unitClosed places seens s) ≡ true → (getD s u 0 ≡ 0 → ⊥) → p ≡ positionOf places u (getD s u 0)
       → v ≤ 8 → 8 ≤ v → coversTo s (rowAt seens p) v ≡ true → allTo (u + 1) (unitClosed places seens s) ≡ true
-  none-above u p v a e q h k w = all-next u (unitClosed places seens s) a (unit-is u e p q ∙ sym (covers-ends s (rowAt seens p) v h k w))
+  none-above u p v a e q h k w = all-next u (unitClosed places seens s) a (unit-is u e p q ∙ sym (covers-ends s (rowAt seens p) v true h k (sym w)))
 
   -- a count that breaks closure
   pub one-above : (u p v : ℕ) → u < 8 → (getD s u 0 ≡ 0 → ⊥) → p ≡ positionOf places u (getD s u 0) → v < 8 → getD s v 0 < getD seens (8 * p + v) 0 → false ≡ closedBy places seens s

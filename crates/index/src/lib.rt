@@ -5,7 +5,7 @@ ghost use lib.ListN.{length, set};
 ghost use Rattle.model.specs.Bytes.{putAt};
 ghost use Rattle.model.specs.Record.{seenVector};
 ghost use Rattle.model.specs.Log.{rank};
-ghost use Rattle.index.specs.Tables.{slotOf, positionOf, closedBy, faultBy, Placed, Spare, Noted, noted, admitOf};
+ghost use Rattle.index.specs.Tables.{slotOf, positionOf, rowAt, closedBy, faultBy, Placed, Spare, Noted, noted, admitOf};
 use vector::Vector;
 
 // What is known of the records before: their counts, and the lowest rank that rises behind them.
@@ -14,10 +14,10 @@ pub struct Before {
     pub floor: u32,
 }
 
-// What a record behind others comes to: its first fault, or 0, and what is then known.
+// What a record behind others comes to: what is then known, and its first fault, or 0.
 pub struct Admitted {
-    pub number: u8,
     pub before: Before,
+    pub number: u8,
 }
 
 // A 16-bit number as an index.
@@ -44,8 +44,28 @@ pub fn position(places: &[u16], u: usize, c: u16) -> usize
     index(places[i])
 }
 
+// What the record at a position has seen.
+fn row_at(seens: &[u16], p: usize) -> Vector
+    requires { ⌜ (length (now seens) ≡ 4144) × (p < 518) ⌝ }
+    ensures { λ r. ⌜ r .counts ≡ rowAt (now (seens .entry)) p ⌝ }
+{
+    let at = 8 * p;
+    Vector {
+        counts: [
+            seens[at],
+            seens[at + 1],
+            seens[at + 2],
+            seens[at + 3],
+            seens[at + 4],
+            seens[at + 5],
+            seens[at + 6],
+            seens[at + 7],
+        ],
+    }
+}
+
 // For each unit u with count c above 0, the seen of record u.c is nowhere above s. Document 01 asks for this form: nested loops over units
-// and counts, left by a label at the first count that breaks closure.
+// and counts, left by a label at the first count that breaks closure. A row that s covers is passed over at once.
 pub fn is_closed(places: &[u16], seens: &[u16], s: Vector) -> bool
     requires { ⌜ (length (now places) ≡ 4096) × (length (now seens) ≡ 4144) × Placed (s .counts) (now places) ⌝ }
     ensures { λ r. ⌜ r ≡ closedBy (now (places .entry)) (now (seens .entry)) (s .counts) ⌝ }
@@ -57,6 +77,9 @@ pub fn is_closed(places: &[u16], seens: &[u16], s: Vector) -> bool
             continue 'units;
         }
         let p = position(places, u, c);
+        if vector::covers(s, row_at(seens, p)) {
+            continue 'units;
+        }
         for v in 0..8 {
             if s.counts[v] < seens[8 * p + v] {
                 closed = false;

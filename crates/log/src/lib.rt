@@ -3,6 +3,7 @@ ghost use mathlib.Core.Path.{_≡_};
 ghost use mathlib.Core.Bool.{true};
 ghost use Prim.Native.Nat.{_+_, _≤_, _<_};
 ghost use lib.ListN.{length};
+ghost use Rattle.model.specs.Bytes.{blank};
 ghost use Rattle.model.specs.Log.{vectorOf, recordsOf, soundLog};
 ghost use Rattle.log.specs.Places.{offsetOf, laidAt, Laid};
 ghost use Rattle.log.specs.InOrder.{ScanGives, CheckGives};
@@ -79,6 +80,17 @@ pub fn scan(
     }
 }
 
+// A place is all zero. No record has a zero for its operation, so that byte mostly tells.
+fn is_free(place: &[u8]) -> bool
+    requires { ⌜ length (now place) ≡ 80 ⌝ }
+    ensures { λ r. ⌜ r ≡ blank (now (place .entry)) ⌝ }
+{
+    if place[1] != 0 {
+        return false;
+    }
+    octets::is_blank(place)
+}
+
 // How many places stand before the first that is all zero.
 pub fn used(log: &[u8]) -> usize
     requires { ⌜ length (now log) ≡ 40960 ⌝ }
@@ -87,7 +99,7 @@ pub fn used(log: &[u8]) -> usize
     let mut i: usize = 0;
     while i < 512 {
         let at = 80 * i;
-        if octets::is_blank(&log[at..at + 80]) {
+        if is_free(&log[at..at + 80]) {
             return i;
         }
         i += 1;

@@ -1,3 +1,3 @@
 pub mod Places
 pub mod Working
-pub mod Labels
+pub mod Scans

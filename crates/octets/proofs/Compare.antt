@@ -1,16 +1,17 @@
 -- Equality of byte lists, and lists of zeros, by test.
 -- Assumes nothing.
-use Prim.Native.Nat.{ℕ, zero, suc, _+_, _≤_, _<_}
+use Prim.Native.Nat.{ℕ, zero, suc, _+_, _-_, _≤_, _<_}
 use native.Mathlib.Omega.{arith}
 use mathlib.Core.Path.{_≡_, refl, sym, ap, _∙_}
-use mathlib.Core.Bool.{Bool, true, false, _&&_, false≢true}
+use mathlib.Core.Bool.{Bool, true, false, _&&_, not, false≢true}
 use mathlib.Core.List.{List, [], _∷_, _++_}
 use lib.Dec.{eqb}
-use lib.ListN.{getD, length, take, drop, replicate, take-append-drop, drop-of-length-le}
-use borrow.Author.Tests.{eqb-true, eq-eqb, ne-eqb}
+use lib.ListN.{getD, length, take, drop, replicate, take-append-drop, length-take, length-drop}
+use lib.Seq.{take-all, drop-drop}
+use borrow.Author.Tests.{eqb-true, eq-eqb, ne-eqb, not-true, not-false}
 use Rattle.model.specs.Bytes.{sameBytes, blank, part}
-use Rattle.octets.proofs.Parts.{drop-more}
-use Rattle.octets.proofs.Numbers.{and-true, true-and, test-false, not-both}
+use Rattle.octets.proofs.Parts.{part-length, part-snoc}
+use Rattle.octets.proofs.Numbers.{and-true, true-and, and-right, test-false, not-both}
 
 -- ---- the same bytes
 
@@ -37,24 +38,65 @@ same-ne a b f e = not-both (sameBytes a b) (eq-same a b e) f
 pub ne-same : (a b : List ℕ) → (a ≡ b → ⊥) → sameBytes a b ≡ false
 ne-same a b h = test-false (sameBytes a b) (λ e. h (same-eq a b e))
 
--- what the loop of `same` is asked, over plain values
+-- fronts of one length are compared by themselves
+pub same-append : (a b c d : List ℕ) → length a ≡ length b → sameBytes (a ++ c) (b ++ d) ≡ (sameBytes a b && sameBytes c d)
+unfolding sameBytes
+same-append [] [] c d n = refl
+same-append [] (y ∷ b) c d n = absurd (omega arith)
+same-append (x ∷ a) [] c d n = absurd (omega arith)
+same-append (x ∷ a) (y ∷ b) c d n = go (eqb x y) (same-append a b c d (omega arith))
+  where
+    go : (t : Bool) → sameBytes (a ++ c) (b ++ d) ≡ (sameBytes a b && sameBytes c d) → (t && sameBytes (a ++ c) (b ++ d)) ≡ ((t && sameBytes a b) && sameBytes c d)
+    go true e = e
+    go false e = refl
+
+-- what `same` is asked, over plain values
 pub same-lengths : (a b : List ℕ) → (length a ≡ length b → ⊥) → false ≡ sameBytes a b
 same-lengths a b h = sym (ne-same a b (λ e. h (ap (λ (l : List ℕ). length l) e)))
 
-module _ (a b : List ℕ) (i : ℕ) (e : length a ≡ length b) (inv : sameBytes (drop i a) (drop i b) ≡ sameBytes a b) where
-  step : i < length a → (eqb (getD a i 0) (getD b i 0) && sameBytes (drop (i + 1) a) (drop (i + 1) b)) ≡ sameBytes a b
+module _ (a b : List ℕ) (at i : ℕ) {t : Bool} (inv : t ≡ sameBytes (part a at i) (part b at i)) where
+  pub same-run-next : (n : ℕ) → i < n → at + n ≤ length a → at + n ≤ length b
+      → (t && eqb (getD a (at + i) 0) (getD b (at + i) 0)) ≡ sameBytes (part a at (i + 1)) (part b at (i + 1))
   unfolding sameBytes
-  step h = rw (drop-more a i h, drop-more b i (omega arith)) at inv
+  same-run-next n h g k =
+      let e : length (part a at i) ≡ length (part b at i) = part-length a at i (omega arith) ∙ sym (part-length b at i (omega arith)) in
+      rw (
+        part-snoc a at i (omega arith),
+        part-snoc b at i (omega arith),
+        same-append (part a at i) (part b at i) (getD a (at + i) 0 ∷ []) (getD b (at + i) 0 ∷ []) e,
+        and-right (eqb (getD a (at + i) 0) (getD b (at + i) 0)),
+        inv,
+      )
 
-  pub same-next : i < length a → getD a i 0 ≡ getD b i 0 → sameBytes (drop (i + 1) a) (drop (i + 1) b) ≡ sameBytes a b
-  same-next h g = rw (eq-eqb (getD a i 0) (getD b i 0) g) at (step h)
+  pub same-run-end : (n : ℕ) → i ≤ n → n ≤ i → t ≡ sameBytes (part a at n) (part b at n)
+  same-run-end n h g = let e : i ≡ n = omega arith in (rw e at inv)
 
-  pub same-differs : i < length a → (getD a i 0 ≡ getD b i 0 → ⊥) → false ≡ sameBytes a b
-  same-differs h g = rw (ne-eqb (getD a i 0) (getD b i 0) g) at (step h)
+module _ (a b : List ℕ) (at : ℕ) (t : Bool) (e : length a ≡ length b) (inv : sameBytes (drop at a) (drop at b) ≡ sameBytes a b) where
+  step : 16 ≤ length a - at → (sameBytes (part a at 16) (part b at 16) && sameBytes (drop (at + 16) a) (drop (at + 16) b)) ≡ sameBytes a b
+  unfolding part
+  step h =
+      let n : length (take 16 (drop at a)) ≡ length (take 16 (drop at b)) =
+      omega (arith, length-take 16 (drop at a), length-take 16 (drop at b), length-drop at a, length-drop at b) in
+      rw (
+        ← drop-drop 16 at a,
+        ← drop-drop 16 at b,
+        ← same-append (take 16 (drop at a)) (take 16 (drop at b)) (drop 16 (drop at a)) (drop 16 (drop at b)) n,
+        take-append-drop 16 (drop at a),
+        take-append-drop 16 (drop at b),
+      ) inv
 
-  pub same-end : length a ≤ i → true ≡ sameBytes a b
-  unfolding sameBytes
-  same-end h = rw (drop-of-length-le a {i = i} h, drop-of-length-le b {i = i} (omega arith)) at inv
+  pub same-next : 16 ≤ length a - at → t ≡ sameBytes (part a at 16) (part b at 16) → not t ≡ false → sameBytes (drop (at + 16) a) (drop (at + 16) b) ≡ sameBytes a b
+  same-next h p g = rw (← p, not-false t g) at (step h)
+
+  pub same-differs : 16 ≤ length a - at → t ≡ sameBytes (part a at 16) (part b at 16) → not t ≡ true → false ≡ sameBytes a b
+  same-differs h p g = rw (← p, not-true t g) at (step h)
+
+  pub same-end : t ≡ sameBytes (part a at (length a - at)) (part b at (length a - at)) → t ≡ sameBytes a b
+  unfolding part
+  same-end p =
+      let m : length (drop at a) ≤ length a - at = omega (arith, length-drop at a) in
+      let n : length (drop at b) ≤ length a - at = omega (arith, length-drop at b) in
+      p ∙ (rw (take-all (length a - at) (drop at a) m, take-all (length a - at) (drop at b) n) inv)
 
 -- ---- all zeros
 
@@ -108,15 +150,31 @@ blank-getD (x ∷ b) (suc i) e = blank-getD b i (and-true (eqb x 0) (blank b) e 
 pub not-blank : (b : List ℕ) (i : ℕ) → (getD b i 0 ≡ 0 → ⊥) → blank b ≡ false
 not-blank b i h = test-false (blank b) (λ e. h (blank-getD b i e))
 
+-- what the loop of `blank_run` is asked, over plain values
+module _ (s : List ℕ) (at i : ℕ) {t : Bool} (inv : t ≡ blank (part s at i)) where
+  pub run-next : (n : ℕ) → i < n → at + n ≤ length s → (t && eqb (getD s (at + i) 0) 0) ≡ blank (part s at (i + 1))
+  unfolding blank
+  run-next n h g =
+      rw (part-snoc s at i (omega arith), blank-append (part s at i) (getD s (at + i) 0 ∷ []), and-right (eqb (getD s (at + i) 0) 0), inv)
+
+  pub run-end : (n : ℕ) → i ≤ n → n ≤ i → t ≡ blank (part s at n)
+  run-end n h g = let e : i ≡ n = omega arith in (rw e at inv)
+
 -- what the loop of `is_blank` is asked, over plain values
-module _ (s : List ℕ) (i : ℕ) (inv : blank (drop i s) ≡ blank s) where
-  pub blank-next : i < length s → getD s i 0 ≡ 0 → blank (drop (i + 1) s) ≡ blank s
-  unfolding blank
-  blank-next h g = rw (drop-more s i h, eq-eqb (getD s i 0) 0 g) at inv
+module _ (s : List ℕ) (at : ℕ) (t : Bool) where
+  pub blank-next : t ≡ blank (part s at 64) → not t ≡ false → blank (drop at s) ≡ blank s → blank (drop (at + 64) s) ≡ blank s
+  unfolding part
+  blank-next e g inv =
+      let p : blank (take 64 (drop at s)) ≡ true = sym e ∙ not-false t g in
+      let q : (blank (take 64 (drop at s)) && blank (drop 64 (drop at s))) ≡ blank s =
+      sym (blank-append (take 64 (drop at s)) (drop 64 (drop at s))) ∙ rw (take-append-drop 64 (drop at s)) inv in
+      rw (p, drop-drop 64 at s) at q
 
-  pub blank-differs : (getD s i 0 ≡ 0 → ⊥) → false ≡ blank s
-  blank-differs g = sym (not-blank s i g)
+  pub blank-differs : t ≡ blank (part s at 64) → not t ≡ true → false ≡ blank s
+  blank-differs e g = sym (test-false (blank s) (λ b. not-both t (e ∙ blank-part s at 64 b) (not-true t g)))
 
-  pub blank-end : length s ≤ i → true ≡ blank s
-  unfolding blank
-  blank-end h = rw (drop-of-length-le s {i = i} h) at inv
+  pub blank-end : t ≡ blank (part s at (length s - at)) → blank (drop at s) ≡ blank s → t ≡ blank s
+  unfolding part
+  blank-end e inv =
+      let n : length (drop at s) ≤ length s - at = omega (arith, length-drop at s) in
+      e ∙ (rw (take-all (length s - at) (drop at s) n) inv)

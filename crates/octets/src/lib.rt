@@ -41,35 +41,59 @@ pub fn le32(s: &[u8], at: usize) -> u32
     wider(le16(s, at)) + 65536 * wider(le16(s, at + 2))
 }
 
-// The same bytes. Slices of different lengths are not the same.
+// The n bytes from a place on are the same in both. No byte ends the loop early: many are compared at once.
+fn same_run(a: &[u8], b: &[u8], at: usize, n: usize) -> bool
+    requires { ⌜ (at + n ≤ length (now a)) × (at + n ≤ length (now b)) ⌝ }
+    ensures { λ r. ⌜ r ≡ sameBytes (part (now (a .entry)) at n) (part (now (b .entry)) at n) ⌝ }
+{
+    let mut equal = true;
+    for i in 0..n {
+        equal = equal & (a[at + i] == b[at + i]);
+    }
+    equal
+}
+
+// The same bytes. Slices of different lengths are not the same. They are compared 16 at a time, and then the rest.
 pub fn same(a: &[u8], b: &[u8]) -> bool
     ensures { λ r. ⌜ r ≡ sameBytes (now (a .entry)) (now (b .entry)) ⌝ }
 {
     if a.len() != b.len() {
         return false;
     }
-    let mut i: usize = 0;
-    while i < a.len() {
-        if a[i] != b[i] {
+    let mut at: usize = 0;
+    while 16 <= a.len() - at {
+        if !same_run(a, b, at, 16) {
             return false;
         }
-        i += 1;
+        at += 16;
     }
-    true
+    same_run(a, b, at, a.len() - at)
 }
 
-// Every byte is zero.
+// The n bytes from a place on are zero. No byte ends the loop early: many are compared at once.
+fn blank_run(s: &[u8], at: usize, n: usize) -> bool
+    requires { ⌜ at + n ≤ length (now s) ⌝ }
+    ensures { λ r. ⌜ r ≡ blank (part (now (s .entry)) at n) ⌝ }
+{
+    let mut zeros = true;
+    for i in 0..n {
+        zeros = zeros & (s[at + i] == 0);
+    }
+    zeros
+}
+
+// Every byte is zero. They are judged 64 at a time, and then the rest.
 pub fn is_blank(s: &[u8]) -> bool
     ensures { λ r. ⌜ r ≡ blank (now (s .entry)) ⌝ }
 {
-    let mut i: usize = 0;
-    while i < s.len() {
-        if s[i] != 0 {
+    let mut at: usize = 0;
+    while 64 <= s.len() - at {
+        if !blank_run(s, at, 64) {
             return false;
         }
-        i += 1;
+        at += 64;
     }
-    true
+    blank_run(s, at, s.len() - at)
 }
 
 // All of src is written into dst from a place on.

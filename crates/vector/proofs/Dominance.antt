@@ -5,7 +5,7 @@ use native.Mathlib.Numerals.{add-one}
 use native.Mathlib.Omega.{arith}
 use mathlib.Core.Path.{_≡_, refl, sym, _∙_}
 use mathlib.Core.Logic.{⊎-elim}
-use mathlib.Core.Bool.{Bool, true, false, cond}
+use mathlib.Core.Bool.{Bool, true, false, cond, _&&_}
 use mathlib.Core.List.{List}
 use lib.Dec.{leb}
 use lib.ListN.{getD, length}
@@ -64,17 +64,14 @@ covers-same a b c d f e = all-covers c d (λ u h. f u h (covers-at a b e u h))
 
 -- ---- what the loop of `covers` is asked, over plain values
 
-module _ (a b : List ℕ) (u : ℕ) where
-  pub covers-next : coversTo a b u ≡ true → getD b u 0 ≤ getD a u 0 → coversTo a b (u + 1) ≡ true
+module _ (a b : List ℕ) (u : ℕ) (g : Bool) where
+  pub covers-next : g ≡ coversTo a b u → g && leb (getD b u 0) (getD a u 0) ≡ coversTo a b (u + 1)
   unfolding coversTo
-  covers-next e h = rw (add-one, e, le-leb (getD b u 0) (getD a u 0) h)
+  covers-next e = rw (add-one, e)
 
-  pub covers-fails : u < 8 → getD a u 0 < getD b u 0 → false ≡ covers a b
-  covers-fails h k = sym (less-fails a b u h k)
-
-  pub covers-ends : u ≤ 8 → 8 ≤ u → coversTo a b u ≡ true → true ≡ covers a b
+  pub covers-ends : u ≤ 8 → 8 ≤ u → g ≡ coversTo a b u → g ≡ covers a b
   unfolding covers
-  covers-ends h k e = let n : u ≡ 8 = omega arith in sym (rw n at e)
+  covers-ends h k e = let n : u ≡ 8 = omega arith in (rw n at e)
 
 -- ---- the four answers
 

@@ -1,3 +1,4 @@
 pub mod Dominance
+pub mod Higher
 pub mod InBytes
 pub mod Claims

@@ -1,5 +1,6 @@
 // Version vectors: eight counts, one for each unit.
 ghost use mathlib.Core.Path.{_≡_};
+ghost use mathlib.Core.Bool.{true, cond};
 ghost use Prim.Native.Nat.{_+_, _≤_, _<_};
 ghost use lib.ListN.{length, getD, set, replicate};
 ghost use Rattle.model.specs.Bytes.{putAt};
@@ -16,18 +17,17 @@ pub struct Comparison {
     pub answer: u8,
 }
 
-// Every count of a is at least that of b.
+// Every count of a is at least that of b. No count ends the loop early: all eight are compared at once.
 pub fn covers(a: Vector, b: Vector) -> bool
     ensures { λ r. ⌜ r ≡ covers (a .counts) (b .counts) ⌝ }
 {
+    let mut covered = true;
     let mut u: usize = 0;
     while u < 8 {
-        if a.counts[u] < b.counts[u] {
-            return false;
-        }
+        covered = covered & (b.counts[u] <= a.counts[u]);
         u += 1;
     }
-    true
+    covered
 }
 
 // How two vectors stand to each other.
@@ -82,12 +82,32 @@ pub fn zero_vector() -> Vector
     Vector { counts: [0; 8] }
 }
 
-// One record more of a unit.
+// A count, one higher if it is the one that counts a record more.
+fn counted(c: u16, more: bool) -> u16
+    requires { ⌜ (more ≡ true → c < 65535) ⌝ }
+    ensures { λ r. ⌜ r ≡ cond more (c + 1) c ⌝ }
+{
+    if more {
+        return c + 1;
+    }
+    c
+}
+
+// One record more of a unit. All eight counts are written, so that they are written at once.
 pub fn bump(v: Vector, u: usize) -> Vector
     requires { ⌜ (u < 8) × (getD (v .counts) u 0 < 65535) ⌝ }
     ensures { λ r. ⌜ r .counts ≡ set (v .counts) u (getD (v .counts) u 0 + 1) ⌝ }
 {
-    let mut counts = v.counts;
-    counts[u] = counts[u] + 1;
-    Vector { counts }
+    Vector {
+        counts: [
+            counted(v.counts[0], u == 0),
+            counted(v.counts[1], u == 1),
+            counted(v.counts[2], u == 2),
+            counted(v.counts[3], u == 3),
+            counted(v.counts[4], u == 4),
+            counted(v.counts[5], u == 5),
+            counted(v.counts[6], u == 6),
+            counted(v.counts[7], u == 7),
+        ],
+    }
 }

@@ -1,58 +1,51 @@
 use Rattle.fits.proofs.Tests.{label-used, label-unused}
+use native.Mathlib.Omega.{arith}
 use borrow.Author.Needs.{needs}
 use Rattle.fits.proofs.label_fits.Statement.{statement}
 use Rattle.fits.proofs.label_fits.Tie as tie
 use Rattle.fits.proofs.label_fits.Reads as reads
 use Rattle.fits.proofs.label_fits.Lts as lts
 use Rattle.fields.proofs.is_label.Reads as is-label-reads
-use Rattle.octets.proofs.is_blank.Reads as is-blank-reads
+use Rattle.fits.proofs.blank_16.Reads as blank-16-reads
 use Rattle.fits.proofs.uses_label.Reads as uses-label-reads
 
--- src/lib.rt:124:19
+-- src/lib.rt:140:19
 shared-slice-read-uses-label : tie.Need-shared-slice-read-uses-label
 shared-slice-read-uses-label c = search needs
 
--- src/lib.rt:124:8
+-- src/lib.rt:140:8
 uses-label-requires : tie.Need-uses-label-requires
 uses-label-requires c κs = search needs
 
--- src/lib.rt:125:33
+-- src/lib.rt:141:33
 sub-is-label : tie.Need-sub-is-label
 sub-is-label c = search needs
 
--- src/lib.rt:125:33
+-- src/lib.rt:141:33
 part-is-label-start : tie.Need-part-is-label-start
 part-is-label-start c = search needs
 
--- src/lib.rt:125:33
+-- src/lib.rt:141:33
 part-is-label-end : tie.Need-part-is-label-end
 part-is-label-end c = search needs
 
--- src/lib.rt:125:9
+-- src/lib.rt:141:9
 is-label-requires : tie.Need-is-label-requires
 is-label-requires c κs = search needs
 
--- src/lib.rt:125:9
+-- src/lib.rt:141:9
 returns : tie.Need-returns
 returns c = search (label-used)
 
--- src/lib.rt:127:14
-sub-is-blank : tie.Need-sub-is-blank
-sub-is-blank c = search needs
+-- src/lib.rt:143:5
+blank-16-requires : tie.Need-blank-16-requires
+blank-16-requires c κs = search needs
 
--- src/lib.rt:127:14
-part-is-blank-start : tie.Need-part-is-blank-start
-part-is-blank-start c = search needs
+-- src/lib.rt:143:25
+blank-16-requires-2 : tie.Need-blank-16-requires-2
+blank-16-requires-2 c κs = search needs
 
--- src/lib.rt:127:14
-part-is-blank-end : tie.Need-part-is-blank-end
-part-is-blank-end c = search needs
-
--- src/lib.rt:127:5
-is-blank-requires : tie.Need-is-blank-requires
-is-blank-requires c κs = search needs
-
--- src/lib.rt:120:1
+-- src/lib.rt:136:1
 returns-2 : tie.Need-returns-2
 returns-2 c = search (label-unused)
 
@@ -67,8 +60,6 @@ label-fits-spec =
     part-is-label-end
     is-label-requires
     returns
-    sub-is-blank
-    part-is-blank-start
-    part-is-blank-end
-    is-blank-requires
+    blank-16-requires
+    blank-16-requires-2
     returns-2)

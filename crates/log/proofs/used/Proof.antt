@@ -20,20 +20,20 @@ loop-holds c = (omega arith, search (used-none))
 mul-at : tie.Need-mul-at Inv-loop μ-loop
 mul-at c = search needs
 
-add-is-blank : tie.Need-add-is-blank Inv-loop μ-loop
-add-is-blank c = search needs
+add-is-free : tie.Need-add-is-free Inv-loop μ-loop
+add-is-free c = search needs
 
-sub-is-blank : tie.Need-sub-is-blank Inv-loop μ-loop
-sub-is-blank c = search needs
+sub-is-free : tie.Need-sub-is-free Inv-loop μ-loop
+sub-is-free c = search needs
 
-part-is-blank-start : tie.Need-part-is-blank-start Inv-loop μ-loop
-part-is-blank-start c = search needs
+part-is-free-start : tie.Need-part-is-free-start Inv-loop μ-loop
+part-is-free-start c = search needs
 
-part-is-blank-end : tie.Need-part-is-blank-end Inv-loop μ-loop
-part-is-blank-end c = search needs
+part-is-free-end : tie.Need-part-is-free-end Inv-loop μ-loop
+part-is-free-end c = search needs
 
-is-blank-requires : tie.Need-is-blank-requires Inv-loop μ-loop
-is-blank-requires c κs = search needs
+is-free-requires : tie.Need-is-free-requires Inv-loop μ-loop
+is-free-requires c κs = search needs
 
 returns : tie.Need-returns Inv-loop μ-loop
 returns c = (search (used-stops), omega arith)
@@ -58,11 +58,11 @@ used-spec =
     μ-loop
     loop-holds
     mul-at
-    add-is-blank
-    sub-is-blank
-    part-is-blank-start
-    part-is-blank-end
-    is-blank-requires
+    add-is-free
+    sub-is-free
+    part-is-free-start
+    part-is-free-end
+    is-free-requires
     returns
     add-i
     loop-less

@@ -9,38 +9,51 @@ use Rattle.octets.proofs.is_blank.Statement.{statement}
 use Rattle.octets.proofs.is_blank.Tie as tie
 use Rattle.octets.proofs.is_blank.Reads as reads
 use Rattle.octets.proofs.is_blank.Lts as lts
+use Rattle.octets.proofs.blank_run.Reads as blank-run-reads
 
 abbrev Inv-loop : tie.InvT-loop
-Inv-loop s i₀ i = (i ≤ length s) × (blank (drop i s) ≡ blank s)
+Inv-loop s at₀ at = (at ≤ length s) × (blank (drop at s) ≡ blank s)
 
 abbrev μ-loop : tie.MeasureT-loop
-μ-loop s i₀ i = length s - i
+μ-loop s at₀ at = length s - at
 
--- src/lib.rt:66:5
+-- src/lib.rt:78:5
 loop-holds : tie.Need-loop-holds Inv-loop μ-loop
 loop-holds c = (omega arith, refl)
 
--- src/lib.rt:67:12
-shared-slice-read-if1 : tie.Need-shared-slice-read-if1 Inv-loop μ-loop
-shared-slice-read-if1 c = search needs
+-- src/lib.rt:78:17
+sub-loop : tie.Need-sub-loop Inv-loop μ-loop
+sub-loop c = search needs
 
--- src/lib.rt:68:13
+-- src/lib.rt:79:13
+blank-run-requires : tie.Need-blank-run-requires Inv-loop μ-loop
+blank-run-requires c κs = search needs
+
+-- src/lib.rt:80:13
 returns : tie.Need-returns Inv-loop μ-loop
 returns c = search (blank-differs)
 
--- src/lib.rt:70:9
-add-i : tie.Need-add-i Inv-loop μ-loop
-add-i c = search needs
+-- src/lib.rt:82:9
+add-at : tie.Need-add-at Inv-loop μ-loop
+add-at c = search needs
 
--- src/lib.rt:66:5
+-- src/lib.rt:78:5
 loop-less : tie.Need-loop-less Inv-loop μ-loop
 loop-less c = search needs
 
--- src/lib.rt:66:5
+-- src/lib.rt:78:5
 loop-again : tie.Need-loop-again Inv-loop μ-loop
 loop-again c = (omega arith, search (blank-next))
 
--- src/lib.rt:62:1
+-- src/lib.rt:84:22
+sub-blank-run : tie.Need-sub-blank-run Inv-loop μ-loop
+sub-blank-run c = search needs
+
+-- src/lib.rt:84:5
+blank-run-requires-2 : tie.Need-blank-run-requires-2 Inv-loop μ-loop
+blank-run-requires-2 c κs = search needs
+
+-- src/lib.rt:74:1
 returns-2 : tie.Need-returns-2 Inv-loop μ-loop
 returns-2 c = search (blank-end)
 
@@ -51,9 +64,12 @@ is-blank-spec =
     Inv-loop
     μ-loop
     loop-holds
-    shared-slice-read-if1
+    sub-loop
+    blank-run-requires
     returns
-    add-i
+    add-at
     loop-less
     loop-again
+    sub-blank-run
+    blank-run-requires-2
     returns-2)

@@ -9,46 +9,55 @@ use Rattle.octets.proofs.same.Statement.{statement}
 use Rattle.octets.proofs.same.Tie as tie
 use Rattle.octets.proofs.same.Reads as reads
 use Rattle.octets.proofs.same.Lts as lts
+use Rattle.octets.proofs.same_run.Reads as same-run-reads
 
 abbrev Inv-loop : tie.InvT-loop
-Inv-loop a b i₀ i = (i ≤ length a) × (sameBytes (drop i a) (drop i b) ≡ sameBytes a b)
+Inv-loop a b at₀ at = (at ≤ length a) × (sameBytes (drop at a) (drop at b) ≡ sameBytes a b)
 
 abbrev μ-loop : tie.MeasureT-loop
-μ-loop a b i₀ i = length a - i
+μ-loop a b at₀ at = length a - at
 
--- src/lib.rt:49:9
+-- src/lib.rt:61:9
 returns : tie.Need-returns Inv-loop μ-loop
 returns c = search (same-lengths)
 
--- src/lib.rt:52:5
+-- src/lib.rt:64:5
 loop-holds : tie.Need-loop-holds Inv-loop μ-loop
 loop-holds c = (omega arith, refl)
 
--- src/lib.rt:53:12
-shared-slice-read-if2 : tie.Need-shared-slice-read-if2 Inv-loop μ-loop
-shared-slice-read-if2 c = search needs
+-- src/lib.rt:64:17
+sub-loop : tie.Need-sub-loop Inv-loop μ-loop
+sub-loop c = search needs
 
--- src/lib.rt:53:20
-shared-slice-read-if2-2 : tie.Need-shared-slice-read-if2-2 Inv-loop μ-loop
-shared-slice-read-if2-2 c = search needs
+-- src/lib.rt:65:13
+same-run-requires : tie.Need-same-run-requires Inv-loop μ-loop
+same-run-requires c κs = search needs
 
--- src/lib.rt:54:13
+-- src/lib.rt:66:13
 returns-2 : tie.Need-returns-2 Inv-loop μ-loop
 returns-2 c = search (same-differs)
 
--- src/lib.rt:56:9
-add-i : tie.Need-add-i Inv-loop μ-loop
-add-i c = search needs
+-- src/lib.rt:68:9
+add-at : tie.Need-add-at Inv-loop μ-loop
+add-at c = search needs
 
--- src/lib.rt:52:5
+-- src/lib.rt:64:5
 loop-less : tie.Need-loop-less Inv-loop μ-loop
 loop-less c = search needs
 
--- src/lib.rt:52:5
+-- src/lib.rt:64:5
 loop-again : tie.Need-loop-again Inv-loop μ-loop
 loop-again c = (omega arith, search (same-next))
 
--- src/lib.rt:45:1
+-- src/lib.rt:70:24
+sub-same-run : tie.Need-sub-same-run Inv-loop μ-loop
+sub-same-run c = search needs
+
+-- src/lib.rt:70:5
+same-run-requires-2 : tie.Need-same-run-requires-2 Inv-loop μ-loop
+same-run-requires-2 c κs = search needs
+
+-- src/lib.rt:57:1
 returns-3 : tie.Need-returns-3 Inv-loop μ-loop
 returns-3 c = search (same-end)
 
@@ -60,10 +69,12 @@ same-spec =
     μ-loop
     returns
     loop-holds
-    shared-slice-read-if2
-    shared-slice-read-if2-2
+    sub-loop
+    same-run-requires
     returns-2
-    add-i
+    add-at
     loop-less
     loop-again
+    sub-same-run
+    same-run-requires-2
     returns-3)

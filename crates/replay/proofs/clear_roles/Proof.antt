@@ -1,0 +1,61 @@
+use Prim.Native.Nat.{_≤_, _-_}
+use mathlib.Core.Path.{_≡_, refl, _∙_}
+use mathlib.Core.List.{_++_}
+use lib.ListN.{length, length-set, replicate, drop}
+use borrow.Author.Fill.{fill-none, fill-more}
+use Rattle.octets.proofs.Parts.{filled}
+use borrow.Author.Needs.{needs}
+use native.Mathlib.Omega.{arith}
+use Rattle.replay.proofs.clear_roles.Statement.{statement}
+use Rattle.replay.proofs.clear_roles.Tie as tie
+
+abbrev Inv-loop : tie.InvT-loop
+Inv-loop roles₀ i₀ roles i = (i ≤ length roles₀) × (length roles ≡ length roles₀) × (roles ≡ replicate i 0 ++ drop i roles₀)
+
+abbrev μ-loop : tie.MeasureT-loop
+μ-loop roles₀ i₀ roles i = length roles₀ - i
+
+loop-holds : tie.Need-loop-holds Inv-loop μ-loop
+loop-holds c = (omega arith, refl, fill-none (c .args .roles .now) 0)
+
+mul-roles : tie.Need-mul-roles Inv-loop μ-loop
+mul-roles c = search needs
+
+slice-write-roles : tie.Need-slice-write-roles Inv-loop μ-loop
+slice-write-roles c = search needs
+
+add-i : tie.Need-add-i Inv-loop μ-loop
+add-i c = search needs
+
+loop-less : tie.Need-loop-less Inv-loop μ-loop
+loop-less c = search needs
+
+loop-again : tie.Need-loop-again Inv-loop μ-loop
+loop-again c =
+    let l = c .before .loop in
+    let a = c .before .before .args in
+    (omega arith, simp length-set (l .inv .1), rw (l .inv .2) (fill-more (l .i) 0 (a .roles .now) (omega arith)))
+
+same-length : tie.Need-same-length Inv-loop μ-loop
+same-length c = search needs
+
+returns : tie.Need-returns Inv-loop μ-loop
+returns c =
+    let l = c .before .loop in
+    let d = c .before .before .args .roles .now in
+    l .inv .2 ∙ filled d 0 (l .i) (omega arith)
+
+pub clear-roles-spec : {M : Type 1} → statement M
+clear-roles-spec =
+    tie.close
+    (tie.spec
+    Inv-loop
+    μ-loop
+    loop-holds
+    mul-roles
+    slice-write-roles
+    add-i
+    loop-less
+    loop-again
+    same-length
+    returns)
