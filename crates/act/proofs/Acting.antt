@@ -34,9 +34,9 @@ verdict-reason : (n k : ℕ) → reasonOf (verdictOf n k) ≡ n
 unfolding verdictOf reasonOf
 verdict-reason n k = ⊎-elim (λ (e : n ≡ 0). rw e) (λ (e : n ≡ 0 → ⊥). rw (ne-eqb n 0 e)) (eq-or-ne n 0)
 
-pub judged-reason : (b roles : List ℕ) (x y : ℕ) (t : Tree) (r : Rec) (n k : ℕ) → Works b roles x y t → verdictOf n k ≡ judge r (treeIn b x y) → n ≡ reasonOf (judge r t)
-judged-reason b roles x y t r n k w e =
-    sym (verdict-reason n k) ∙ ap reasonOf (e ∙ ap (judge r) (works-tree b roles x y t w))
+pub judged-reason : (b register : List ℕ) (x y : ℕ) (t : Tree) (r : Rec) (n k : ℕ) → Works b register x y t → verdictOf n k ≡ judge r (treeIn b x y) → n ≡ reasonOf (judge r t)
+judged-reason b register x y t r n k w e =
+    sym (verdict-reason n k) ∙ ap reasonOf (e ∙ ap (judge r) (works-tree b register x y t w))
 
 -- ---- a record put behind those of a sound log
 

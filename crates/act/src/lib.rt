@@ -51,9 +51,9 @@ pub fn reason(log: &[u8], used: usize, rec: &[u8]) -> u8
     ensures { λ r. ⌜ r ≡ reasonOf (judgeOf (now (rec .entry)) (replayOf (recordsOf (now (log .entry))))) ⌝ }
 {
     let mut table = [0u8; 43012];
-    let mut roles = [0u16; 4096];
-    let size = replay::replay_log(log, used, &mut table, &mut roles);
-    let j = judge::judge(rec, &table, &roles, size);
+    let mut register = [0u16; 9729];
+    let size = replay::replay_log(log, used, &mut table, &mut register);
+    let j = judge::judge(rec, &table, &register, size);
     j.reason
 }
 

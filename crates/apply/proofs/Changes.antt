@@ -1,66 +1,30 @@
 -- A working table after one change: a row more, a row changed, an aside more, an aside settled.
 -- Assumes nothing.
-use Prim.Native.Nat.{ℕ, zero, suc, _+_, _*_, _/_, _%_, _≤_, _<_}
+use Prim.Native.Nat.{ℕ, zero, suc, _+_, _*_, _≤_, _<_}
 use native.Mathlib.Omega.{arith}
 use mathlib.Core.Path.{_≡_, refl, sym, _∙_}
 use mathlib.Core.Logic.{_⊎_, inl, inr, ⊎-elim}
+use mathlib.Core.Bool.{true}
 use mathlib.Core.List.{List, [], _∷_, _++_}
 use lib.ListN.{getD, length, set, length-append, length-set}
 use lib.Seq.{getD-set-same, getD-set-other}
 use Rattle.model.specs.Bytes.{part, putAt}
-use Rattle.model.specs.Replay.{Entry, Aside, Tree, isDisputed}
+use Rattle.model.specs.Replay.{Entry, Aside, Tree, isPresent, isDisputed}
 use Rattle.model.specs.Table.{entryRow, asideRow}
-use Rattle.octets.proofs.Numbers.{eq-or-ne, lt-or-ge}
+use Rattle.octets.proofs.Numbers.{eq-or-ne}
 use Rattle.table.specs.Rows.{flagged, workBytes, InRange, Proper, AllProper}
 use Rattle.table.proofs.Writes.{add-entry, set-entry, part-entry, add-aside, set-aside, part-aside}
 use Rattle.table.proofs.Fields.{settledOne}
-use Rattle.lookup.specs.Roles.{rowFrom, noteFrom, rowOf, noteOf, behindRows, roleOf, slotOf, MarksFit, Works}
+use Rattle.lookup.specs.Roles.{rowFrom, noteFrom, rowOf, noteOf, behindRows, roleOf, MarksFit, Works}
+use Rattle.chains.specs.Chains.{nodesIn}
+use Rattle.keys.specs.Keys.{slotOf, entered, Keyed}
+use Rattle.keys.proofs.Counts.{slot-one, slot-low}
+use Rattle.keys.proofs.Keeping.{keyed-role, keyed-made, role-nodes, entered-role, entered-long}
 use Rattle.lookup.proofs.Places.{row-absent, row-set, note-set, row-more, row-new, note-more, note-new, lone-set, lone-more}
 use Rattle.lookup.proofs.Working.{blankEntry, blankAside, behind-cases}
 use Rattle.apply.specs.Effects.{withEntries, withAsides}
 
--- ---- slots
-
-slot-unit : (j k : ℕ) → InRange j → InRange k → slotOf j ≡ slotOf k → (j % 8 < k % 8) → ⊥
-unfolding slotOf
-slot-unit j k a b e h =
-    let p = a .low in
-    let q = a .high in
-    let r = b .low in
-    let s = b .high in
-    omega arith
-
-same-parts : (j k : ℕ) → j % 8 ≡ k % 8 → j / 8 ≡ k / 8 → j ≡ k
-same-parts j k p q =
-    let a : j ≡ 8 * (j / 8) + j % 8 = omega arith in
-    let b : k ≡ 8 * (k / 8) + k % 8 = omega arith in
-    a ∙ rw (p, q) (sym b)
-
-pub slot-one : (j k : ℕ) → InRange j → InRange k → slotOf j ≡ slotOf k → j ≡ k
-unfolding slotOf
-slot-one j k a b e =
-    let p = a .low in
-    let q = a .high in
-    let r = b .low in
-    let s = b .high in
-    ⊎-elim (λ (h : j % 8 < k % 8). absurd (slot-unit j k a b e h))
-    (λ (h : k % 8 ≤ j % 8).
-    ⊎-elim (λ (g : k % 8 < j % 8). absurd (slot-unit k j b a (sym e) g)) (λ (g : j % 8 ≤ k % 8). same-parts j k (omega arith) (omega arith)) (lt-or-ge (k % 8) (j % 8)))
-    (lt-or-ge (j % 8) (k % 8))
-
-pub slot-low : (k : ℕ) → InRange k → slotOf k < 4096
-unfolding slotOf
-slot-low k a =
-    let p = a .low in
-    let q = a .high in
-    omega arith
-
 -- ---- proper entries, and marks that fit
-
-pub proper-at : (l : List Entry) (i : ℕ) (d : Entry) → i < length l → AllProper l → Proper (getD l i d)
-proper-at [] i d h p = absurd (omega arith)
-proper-at (e ∷ l) zero d h p = p .0
-proper-at (e ∷ l) (suc i) d h p = proper-at l i d (omega arith) (p .1)
 
 proper-set : (l : List Entry) (i : ℕ) (e : Entry) → Proper e → AllProper l → AllProper (set l i e)
 proper-set [] i e h p = tt
@@ -96,7 +60,7 @@ module _ (k : ℕ) (t : Tree) (fresh : roleOf k t ≡ 0) where
 
 -- ---- the changes
 
-module _ (b roles : List ℕ) (n m : ℕ) (t : Tree) (w : Works b roles n m t) where
+module _ (b register : List ℕ) (n m : ℕ) (t : Tree) (w : Works b register n m t) where
   pub works-part : (i : ℕ) → i < n → part b (4 + 72 * i) 72 ≡ entryRow 0 (getD (t .entries) i blankEntry)
   unfolding workBytes isDisputed
   works-part i h =
@@ -112,18 +76,19 @@ module _ (b roles : List ℕ) (n m : ℕ) (t : Tree) (w : Works b roles n m t) w
       let fit = w .rows-fit in
       rw (w .bytes) (part-aside [] (t .entries) (t .asides) (w .proper) (omega arith) i blankAside (omega arith))
 
-  -- row i holds another entry of the same identity
-  pub works-change : (i : ℕ) (e : Entry) → i < n → e .made ≡ getD (t .entries) i blankEntry .made → Proper e
-      → Works (putAt b (4 + 72 * i) (entryRow 0 e)) roles n m (withEntries t (set (t .entries) i e))
+  -- row i holds another entry of the same identity, and the register goes with it
+  pub works-change : (i : ℕ) (e : Entry) (l : List ℕ) → i < n → e .made ≡ getD (t .entries) i blankEntry .made → Proper e
+      → length l ≡ length register → ((s : ℕ) → s < 4096 → getD l s 0 ≡ getD register s 0) → Keyed l n (set (t .entries) i e)
+      → Works (putAt b (4 + 72 * i) (entryRow 0 e)) l n m (withEntries t (set (t .entries) i e))
   unfolding withEntries workBytes isDisputed rowOf noteOf roleOf
-  works-change i e h q p =
+  works-change i e l h q p long low key =
       let es = t .entries in
-      let l = t .asides in
+      let as′ = t .asides in
       let rows = w .rows in
       let fit = w .rows-fit in
       let same : (k : ℕ) → rowFrom k 0 (set es i e) ≡ rowFrom k 0 es = λ k. row-set k 0 es i e blankEntry q in
       record {
-        bytes = rw (w .bytes) (set-entry [] es l (w .proper) (omega arith) i e (omega arith) p);
+        bytes = rw (w .bytes) (set-entry [] es as′ (w .proper) (omega arith) i e (omega arith) p);
         rows = length-set es i e ∙ w .rows;
         notes = w .notes;
         rows-fit = fit;
@@ -132,15 +97,16 @@ module _ (b roles : List ℕ) (n m : ℕ) (t : Tree) (w : Works b roles n m t) w
         lone = lone-set es i e blankEntry q (w .lone);
         marks = w .marks;
         apart = λ k. rw (same k) (w .apart k);
-        wide = w .wide;
-        right = λ k u. rw (same k) (w .right k u);
+        wide = long ∙ w .wide;
+        right = λ k u. low (slotOf k) (slot-low k u) ∙ rw (same k) (w .right k u);
+        keyed = key;
       }
 
   -- an aside is settled
   pub works-settle : (i : ℕ) → i < m
       → Works
       (putAt b (36868 + 12 * i) (asideRow (settledOne (getD (t .asides) i blankAside))))
-      roles
+      register
       n
       m
       (withAsides t (set (t .asides) i (settledOne (getD (t .asides) i blankAside))))
@@ -165,29 +131,32 @@ module _ (b roles : List ℕ) (n m : ℕ) (t : Tree) (w : Works b roles n m t) w
         apart = λ k. rw (same k) (w .apart k);
         wide = w .wide;
         right = λ k u. rw (same k) (w .right k u);
+        keyed = w .keyed;
       }
 
   module _ (k : ℕ) (own : InRange k) (fresh : roleOf k t ≡ 0) (v : ℕ) where
-    slots : (j : ℕ) → InRange j → ((j ≡ k) × (getD (set roles (slotOf k) v) (slotOf j) 0 ≡ v)) ⊎ ((j ≡ k → ⊥) × (getD (set roles (slotOf k) v) (slotOf j) 0 ≡ roleOf j t))
+    slots : (j : ℕ) → InRange j → ((j ≡ k) × (getD (set register (slotOf k) v) (slotOf j) 0 ≡ v)) ⊎ ((j ≡ k → ⊥) × (getD (set register (slotOf k) v) (slotOf j) 0 ≡ roleOf j t))
     slots j u =
         let low = slot-low k own in
         let wide = w .wide in
-        ⊎-elim (λ (q : j ≡ k). inl (q, rw q (getD-set-same roles (slotOf k) v 0 (omega arith))))
+        ⊎-elim (λ (q : j ≡ k). inl (q, rw q (getD-set-same register (slotOf k) v 0 (omega arith))))
         (λ (q : j ≡ k → ⊥).
-        inr (q, getD-set-other roles (slotOf k) (slotOf j) v 0 (λ (z : slotOf j ≡ slotOf k). q (slot-one j k u own z)) ∙ w .right j u))
+        inr (q, getD-set-other register (slotOf k) (slotOf j) v 0 (λ (z : slotOf j ≡ slotOf k). q (slot-one j k u own z)) ∙ w .right j u))
         (eq-or-ne j k)
 
   -- a row for a new entry
-  pub works-make : (e : Entry) → n < 512 → Proper e → roleOf (e .made) t ≡ 0
-      → Works (putAt b (4 + 72 * n) (entryRow 0 e)) (set roles (slotOf (e .made)) (n + 1)) (n + 1) m (withEntries t (t .entries ++ (e ∷ [])))
+  pub works-make : (e : Entry) → n < 512 → nodesIn register < 512 → Proper e → isPresent e ≡ true → roleOf (e .made) t ≡ 0
+      → Works (putAt b (4 + 72 * n) (entryRow 0 e)) (entered (set register (slotOf (e .made)) (n + 1)) (e .inside) (e .label) n) (n + 1) m (withEntries t (t .entries ++ (e ∷ [])))
   unfolding withEntries workBytes isDisputed rowOf noteOf roleOf behindRows
-  works-make e h p fresh =
+  works-make e h room p here fresh =
       let es = t .entries in
       let l = t .asides in
       let k = e .made in
       let rows = w .rows in
       let nr : rowFrom k 0 es ≡ 0 = fresh-row k t fresh in
       let nn : noteFrom k 0 l ≡ 0 = fresh-note k t fresh in
+      let low = slot-low k (p .range) in
+      let l1 = set register (slotOf k) (n + 1) in
       let b1 : b ≡ flagged [] es l = w .bytes in
       record {
         bytes = rw (b1, ← rows) (add-entry [] es l (w .proper) (omega arith) e (omega arith) p);
@@ -202,19 +171,21 @@ module _ (b roles : List ℕ) (n m : ℕ) (t : Tree) (w : Works b roles n m t) w
             ⊎-elim (λ (q : j ≡ k). inr (rw q nn))
             (λ (q : j ≡ k → ⊥). rw (row-more j 0 es e (λ (z : k ≡ j). q (sym z))) (w .apart j))
             (eq-or-ne j k);
-        wide = length-set roles (slotOf k) (n + 1) ∙ w .wide;
+        wide = entered-long l1 (e .inside) (e .label) n ∙ length-set register (slotOf k) (n + 1) ∙ w .wide;
         right = λ j u.
-            ⊎-elim
-            (λ (q : (j ≡ k) × (getD (set roles (slotOf k) (n + 1)) (slotOf j) 0 ≡ n + 1)).
+            entered-role l1 (e .inside) (e .label) n (slotOf j) (slot-low j u)
+            ∙ ⊎-elim
+            (λ (q : (j ≡ k) × (getD (set register (slotOf k) (n + 1)) (slotOf j) 0 ≡ n + 1)).
             q .1 ∙ rw (q .0, row-new k 0 es e nr refl, nn) (omega arith))
-            (λ (q : (j ≡ k → ⊥) × (getD (set roles (slotOf k) (n + 1)) (slotOf j) 0 ≡ roleOf j t)).
+            (λ (q : (j ≡ k → ⊥) × (getD (set register (slotOf k) (n + 1)) (slotOf j) 0 ≡ roleOf j t)).
             q .1 ∙ rw (row-more j 0 es e (λ (z : k ≡ j). q .0 (sym z))))
             (slots k (p .range) fresh (n + 1) j u);
+        keyed = keyed-made l1 n es (keyed-role register n es (w .keyed) (slotOf k) (n + 1) low) rows e here (rw (role-nodes register (slotOf k) (n + 1) low) room);
       }
 
   -- a row for a new aside
   pub works-aside : (a : Aside) → m < 512 → InRange (a .who) → roleOf (a .who) t ≡ 0 → (a .marked ≡ 0) ⊎ InRange (a .marked)
-      → Works (putAt b (36868 + 12 * m) (asideRow a)) (set roles (slotOf (a .who)) (513 + m)) n (m + 1) (withAsides t (t .asides ++ (a ∷ [])))
+      → Works (putAt b (36868 + 12 * m) (asideRow a)) (set register (slotOf (a .who)) (513 + m)) n (m + 1) (withAsides t (t .asides ++ (a ∷ [])))
   unfolding withAsides workBytes rowOf noteOf roleOf behindRows
   works-aside a h own fresh mark =
       let es = t .entries in
@@ -239,12 +210,13 @@ module _ (b roles : List ℕ) (n m : ℕ) (t : Tree) (w : Works b roles n m t) w
             ⊎-elim (λ (q : j ≡ k). inl (rw q nr))
             (λ (q : j ≡ k → ⊥). rw (note-more j 0 l a (λ (z : k ≡ j). q (sym z))) (w .apart j))
             (eq-or-ne j k);
-        wide = length-set roles (slotOf k) (513 + m) ∙ w .wide;
+        wide = length-set register (slotOf k) (513 + m) ∙ w .wide;
         right = λ j u.
             ⊎-elim
-            (λ (q : (j ≡ k) × (getD (set roles (slotOf k) (513 + m)) (slotOf j) 0 ≡ 513 + m)).
+            (λ (q : (j ≡ k) × (getD (set register (slotOf k) (513 + m)) (slotOf j) 0 ≡ 513 + m)).
             q .1 ∙ rw (q .0, nr, note-new k 0 l a nn refl) (omega arith))
-            (λ (q : (j ≡ k → ⊥) × (getD (set roles (slotOf k) (513 + m)) (slotOf j) 0 ≡ roleOf j t)).
+            (λ (q : (j ≡ k → ⊥) × (getD (set register (slotOf k) (513 + m)) (slotOf j) 0 ≡ roleOf j t)).
             q .1 ∙ rw (note-more j 0 l a (λ (z : k ≡ j). q .0 (sym z))))
             (slots k own fresh (513 + m) j u);
+        keyed = keyed-role register n es (w .keyed) (slotOf k) (513 + m) (slot-low k own);
       }

@@ -10,11 +10,11 @@ use mathlib.Core.Option.{none, some}
 use mathlib.Core.List.{List, [], _∷_, _++_}
 use lib.Dec.{eqb}
 use lib.ListN.{getD, length, set, take, drop}
-use borrow.Author.Tests.{ne-eqb, eqb-true, lt-leb, le-leb}
+use borrow.Author.Tests.{eq-eqb, ne-eqb, eqb-true, lt-leb, le-leb}
 use borrow.Rule.Slice.PartMut.{putMid}
 use Rattle.model.specs.Bytes.{part}
-use Rattle.model.specs.Record.{Rec, op, selfOf, objectOf, folderOf}
-use Rattle.model.specs.Replay.{Entry, Tree, isPresent, entryOf, changed, settled, newEntry, stored, renamed, removed, effect}
+use Rattle.model.specs.Record.{Rec, op, selfOf, objectOf, folderOf, labelOf}
+use Rattle.model.specs.Replay.{Entry, Tree, isPresent, isIn, entryOf, changed, settled, newEntry, stored, renamed, removed, effect}
 use Rattle.model.specs.Table.{entryRow, asideRow}
 use Rattle.octets.proofs.Numbers.{and-true}
 use Rattle.octets.proofs.Parts.{part-is, part-length}
@@ -22,11 +22,15 @@ use Rattle.octets.proofs.PutAt.{mid-put}
 use Rattle.table.specs.Rows.{entryIn, entriesFrom, asidesFrom, treeIn, rowIn, newAside, newRow, storedRow, renamedRow, InRange, Proper}
 use Rattle.table.proofs.Rows.{row-length, aside-row-length}
 use Rattle.table.proofs.Fields.{settledOne, new-row, store-entry, rename-entry, remove-entry, settle-aside, new-proper, stored-proper, renamed-proper, removed-proper}
-use Rattle.lookup.specs.Roles.{rowFrom, noteOf, slotOf, Works, Holds}
+use Rattle.lookup.specs.Roles.{rowFrom, noteOf, Works, Holds}
+use Rattle.chains.specs.Chains.{nodesIn, Chains}
+use Rattle.keys.specs.Keys.{slotOf, entered, relabelled, left, Keyed}
+use Rattle.keys.proofs.Counts.{children-few, children-some, present-in}
+use Rattle.keys.proofs.Keeping.{keyed-role, keyed-same, keyed-relabelled, keyed-left, role-nodes, entered-nodes, relabelled-role, relabelled-long, relabelled-nodes, left-role, left-long, left-nodes}
 use Rattle.lookup.proofs.Places.{row-lone, change-at, note-at, not-settled}
-use Rattle.lookup.proofs.Working.{blankEntry, blankAside, row-none, row-some, works-long, works-row, role-note, role-no-note}
+use Rattle.lookup.proofs.Working.{blankEntry, blankAside, proper-at, row-none, row-some, works-long, works-row, role-note, role-no-note}
 use Rattle.apply.specs.Effects.{withEntries, withAsides, Takes}
-use Rattle.apply.proofs.Changes.{proper-at, works-part, works-part-aside, works-change, works-settle, works-make, works-aside}
+use Rattle.apply.proofs.Changes.{works-part, works-part-aside, works-change, works-settle, works-make, works-aside}
 
 -- ---- numbers that fit
 
@@ -74,34 +78,54 @@ pub record Writes (f : Entry → Entry) (g : List ℕ → List ℕ) : Type 0 whe
   pub made : (e : Entry) → f e .made ≡ e .made
   pub fit : (e : Entry) → Proper e → Proper (f e)
 
-module _ (b roles : List ℕ) (n m : ℕ) (w : Holds b roles n m) (k row : ℕ) (o : rowIn b n row ≡ entryOf k (entriesFrom b 0 n)) where
+module _ (b register : List ℕ) (n m : ℕ) (w : Holds b register n m) (k row : ℕ) (o : rowIn b n row ≡ entryOf k (entriesFrom b 0 n)) where
   -- an absent object leaves all as it is
-  pub nothing-changed : (f : Entry → Entry) → n ≤ row → Works b roles n m (withEntries (treeIn b n m) (changed f k (entriesFrom b 0 n)))
+  pub nothing-changed : (f : Entry → Entry) → n ≤ row → Works b register n m (withEntries (treeIn b n m) (changed f k (entriesFrom b 0 n)))
   unfolding withEntries treeIn
   nothing-changed f h = rw (no-entry-no-change f k (entriesFrom b 0 n) (sym o ∙ row-none b n row h)) w
 
-  pub row-changed : (f : Entry → Entry) (g : List ℕ → List ℕ) → Writes f g → row < n → (ys : List ℕ)
-      → ys ≡ g (take (4 + 72 * row + 72 - (4 + 72 * row)) (drop (4 + 72 * row) b))
-      → Works (putMid (4 + 72 * row) (4 + 72 * row + 72 - (4 + 72 * row)) b ys) roles n m (withEntries (treeIn b n m) (changed f k (entriesFrom b 0 n)))
+  -- the entry that is found
+  here-is : row < n → getD (entriesFrom b 0 n) row blankEntry ≡ entryIn b (4 + 72 * row)
   unfolding treeIn
-  row-changed f g c h ys y =
+  here-is h = works-row b register n m (treeIn b n m) w row blankEntry h
+
+  here-some : row < n → (getD (entriesFrom b 0 n) row blankEntry .made ≡ k) × (isPresent (getD (entriesFrom b 0 n) row blankEntry) ≡ true)
+  here-some h = rw (here-is h) (some-entry k (entriesFrom b 0 n) (entryIn b (4 + 72 * row)) (sym o ∙ row-some b n row h))
+
+  here-low : row < n → row < length (entriesFrom b 0 n)
+  unfolding treeIn
+  here-low h = let rows = w .rows in omega arith
+
+  pub row-changed : (f : Entry → Entry) (g : List ℕ → List ℕ) → Writes f g → row < n → (l : List ℕ)
+      → length l ≡ length register → ((s : ℕ) → s < 4096 → getD l s 0 ≡ getD register s 0)
+      → Keyed l n (set (entriesFrom b 0 n) row (f (getD (entriesFrom b 0 n) row blankEntry))) → (ys : List ℕ)
+      → ys ≡ g (take (4 + 72 * row + 72 - (4 + 72 * row)) (drop (4 + 72 * row) b))
+      → Works (putMid (4 + 72 * row) (4 + 72 * row + 72 - (4 + 72 * row)) b ys) l n m (withEntries (treeIn b n m) (changed f k (entriesFrom b 0 n)))
+  unfolding treeIn
+  row-changed f g c h l long low key ys y =
       let t = treeIn b n m in
       let es = entriesFrom b 0 n in
       let e = getD es row blankEntry in
-      let rows = w .rows in
-      let fit = w .rows-fit in
-      let i : e ≡ entryIn b (4 + 72 * row) = works-row b roles n m t w row blankEntry h in
-      let (p, q) = some-entry k es (entryIn b (4 + 72 * row)) (sym o ∙ row-some b n row h) in
-      let p1 : e .made ≡ k = rw i p in
-      let q1 : isPresent e ≡ true = rw i q in
-      let a = row-lone k 0 es row blankEntry (w .lone) (omega arith) p1 in
+      let (p1, q1) = here-some h in
+      let a = row-lone k 0 es row blankEntry (w .lone) (here-low h) p1 in
       let a1 : rowFrom k 0 es ≡ suc row = rw (zero-add row) at a in
       let x : changed f k es ≡ set es row (f e) = change-at f k es row blankEntry (w .lone) a1 ∙ rw q1 in
-      let r = proper-at es row blankEntry (omega arith) (w .proper) in
-      let s : part b (4 + 72 * row) 72 ≡ entryRow 0 e = works-part b roles n m t w row h in
+      let r = proper-at es row blankEntry (here-low h) (w .proper) in
+      let s : part b (4 + 72 * row) 72 ≡ entryRow 0 e = works-part b register n m t w row h in
       let z : ys ≡ entryRow 0 (f e) = y ∙ rw (part-is b (4 + 72 * row) 72, s) (c .row e r) in
-      let v = works-change b roles n m t w row (f e) h (c .made e) (c .fit e r) in
+      let v = works-change b register n m t w row (f e) l h (c .made e) (c .fit e r) long low key in
       rw (mid-put (4 + 72 * row) 72 b ys (ap (λ (l : List ℕ). length l) z ∙ row-length 0 (f e) (c .fit e r)), z, x) v
+
+  -- the register is asked to let the entry leave its folder
+  pub leave-counts : row < n → (f : ℕ) → f ≡ entryIn b (4 + 72 * row) .inside → InRange f → 1 ≤ getD register (4096 + slotOf f) 0
+  unfolding treeIn
+  leave-counts h f q r =
+      let es = entriesFrom b 0 n in
+      let e = getD es row blankEntry in
+      let at : e .inside ≡ f = ap (λ (x : Entry). x .inside) (here-is h) ∙ sym q in
+      let i : isIn f e ≡ true = present-in f e (here-some h .1) ∙ eq-eqb (e .inside) f at in
+      let c = children-some f es row blankEntry (here-low h) i in
+      omega (arith, w .keyed .counted f r)
 
 module _ (r : Rec) (long : length r ≡ 80) where
   pub stored-writes : Writes (stored r) (λ x. storedRow x r)
@@ -118,15 +142,15 @@ removed-writes = record { row = λ e p. remove-entry 0 e; made = λ e. refl; fit
 
 -- ---- a settle
 
-module _ (b roles : List ℕ) (n m : ℕ) (w : Holds b roles n m) (k : ℕ) (u : InRange k) (role : ℕ) (e : role ≡ getD roles (slotOf k) 0) where
-  none-settled : role ≤ 512 → Works b roles n m (withAsides (treeIn b n m) (settled k (asidesFrom b 0 m)))
+module _ (b register : List ℕ) (n m : ℕ) (w : Holds b register n m) (k : ℕ) (u : InRange k) (role : ℕ) (e : role ≡ getD register (slotOf k) 0) where
+  none-settled : role ≤ 512 → Works b register n m (withAsides (treeIn b n m) (settled k (asidesFrom b 0 m)))
   unfolding withAsides treeIn noteOf
-  none-settled h = rw (not-settled k 0 (asidesFrom b 0 m) (role-no-note b roles n m (treeIn b n m) w k u role e h)) w
+  none-settled h = rw (not-settled k 0 (asidesFrom b 0 m) (role-no-note b register n m (treeIn b n m) w k u role e h)) w
 
   pub note-inside : 512 < role → role - 513 < m
   unfolding treeIn noteOf
   note-inside h =
-      let a = note-at k 0 (asidesFrom b 0 m) (role - 513) blankAside (role-note b roles n m (treeIn b n m) w k u role e h) in
+      let a = note-at k 0 (asidesFrom b 0 m) (role - 513) blankAside (role-note b register n m (treeIn b n m) w k u role e h) in
       let notes = w .notes in
       omega (arith, a .inside)
 
@@ -134,7 +158,7 @@ module _ (b roles : List ℕ) (n m : ℕ) (w : Holds b roles n m) (k : ℕ) (u :
       → ys ≡ set (take (36868 + 12 * (role - 513) + 12 - (36868 + 12 * (role - 513))) (drop (36868 + 12 * (role - 513)) b)) 5 2
       → Works
       (putMid (36868 + 12 * (role - 513)) (36868 + 12 * (role - 513) + 12 - (36868 + 12 * (role - 513))) b ys)
-      roles
+      register
       n
       m
       (withAsides (treeIn b n m) (settled k (asidesFrom b 0 m)))
@@ -144,22 +168,22 @@ module _ (b roles : List ℕ) (n m : ℕ) (w : Holds b roles n m) (k : ℕ) (u :
       let l = asidesFrom b 0 m in
       let i = role - 513 in
       let x = settledOne (getD l i blankAside) in
-      let a = note-at k 0 l i blankAside (role-note b roles n m t w k u role e h) in
+      let a = note-at k 0 l i blankAside (role-note b register n m t w k u role e h) in
       let a1 : settled k l ≡ set l i x = rw sub-zero at (a .settles) in
-      let s : part b (36868 + 12 * i) 12 ≡ asideRow (getD l i blankAside) = works-part-aside b roles n m t w i (note-inside h) in
+      let s : part b (36868 + 12 * i) 12 ≡ asideRow (getD l i blankAside) = works-part-aside b register n m t w i (note-inside h) in
       let z : ys ≡ asideRow x = y ∙ rw (part-is b (36868 + 12 * i) 12, s) (settle-aside (getD l i blankAside)) in
-      let v = works-settle b roles n m t w i (note-inside h) in
+      let v = works-settle b register n m t w i (note-inside h) in
       rw (mid-put (36868 + 12 * i) 12 b ys (ap (λ (q : List ℕ). length q) z ∙ aside-row-length x), z, a1) v
 
   module _ (r : Rec) (g : k ≡ objectOf r) where
-    pub nothing-settled : role ≤ 512 → Works b roles n m (withAsides (treeIn b n m) (settled (objectOf r) (asidesFrom b 0 m)))
+    pub nothing-settled : role ≤ 512 → Works b register n m (withAsides (treeIn b n m) (settled (objectOf r) (asidesFrom b 0 m)))
     nothing-settled h = rw (← g) (none-settled h)
 
     pub aside-settled : 512 < role → (ys : List ℕ)
         → ys ≡ set (take (36868 + 12 * (role - 513) + 12 - (36868 + 12 * (role - 513))) (drop (36868 + 12 * (role - 513)) b)) 5 2
         → Works
         (putMid (36868 + 12 * (role - 513)) (36868 + 12 * (role - 513) + 12 - (36868 + 12 * (role - 513))) b ys)
-        roles
+        register
         n
         m
         (withAsides (treeIn b n m) (settled (objectOf r) (asidesFrom b 0 m)))
@@ -167,113 +191,182 @@ module _ (b roles : List ℕ) (n m : ℕ) (w : Holds b roles n m) (k : ℕ) (u :
 
 -- ---- a row more
 
-module _ (b roles : List ℕ) (n m : ℕ) (w : Holds b roles n m) (r : Rec) (h : Takes (treeIn b n m) r) (me s : ℕ) (q : me ≡ selfOf r) (p : s ≡ slotOf me) where
-  pub entry-added : n < 512 → (ys : List ℕ) → ys ≡ newRow (take (4 + 72 * n + 72 - (4 + 72 * n)) (drop (4 + 72 * n) b)) r
+new-present : (r : Rec) → 1 ≤ op r → isPresent (newEntry r) ≡ true
+unfolding isPresent newEntry
+new-present r h = rw (ne-eqb (op r) 0 (λ z. omega arith))
+
+-- a role is written, and the register is asked to enter an entry
+module _ (b register : List ℕ) (n m : ℕ) (w : Holds b register n m) (s v : ℕ) (low : s < 4096) (l : List ℕ) (g : l ≡ set register s v) where
+  role-keyed : Keyed l n (entriesFrom b 0 n)
+  unfolding treeIn
+  role-keyed = rw g (keyed-role register n (entriesFrom b 0 n) (w .keyed) s v low)
+
+  pub enter-chains : Chains l
+  enter-chains = role-keyed .chains
+
+  pub enter-nodes : nodesIn register < 512 → nodesIn l < 512
+  enter-nodes room = rw (g, role-nodes register s v low) room
+
+  pub enter-count : n < 512 → (f : ℕ) → InRange f → getD l (4096 + slotOf f) 0 < 512
+  unfolding treeIn
+  enter-count room f u =
+      let rows = w .rows in
+      omega (arith, role-keyed .counted f u, children-few f (entriesFrom b 0 n))
+
+  pub role-kept : nodesIn l ≤ nodesIn register + 1
+  role-kept = omega (arith, ap nodesIn g, role-nodes register s v low)
+
+  pub made-nodes : nodesIn register < 512 → (f : ℕ) (t : List ℕ) (row : ℕ) (l' : List ℕ) → l' ≡ entered l f t row → nodesIn l' ≤ nodesIn register + 1
+  made-nodes room f t row l' x =
+      omega (arith, ap nodesIn x, entered-nodes l f t row enter-chains (enter-nodes room), ap nodesIn g, role-nodes register s v low)
+
+module _ (b register : List ℕ) (n m : ℕ) (w : Holds b register n m) (r : Rec) (h : Takes (treeIn b n m) r) (me s : ℕ) (q : me ≡ selfOf r) (p : s ≡ slotOf me) where
+  pub entry-added : n < 512 → nodesIn register < 512 → (l l' : List ℕ) → l ≡ set register s (n + 1) → (f : ℕ) → f ≡ folderOf r → l' ≡ entered l f (labelOf r) n
+      → (ys : List ℕ) → ys ≡ newRow (take (4 + 72 * n + 72 - (4 + 72 * n)) (drop (4 + 72 * n) b)) r
       → Works
       (putMid (4 + 72 * n) (4 + 72 * n + 72 - (4 + 72 * n)) b ys)
-      (set roles s (n + 1))
+      l'
       (n + 1)
       m
       (withEntries (treeIn b n m) (entriesFrom b 0 n ++ (newEntry r ∷ [])))
   unfolding treeIn newEntry
-  entry-added room ys y =
+  entry-added room nodes l l' g f fo g' ys y =
       let t = treeIn b n m in
       let long = h .asks .long in
-      let bl = works-long b roles n m t w in
+      let bl = works-long b register n m t w in
       let fit = new-proper r long (h .own) in
       let c : length (part b (4 + 72 * n) 72) ≡ 72 = part-length b (4 + 72 * n) 72 (omega arith) in
       let z : ys ≡ entryRow 0 (newEntry r) = y ∙ rw (part-is b (4 + 72 * n) 72) (new-row r long (part b (4 + 72 * n) 72) c) in
-      let v = works-make b roles n m t w (newEntry r) room fit (h .fresh) in
-      rw (mid-put (4 + 72 * n) 72 b ys (ap (λ (l : List ℕ). length l) z ∙ row-length 0 (newEntry r) fit), z, p, q) v
+      let v = works-make b register n m t w (newEntry r) room nodes fit (new-present r (h .asks .known)) (h .fresh) in
+      rw (mid-put (4 + 72 * n) 72 b ys (ap (λ (l : List ℕ). length l) z ∙ row-length 0 (newEntry r) fit), z, g', g, fo, p, q) v
 
-  pub aside-added : m < 512 → (reason marked : ℕ) → (marked ≡ 0) ⊎ InRange marked → (ys : List ℕ) → ys ≡ asideRow (newAside me reason marked)
+  pub aside-added : m < 512 → (reason marked : ℕ) → (marked ≡ 0) ⊎ InRange marked → (l : List ℕ) → l ≡ set register s (513 + m) → (ys : List ℕ) → ys ≡ asideRow (newAside me reason marked)
       → Works
       (putMid (36868 + 12 * m) (36868 + 12 * m + 12 - (36868 + 12 * m)) b ys)
-      (set roles s (513 + m))
+      l
       n
       (m + 1)
       (withAsides (treeIn b n m) (asidesFrom b 0 m ++ (newAside (selfOf r) reason marked ∷ [])))
   unfolding treeIn newAside
-  aside-added room reason marked fit ys y =
+  aside-added room reason marked fit l g ys y =
       let t = treeIn b n m in
       let a = newAside (selfOf r) reason marked in
       let z : ys ≡ asideRow a = y ∙ rw q in
-      let v = works-aside b roles n m t w a room (h .own) (h .fresh) fit in
-      rw (mid-put (36868 + 12 * m) 12 b ys (ap (λ (l : List ℕ). length l) z ∙ aside-row-length a), z, p, q) v
+      let v = works-aside b register n m t w a room (h .own) (h .fresh) fit in
+      rw (mid-put (36868 + 12 * m) 12 b ys (ap (λ (l : List ℕ). length l) z ∙ aside-row-length a), z, g, p, q) v
 
 -- ---- store, rename and remove
 
-module _ (b roles : List ℕ) (n m : ℕ) (w : Holds b roles n m) (r : Rec) (h : Takes (treeIn b n m) r) (k row : ℕ) (p : k ≡ objectOf r) (o : rowIn b n row ≡ entryOf k (entriesFrom b 0 n)) where
-  pub unchanged : (f : Entry → Entry) → n ≤ row → Works b roles n m (withEntries (treeIn b n m) (changed f (objectOf r) (entriesFrom b 0 n)))
-  unchanged f g = rw (← p) (nothing-changed b roles n m w k row o f g)
+module _ (b register : List ℕ) (n m : ℕ) (w : Holds b register n m) (r : Rec) (h : Takes (treeIn b n m) r) (k row : ℕ) (p : k ≡ objectOf r) (o : rowIn b n row ≡ entryOf k (entriesFrom b 0 n)) where
+  pub unchanged : (f : Entry → Entry) → n ≤ row → Works b register n m (withEntries (treeIn b n m) (changed f (objectOf r) (entriesFrom b 0 n)))
+  unchanged f g = rw (← p) (nothing-changed b register n m w k row o f g)
 
   pub store-done : row < n → (ys : List ℕ) → ys ≡ storedRow (take (4 + 72 * row + 72 - (4 + 72 * row)) (drop (4 + 72 * row) b)) r
       → Works
       (putMid (4 + 72 * row) (4 + 72 * row + 72 - (4 + 72 * row)) b ys)
-      roles
+      register
       n
       m
       (withEntries (treeIn b n m) (changed (stored r) (objectOf r) (entriesFrom b 0 n)))
-  store-done g ys y = rw (← p) (row-changed b roles n m w k row o (stored r) (λ x. storedRow x r) (stored-writes r (h .asks .long)) g ys y)
+  unfolding stored isPresent treeIn
+  store-done g ys y =
+      let es = entriesFrom b 0 n in
+      let e = getD es row blankEntry in
+      let key = keyed-same register n es (w .keyed) row (stored r e) blankEntry (here-low b register n m w k row o g) g refl refl refl in
+      rw (← p) (row-changed b register n m w k row o (stored r) (λ x. storedRow x r) (stored-writes r (h .asks .long)) g register refl (λ s _. refl) key ys y)
 
-  pub rename-done : row < n → (ys : List ℕ) → ys ≡ renamedRow (take (4 + 72 * row + 72 - (4 + 72 * row)) (drop (4 + 72 * row) b)) r
-      → Works
-      (putMid (4 + 72 * row) (4 + 72 * row + 72 - (4 + 72 * row)) b ys)
-      roles
-      n
-      m
-      (withEntries (treeIn b n m) (changed (renamed r) (objectOf r) (entriesFrom b 0 n)))
-  rename-done g ys y = rw (← p) (row-changed b roles n m w k row o (renamed r) (λ x. renamedRow x r) (renamed-writes r (h .asks .long)) g ys y)
+  module _ (f : ℕ) (old l : List ℕ) where
+    pub rename-done : row < n → nodesIn register < 512 → f ≡ entryIn b (4 + 72 * row) .inside → l ≡ relabelled register f old (labelOf r) row
+        → (ys : List ℕ) → ys ≡ renamedRow (take (4 + 72 * row + 72 - (4 + 72 * row)) (drop (4 + 72 * row) b)) r
+        → Works
+        (putMid (4 + 72 * row) (4 + 72 * row + 72 - (4 + 72 * row)) b ys)
+        l
+        n
+        m
+        (withEntries (treeIn b n m) (changed (renamed r) (objectOf r) (entriesFrom b 0 n)))
+    unfolding renamed isPresent treeIn
+    rename-done g nodes q x ys y =
+        let es = entriesFrom b 0 n in
+        let e = getD es row blankEntry in
+        let i : f ≡ e .inside = q ∙ ap (λ (z : Entry). z .inside) (sym (here-is b register n m w k row o g)) in
+        let x1 : l ≡ relabelled register (e .inside) old (labelOf r) row = rw i at x in
+        let key = keyed-relabelled register n es (w .keyed) row (renamed r e) blankEntry old (here-low b register n m w k row o g) g refl refl nodes in
+        rw (← p, x1)
+        (row-changed b register n m w k row o (renamed r) (λ x. renamedRow x r) (renamed-writes r (h .asks .long)) g
+        (relabelled register (e .inside) old (labelOf r) row)
+        (relabelled-long register (e .inside) (labelOf r) row old)
+        (relabelled-role register (e .inside) (labelOf r) row old)
+        key ys y)
 
-  pub remove-done : row < n → (ys : List ℕ) → ys ≡ set (take (4 + 72 * row + 72 - (4 + 72 * row)) (drop (4 + 72 * row) b)) 0 0
-      → Works
-      (putMid (4 + 72 * row) (4 + 72 * row + 72 - (4 + 72 * row)) b ys)
-      roles
-      n
-      m
-      (withEntries (treeIn b n m) (changed removed (objectOf r) (entriesFrom b 0 n)))
-  remove-done g ys y = rw (← p) (row-changed b roles n m w k row o removed (λ x. set x 0 0) removed-writes g ys y)
+    pub rename-nodes : nodesIn register < 512 → l ≡ relabelled register f old (labelOf r) row → nodesIn l ≤ nodesIn register + 1
+    rename-nodes nodes x = omega (arith, ap nodesIn x, relabelled-nodes register f (labelOf r) row old (w .keyed .chains) nodes)
+
+    pub remove-done : row < n → f ≡ entryIn b (4 + 72 * row) .inside → l ≡ left register f old row
+        → (ys : List ℕ) → ys ≡ set (take (4 + 72 * row + 72 - (4 + 72 * row)) (drop (4 + 72 * row) b)) 0 0
+        → Works
+        (putMid (4 + 72 * row) (4 + 72 * row + 72 - (4 + 72 * row)) b ys)
+        l
+        n
+        m
+        (withEntries (treeIn b n m) (changed removed (objectOf r) (entriesFrom b 0 n)))
+    unfolding removed isPresent treeIn
+    remove-done g q x ys y =
+        let es = entriesFrom b 0 n in
+        let e = getD es row blankEntry in
+        let i : f ≡ e .inside = q ∙ ap (λ (z : Entry). z .inside) (sym (here-is b register n m w k row o g)) in
+        let key = keyed-left register n es (w .keyed) row (removed e) blankEntry f old (here-low b register n m w k row o g) (here-some b register n m w k row o g .1) refl i in
+        rw (← p, x)
+        (row-changed b register n m w k row o removed (λ x. set x 0 0) removed-writes g (left register f old row) (left-long register f old row) (left-role register f old row) key ys y)
+
+    pub remove-nodes : l ≡ left register f old row → nodesIn l ≤ nodesIn register + 1
+    remove-nodes x = omega (arith, ap nodesIn x, left-nodes register f old row (w .keyed .chains))
 
 -- ---- rows lie within the table
 
-module _ (b roles : List ℕ) (n m : ℕ) (w : Holds b roles n m) where
+module _ (b register : List ℕ) (n m : ℕ) (w : Holds b register n m) where
   pub row-end : (row : ℕ) → row < n → 4 + 72 * row + 72 ≤ length b
   row-end row h =
       let f = w .rows-fit in
-      omega (arith, works-long b roles n m (treeIn b n m) w)
+      omega (arith, works-long b register n m (treeIn b n m) w)
+
+  pub label-end : (row : ℕ) → row < n → 4 + 72 * row + 56 ≤ length b
+  label-end row h = omega (arith, row-end row h)
+
+  pub works-chains : Chains register
+  works-chains = w .keyed .chains
 
   pub next-row-end : n < 512 → 4 + 72 * n + 72 ≤ length b
-  next-row-end h = omega (arith, works-long b roles n m (treeIn b n m) w)
+  next-row-end h = omega (arith, works-long b register n m (treeIn b n m) w)
 
   pub next-note-end : m < 512 → 36868 + 12 * m + 12 ≤ length b
-  next-note-end h = omega (arith, works-long b roles n m (treeIn b n m) w)
+  next-note-end h = omega (arith, works-long b register n m (treeIn b n m) w)
 
-  pub note-end : (k : ℕ) → InRange k → (role : ℕ) → role ≡ getD roles (slotOf k) 0 → 512 < role → 36868 + 12 * (role - 513) + 12 ≤ length b
+  pub note-end : (k : ℕ) → InRange k → (role : ℕ) → role ≡ getD register (slotOf k) 0 → 512 < role → 36868 + 12 * (role - 513) + 12 ≤ length b
   note-end k u role e h =
       let f = w .notes-fit in
-      omega (arith, works-long b roles n m (treeIn b n m) w, note-inside b roles n m w k u role e h)
+      omega (arith, works-long b register n m (treeIn b n m) w, note-inside b register n m w k u role e h)
 
 -- ---- any operation
 
-module _ (b b' roles roles' : List ℕ) (n m n' m' : ℕ) (r : Rec) where
-  pub effect-make : getD r 1 0 ≤ 2 → Works b' roles' n' m' (withEntries (treeIn b n m) (entriesFrom b 0 n ++ (newEntry r ∷ []))) → Works b' roles' n' m' (effect r (treeIn b n m))
+module _ (b b' register register' : List ℕ) (n m n' m' : ℕ) (r : Rec) where
+  pub effect-make : getD r 1 0 ≤ 2 → Works b' register' n' m' (withEntries (treeIn b n m) (entriesFrom b 0 n ++ (newEntry r ∷ []))) → Works b' register' n' m' (effect r (treeIn b n m))
   unfolding effect op withEntries treeIn
   effect-make h v = rw (le-leb (getD r 1 0) 2 h) v
 
-  pub effect-store : getD r 1 0 ≡ 3 → Works b' roles' n' m' (withEntries (treeIn b n m) (changed (stored r) (objectOf r) (entriesFrom b 0 n))) → Works b' roles' n' m' (effect r (treeIn b n m))
+  pub effect-store : getD r 1 0 ≡ 3 → Works b' register' n' m' (withEntries (treeIn b n m) (changed (stored r) (objectOf r) (entriesFrom b 0 n))) → Works b' register' n' m' (effect r (treeIn b n m))
   unfolding effect op withEntries treeIn
   effect-store h v = rw h v
 
-  pub effect-remove : getD r 1 0 ≡ 4 → Works b' roles' n' m' (withEntries (treeIn b n m) (changed removed (objectOf r) (entriesFrom b 0 n))) → Works b' roles' n' m' (effect r (treeIn b n m))
+  pub effect-remove : getD r 1 0 ≡ 4 → Works b' register' n' m' (withEntries (treeIn b n m) (changed removed (objectOf r) (entriesFrom b 0 n))) → Works b' register' n' m' (effect r (treeIn b n m))
   unfolding effect op withEntries treeIn
   effect-remove h v = rw h v
 
-  pub effect-rename : getD r 1 0 ≡ 5 → Works b' roles' n' m' (withEntries (treeIn b n m) (changed (renamed r) (objectOf r) (entriesFrom b 0 n))) → Works b' roles' n' m' (effect r (treeIn b n m))
+  pub effect-rename : getD r 1 0 ≡ 5 → Works b' register' n' m' (withEntries (treeIn b n m) (changed (renamed r) (objectOf r) (entriesFrom b 0 n))) → Works b' register' n' m' (effect r (treeIn b n m))
   unfolding effect op withEntries treeIn
   effect-rename h v = rw h v
 
   pub effect-settle : 2 < getD r 1 0 → (getD r 1 0 ≡ 3 → ⊥) → (getD r 1 0 ≡ 4 → ⊥) → (getD r 1 0 ≡ 5 → ⊥)
-      → Works b' roles' n' m' (withAsides (treeIn b n m) (settled (objectOf r) (asidesFrom b 0 m))) → Works b' roles' n' m' (effect r (treeIn b n m))
+      → Works b' register' n' m' (withAsides (treeIn b n m) (settled (objectOf r) (asidesFrom b 0 m))) → Works b' register' n' m' (effect r (treeIn b n m))
   unfolding effect op withAsides treeIn
   effect-settle h h3 h4 h5 v =
       rw (lt-leb (getD r 1 0) 2 h, ne-eqb (getD r 1 0) 3 h3, ne-eqb (getD r 1 0) 4 h4, ne-eqb (getD r 1 0) 5 h5) v

@@ -1,25 +1,27 @@
-// What a record does to a table of rows, and the roles with it.
+// What a record does to a table of rows, and to the register beside it.
 ghost use mathlib.Core.Path.{_≡_};
 ghost use mathlib.Core.Logic.{_⊎_};
 ghost use mathlib.Core.List.{_++_, _∷_, []};
-ghost use Prim.Native.Nat.{_≤_, _<_};
+ghost use Prim.Native.Nat.{_+_, _≤_, _<_};
 ghost use lib.ListN.{length, getD, set};
 ghost use Rattle.model.specs.Record.{selfOf, objectOf};
 ghost use Rattle.model.specs.Replay.{newEntry, stored, renamed, removed, changed, settled, effect as effectOf};
 ghost use Rattle.table.specs.Rows.{entriesFrom, asidesFrom, treeIn, newAside, InRange};
+ghost use Rattle.chains.specs.Chains.{nodesIn};
 ghost use Rattle.lookup.specs.Roles.{Works, Holds};
 ghost use Rattle.apply.specs.Effects.{withEntries, withAsides, Takes};
 use table::Size;
 
-// A make: a row for the new entry, and its role.
-pub fn add_entry(rec: &[u8], table: &mut [u8], roles: &mut [u16], size: Size) -> Size
-    requires { ⌜ Takes (treeIn (now table) (size .entries) (size .asides)) (now rec) × Holds (now table) (now roles) (size .entries) (size .asides) × (size .entries < 512) × (getD (now rec) 1 0 ≤ 2) ⌝ }
-    ensures { λ r. ⌜ Works (now (table .exit)) (now (roles .exit)) (r .entries) (r .asides) (withEntries (treeIn (now (table .entry)) (size .entries) (size .asides)) (entriesFrom (now (table .entry)) 0 (size .entries) ++ (newEntry (now (rec .entry)) ∷ []))) ⌝ }
+// A make: a row for the new entry, its role, its folder's count and its label.
+pub fn add_entry(rec: &[u8], table: &mut [u8], register: &mut [u16], size: Size) -> Size
+    requires { ⌜ Takes (treeIn (now table) (size .entries) (size .asides)) (now rec) × Holds (now table) (now register) (size .entries) (size .asides) × (size .entries < 512) × (nodesIn (now register) < 512) × (getD (now rec) 1 0 ≤ 2) ⌝ }
+    ensures { λ r. ⌜ Works (now (table .exit)) (now (register .exit)) (r .entries) (r .asides) (withEntries (treeIn (now (table .entry)) (size .entries) (size .asides)) (entriesFrom (now (table .entry)) 0 (size .entries) ++ (newEntry (now (rec .entry)) ∷ []))) × (nodesIn (now (register .exit)) ≤ nodesIn (now (register .entry)) + 1) ⌝ }
 {
     let at = 4 + 72 * size.entries;
     table::fill_row(&mut table[at..at + 72], rec);
-    let s = lookup::slot(table::self_of(rec));
-    roles[s] = (size.entries + 1) as u16;
+    let s = keys::slot(table::self_of(rec));
+    chains::put(register, s, size.entries + 1);
+    keys::enter(register, table::folder_of(rec), &rec[32..64], size.entries);
     Size {
         entries: size.entries + 1,
         asides: size.asides,
@@ -27,11 +29,11 @@ pub fn add_entry(rec: &[u8], table: &mut [u8], roles: &mut [u16], size: Size) ->
 }
 
 // A store: contents record, date and mark of the object's row.
-pub fn store(rec: &[u8], table: &mut [u8], roles: &[u16], size: Size)
-    requires { ⌜ Takes (treeIn (now table) (size .entries) (size .asides)) (now rec) × Holds (now table) (now roles) (size .entries) (size .asides) × (2 < getD (now rec) 1 0) ⌝ }
-    ensures { λ _. ⌜ Works (now (table .exit)) (now (roles .entry)) (size .entries) (size .asides) (withEntries (treeIn (now (table .entry)) (size .entries) (size .asides)) (changed (stored (now (rec .entry))) (objectOf (now (rec .entry))) (entriesFrom (now (table .entry)) 0 (size .entries)))) ⌝ }
+pub fn store(rec: &[u8], table: &mut [u8], register: &[u16], size: Size)
+    requires { ⌜ Takes (treeIn (now table) (size .entries) (size .asides)) (now rec) × Holds (now table) (now register) (size .entries) (size .asides) × (2 < getD (now rec) 1 0) ⌝ }
+    ensures { λ _. ⌜ Works (now (table .exit)) (now (register .entry)) (size .entries) (size .asides) (withEntries (treeIn (now (table .entry)) (size .entries) (size .asides)) (changed (stored (now (rec .entry))) (objectOf (now (rec .entry))) (entriesFrom (now (table .entry)) 0 (size .entries)))) ⌝ }
 {
-    let row = lookup::entry_of(table, roles, size, table::object_of(rec));
+    let row = lookup::entry_of(table, register, size, table::object_of(rec));
     if size.entries <= row {
         return;
     }
@@ -40,15 +42,22 @@ pub fn store(rec: &[u8], table: &mut [u8], roles: &[u16], size: Size)
 }
 
 // A rename: label record and label of the object's row.
-pub fn rename(rec: &[u8], table: &mut [u8], roles: &[u16], size: Size)
-    requires { ⌜ Takes (treeIn (now table) (size .entries) (size .asides)) (now rec) × Holds (now table) (now roles) (size .entries) (size .asides) × (2 < getD (now rec) 1 0) ⌝ }
-    ensures { λ _. ⌜ Works (now (table .exit)) (now (roles .entry)) (size .entries) (size .asides) (withEntries (treeIn (now (table .entry)) (size .entries) (size .asides)) (changed (renamed (now (rec .entry))) (objectOf (now (rec .entry))) (entriesFrom (now (table .entry)) 0 (size .entries)))) ⌝ }
+pub fn rename(rec: &[u8], table: &mut [u8], register: &mut [u16], size: Size)
+    requires { ⌜ Takes (treeIn (now table) (size .entries) (size .asides)) (now rec) × Holds (now table) (now register) (size .entries) (size .asides) × (nodesIn (now register) < 512) × (2 < getD (now rec) 1 0) ⌝ }
+    ensures { λ _. ⌜ Works (now (table .exit)) (now (register .exit)) (size .entries) (size .asides) (withEntries (treeIn (now (table .entry)) (size .entries) (size .asides)) (changed (renamed (now (rec .entry))) (objectOf (now (rec .entry))) (entriesFrom (now (table .entry)) 0 (size .entries)))) × (nodesIn (now (register .exit)) ≤ nodesIn (now (register .entry)) + 1) ⌝ }
 {
-    let row = lookup::entry_of(table, roles, size, table::object_of(rec));
+    let row = lookup::entry_of(table, register, size, table::object_of(rec));
     if size.entries <= row {
         return;
     }
     let at = 4 + 72 * row;
+    keys::relabel(
+        register,
+        table::inside_at(table, row),
+        &table[at + 24..at + 56],
+        &rec[32..64],
+        row,
+    );
     table::rename_row(&mut table[at..at + 72], rec);
 }
 
@@ -61,15 +70,21 @@ fn remove_row(row: &mut [u8])
 }
 
 // A remove: the object's row stays, with kind 0.
-pub fn remove(rec: &[u8], table: &mut [u8], roles: &[u16], size: Size)
-    requires { ⌜ Takes (treeIn (now table) (size .entries) (size .asides)) (now rec) × Holds (now table) (now roles) (size .entries) (size .asides) × (2 < getD (now rec) 1 0) ⌝ }
-    ensures { λ _. ⌜ Works (now (table .exit)) (now (roles .entry)) (size .entries) (size .asides) (withEntries (treeIn (now (table .entry)) (size .entries) (size .asides)) (changed removed (objectOf (now (rec .entry))) (entriesFrom (now (table .entry)) 0 (size .entries)))) ⌝ }
+pub fn remove(rec: &[u8], table: &mut [u8], register: &mut [u16], size: Size)
+    requires { ⌜ Takes (treeIn (now table) (size .entries) (size .asides)) (now rec) × Holds (now table) (now register) (size .entries) (size .asides) × (2 < getD (now rec) 1 0) ⌝ }
+    ensures { λ _. ⌜ Works (now (table .exit)) (now (register .exit)) (size .entries) (size .asides) (withEntries (treeIn (now (table .entry)) (size .entries) (size .asides)) (changed removed (objectOf (now (rec .entry))) (entriesFrom (now (table .entry)) 0 (size .entries)))) × (nodesIn (now (register .exit)) ≤ nodesIn (now (register .entry)) + 1) ⌝ }
 {
-    let row = lookup::entry_of(table, roles, size, table::object_of(rec));
+    let row = lookup::entry_of(table, register, size, table::object_of(rec));
     if size.entries <= row {
         return;
     }
     let at = 4 + 72 * row;
+    keys::leave(
+        register,
+        table::inside_at(table, row),
+        &table[at + 24..at + 56],
+        row,
+    );
     remove_row(&mut table[at..at + 72]);
 }
 
@@ -82,11 +97,11 @@ fn settle_row(row: &mut [u8])
 }
 
 // A settle: the aside that the object names is no longer open.
-pub fn settle(rec: &[u8], table: &mut [u8], roles: &[u16], size: Size)
-    requires { ⌜ Takes (treeIn (now table) (size .entries) (size .asides)) (now rec) × Holds (now table) (now roles) (size .entries) (size .asides) × (2 < getD (now rec) 1 0) ⌝ }
-    ensures { λ _. ⌜ Works (now (table .exit)) (now (roles .entry)) (size .entries) (size .asides) (withAsides (treeIn (now (table .entry)) (size .entries) (size .asides)) (settled (objectOf (now (rec .entry))) (asidesFrom (now (table .entry)) 0 (size .asides)))) ⌝ }
+pub fn settle(rec: &[u8], table: &mut [u8], register: &[u16], size: Size)
+    requires { ⌜ Takes (treeIn (now table) (size .entries) (size .asides)) (now rec) × Holds (now table) (now register) (size .entries) (size .asides) × (2 < getD (now rec) 1 0) ⌝ }
+    ensures { λ _. ⌜ Works (now (table .exit)) (now (register .entry)) (size .entries) (size .asides) (withAsides (treeIn (now (table .entry)) (size .entries) (size .asides)) (settled (objectOf (now (rec .entry))) (asidesFrom (now (table .entry)) 0 (size .asides)))) ⌝ }
 {
-    let role = lookup::role_of(roles, table::object_of(rec));
+    let role = lookup::role_of(register, table::object_of(rec));
     if role <= 512 {
         return;
     }
@@ -100,17 +115,17 @@ pub fn stand_aside(
     reason: u8,
     marked: u32,
     table: &mut [u8],
-    roles: &mut [u16],
+    register: &mut [u16],
     size: Size,
 ) -> Size
-    requires { ⌜ Takes (treeIn (now table) (size .entries) (size .asides)) (now rec) × Holds (now table) (now roles) (size .entries) (size .asides) × (size .asides < 512) × ((marked ≡ 0) ⊎ InRange marked) ⌝ }
-    ensures { λ r. ⌜ Works (now (table .exit)) (now (roles .exit)) (r .entries) (r .asides) (withAsides (treeIn (now (table .entry)) (size .entries) (size .asides)) (asidesFrom (now (table .entry)) 0 (size .asides) ++ (newAside (selfOf (now (rec .entry))) reason marked ∷ []))) ⌝ }
+    requires { ⌜ Takes (treeIn (now table) (size .entries) (size .asides)) (now rec) × Holds (now table) (now register) (size .entries) (size .asides) × (size .asides < 512) × ((marked ≡ 0) ⊎ InRange marked) ⌝ }
+    ensures { λ r. ⌜ Works (now (table .exit)) (now (register .exit)) (r .entries) (r .asides) (withAsides (treeIn (now (table .entry)) (size .entries) (size .asides)) (asidesFrom (now (table .entry)) 0 (size .asides) ++ (newAside (selfOf (now (rec .entry))) reason marked ∷ []))) × (nodesIn (now (register .exit)) ≤ nodesIn (now (register .entry)) + 1) ⌝ }
 {
     let who = table::self_of(rec);
     let at = 36868 + 12 * size.asides;
     table::fill_aside(&mut table[at..at + 12], who, reason, marked);
-    let s = lookup::slot(who);
-    roles[s] = (513 + size.asides) as u16;
+    let s = keys::slot(who);
+    chains::put(register, s, 513 + size.asides);
     Size {
         entries: size.entries,
         asides: size.asides + 1,
@@ -118,19 +133,19 @@ pub fn stand_aside(
 }
 
 // A record that fits does what its operation says.
-pub fn effect(rec: &[u8], table: &mut [u8], roles: &mut [u16], size: Size) -> Size
-    requires { ⌜ Takes (treeIn (now table) (size .entries) (size .asides)) (now rec) × Holds (now table) (now roles) (size .entries) (size .asides) × (size .entries < 512) ⌝ }
-    ensures { λ r. ⌜ Works (now (table .exit)) (now (roles .exit)) (r .entries) (r .asides) (effectOf (now (rec .entry)) (treeIn (now (table .entry)) (size .entries) (size .asides))) ⌝ }
+pub fn effect(rec: &[u8], table: &mut [u8], register: &mut [u16], size: Size) -> Size
+    requires { ⌜ Takes (treeIn (now table) (size .entries) (size .asides)) (now rec) × Holds (now table) (now register) (size .entries) (size .asides) × (size .entries < 512) × (nodesIn (now register) < 512) ⌝ }
+    ensures { λ r. ⌜ Works (now (table .exit)) (now (register .exit)) (r .entries) (r .asides) (effectOf (now (rec .entry)) (treeIn (now (table .entry)) (size .entries) (size .asides))) × (nodesIn (now (register .exit)) ≤ nodesIn (now (register .entry)) + 1) ⌝ }
 {
     let op = rec[1];
     if op <= 2 {
-        return add_entry(rec, table, roles, size);
+        return add_entry(rec, table, register, size);
     }
     match op {
-        3 => store(rec, table, roles, size),
-        4 => remove(rec, table, roles, size),
-        5 => rename(rec, table, roles, size),
-        _ => settle(rec, table, roles, size),
+        3 => store(rec, table, register, size),
+        4 => remove(rec, table, register, size),
+        5 => rename(rec, table, register, size),
+        _ => settle(rec, table, register, size),
     }
     size
 }

@@ -83,7 +83,7 @@ pub trim-done : (b d g e f : List ℕ) (n m j : ℕ) → Compacted b d n j → g
 unfolding trimmed
 trim-done b d g e f n m j c hg he hf = hf ∙ rw (he, hg, c .rows, c .present)
 
-module _ (b₀ b roles : List ℕ) (n m : ℕ) (k : Marked (asidesFrom b₀ 0 m) b roles n m (treeIn b₀ n m)) where
+module _ (b₀ b register : List ℕ) (n m : ℕ) (k : Marked (asidesFrom b₀ 0 m) b register n m (treeIn b₀ n m)) where
   pub marked-long : length b ≡ 43012
   unfolding treeIn
   marked-long =

@@ -23,10 +23,10 @@ use Rattle.table.specs.Rows.{asideIn, entriesFrom, asidesFrom, treeIn, flagged,
 use Rattle.table.proofs.Rows.{row-length, rows-length, tree-back}
 use Rattle.table.proofs.Writes.{rows-written, part-entry, flagged-long}
 use Rattle.table.proofs.Fields.{put-field}
-use Rattle.lookup.specs.Roles.{rowFrom, rowOf, slotOf, Absent, Lone, MarksFit, Works, Holds}
+use Rattle.lookup.specs.Roles.{rowFrom, rowOf, Absent, Lone, MarksFit, Works, Holds}
+use Rattle.keys.specs.Keys.{slotOf}
 use Rattle.lookup.proofs.Places.{row-absent, row-at, absent-at}
-use Rattle.lookup.proofs.Working.{blankEntry, blankAside, asides-at, role-row, role-no-row}
-use Rattle.apply.proofs.Changes.{proper-at}
+use Rattle.lookup.proofs.Working.{blankEntry, blankAside, proper-at, asides-at, role-row, role-no-row}
 use Rattle.finish.specs.Finishing.{Marked}
 
 -- ---- one aside more
@@ -117,7 +117,7 @@ flag-part s es l j b e p room h = rw (e, part-entry s es l p room j blankEntry h
 
 -- ---- what `flag_one` is asked, over plain values
 
-module _ (b roles : List ℕ) (n m i : ℕ) (k : Marked (take i (asidesFrom b 0 m)) b roles n m (treeIn b n m)) (h : i < m) where
+module _ (b register : List ℕ) (n m i : ℕ) (k : Marked (take i (asidesFrom b 0 m)) b register n m (treeIn b n m)) (h : i < m) where
   one-more : take (i + 1) (asidesFrom b 0 m) ≡ take i (asidesFrom b 0 m) ++ (asideIn b (36868 + 12 * i) ∷ [])
   unfolding treeIn
   one-more =
@@ -150,24 +150,24 @@ module _ (b roles : List ℕ) (n m i : ℕ) (k : Marked (take i (asidesFrom b 0 
       omega (arith, table-long)
 
   same-rows : entryRows (take i (asidesFrom b 0 m) ++ (asideIn b (36868 + 12 * i) ∷ [])) (entriesFrom b 0 n) ≡ entryRows (take i (asidesFrom b 0 m)) (entriesFrom b 0 n)
-      → Marked (take (i + 1) (asidesFrom b 0 m)) b roles n m (treeIn b n m)
+      → Marked (take (i + 1) (asidesFrom b 0 m)) b register n m (treeIn b n m)
   unfolding treeIn
   same-rows e =
       let s = take i (asidesFrom b 0 m) in
       let u = s ++ (asideIn b (36868 + 12 * i) ∷ []) in
       rw one-more (record { bytes = k .bytes ∙ flagged-same s u (entriesFrom b 0 n) (asidesFrom b 0 m) e; works = k .works })
 
-  pub flag-closed : (getD b (36868 + 12 * i + 5) 0 ≡ 1 → ⊥) → Marked (take (i + 1) (asidesFrom b 0 m)) b roles n m (treeIn b n m)
+  pub flag-closed : (getD b (36868 + 12 * i + 5) 0 ≡ 1 → ⊥) → Marked (take (i + 1) (asidesFrom b 0 m)) b register n m (treeIn b n m)
   unfolding asideIn
   flag-closed g =
       same-rows (rows-closed (take i (asidesFrom b 0 m)) (asideIn b (36868 + 12 * i)) (entriesFrom b 0 n) (ne-eqb (getD b (36868 + 12 * i + 5) 0) 1 g))
 
   module _ (x : ℕ) (q : x ≡ identityAt b (36868 + 12 * i + 8)) where
-    absent-rows : Absent x (entriesFrom b 0 n) → Marked (take (i + 1) (asidesFrom b 0 m)) b roles n m (treeIn b n m)
+    absent-rows : Absent x (entriesFrom b 0 n) → Marked (take (i + 1) (asidesFrom b 0 m)) b register n m (treeIn b n m)
     unfolding asideIn
     absent-rows g = same-rows (rows-absent (take i (asidesFrom b 0 m)) (asideIn b (36868 + 12 * i)) (entriesFrom b 0 n) (rw q at g))
 
-    pub flag-none : x ≡ 0 → Marked (take (i + 1) (asidesFrom b 0 m)) b roles n m (treeIn b n m)
+    pub flag-none : x ≡ 0 → Marked (take (i + 1) (asidesFrom b 0 m)) b register n m (treeIn b n m)
     unfolding treeIn
     flag-none z = absent-rows (rw z (absent-zero (entriesFrom b 0 n) (k .works .proper)))
 
@@ -181,16 +181,16 @@ module _ (b roles : List ℕ) (n m i : ℕ) (k : Marked (take i (asidesFrom b 0 
         (λ (y : InRange (getD (asidesFrom b 0 m) i blankAside .marked)). rw a at y)
         (marks-at (asidesFrom b 0 m) i blankAside (omega arith) (k .works .marks))
 
-    module _ (z : x ≡ 0 → ⊥) (role : ℕ) (r : role ≡ getD roles (slotOf x) 0) where
-      no-row : (role ≡ 0) ⊎ (n < role) → Marked (take (i + 1) (asidesFrom b 0 m)) b roles n m (treeIn b n m)
+    module _ (z : x ≡ 0 → ⊥) (role : ℕ) (r : role ≡ getD register (slotOf x) 0) where
+      no-row : (role ≡ 0) ⊎ (n < role) → Marked (take (i + 1) (asidesFrom b 0 m)) b register n m (treeIn b n m)
       unfolding treeIn rowOf
       no-row g =
-          absent-rows (row-absent x 0 (entriesFrom b 0 n) (role-no-row (workBytes (treeIn b n m)) roles n m (treeIn b n m) (k .works) x (mark-range z) role r g))
+          absent-rows (row-absent x 0 (entriesFrom b 0 n) (role-no-row (workBytes (treeIn b n m)) register n m (treeIn b n m) (k .works) x (mark-range z) role r g))
 
-      pub flag-no-role : role ≡ 0 → Marked (take (i + 1) (asidesFrom b 0 m)) b roles n m (treeIn b n m)
+      pub flag-no-role : role ≡ 0 → Marked (take (i + 1) (asidesFrom b 0 m)) b register n m (treeIn b n m)
       flag-no-role g = no-row (inl g)
 
-      pub flag-aside : n < role → Marked (take (i + 1) (asidesFrom b 0 m)) b roles n m (treeIn b n m)
+      pub flag-aside : n < role → Marked (take (i + 1) (asidesFrom b 0 m)) b register n m (treeIn b n m)
       flag-aside g = no-row (inr g)
 
       pub flag-done : getD b (36868 + 12 * i + 5) 0 ≡ 1 → (role ≡ 0 → ⊥) → role ≤ n → (ys : List ℕ)
@@ -198,7 +198,7 @@ module _ (b roles : List ℕ) (n m i : ℕ) (k : Marked (take i (asidesFrom b 0 
           → Marked
           (take (i + 1) (asidesFrom b 0 m))
           (putMid (4 + 72 * (role - 1)) (4 + 72 * (role - 1) + 72 - (4 + 72 * (role - 1))) b ys)
-          roles
+          register
           n
           m
           (treeIn b n m)
@@ -212,7 +212,7 @@ module _ (b roles : List ℕ) (n m i : ℕ) (k : Marked (take i (asidesFrom b 0 
           let w = k .works in
           let rows = w .rows in
           let fit = w .rows-fit in
-          let c : rowFrom x 0 es ≡ suc j = role-row (workBytes (treeIn b n m)) roles n m (treeIn b n m) w x (mark-range z) role r (omega arith) f ∙ omega arith in
+          let c : rowFrom x 0 es ≡ suc j = role-row (workBytes (treeIn b n m)) register n m (treeIn b n m) w x (mark-range z) role r (omega arith) f ∙ omega arith in
           let at = row-at x 0 es j blankEntry c in
           let d : getD es j blankEntry .made ≡ x = rw sub-zero at (at .is) in
           let v : ys ≡ entryRow 1 (getD es j blankEntry) =
@@ -227,29 +227,29 @@ module _ (b roles : List ℕ) (n m i : ℕ) (k : Marked (take i (asidesFrom b 0 
 
 -- ---- what `flag` is asked
 
-marked-tree : (s : List Aside) (b roles : List ℕ) (n m : ℕ) (t : Tree) → Marked s b roles n m t → treeIn b n m ≡ t
-marked-tree s b roles n m t k =
+marked-tree : (s : List Aside) (b register : List ℕ) (n m : ℕ) (t : Tree) → Marked s b register n m t → treeIn b n m ≡ t
+marked-tree s b register n m t k =
     let f = k .works .rows-fit in
     let p = k .works .rows in
     rw (← p, ← k .works .notes, k .bytes) (tree-back s t (k .works .proper) (omega arith))
 
-pub no-flags : (b roles : List ℕ) (n m : ℕ) → Holds b roles n m → Marked (take 0 (asidesFrom b 0 m)) b roles n m (treeIn b n m)
+pub no-flags : (b register : List ℕ) (n m : ℕ) → Holds b register n m → Marked (take 0 (asidesFrom b 0 m)) b register n m (treeIn b n m)
 unfolding workBytes
-no-flags b roles n m w = record { bytes = w .bytes; works = subst (λ (x : List ℕ). Works x roles n m (treeIn b n m)) (w .bytes) w }
+no-flags b register n m w = record { bytes = w .bytes; works = subst (λ (x : List ℕ). Works x register n m (treeIn b n m)) (w .bytes) w }
 
-module _ (b₀ b roles : List ℕ) (n m i : ℕ) (k : Marked (take i (asidesFrom b₀ 0 m)) b roles n m (treeIn b₀ n m)) where
+module _ (b₀ b register : List ℕ) (n m i : ℕ) (k : Marked (take i (asidesFrom b₀ 0 m)) b register n m (treeIn b₀ n m)) where
   same-tree : treeIn b n m ≡ treeIn b₀ n m
-  same-tree = marked-tree (take i (asidesFrom b₀ 0 m)) b roles n m (treeIn b₀ n m) k
+  same-tree = marked-tree (take i (asidesFrom b₀ 0 m)) b register n m (treeIn b₀ n m) k
 
-  pub flag-turn : Marked (take i (asidesFrom b 0 m)) b roles n m (treeIn b n m)
+  pub flag-turn : Marked (take i (asidesFrom b 0 m)) b register n m (treeIn b n m)
   unfolding treeIn
-  flag-turn = subst (λ (x : Tree). Marked (take i (x .asides)) b roles n m x) (sym same-tree) k
+  flag-turn = subst (λ (x : Tree). Marked (take i (x .asides)) b register n m x) (sym same-tree) k
 
-  pub flag-next : (b' : List ℕ) → Marked (take (i + 1) (asidesFrom b 0 m)) b' roles n m (treeIn b n m) → Marked (take (i + 1) (asidesFrom b₀ 0 m)) b' roles n m (treeIn b₀ n m)
+  pub flag-next : (b' : List ℕ) → Marked (take (i + 1) (asidesFrom b 0 m)) b' register n m (treeIn b n m) → Marked (take (i + 1) (asidesFrom b₀ 0 m)) b' register n m (treeIn b₀ n m)
   unfolding treeIn
-  flag-next b' v = subst (λ (x : Tree). Marked (take (i + 1) (x .asides)) b' roles n m x) same-tree v
+  flag-next b' v = subst (λ (x : Tree). Marked (take (i + 1) (x .asides)) b' register n m x) same-tree v
 
-  pub flags-end : i ≤ m → m ≤ i → Marked (asidesFrom b₀ 0 m) b roles n m (treeIn b₀ n m)
+  pub flags-end : i ≤ m → m ≤ i → Marked (asidesFrom b₀ 0 m) b register n m (treeIn b₀ n m)
   unfolding treeIn
   flags-end h g =
       let notes = k .works .notes in

@@ -12,9 +12,9 @@ use Rattle.table.specs.Rows.{flagged, workBytes}
 use Rattle.lookup.specs.Roles.{Works}
 
 -- a table that holds the tree t, with the flags of the asides s
-pub record Marked (s : List Aside) (b roles : List ℕ) (n m : ℕ) (t : Tree) : Type 0 where
+pub record Marked (s : List Aside) (b register : List ℕ) (n m : ℕ) (t : Tree) : Type 0 where
   pub bytes : b ≡ flagged s (t .entries) (t .asides)
-  pub works : Works (workBytes t) roles n m t
+  pub works : Works (workBytes t) register n m t
 
 -- the rows of present entries among the first n, laid end to end
 unfoldable pub keptTo : List ℕ → ℕ → List ℕ

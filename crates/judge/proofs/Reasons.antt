@@ -3,7 +3,7 @@
 use Prim.Native.Nat.{ℕ, _+_, _-_, _*_, _≤_, _<_}
 use mathlib.Core.Path.{_≡_, refl, sym, _∙_}
 use mathlib.Core.Logic.{⊎-elim}
-use mathlib.Core.Bool.{Bool, true, false, cond, _&&_, _||_}
+use mathlib.Core.Bool.{Bool, true, false, cond, not, _&&_, _||_}
 use mathlib.Core.Option.{Option}
 use mathlib.Core.List.{List}
 use lib.Dec.{ltb, eqb}
@@ -12,10 +12,12 @@ use borrow.Author.Tests.{eq-eqb, ne-eqb, lt-ltb, le-ltb, le-leb, lt-leb, ltb-tru
 use Rattle.model.specs.Record.{Rec, op, objectOf, folderOf, labelOf}
 use Rattle.model.specs.Replay.{Entry, Verdict, fits, aside, entryOf, holderOf, hasEntries, standsAside, unseen, freeLabel, judgeMakeIn, judgeMake, judgeStore, judgeRemove, judgeRename, judgeSettle, judge}
 use Rattle.table.specs.Rows.{entryIn, entriesFrom, asidesFrom, rowIn, treeIn, InRange}
-use Rattle.lookup.specs.Roles.{noteOf, slotOf, Holds}
+use Rattle.lookup.specs.Roles.{noteOf, Holds}
+use Rattle.keys.specs.Keys.{slotOf}
 use Rattle.lookup.proofs.Places.{stands, stands-not}
-use Rattle.lookup.proofs.Working.{row-none, row-some, role-note, role-no-note}
-use Rattle.judge.specs.Judged.{verdictOf, Asks}
+use Rattle.keys.proofs.Counts.{has-children}
+use Rattle.lookup.proofs.Working.{works-range, row-none, row-some, role-note, role-no-note}
+use Rattle.judge.specs.Judged.{verdictOf, fullBy, Asks}
 
 -- ---- a label
 
@@ -81,25 +83,32 @@ module _ (r : Rec) (b : List ℕ) (n row : ℕ) where
     store-fits g =
         rw (row-some b n row h, ne-eqb (entryIn b (4 + 72 * row) .kind) 1 (λ (z : entryIn b (4 + 72 * row) .kind ≡ 1). q (p ∙ z)), ← c, ← u, g)
 
-  module _ (es : List Entry) where
-    pub remove-absent : n ≤ row → verdictOf 12 0 ≡ judgeRemove r es (rowIn b n row)
+  pub remove-absent : (es : List Entry) → n ≤ row → verdictOf 12 0 ≡ judgeRemove r es (rowIn b n row)
+  unfolding verdictOf judgeRemove
+  remove-absent es h = rw (row-none b n row h)
+
+  module _ (l : List ℕ) (m : ℕ) (w : Holds b l n m) (h : row < n) (k : ℕ) (s : k ≡ entryIn b (4 + 72 * row) .made) (t : Bool) (g : t ≡ fullBy l (entryIn b (4 + 72 * row))) where
+    full-means : t ≡ (eqb (entryIn b (4 + 72 * row) .kind) 1 && hasEntries (entryIn b (4 + 72 * row) .made) (entriesFrom b 0 n))
+    unfolding fullBy treeIn
+    full-means =
+        let e = entryIn b (4 + 72 * row) .made in
+        let c = w .keyed .counted e (works-range b l n m (treeIn b n m) w row h) in
+        rw (has-children e (entriesFrom b 0 n), ← c) g
+
+    pub remove-full : t ≡ true → verdictOf 16 k ≡ judgeRemove r (entriesFrom b 0 n) (rowIn b n row)
     unfolding verdictOf judgeRemove
-    remove-absent h = rw (row-none b n row h)
+    remove-full q = rw (row-some b n row h, ← full-means, q, s)
 
-    module _ (h : row < n) (k : ℕ) (s : k ≡ entryIn b (4 + 72 * row) .made) (t : Bool) (u : t ≡ (eqb (entryIn b (4 + 72 * row) .kind) 1 && hasEntries (entryIn b (4 + 72 * row) .made) es)) where
-      pub remove-full : t ≡ true → verdictOf 16 k ≡ judgeRemove r es (rowIn b n row)
+    module _ (q : t ≡ false) (c : Bool) (v : c ≡ (unseen r (entryIn b (4 + 72 * row) .contents) || unseen r (entryIn b (4 + 72 * row) .naming))) where
+      pub remove-unseen : c ≡ true → verdictOf 17 k ≡ judgeRemove r (entriesFrom b 0 n) (rowIn b n row)
       unfolding verdictOf judgeRemove
-      remove-full g = rw (row-some b n row h, ← u, g, s)
+      remove-unseen x = rw (row-some b n row h, ← full-means, q, ← v, x, s)
 
-      module _ (g : t ≡ false) (c : Bool) (v : c ≡ (unseen r (entryIn b (4 + 72 * row) .contents) || unseen r (entryIn b (4 + 72 * row) .naming))) where
-        pub remove-unseen : c ≡ true → verdictOf 17 k ≡ judgeRemove r es (rowIn b n row)
-        unfolding verdictOf judgeRemove
-        remove-unseen q = rw (row-some b n row h, ← u, g, ← v, q, s)
+      pub remove-fits : c ≡ false → verdictOf 0 0 ≡ judgeRemove r (entriesFrom b 0 n) (rowIn b n row)
+      unfolding verdictOf judgeRemove
+      remove-fits x = rw (row-some b n row h, ← full-means, q, ← v, x)
 
-        pub remove-fits : c ≡ false → verdictOf 0 0 ≡ judgeRemove r es (rowIn b n row)
-        unfolding verdictOf judgeRemove
-        remove-fits q = rw (row-some b n row h, ← u, g, ← v, q)
-
+  module _ (es : List Entry) where
     pub rename-absent : n ≤ row → verdictOf 12 0 ≡ judgeRename r es (rowIn b n row)
     unfolding verdictOf judgeRename
     rename-absent h = rw (row-none b n row h)
@@ -113,12 +122,14 @@ module _ (r : Rec) (b : List ℕ) (n row : ℕ) where
       unfolding judgeRename
       rename-label f v s g q = rw (row-some b n row h, ← c, ← u, g, ← s) q
 
-module _ (e : Entry) (es : List Entry) where
-  pub full-no : (x : ℕ) → x ≡ e .kind → (x ≡ 1 → ⊥) → false ≡ (eqb (e .kind) 1 && hasEntries (e .made) es)
+module _ (e : Entry) (l : List ℕ) where
+  pub full-no : (x : ℕ) → x ≡ e .kind → (x ≡ 1 → ⊥) → false ≡ fullBy l e
+  unfolding fullBy
   full-no x p q = rw (ne-eqb (e .kind) 1 (λ (z : e .kind ≡ 1). q (p ∙ z)))
 
-  pub full-if : (x k : ℕ) (t : Bool) → x ≡ e .kind → x ≡ 1 → k ≡ e .made → t ≡ hasEntries k es → t ≡ (eqb (e .kind) 1 && hasEntries (e .made) es)
-  full-if x k t p q s u = rw (eq-eqb (e .kind) 1 (sym p ∙ q), ← s) u
+  pub full-if : (x k c : ℕ) → x ≡ e .kind → x ≡ 1 → k ≡ e .made → c ≡ getD l (4096 + slotOf k) 0 → not (eqb c 0) ≡ fullBy l e
+  unfolding fullBy
+  full-if x k c p q s u = rw (eq-eqb (e .kind) 1 (sym p ∙ q), ← s, u)
 
 module _ (e : Entry) (r : Rec) (x : ℕ) (t : Bool) (p : x ≡ e .contents) (u : t ≡ unseen r x) where
   pub contents-unseen : t ≡ true → true ≡ (unseen r (e .contents) || unseen r (e .naming))
@@ -138,16 +149,16 @@ module _ (role x : ℕ) (e : role ≡ x) where
   unfolding verdictOf
   settle-not h = rw (le-ltb 512 x (rw e at h))
 
-stands-role : (b roles : List ℕ) (n m : ℕ) → Holds b roles n m → (k : ℕ) → InRange k → standsAside k (asidesFrom b 0 m) ≡ ltb 512 (getD roles (slotOf k) 0)
+stands-role : (b register : List ℕ) (n m : ℕ) → Holds b register n m → (k : ℕ) → InRange k → standsAside k (asidesFrom b 0 m) ≡ ltb 512 (getD register (slotOf k) 0)
 unfolding noteOf treeIn
-stands-role b roles n m w k u = go (ltb 512 role) refl
+stands-role b register n m w k u = go (ltb 512 role) refl
   where
     role : ℕ
-    role = getD roles (slotOf k) 0
+    role = getD register (slotOf k) 0
 
     go : (t : Bool) → ltb 512 role ≡ t → standsAside k (asidesFrom b 0 m) ≡ t
-    go true e = stands k 0 (asidesFrom b 0 m) (role - 513) (role-note b roles n m (treeIn b n m) w k u role refl (ltb-true 512 role e))
-    go false e = stands-not k 0 (asidesFrom b 0 m) (role-no-note b roles n m (treeIn b n m) w k u role refl (ltb-false 512 role e))
+    go true e = stands k 0 (asidesFrom b 0 m) (role - 513) (role-note b register n m (treeIn b n m) w k u role refl (ltb-true 512 role e))
+    go false e = stands-not k 0 (asidesFrom b 0 m) (role-no-note b register n m (treeIn b n m) w k u role refl (ltb-false 512 role e))
 
 -- ---- any operation
 
@@ -173,9 +184,9 @@ module _ (r : Rec) (b : List ℕ) (n m : ℕ) (v : Verdict) where
     unfolding judge op treeIn
     judged-rename h e = rw (h, ← p, ← o) e
 
-  pub judged-settle : (roles : List ℕ) (k : ℕ) → Holds b roles n m → InRange k → k ≡ objectOf r
+  pub judged-settle : (register : List ℕ) (k : ℕ) → Holds b register n m → InRange k → k ≡ objectOf r
       → 2 < getD r 1 0 → (getD r 1 0 ≡ 3 → ⊥) → (getD r 1 0 ≡ 4 → ⊥) → (getD r 1 0 ≡ 5 → ⊥)
-      → v ≡ cond (ltb 512 (getD roles (slotOf k) 0)) fits (aside 18 0) → v ≡ judge r (treeIn b n m)
+      → v ≡ cond (ltb 512 (getD register (slotOf k) 0)) fits (aside 18 0) → v ≡ judge r (treeIn b n m)
   unfolding judge op treeIn judgeSettle
-  judged-settle roles k w u p h h3 h4 h5 e =
-      rw (lt-leb (getD r 1 0) 2 h, ne-eqb (getD r 1 0) 3 h3, ne-eqb (getD r 1 0) 4 h4, ne-eqb (getD r 1 0) 5 h5, ← p, stands-role b roles n m w k u) e
+  judged-settle register k w u p h h3 h4 h5 e =
+      rw (lt-leb (getD r 1 0) 2 h, ne-eqb (getD r 1 0) 3 h3, ne-eqb (getD r 1 0) 4 h4, ne-eqb (getD r 1 0) 5 h5, ← p, stands-role b register n m w k u) e

@@ -29,8 +29,8 @@ fn lay(log: &[u8], n: usize, tree: &mut [u8])
     requires { ⌜ (length (now log) ≡ 40960) × (soundLog (now log) ≡ true) × (n ≡ length (recordsOf (now log))) × (length (now tree) ≡ 43012) ⌝ }
     ensures { λ _. ⌜ now (tree .exit) ≡ tableBytes (replay (recordsOf (now (log .entry)))) ⌝ }
 {
-    let mut roles = [0u16; 4096];
-    show::lay_tree(log, n, tree, &mut roles);
+    let mut register = [0u16; 9729];
+    show::lay_tree(log, n, tree, &mut register);
 }
 
 // The lines of a sound log, behind its archive number, unit, record count and vector; the lent table shows its tree.

@@ -25,7 +25,7 @@ use Rattle.table.proofs.Rows.{rows-length}
 use Rattle.table.proofs.Writes.{rows-part}
 use Rattle.table.proofs.Fields.{new-proper, stored-proper, renamed-proper, removed-proper}
 use Rattle.replaylaws.proofs.Steps.{cond-elim, step-elim, effect-elim}
-use Rattle.apply.proofs.Changes.{proper-at}
+use Rattle.lookup.proofs.Working.{proper-at}
 use Rattle.replay.proofs.Sound.{count-few}
 use Rattle.listinglaws.proofs.Lines.{entry-line-length}
 

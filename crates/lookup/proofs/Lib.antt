@@ -1,3 +1,3 @@
 pub mod Places
 pub mod Working
-pub mod Scans
+pub mod Labels

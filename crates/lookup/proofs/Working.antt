@@ -7,14 +7,15 @@ use mathlib.Core.Path.{_≡_, refl, sym, ap, _∙_}
 use mathlib.Core.Logic.{_⊎_, inl, inr, ⊎-elim}
 use mathlib.Core.Bool.{false}
 use mathlib.Core.Option.{none, some}
-use mathlib.Core.List.{List, []}
+use mathlib.Core.List.{List, [], _∷_}
 use lib.ListN.{getD, length}
 use borrow.Author.Tests.{eq-eqb, ne-eqb, lt-ltb, le-ltb}
 use Rattle.model.specs.Replay.{Entry, Aside, Tree, isPresent, entryOf}
-use Rattle.table.specs.Rows.{entryIn, asideIn, entriesFrom, asidesFrom, treeIn, rowIn, workBytes, InRange}
+use Rattle.table.specs.Rows.{entryIn, asideIn, entriesFrom, asidesFrom, treeIn, rowIn, workBytes, InRange, Proper, AllProper}
 use Rattle.table.proofs.Rows.{tree-back}
 use Rattle.table.proofs.Writes.{flagged-long}
-use Rattle.lookup.specs.Roles.{rowFrom, rowOf, noteOf, behindRows, roleOf, slotOf, Works, Holds}
+use Rattle.lookup.specs.Roles.{rowFrom, rowOf, noteOf, behindRows, roleOf, Works, Holds}
+use Rattle.keys.specs.Keys.{slotOf}
 use Rattle.lookup.proofs.Places.{row-at, no-entry, entry-at, ifPresent}
 
 -- an entry of no table, for places behind the rows
@@ -44,9 +45,16 @@ asides-at b i zero j d h = absurd (omega arith)
 asides-at b i (suc n) zero d h = rw add-zero
 asides-at b i (suc n) (suc j) d h = let e : i + suc j ≡ suc i + j = omega arith in rw e (asides-at b (suc i) n j d (omega arith))
 
+-- ---- proper entries
+
+pub proper-at : (l : List Entry) (i : ℕ) (d : Entry) → i < length l → AllProper l → Proper (getD l i d)
+proper-at [] i d h p = absurd (omega arith)
+proper-at (e ∷ l) zero d h p = p .0
+proper-at (e ∷ l) (suc i) d h p = proper-at l i d (omega arith) (p .1)
+
 -- ---- a working table shows its tree
 
-module _ (b roles : List ℕ) (n m : ℕ) (t : Tree) (w : Works b roles n m t) where
+module _ (b register : List ℕ) (n m : ℕ) (t : Tree) (w : Works b register n m t) where
   pub works-long : length b ≡ 43012
   unfolding workBytes
   works-long =
@@ -63,13 +71,18 @@ module _ (b roles : List ℕ) (n m : ℕ) (t : Tree) (w : Works b roles n m t) w
       let p = w .rows in
       rw (← w .rows, ← w .notes, w .bytes) (tree-back [] t (w .proper) (omega arith))
 
-  pub works-holds : Holds b roles n m
+  pub works-holds : Holds b register n m
   works-holds = rw works-tree w
 
   pub works-row : (i : ℕ) (d : Entry) → i < n → getD (t .entries) i d ≡ entryIn b (4 + 72 * i)
   unfolding treeIn
   works-row i d h =
       sym (ap (λ (x : Tree). getD (x .entries) i d) works-tree) ∙ (rw (zero-add i) at (entries-at b 0 n i d h))
+
+  pub works-range : (i : ℕ) → i < n → InRange (entryIn b (4 + 72 * i) .made)
+  works-range i h =
+      let p = w .rows in
+      rw (← works-row i blankEntry h) (proper-at (t .entries) i blankEntry (omega arith) (w .proper) .range)
 
   pub works-note : (i : ℕ) (d : Aside) → i < m → getD (t .asides) i d ≡ asideIn b (36868 + 12 * i)
   unfolding treeIn
@@ -83,9 +96,9 @@ unfolding behindRows
 behind-cases zero = inl (refl, refl)
 behind-cases (suc n) = inr (omega arith, omega arith)
 
-pub row-low : (b roles : List ℕ) (n m : ℕ) (t : Tree) → Works b roles n m t → (k : ℕ) → rowOf k t ≤ n
+pub row-low : (b register : List ℕ) (n m : ℕ) (t : Tree) → Works b register n m t → (k : ℕ) → rowOf k t ≤ n
 unfolding rowOf
-row-low b roles n m t w k = go (rowFrom k 0 (t .entries)) refl
+row-low b register n m t w k = go (rowFrom k 0 (t .entries)) refl
   where
     go : (r : ℕ) → rowFrom k 0 (t .entries) ≡ r → r ≤ n
     go zero e = omega arith
@@ -94,7 +107,7 @@ row-low b roles n m t w k = go (rowFrom k 0 (t .entries)) refl
         let p = w .rows in
         omega (arith, a .inside)
 
-module _ (b roles : List ℕ) (n m : ℕ) (t : Tree) (w : Works b roles n m t) (k : ℕ) (u : InRange k) (role : ℕ) (e : role ≡ getD roles (slotOf k) 0) where
+module _ (b register : List ℕ) (n m : ℕ) (t : Tree) (w : Works b register n m t) (k : ℕ) (u : InRange k) (role : ℕ) (e : role ≡ getD register (slotOf k) 0) where
   role-is : role ≡ rowOf k t + behindRows (noteOf k t)
   unfolding roleOf
   role-is = e ∙ w .right k u
@@ -110,7 +123,7 @@ module _ (b roles : List ℕ) (n m : ℕ) (t : Tree) (w : Works b roles n m t) (
   pub role-no-row : (role ≡ 0) ⊎ (n < role) → rowOf k t ≡ 0
   role-no-row h =
       let q = role-is in
-      let l = row-low b roles n m t w k in
+      let l = row-low b register n m t w k in
       ⊎-elim (λ (z : rowOf k t ≡ 0). z)
       (λ (z : noteOf k t ≡ 0).
       ⊎-elim (λ (y : (noteOf k t ≡ 0) × (behindRows (noteOf k t) ≡ 0)).
@@ -124,7 +137,7 @@ module _ (b roles : List ℕ) (n m : ℕ) (t : Tree) (w : Works b roles n m t) (
       let q = role-is in
       let f = w .rows-fit in
       ⊎-elim
-      (λ (y : (noteOf k t ≡ 0) × (behindRows (noteOf k t) ≡ 0)). absurd (omega (arith, y .1, row-low b roles n m t w k)))
+      (λ (y : (noteOf k t ≡ 0) × (behindRows (noteOf k t) ≡ 0)). absurd (omega (arith, y .1, row-low b register n m t w k)))
       (λ (y : (1 ≤ noteOf k t) × (behindRows (noteOf k t) ≡ 512 + noteOf k t)).
       ⊎-elim (λ (z : rowOf k t ≡ 0). omega (arith, y .1)) (λ (z : noteOf k t ≡ 0). absurd (omega (arith, y .0))) (w .apart k))
       (behind-cases (noteOf k t))
@@ -146,12 +159,12 @@ pub row-some : (b : List ℕ) (n i : ℕ) → i < n → rowIn b n i ≡ some (en
 unfolding rowIn
 row-some b n i h = rw (lt-ltb i n h)
 
-module _ (b roles : List ℕ) (n m : ℕ) (w : Holds b roles n m) (k : ℕ) (u : InRange k) (role : ℕ) (e : role ≡ getD roles (slotOf k) 0) where
+module _ (b register : List ℕ) (n m : ℕ) (w : Holds b register n m) (k : ℕ) (u : InRange k) (role : ℕ) (e : role ≡ getD register (slotOf k) 0) where
   nowhere : (role ≡ 0) ⊎ (n < role) → rowIn b n n ≡ entryOf k (entriesFrom b 0 n)
   unfolding rowOf treeIn
   nowhere h =
       row-none b n n (omega arith)
-      ∙ sym (no-entry k (entriesFrom b 0 n) (role-no-row b roles n m (treeIn b n m) w k u role e h))
+      ∙ sym (no-entry k (entriesFrom b 0 n) (role-no-row b register n m (treeIn b n m) w k u role e h))
 
   pub entry-no-role : role ≡ 0 → rowIn b n n ≡ entryOf k (entriesFrom b 0 n)
   entry-no-role h = nowhere (inl h)
@@ -164,7 +177,7 @@ module _ (b roles : List ℕ) (n m : ℕ) (w : Holds b roles n m) (k : ℕ) (u :
   found h g =
       let j = role - 1 in
       let p : role ≡ suc j = omega arith in
-      let r : rowFrom k 0 (entriesFrom b 0 n) ≡ suc j = role-row b roles n m (treeIn b n m) w k u role e (omega arith) g ∙ p in
+      let r : rowFrom k 0 (entriesFrom b 0 n) ≡ suc j = role-row b register n m (treeIn b n m) w k u role e (omega arith) g ∙ p in
       entry-at k (entriesFrom b 0 n) j blankEntry (w .lone) r
       ∙ ap (λ (x : Entry). ifPresent x) (rw (zero-add j) at (entries-at b 0 n j blankEntry (omega arith)))
 

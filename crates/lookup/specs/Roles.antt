@@ -1,14 +1,15 @@
--- Where an identity stands in a tree, and the table of roles that says so at once.
+-- Where an identity stands in a tree, and the table and the register that hold a tree while records are replayed.
 -- Assumes nothing.
-use Prim.Native.Nat.{ℕ, zero, suc, _+_, _-_, _*_, _/_, _%_, _≤_}
+use Prim.Native.Nat.{ℕ, zero, suc, _+_, _*_, _≤_}
 use mathlib.Core.Path.{_≡_}
 use mathlib.Core.Logic.{_⊎_}
-use mathlib.Core.Bool.{cond}
+use mathlib.Core.Bool.{Bool, cond, _&&_}
 use mathlib.Core.List.{List, [], _∷_}
-use lib.Dec.{eqb}
+use lib.Dec.{leb, eqb}
 use lib.ListN.{getD, length}
-use Rattle.model.specs.Replay.{Entry, Aside, Tree}
-use Rattle.table.specs.Rows.{treeIn, workBytes, InRange, AllProper}
+use Rattle.model.specs.Replay.{Entry, Aside, Tree, isIn, sameLabel}
+use Rattle.table.specs.Rows.{entryIn, treeIn, workBytes, InRange, AllProper}
+use Rattle.keys.specs.Keys.{slotOf, Keyed}
 
 -- of rows counted from i on, one above the first that holds the entry k, present or removed; 0 for none
 unfoldable pub rowFrom : ℕ → ℕ → List Entry → ℕ
@@ -35,9 +36,13 @@ behindRows (suc n) = 513 + n
 unfoldable pub roleOf : ℕ → Tree → ℕ
 roleOf k t = rowOf k t + behindRows (noteOf k t)
 
--- the slot of an identity: 512 for each unit, by number
-unfoldable pub slotOf : ℕ → ℕ
-slotOf k = 512 * (k % 8) + (k / 8 - 1)
+-- the entry in row i holds a label in the folder f
+unfoldable pub holdsAt : List ℕ → ℕ → List ℕ → ℕ → Bool
+holdsAt b f t i = isIn f (entryIn b (4 + 72 * i)) && sameLabel (entryIn b (4 + 72 * i) .label) t
+
+-- of two rows the first, if it stands before the other and holds the label
+unfoldable pub earlierOf : List ℕ → ℕ → List ℕ → ℕ → ℕ → ℕ
+earlierOf b f t row best = cond (leb best row) best (cond (holdsAt b f t row) row best)
 
 -- no entry is k
 abbrev pub Absent : ℕ → List Entry → Type 0
@@ -54,8 +59,8 @@ abbrev pub MarksFit : List Aside → Type 0
 MarksFit [] = Unit {0}
 MarksFit (a ∷ l) = ((a .marked ≡ 0) ⊎ InRange (a .marked)) × MarksFit l
 
--- a table of n entries and m asides, and a table of roles, that hold the tree t while records are replayed
-pub record Works (b roles : List ℕ) (n m : ℕ) (t : Tree) : Type 0 where
+-- a table of n entries and m asides, and a register, that hold the tree t while records are replayed
+pub record Works (b register : List ℕ) (n m : ℕ) (t : Tree) : Type 0 where
   pub bytes : b ≡ workBytes t
   pub rows : length (t .entries) ≡ n
   pub notes : length (t .asides) ≡ m
@@ -65,9 +70,10 @@ pub record Works (b roles : List ℕ) (n m : ℕ) (t : Tree) : Type 0 where
   pub lone : Lone (t .entries)
   pub marks : MarksFit (t .asides)
   pub apart : (k : ℕ) → (rowOf k t ≡ 0) ⊎ (noteOf k t ≡ 0)
-  pub wide : length roles ≡ 4096
-  pub right : (k : ℕ) → InRange k → getD roles (slotOf k) 0 ≡ roleOf k t
+  pub wide : length register ≡ 9729
+  pub right : (k : ℕ) → InRange k → getD register (slotOf k) 0 ≡ roleOf k t
+  pub keyed : Keyed register n (t .entries)
 
 -- the same of the tree that the table shows
 abbrev pub Holds : List ℕ → List ℕ → ℕ → ℕ → Type 0
-Holds b roles n m = Works b roles n m (treeIn b n m)
+Holds b register n m = Works b register n m (treeIn b n m)

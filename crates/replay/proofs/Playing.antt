@@ -55,7 +55,7 @@ replay-fresh t at n p (suc i) j h g =
 
 -- ---- what `replay` is asked, over plain values
 
-module _ (k : Layout) (bytes b₀ roles₀ : List ℕ) (n₀ m₀ n : ℕ) (p : Playable (treeIn b₀ n₀ m₀) (laidAt k bytes) n) (w₀ : Holds b₀ roles₀ n₀ m₀) (b roles : List ℕ) (x y i : ℕ) (w : Works b roles x y (replayFrom (treeIn b₀ n₀ m₀) (listed (laidAt k bytes) 0 i))) where
+module _ (k : Layout) (bytes b₀ register₀ : List ℕ) (n₀ m₀ n : ℕ) (p : Playable (treeIn b₀ n₀ m₀) (laidAt k bytes) n) (w₀ : Holds b₀ register₀ n₀ m₀) (b register : List ℕ) (x y i : ℕ) (w : Works b register x y (replayFrom (treeIn b₀ n₀ m₀) (listed (laidAt k bytes) 0 i))) where
   pub turn-entries : i < n → n₀ + n ≤ 512 → x < 512
   turn-entries h g =
       let c = w .rows in
@@ -68,8 +68,8 @@ module _ (k : Layout) (bytes b₀ roles₀ : List ℕ) (n₀ m₀ n : ℕ) (p : 
       let d = w₀ .notes in
       omega (arith, replay-asides (treeIn b₀ n₀ m₀) (laidAt k bytes) i)
 
-  pub turn-holds : Holds b roles x y
-  turn-holds = works-holds b roles x y (replayFrom (treeIn b₀ n₀ m₀) (listed (laidAt k bytes) 0 i)) w
+  pub turn-holds : Holds b register x y
+  turn-holds = works-holds b register x y (replayFrom (treeIn b₀ n₀ m₀) (listed (laidAt k bytes) 0 i)) w
 
   module _ (at : ℕ) (o : at ≡ offsetOf k i) where
     record-is : take (at + 80 - at) (drop at bytes) ≡ laidAt k bytes i
@@ -79,21 +79,21 @@ module _ (k : Layout) (bytes b₀ roles₀ : List ℕ) (n₀ m₀ n : ℕ) (p : 
     pub turn-takes : i < n → Takes (treeIn b x y) (take (at + 80 - at) (drop at bytes))
     turn-takes h =
         let t = replayFrom (treeIn b₀ n₀ m₀) (listed (laidAt k bytes) 0 i) in
-        rw (record-is, works-tree b roles x y t w)
+        rw (record-is, works-tree b register x y t w)
         (record { asks = p .asks i h; own = p .own i h; fresh = replay-fresh (treeIn b₀ n₀ m₀) (laidAt k bytes) n p i i (omega arith) h })
 
-    pub turn-goes : (b' roles' : List ℕ) (x' y' : ℕ) → Works b' roles' x' y' (step (treeIn b x y) (take (at + 80 - at) (drop at bytes)))
-        → Works b' roles' x' y' (replayFrom (treeIn b₀ n₀ m₀) (listed (laidAt k bytes) 0 (i + 1)))
-    turn-goes b' roles' x' y' v =
+    pub turn-goes : (b' register' : List ℕ) (x' y' : ℕ) → Works b' register' x' y' (step (treeIn b x y) (take (at + 80 - at) (drop at bytes)))
+        → Works b' register' x' y' (replayFrom (treeIn b₀ n₀ m₀) (listed (laidAt k bytes) 0 (i + 1)))
+    turn-goes b' register' x' y' v =
         let t = replayFrom (treeIn b₀ n₀ m₀) (listed (laidAt k bytes) 0 i) in
-        let u = rw (record-is, works-tree b roles x y t w) at v in
+        let u = rw (record-is, works-tree b register x y t w) at v in
         rw (replay-next (treeIn b₀ n₀ m₀) (laidAt k bytes) i) u
 
     pub turn-inside : Laid k bytes n → i < n → at + 80 ≤ length bytes
     turn-inside l h = rw o (l .inside i h)
 
-  pub play-ends : i ≤ n → n ≤ i → Works b roles x y (replayFrom (treeIn b₀ n₀ m₀) (listed (laidAt k bytes) 0 n))
+  pub play-ends : i ≤ n → n ≤ i → Works b register x y (replayFrom (treeIn b₀ n₀ m₀) (listed (laidAt k bytes) 0 n))
   play-ends h g = let e : i ≡ n = omega arith in rw e at w
 
-pub play-starts : (k : Layout) (bytes b roles : List ℕ) (n m : ℕ) → Holds b roles n m → Works b roles n m (replayFrom (treeIn b n m) (listed (laidAt k bytes) 0 0))
-play-starts k bytes b roles n m w = rw (replay-none (treeIn b n m) (laidAt k bytes)) w
+pub play-starts : (k : Layout) (bytes b register : List ℕ) (n m : ℕ) → Holds b register n m → Works b register n m (replayFrom (treeIn b n m) (listed (laidAt k bytes) 0 0))
+play-starts k bytes b register n m w = rw (replay-none (treeIn b n m) (laidAt k bytes)) w

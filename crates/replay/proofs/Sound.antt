@@ -26,7 +26,9 @@ use Rattle.record.proofs.Fields.{well-head}
 use Rattle.record.proofs.Claims.{object-named, folder-root-or-named}
 use Rattle.replaylaws.proofs.Steps.{cond-elim}
 use Rattle.table.specs.Rows.{entriesFrom, asidesFrom, treeIn, flagged, workBytes, InRange}
-use Rattle.lookup.specs.Roles.{rowFrom, noteFrom, rowOf, noteOf, behindRows, roleOf, slotOf, Works, Holds}
+use Rattle.lookup.specs.Roles.{rowFrom, noteFrom, rowOf, noteOf, behindRows, roleOf, Works, Holds}
+use Rattle.chains.specs.Chains.{nodesIn, firstOf}
+use Rattle.keys.specs.Keys.{slotOf, childrenOf, Keyed}
 use Rattle.lookup.proofs.Working.{works-holds}
 use Rattle.judge.specs.Judged.{Asks}
 use Rattle.log.specs.declared.Layout.the-variants.{Log}
@@ -51,6 +53,7 @@ unfolding objectOf folderOf
 formed-asks r e h =
     record {
       long = well-length r e;
+      known = well-head r e .op-from;
       folder = λ g.
           ⊎-elim (λ (z : folderOf r ≡ root). inl z) (λ (z : Named r 24 × (folderOf r ≡ root → ⊥)). inr (named-range r 24 (z .0) h)) (folder-root-or-named r e g);
       object = λ g. named-range r 20 (object-named r e g .0) h;
@@ -127,9 +130,30 @@ zeros-at zero i = refl
 zeros-at (suc n) zero = refl
 zeros-at (suc n) (suc i) = zeros-at n i
 
-start-works : (b roles : List ℕ) → b ≡ replicate 43012 0 → roles ≡ replicate 4096 0 → Works b roles 0 0 emptyTree
+blank-nodes : nodesIn (replicate 9729 0) ≡ 0
+unfolding nodesIn
+blank-nodes = zeros-at 9729 9728
+
+blank-keyed : Keyed (replicate 9729 0) 0 []
+unfolding firstOf childrenOf
+blank-keyed =
+    let none = blank-nodes in
+    record {
+      chains =
+          record {
+            long = length-replicate {A = ℕ} 9729 0;
+            few = omega arith;
+            firsts = λ h g. omega (arith, zeros-at 9729 (8192 + h));
+            falls = λ q h g. absurd (omega arith);
+          };
+      rows = λ q h g. absurd (omega arith);
+      counted = λ k r. zeros-at 9729 (4096 + slotOf k);
+      kept = λ i d h p. absurd (omega arith);
+    }
+
+start-works : (b register : List ℕ) → b ≡ replicate 43012 0 → register ≡ replicate 9729 0 → Works b register 0 0 emptyTree
 unfolding workBytes flagged emptyTree entryRows asideRows rowOf noteOf rowFrom noteFrom
-start-works b roles e f =
+start-works b register e f =
     record {
       bytes = e ∙ table-zeros 36864 6144;
       rows = refl;
@@ -140,8 +164,9 @@ start-works b roles e f =
       lone = tt;
       marks = tt;
       apart = λ k. inl refl;
-      wide = ap (λ (x : List ℕ). length x) f ∙ length-replicate {A = ℕ} 4096 0;
-      right = λ k u. ap (λ (x : List ℕ). getD x (slotOf k) 0) f ∙ zeros-at 4096 (slotOf k) ∙ sym (empty-role k);
+      wide = ap (λ (x : List ℕ). length x) f ∙ length-replicate {A = ℕ} 9729 0;
+      right = λ k u. ap (λ (x : List ℕ). getD x (slotOf k) 0) f ∙ zeros-at 9729 (slotOf k) ∙ sym (empty-role k);
+      keyed = rw f blank-keyed;
     }
 
 -- ---- what `replay_log` is asked, over plain values
@@ -150,10 +175,18 @@ empty-rows : (b : List ℕ) → treeIn b 0 0 ≡ emptyTree
 unfolding treeIn emptyTree entriesFrom asidesFrom
 empty-rows b = refl
 
-pub start-holds : (b₀ roles₀ b roles : List ℕ) → length b₀ ≡ 43012 → length roles₀ ≡ 4096 → b ≡ replicate (length b₀) 0 → roles ≡ replicate (length roles₀) 0 → Holds b roles 0 0
-start-holds b₀ roles₀ b roles p q e f = works-holds b roles 0 0 emptyTree (start-works b roles (rw p at e) (rw q at f))
+pub start-holds : (b₀ register₀ b register : List ℕ) → length b₀ ≡ 43012 → length register₀ ≡ 9729 → b ≡ replicate (length b₀) 0 → register ≡ replicate (length register₀) 0 → Holds b register 0 0
+start-holds b₀ register₀ b register p q e f = works-holds b register 0 0 emptyTree (start-works b register (rw p at e) (rw q at f))
+
+pub start-nodes : (register₀ register : List ℕ) (n : ℕ) → length register₀ ≡ 9729 → register ≡ replicate (length register₀) 0 → n ≤ 512 → nodesIn register + n ≤ 512
+start-nodes register₀ register n q f h =
+    let z : nodesIn register ≡ 0 = ap nodesIn (rw q at f) ∙ blank-nodes in
+    omega arith
 
 module _ (b : List ℕ) (n : ℕ) (c : n ≡ length (recordsOf b)) where
+  pub few-records : n ≤ 512
+  few-records = omega (arith, sound-few b)
+
   pub log-room : 0 + n ≤ 512
   log-room = omega (arith, sound-few b)
 
@@ -162,6 +195,6 @@ module _ (b : List ℕ) (n : ℕ) (c : n ≡ length (recordsOf b)) where
       rw (empty-rows table)
       (sound-playable (laidAt Log b) n (recordsOf b) (sym (listed-records b n c)) (sym c) (omega (arith, sound-few b)) (sound-records b s))
 
-  pub log-replayed : (b' roles' : List ℕ) (x y : ℕ) (table : List ℕ) → Works b' roles' x y (replayFrom (treeIn table 0 0) (listed (laidAt Log b) 0 n)) → Works b' roles' x y (replay (recordsOf b))
+  pub log-replayed : (b' register' : List ℕ) (x y : ℕ) (table : List ℕ) → Works b' register' x y (replayFrom (treeIn table 0 0) (listed (laidAt Log b) 0 n)) → Works b' register' x y (replay (recordsOf b))
   unfolding replay
-  log-replayed b' roles' x y table w = rw (empty-rows table, listed-records b n c) at w
+  log-replayed b' register' x y table w = rw (empty-rows table, listed-records b n c) at w

@@ -89,19 +89,19 @@ step-role k t r h =
 
 -- ---- what `step` is asked, over plain values
 
-module _ (b roles : List ℕ) (n m : ℕ) (r : Rec) (x k : ℕ) (e : verdictOf x k ≡ judge r (treeIn b n m)) where
-  pub mark-fits : Holds b roles n m → (x ≡ 0 → ⊥) → (k ≡ 0) ⊎ InRange k
+module _ (b register : List ℕ) (n m : ℕ) (r : Rec) (x k : ℕ) (e : verdictOf x k ≡ judge r (treeIn b n m)) where
+  pub mark-fits : Holds b register n m → (x ≡ 0 → ⊥) → (k ≡ 0) ⊎ InRange k
   mark-fits w h = marked-fits r (treeIn b n m) x k (w .proper) e h
 
-  module _ (b' roles' : List ℕ) (n' m' : ℕ) where
-    pub step-acts : x ≡ 0 → Works b' roles' n' m' (effect r (treeIn b n m)) → Works b' roles' n' m' (step (treeIn b n m) r)
+  module _ (b' register' : List ℕ) (n' m' : ℕ) where
+    pub step-acts : x ≡ 0 → Works b' register' n' m' (effect r (treeIn b n m)) → Works b' register' n' m' (step (treeIn b n m) r)
     unfolding step verdictOf apply
     step-acts h w =
         let q : fits ≡ judge r (treeIn b n m) = rw h at e in
         rw (← q) w
 
-    pub step-stands : (x ≡ 0 → ⊥) → Works b' roles' n' m' (withAsides (treeIn b n m) (asidesFrom b 0 m ++ (newAside (selfOf r) x k ∷ [])))
-        → Works b' roles' n' m' (step (treeIn b n m) r)
+    pub step-stands : (x ≡ 0 → ⊥) → Works b' register' n' m' (withAsides (treeIn b n m) (asidesFrom b 0 m ++ (newAside (selfOf r) x k ∷ [])))
+        → Works b' register' n' m' (step (treeIn b n m) r)
     unfolding step verdictOf apply withAsides newAside treeIn
     step-stands h w =
         let q : aside x k ≡ judge r (treeIn b n m) = rw (ne-eqb x 0 h) at e in

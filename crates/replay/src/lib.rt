@@ -6,6 +6,7 @@ ghost use lib.ListN.{length, replicate};
 ghost use Rattle.model.specs.Log.{recordsOf, soundLog};
 ghost use Rattle.model.specs.Replay.{step as stepOf, replayFrom, replay as replayOf};
 ghost use Rattle.table.specs.Rows.{treeIn};
+ghost use Rattle.chains.specs.Chains.{nodesIn};
 ghost use Rattle.lookup.specs.Roles.{Works, Holds};
 ghost use Rattle.apply.specs.Effects.{Takes};
 ghost use Rattle.log.specs.Places.{laidAt, Laid};
@@ -15,15 +16,15 @@ use log::Layout;
 use table::Size;
 
 // One record: it acts, or stands aside.
-pub fn step(rec: &[u8], table: &mut [u8], roles: &mut [u16], size: Size) -> Size
-    requires { ⌜ Takes (treeIn (now table) (size .entries) (size .asides)) (now rec) × Holds (now table) (now roles) (size .entries) (size .asides) × (size .entries < 512) × (size .asides < 512) ⌝ }
-    ensures { λ r. ⌜ Works (now (table .exit)) (now (roles .exit)) (r .entries) (r .asides) (stepOf (treeIn (now (table .entry)) (size .entries) (size .asides)) (now (rec .entry))) ⌝ }
+pub fn step(rec: &[u8], table: &mut [u8], register: &mut [u16], size: Size) -> Size
+    requires { ⌜ Takes (treeIn (now table) (size .entries) (size .asides)) (now rec) × Holds (now table) (now register) (size .entries) (size .asides) × (size .entries < 512) × (size .asides < 512) × (nodesIn (now register) < 512) ⌝ }
+    ensures { λ r. ⌜ Works (now (table .exit)) (now (register .exit)) (r .entries) (r .asides) (stepOf (treeIn (now (table .entry)) (size .entries) (size .asides)) (now (rec .entry))) × (nodesIn (now (register .exit)) ≤ nodesIn (now (register .entry)) + 1) ⌝ }
 {
-    let j = judge::judge(rec, table, roles, size);
+    let j = judge::judge(rec, table, register, size);
     if j.reason == 0 {
-        return apply::effect(rec, table, roles, size);
+        return apply::effect(rec, table, register, size);
     }
-    apply::stand_aside(rec, j.reason, j.marked, table, roles, size)
+    apply::stand_aside(rec, j.reason, j.marked, table, register, size)
 }
 
 // The first n records of a log or a file, from the tree that a table holds on.
@@ -32,47 +33,47 @@ pub fn replay(
     layout: Layout,
     n: usize,
     table: &mut [u8],
-    roles: &mut [u16],
+    register: &mut [u16],
     start: Size,
 ) -> Size
-    requires { ⌜ Laid layout (now bytes) n × Playable (treeIn (now table) (start .entries) (start .asides)) (laidAt layout (now bytes)) n × Holds (now table) (now roles) (start .entries) (start .asides) × (start .entries + n ≤ 512) × (start .asides + n ≤ 512) ⌝ }
-    ensures { λ r. ⌜ Works (now (table .exit)) (now (roles .exit)) (r .entries) (r .asides) (replayFrom (treeIn (now (table .entry)) (start .entries) (start .asides)) (listed (laidAt layout (now (bytes .entry))) 0 n)) ⌝ }
+    requires { ⌜ Laid layout (now bytes) n × Playable (treeIn (now table) (start .entries) (start .asides)) (laidAt layout (now bytes)) n × Holds (now table) (now register) (start .entries) (start .asides) × (start .entries + n ≤ 512) × (start .asides + n ≤ 512) × (nodesIn (now register) + n ≤ 512) ⌝ }
+    ensures { λ r. ⌜ Works (now (table .exit)) (now (register .exit)) (r .entries) (r .asides) (replayFrom (treeIn (now (table .entry)) (start .entries) (start .asides)) (listed (laidAt layout (now (bytes .entry))) 0 n)) ⌝ }
 {
     let mut size = start;
     let mut i: usize = 0;
     while i < n {
         let at = log::offset(layout, i);
-        let next = step(&bytes[at..at + 80], table, roles, size);
+        let next = step(&bytes[at..at + 80], table, register, size);
         size = next;
         i += 1;
     }
     size
 }
 
-// Every role becomes 0.
-pub fn clear_roles(roles: &mut [u16])
-    ensures { λ _. ⌜ now (roles .exit) ≡ replicate (length (now (roles .entry))) 0 ⌝ }
+// Every number becomes 0.
+pub fn clear_register(register: &mut [u16])
+    ensures { λ _. ⌜ now (register .exit) ≡ replicate (length (now (register .entry))) 0 ⌝ }
 {
     let mut i = 0;
-    while i < roles.len() {
-        roles[i] = 0;
+    while i < register.len() {
+        register[i] = 0;
         i += 1;
     }
 }
 
-// The n records of a sound log, from the root alone on. Table and roles may hold anything before.
-pub fn replay_log(log: &[u8], n: usize, table: &mut [u8], roles: &mut [u16]) -> Size
-    requires { ⌜ (length (now log) ≡ 40960) × (soundLog (now log) ≡ true) × (n ≡ length (recordsOf (now log))) × (length (now table) ≡ 43012) × (length (now roles) ≡ 4096) ⌝ }
-    ensures { λ r. ⌜ Works (now (table .exit)) (now (roles .exit)) (r .entries) (r .asides) (replayOf (recordsOf (now (log .entry)))) ⌝ }
+// The n records of a sound log, from the root alone on. Table and register may hold anything before.
+pub fn replay_log(log: &[u8], n: usize, table: &mut [u8], register: &mut [u16]) -> Size
+    requires { ⌜ (length (now log) ≡ 40960) × (soundLog (now log) ≡ true) × (n ≡ length (recordsOf (now log))) × (length (now table) ≡ 43012) × (length (now register) ≡ 9729) ⌝ }
+    ensures { λ r. ⌜ Works (now (table .exit)) (now (register .exit)) (r .entries) (r .asides) (replayOf (recordsOf (now (log .entry)))) ⌝ }
 {
     octets::clear(table);
-    clear_roles(roles);
+    clear_register(register);
     replay(
         log,
         Layout::Log,
         n,
         table,
-        roles,
+        register,
         Size {
             entries: 0,
             asides: 0,

@@ -16,8 +16,8 @@ use Rattle.lookup.proofs.Working.{works-tree}
 
 -- ---- a table laid
 
-pub laid : (b roles : List ℕ) (n m : ℕ) (t : Tree) (f : List ℕ) → Works b roles n m t → f ≡ tableBytes (treeIn b n m) → f ≡ tableBytes t
-laid b roles n m t f w e = e ∙ ap tableBytes (works-tree b roles n m t w)
+pub laid : (b register : List ℕ) (n m : ℕ) (t : Tree) (f : List ℕ) → Works b register n m t → f ≡ tableBytes (treeIn b n m) → f ≡ tableBytes t
+laid b register n m t f w e = e ∙ ap tableBytes (works-tree b register n m t w)
 
 -- ---- the answers
 

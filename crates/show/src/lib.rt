@@ -8,22 +8,22 @@ ghost use Rattle.model.specs.Table.{tableBytes};
 ghost use Rattle.model.specs.Outcome.{outcome, showOf};
 use answer::Answer;
 
-// The tree of the n records of a sound log is laid in a table. Table and roles may hold anything before.
-pub fn lay_tree(log: &[u8], n: usize, tree: &mut [u8], roles: &mut [u16])
-    requires { ⌜ (length (now log) ≡ 40960) × (soundLog (now log) ≡ true) × (n ≡ length (recordsOf (now log))) × (length (now tree) ≡ 43012) × (length (now roles) ≡ 4096) ⌝ }
+// The tree of the n records of a sound log is laid in a table. Table and register may hold anything before.
+pub fn lay_tree(log: &[u8], n: usize, tree: &mut [u8], register: &mut [u16])
+    requires { ⌜ (length (now log) ≡ 40960) × (soundLog (now log) ≡ true) × (n ≡ length (recordsOf (now log))) × (length (now tree) ≡ 43012) × (length (now register) ≡ 9729) ⌝ }
     ensures { λ _. ⌜ now (tree .exit) ≡ tableBytes (replay (recordsOf (now (log .entry)))) ⌝ }
 {
-    let size = replay::replay_log(log, n, tree, roles);
-    finish::finish(tree, roles, size);
+    let size = replay::replay_log(log, n, tree, register);
+    finish::finish(tree, register, size);
 }
 
-// The same, with roles of its own.
+// The same, with a register of its own.
 fn lay(log: &[u8], n: usize, tree: &mut [u8])
     requires { ⌜ (length (now log) ≡ 40960) × (soundLog (now log) ≡ true) × (n ≡ length (recordsOf (now log))) × (length (now tree) ≡ 43012) ⌝ }
     ensures { λ _. ⌜ now (tree .exit) ≡ tableBytes (replay (recordsOf (now (log .entry)))) ⌝ }
 {
-    let mut roles = [0u16; 4096];
-    lay_tree(log, n, tree, &mut roles);
+    let mut register = [0u16; 9729];
+    lay_tree(log, n, tree, &mut register);
 }
 
 // The lent table shows the tree and the asides of the lent log. A refusal leaves the table as it was.

@@ -1,4 +1,6 @@
-use Rattle.apply.proofs.Effects.{entry-added, next-row-end, own-low, folder-low}
+use Rattle.apply.proofs.Effects.{entry-added, made-nodes, enter-chains, enter-nodes, enter-count, next-row-end, own-low, folder-low}
+use Rattle.model.specs.Record.{labelOf}
+use Rattle.model.specs.Bytes.{part}
 use borrow.Author.Needs.{needs}
 use Rattle.apply.proofs.add_entry.Statement.{statement}
 use Rattle.apply.proofs.add_entry.Tie as tie
@@ -30,20 +32,38 @@ self-of-requires c κs = search needs
 slot-requires : tie.Need-slot-requires
 slot-requires c κs = search needs
 
-add-roles : tie.Need-add-roles
-add-roles c = search needs
+add-put : tie.Need-add-put
+add-put c = search needs
 
-cast-roles : tie.Need-cast-roles
-cast-roles c = search needs
+put-requires : tie.Need-put-requires
+put-requires c κs = search needs
 
-mul-roles : tie.Need-mul-roles
-mul-roles c = search needs
+folder-of-requires : tie.Need-folder-of-requires
+folder-of-requires c κs = search needs
 
-slice-write-roles : tie.Need-slice-write-roles
-slice-write-roles c = search needs
+sub-enter : tie.Need-sub-enter
+sub-enter c = search needs
 
-add-t7 : tie.Need-add-t7
-add-t7 c = search needs
+part-enter-start : tie.Need-part-enter-start
+part-enter-start c = search needs
+
+part-enter-end : tie.Need-part-enter-end
+part-enter-end c = search needs
+
+enter-requires : tie.Need-enter-requires
+enter-requires c κs =
+    let p = c .before .before .before .before .before in
+    let s = p .before .before .before .before .before .before .before .before .before .before .before .before .before in
+    let low = p .before .before .before .slot .ensures .1 in (
+      enter-chains _ _ _ _ (s .pre .1) _ _ low _ (p .put .ensures),
+      enter-count _ _ _ _ (s .pre .1) _ _ low _ (p .put .ensures) (s .pre .2) _,
+      enter-nodes _ _ _ _ (s .pre .1) _ _ low _ (p .put .ensures) (s .pre .3),
+      search needs,
+      search needs,
+    )
+
+add-t10 : tie.Need-add-t10
+add-t10 c = search needs
 
 same-length : tie.Need-same-length
 same-length c = search needs
@@ -52,7 +72,8 @@ same-length-2 : tie.Need-same-length-2
 same-length-2 c = search needs
 
 returns : tie.Need-returns
-returns c = search (entry-added)
+unfolding labelOf part
+returns c = (search (entry-added), search (made-nodes))
 
 pub add-entry-spec : {M : Type 1} → statement M
 add-entry-spec =
@@ -67,11 +88,14 @@ add-entry-spec =
     fill-row-requires
     self-of-requires
     slot-requires
-    add-roles
-    cast-roles
-    mul-roles
-    slice-write-roles
-    add-t7
+    add-put
+    put-requires
+    folder-of-requires
+    sub-enter
+    part-enter-start
+    part-enter-end
+    enter-requires
+    add-t10
     same-length
     same-length-2
     returns)

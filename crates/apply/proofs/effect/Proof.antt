@@ -1,3 +1,4 @@
+use native.Mathlib.Omega.{arith}
 use Rattle.apply.proofs.Effects.{effect-make, effect-store, effect-remove, effect-rename, effect-settle}
 use borrow.Author.Needs.{needs}
 use Rattle.apply.proofs.effect.Statement.{statement}
@@ -16,7 +17,7 @@ same-length-2 : tie.Need-same-length-2
 same-length-2 c = search needs
 
 returns : tie.Need-returns
-returns c = search (effect-make)
+returns c = (search (effect-make), omega arith)
 
 store-requires : tie.Need-store-requires
 store-requires c κs = search needs
@@ -37,7 +38,7 @@ same-length-4 : tie.Need-same-length-4
 same-length-4 c = search needs
 
 returns-2 : tie.Need-returns-2
-returns-2 c = search (effect-store)
+returns-2 c = (search (effect-store), omega arith)
 
 same-length-5 : tie.Need-same-length-5
 same-length-5 c = search needs
@@ -46,7 +47,7 @@ same-length-6 : tie.Need-same-length-6
 same-length-6 c = search needs
 
 returns-3 : tie.Need-returns-3
-returns-3 c = search (effect-remove)
+returns-3 c = (search (effect-remove), omega arith)
 
 same-length-7 : tie.Need-same-length-7
 same-length-7 c = search needs
@@ -55,7 +56,7 @@ same-length-8 : tie.Need-same-length-8
 same-length-8 c = search needs
 
 returns-4 : tie.Need-returns-4
-returns-4 c = search (effect-rename)
+returns-4 c = (search (effect-rename), omega arith)
 
 same-length-9 : tie.Need-same-length-9
 same-length-9 c = search needs
@@ -64,7 +65,7 @@ same-length-10 : tie.Need-same-length-10
 same-length-10 c = search needs
 
 returns-5 : tie.Need-returns-5
-returns-5 c = search (effect-settle)
+returns-5 c = (search (effect-settle), omega arith)
 
 pub effect-spec : {M : Type 1} → statement M
 effect-spec =

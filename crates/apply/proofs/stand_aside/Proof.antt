@@ -1,4 +1,4 @@
-use Rattle.apply.proofs.Effects.{aside-added, next-note-end, who-low, marked-low}
+use Rattle.apply.proofs.Effects.{aside-added, role-kept, next-note-end, who-low, marked-low}
 use borrow.Author.Needs.{needs}
 use Rattle.apply.proofs.stand_aside.Statement.{statement}
 use Rattle.apply.proofs.stand_aside.Tie as tie
@@ -30,17 +30,11 @@ fill-aside-requires c κs = (search needs, search (who-low), search (marked-low)
 slot-requires : tie.Need-slot-requires
 slot-requires c κs = search needs
 
-add-roles : tie.Need-add-roles
-add-roles c = search needs
+add-put : tie.Need-add-put
+add-put c = search needs
 
-cast-roles : tie.Need-cast-roles
-cast-roles c = search needs
-
-mul-roles : tie.Need-mul-roles
-mul-roles c = search needs
-
-slice-write-roles : tie.Need-slice-write-roles
-slice-write-roles c = search needs
+put-requires : tie.Need-put-requires
+put-requires c κs = search needs
 
 add-t10 : tie.Need-add-t10
 add-t10 c = search needs
@@ -52,7 +46,7 @@ same-length-2 : tie.Need-same-length-2
 same-length-2 c = search needs
 
 returns : tie.Need-returns
-returns c = search (aside-added)
+returns c = (search (aside-added), search (role-kept))
 
 pub stand-aside-spec : {M : Type 1} → statement M
 stand-aside-spec =
@@ -67,10 +61,8 @@ stand-aside-spec =
     part-fill-aside-end
     fill-aside-requires
     slot-requires
-    add-roles
-    cast-roles
-    mul-roles
-    slice-write-roles
+    add-put
+    put-requires
     add-t10
     same-length
     same-length-2

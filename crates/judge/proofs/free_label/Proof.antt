@@ -1,3 +1,5 @@
+use native.Mathlib.Omega.{arith}
+use Rattle.lookup.proofs.Working.{works-long}
 use Rattle.judge.proofs.Reasons.{label-held, label-free}
 use Rattle.model.specs.Record.{labelOf}
 use Rattle.model.specs.Bytes.{part}
@@ -18,7 +20,7 @@ holder-requires : tie.Need-holder-requires
 holder-requires c κs = search needs
 
 made-at-requires : tie.Need-made-at-requires
-made-at-requires c κs = search needs
+made-at-requires c κs = (search (works-long), omega arith)
 
 returns : tie.Need-returns
 unfolding labelOf part

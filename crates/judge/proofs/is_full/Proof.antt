@@ -12,12 +12,12 @@ returns c = search (full-no)
 made-at-requires : tie.Need-made-at-requires
 made-at-requires c κs = search needs
 
-has-entries-requires : tie.Need-has-entries-requires
-has-entries-requires c κs = search needs
+children-requires : tie.Need-children-requires
+children-requires c κs = search needs
 
 returns-2 : tie.Need-returns-2
 returns-2 c = search (full-if)
 
 pub is-full-spec : {M : Type 1} → statement M
 is-full-spec =
-    tie.close (tie.spec kind-at-requires returns made-at-requires has-entries-requires returns-2)
+    tie.close (tie.spec kind-at-requires returns made-at-requires children-requires returns-2)

@@ -24,10 +24,10 @@ judge-store-requires : tie.Need-judge-store-requires
 judge-store-requires c κs = (search, search (works-long), omega arith)
 
 judge-remove-requires : tie.Need-judge-remove-requires
-judge-remove-requires c κs = (search, search (works-long), omega arith)
+judge-remove-requires c κs = search needs
 
 judge-rename-requires : tie.Need-judge-rename-requires
-judge-rename-requires c κs = (search, search (works-long), omega arith)
+judge-rename-requires c κs = search needs
 
 judge-settle-requires : tie.Need-judge-settle-requires
 judge-settle-requires c κs = (search (object-range), search)

@@ -9,7 +9,7 @@ folder-of-requires : tie.Need-folder-of-requires
 folder-of-requires c κs = search needs
 
 free-label-requires : tie.Need-free-label-requires
-free-label-requires c κs = (search, search (works-long), omega arith)
+free-label-requires c κs = search needs
 
 returns : tie.Need-returns
 returns c = search (make-root)
@@ -30,7 +30,7 @@ returns-3 : tie.Need-returns-3
 returns-3 c = search (make-trace)
 
 free-label-requires-2 : tie.Need-free-label-requires-2
-free-label-requires-2 c κs = (search, search (works-long), omega arith)
+free-label-requires-2 c κs = search needs
 
 returns-4 : tie.Need-returns-4
 returns-4 c = search (make-folder)

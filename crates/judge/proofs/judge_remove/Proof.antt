@@ -1,5 +1,6 @@
+use native.Mathlib.Omega.{arith}
+use Rattle.lookup.proofs.Working.{works-long, works-range}
 use Rattle.judge.proofs.Reasons.{remove-absent, remove-full, remove-unseen, remove-fits}
-use borrow.Author.Needs.{needs}
 use Rattle.judge.proofs.judge_remove.Statement.{statement}
 use Rattle.judge.proofs.judge_remove.Tie as tie
 
@@ -7,16 +8,16 @@ returns : tie.Need-returns
 returns c = search (remove-absent)
 
 made-at-requires : tie.Need-made-at-requires
-made-at-requires c κs = search needs
+made-at-requires c κs = (search (works-long), omega arith)
 
 is-full-requires : tie.Need-is-full-requires
-is-full-requires c κs = search needs
+is-full-requires c κs = (search (works-long), search, omega arith, search (works-range))
 
 returns-2 : tie.Need-returns-2
 returns-2 c = search (remove-full)
 
 is-changed-requires : tie.Need-is-changed-requires
-is-changed-requires c κs = search needs
+is-changed-requires c κs = (search, search (works-long), omega arith)
 
 returns-3 : tie.Need-returns-3
 returns-3 c = search (remove-unseen)

@@ -1,40 +1,41 @@
-use Rattle.lookup.proofs.Scans.{holder-here, holder-later, holder-none}
-use Prim.Native.Nat.{_≤_, _-_}
-use mathlib.Core.Path.{_≡_}
-use Rattle.table.specs.Rows.{entriesFrom}
-use native.Mathlib.Nat.{sub-zero}
-use Rattle.model.specs.Replay.{holderOf}
+use Rattle.lookup.proofs.Labels.{Seeking, seek-starts, seek-row, seek-goes, seek-ends}
+use Rattle.lookup.proofs.Working.{works-long}
 use borrow.Author.Needs.{needs}
-use native.Mathlib.Omega.{arith}
 use Rattle.lookup.proofs.holder.Statement.{statement}
 use Rattle.lookup.proofs.holder.Tie as tie
 
 abbrev Inv-loop : tie.InvT-loop
-Inv-loop table n f label i₀ i = (i ≤ n) × (holderOf f label (entriesFrom table i (n - i)) ≡ holderOf f label (entriesFrom table 0 n))
+Inv-loop table register f label h best₀ q₀ best q = Seeking table register best₀ f label best q
 
 abbrev μ-loop : tie.MeasureT-loop
-μ-loop table n f label i₀ i = n - i
+μ-loop table register f label h best₀ q₀ best q = q
+
+hash-requires : tie.Need-hash-requires Inv-loop μ-loop
+hash-requires c κs = search needs
+
+first-of-requires : tie.Need-first-of-requires Inv-loop μ-loop
+first-of-requires c κs = search needs
 
 loop-holds : tie.Need-loop-holds Inv-loop μ-loop
-loop-holds c = (omega arith, rw sub-zero)
+loop-holds c = search (seek-starts)
 
-holds-label-requires : tie.Need-holds-label-requires Inv-loop μ-loop
-holds-label-requires c κs = search needs
+row-at-requires : tie.Need-row-at-requires Inv-loop μ-loop
+row-at-requires c κs = search needs
 
-returns : tie.Need-returns Inv-loop μ-loop
-returns c = search (holder-here)
+earlier-requires : tie.Need-earlier-requires Inv-loop μ-loop
+earlier-requires c κs = (search (works-long), search (seek-row))
 
-add-i : tie.Need-add-i Inv-loop μ-loop
-add-i c = search needs
+node-behind-requires : tie.Need-node-behind-requires Inv-loop μ-loop
+node-behind-requires c κs = search needs
 
 loop-less : tie.Need-loop-less Inv-loop μ-loop
 loop-less c = search needs
 
 loop-again : tie.Need-loop-again Inv-loop μ-loop
-loop-again c = (omega arith, search (holder-later))
+loop-again c = search (seek-goes)
 
-returns-2 : tie.Need-returns-2 Inv-loop μ-loop
-returns-2 c = search (holder-none)
+returns : tie.Need-returns Inv-loop μ-loop
+returns c = search (seek-ends)
 
 pub holder-spec : {M : Type 1} → statement M
 holder-spec =
@@ -42,10 +43,12 @@ holder-spec =
     (tie.spec
     Inv-loop
     μ-loop
+    hash-requires
+    first-of-requires
     loop-holds
-    holds-label-requires
-    returns
-    add-i
+    row-at-requires
+    earlier-requires
+    node-behind-requires
     loop-less
     loop-again
-    returns-2)
+    returns)

@@ -1,4 +1,4 @@
-use Rattle.lookup.proofs.Scans.{holds-not, holds-same}
+use Rattle.lookup.proofs.Labels.{holds-not, holds-same}
 use borrow.Author.Needs.{needs}
 use Rattle.lookup.proofs.holds_label.Statement.{statement}
 use Rattle.lookup.proofs.holds_label.Tie as tie

@@ -1,4 +1,4 @@
-use Rattle.lookup.proofs.Scans.{not-in, in-if}
+use Rattle.lookup.proofs.Labels.{not-in, in-if}
 use borrow.Author.Needs.{needs}
 use Rattle.lookup.proofs.is_in.Statement.{statement}
 use Rattle.lookup.proofs.is_in.Tie as tie

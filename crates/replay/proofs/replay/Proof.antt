@@ -1,9 +1,10 @@
 use Rattle.replay.proofs.Playing.{turn-entries, turn-asides, turn-holds, turn-takes, turn-goes, turn-inside, play-ends, play-starts}
-use Prim.Native.Nat.{_≤_, _-_}
+use Prim.Native.Nat.{_+_, _≤_, _-_}
 use mathlib.Core.Path.{_≡_, refl}
 use lib.ListN.{length}
 use Rattle.model.specs.Replay.{replayFrom}
 use Rattle.table.specs.Rows.{treeIn}
+use Rattle.chains.specs.Chains.{nodesIn}
 use Rattle.lookup.specs.Roles.{Works}
 use Rattle.log.specs.Places.{laidAt}
 use Rattle.log.specs.InOrder.{listed}
@@ -13,13 +14,13 @@ use Rattle.replay.proofs.replay.Statement.{statement}
 use Rattle.replay.proofs.replay.Tie as tie
 
 abbrev Inv-loop : tie.InvT-loop
-Inv-loop bytes layout n table₀ roles₀ size₀ i₀ table roles size i = (i ≤ n) × (length table ≡ length table₀) × (length roles ≡ length roles₀) × Works table roles (size .entries) (size .asides) (replayFrom (treeIn table₀ (size₀ .entries) (size₀ .asides)) (listed (laidAt layout bytes) 0 i))
+Inv-loop bytes layout n table₀ register₀ size₀ i₀ table register size i = (i ≤ n) × (length table ≡ length table₀) × (length register ≡ length register₀) × (nodesIn register ≤ nodesIn register₀ + i) × Works table register (size .entries) (size .asides) (replayFrom (treeIn table₀ (size₀ .entries) (size₀ .asides)) (listed (laidAt layout bytes) 0 i))
 
 abbrev μ-loop : tie.MeasureT-loop
-μ-loop bytes layout n table₀ roles₀ size₀ i₀ table roles size i = n - i
+μ-loop bytes layout n table₀ register₀ size₀ i₀ table register size i = n - i
 
 loop-holds : tie.Need-loop-holds Inv-loop μ-loop
-loop-holds c = (omega arith, refl, refl, search (play-starts))
+loop-holds c = (omega arith, refl, refl, omega arith, search (play-starts))
 
 offset-requires : tie.Need-offset-requires Inv-loop μ-loop
 offset-requires c κs = omega arith
@@ -37,7 +38,7 @@ part-step-end : tie.Need-part-step-end Inv-loop μ-loop
 part-step-end c = search (turn-inside)
 
 step-requires : tie.Need-step-requires Inv-loop μ-loop
-step-requires c κs = (search (turn-takes), search (turn-holds), search (turn-entries), search (turn-asides))
+step-requires c κs = (search (turn-takes), search (turn-holds), search (turn-entries), search (turn-asides), omega arith)
 
 add-i : tie.Need-add-i Inv-loop μ-loop
 add-i c = search needs
@@ -46,7 +47,7 @@ loop-less : tie.Need-loop-less Inv-loop μ-loop
 loop-less c = search needs
 
 loop-again : tie.Need-loop-again Inv-loop μ-loop
-loop-again c = (omega arith, search needs, search needs, search (turn-goes))
+loop-again c = (omega arith, search needs, search needs, omega arith, search (turn-goes))
 
 same-length : tie.Need-same-length Inv-loop μ-loop
 same-length c = search needs

@@ -1,5 +1,5 @@
 use Rattle.log.proofs.Sound.{log-laid}
-use Rattle.replay.proofs.Sound.{start-holds, log-room, log-playable, log-replayed}
+use Rattle.replay.proofs.Sound.{start-holds, start-nodes, few-records, log-room, log-playable, log-replayed}
 use borrow.Author.Needs.{needs}
 use Rattle.replay.proofs.replay_log.Statement.{statement}
 use Rattle.replay.proofs.replay_log.Tie as tie
@@ -7,11 +7,11 @@ use Rattle.replay.proofs.replay_log.Tie as tie
 clear-requires : tie.Need-clear-requires
 clear-requires c κs = search needs
 
-clear-roles-requires : tie.Need-clear-roles-requires
-clear-roles-requires c κs = search needs
+clear-register-requires : tie.Need-clear-register-requires
+clear-register-requires c κs = search needs
 
 replay-requires : tie.Need-replay-requires
-replay-requires c κs = (search (log-laid), search (log-playable), search (start-holds), search (log-room), search (log-room))
+replay-requires c κs = (search (log-laid), search (log-playable), search (start-holds), search (log-room), search (log-room), search (start-nodes, few-records))
 
 same-length : tie.Need-same-length
 same-length c = search needs
@@ -27,7 +27,7 @@ replay-log-spec =
     tie.close
     (tie.spec
     clear-requires
-    clear-roles-requires
+    clear-register-requires
     replay-requires
     same-length
     same-length-2

@@ -1,3 +1,4 @@
+use native.Mathlib.Omega.{arith}
 use Rattle.replay.proofs.Stepping.{step-acts, step-stands, mark-fits}
 use borrow.Author.Needs.{needs}
 use Rattle.replay.proofs.step.Statement.{statement}
@@ -16,7 +17,7 @@ same-length-2 : tie.Need-same-length-2
 same-length-2 c = search needs
 
 returns : tie.Need-returns
-returns c = search (step-acts)
+returns c = (search (step-acts), omega arith)
 
 stand-aside-requires : tie.Need-stand-aside-requires
 stand-aside-requires c κs = (search, search, search, search (mark-fits))
@@ -28,7 +29,7 @@ same-length-4 : tie.Need-same-length-4
 same-length-4 c = search needs
 
 returns-2 : tie.Need-returns-2
-returns-2 c = search (step-stands)
+returns-2 c = (search (step-stands), omega arith)
 
 pub step-spec : {M : Type 1} → statement M
 step-spec =

@@ -6,23 +6,23 @@ use borrow.Author.Fill.{fill-none, fill-more}
 use Rattle.octets.proofs.Parts.{filled}
 use borrow.Author.Needs.{needs}
 use native.Mathlib.Omega.{arith}
-use Rattle.replay.proofs.clear_roles.Statement.{statement}
-use Rattle.replay.proofs.clear_roles.Tie as tie
+use Rattle.replay.proofs.clear_register.Statement.{statement}
+use Rattle.replay.proofs.clear_register.Tie as tie
 
 abbrev Inv-loop : tie.InvT-loop
-Inv-loop roles₀ i₀ roles i = (i ≤ length roles₀) × (length roles ≡ length roles₀) × (roles ≡ replicate i 0 ++ drop i roles₀)
+Inv-loop register₀ i₀ register i = (i ≤ length register₀) × (length register ≡ length register₀) × (register ≡ replicate i 0 ++ drop i register₀)
 
 abbrev μ-loop : tie.MeasureT-loop
-μ-loop roles₀ i₀ roles i = length roles₀ - i
+μ-loop register₀ i₀ register i = length register₀ - i
 
 loop-holds : tie.Need-loop-holds Inv-loop μ-loop
-loop-holds c = (omega arith, refl, fill-none (c .args .roles .now) 0)
+loop-holds c = (omega arith, refl, fill-none (c .args .register .now) 0)
 
-mul-roles : tie.Need-mul-roles Inv-loop μ-loop
-mul-roles c = search needs
+mul-register : tie.Need-mul-register Inv-loop μ-loop
+mul-register c = search needs
 
-slice-write-roles : tie.Need-slice-write-roles Inv-loop μ-loop
-slice-write-roles c = search needs
+slice-write-register : tie.Need-slice-write-register Inv-loop μ-loop
+slice-write-register c = search needs
 
 add-i : tie.Need-add-i Inv-loop μ-loop
 add-i c = search needs
@@ -34,7 +34,7 @@ loop-again : tie.Need-loop-again Inv-loop μ-loop
 loop-again c =
     let l = c .before .loop in
     let a = c .before .before .args in
-    (omega arith, simp length-set (l .inv .1), rw (l .inv .2) (fill-more (l .i) 0 (a .roles .now) (omega arith)))
+    (omega arith, simp length-set (l .inv .1), rw (l .inv .2) (fill-more (l .i) 0 (a .register .now) (omega arith)))
 
 same-length : tie.Need-same-length Inv-loop μ-loop
 same-length c = search needs
@@ -42,18 +42,18 @@ same-length c = search needs
 returns : tie.Need-returns Inv-loop μ-loop
 returns c =
     let l = c .before .loop in
-    let d = c .before .before .args .roles .now in
+    let d = c .before .before .args .register .now in
     l .inv .2 ∙ filled d 0 (l .i) (omega arith)
 
-pub clear-roles-spec : {M : Type 1} → statement M
-clear-roles-spec =
+pub clear-register-spec : {M : Type 1} → statement M
+clear-register-spec =
     tie.close
     (tie.spec
     Inv-loop
     μ-loop
     loop-holds
-    mul-roles
-    slice-write-roles
+    mul-register
+    slice-write-register
     add-i
     loop-less
     loop-again

@@ -1,9 +1,9 @@
-use Rattle.lookup.specs.Roles.{slotOf}
+use Rattle.keys.specs.Keys.{slotOf}
 use mathlib.Core.Path.{refl}
 use native.Mathlib.Omega.{arith}
 use borrow.Author.Needs.{needs}
-use Rattle.lookup.proofs.slot.Statement.{statement}
-use Rattle.lookup.proofs.slot.Tie as tie
+use Rattle.keys.proofs.slot.Statement.{statement}
+use Rattle.keys.proofs.slot.Tie as tie
 
 cast-result : tie.Need-cast-result
 cast-result c = search needs
