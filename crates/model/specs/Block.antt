@@ -12,12 +12,12 @@ use Rattle.model.specs.Record.{Rec}
 
 -- ---- the sums
 
--- the first sum after n words: each word is added modulo 65,521
+-- the first sum after n words: each word is added modulo 65,521 [F30]
 unfoldable pub firstTo : List ℕ → ℕ → ℕ
 firstTo b zero = 0
 firstTo b (suc n) = (firstTo b n + word b (2 * n)) % 65521
 
--- the second: the first sum after each word is added modulo 65,521
+-- the second: the first sum after each word is added modulo 65,521 [F30]
 unfoldable pub secondTo : List ℕ → ℕ → ℕ
 secondTo b zero = 0
 secondTo b (suc n) = (secondTo b n + firstTo b (suc n)) % 65521
@@ -34,11 +34,11 @@ pub record Header : Type 0 where
   pub place : ℕ
   pub vector : List ℕ
 
--- the first 28 bytes, with the count of records
+-- the first 28 bytes, with the count of records [F57]
 unfoldable pub headBytes : Header → ℕ → List ℕ
 headBytes h n = letters ++ (four (h .archive) ++ ((h .sender ∷ n ∷ []) ++ (two (h .place) ++ vectorBytes (h .vector))))
 
--- the 508 bytes before the sums: header and six record places, the unused ones zero
+-- the 508 bytes before the sums: header and six record places, the unused ones zero [F57]
 unfoldable pub bodyBytes : Header → List Rec → List ℕ
 bodyBytes h l = headBytes h (length l) ++ padded 480 (joined l)
 
@@ -66,16 +66,16 @@ placeIn b = word b 10
 unfoldable pub vectorIn : List ℕ → List ℕ
 vectorIn b = vectorAt b 12
 
--- the stored sums are those of the 254 words before them
+-- the stored sums are those of the 254 words before them [F31] [F40]
 unfoldable pub sumsHold : List ℕ → Bool
 sumsHold b = eqb (word b 508) (firstTo b 254) && eqb (word b 510) (secondTo b 254)
 
--- a unit of 0 to 7, a count of 0 to 6, and zeros in the unused places
+-- a unit of 0 to 7, a count of 0 to 6, and zeros in the unused places [F41]
 unfoldable pub headerHolds : List ℕ → Bool
 headerHolds b =
     leb (senderIn b) 7 && (leb (countIn b) 6 && blank (part b (28 + 80 * countIn b) (480 - 80 * countIn b)))
 
--- the first of 3, 4 and 5 that holds of a block of 512 bytes, or 0
+-- the first of 3, 4 and 5 that holds of a block of 512 bytes, or 0 [F39]
 unfoldable pub blockFault : List ℕ → ℕ
 blockFault b =
     cond (sameBytes (take 4 b) letters)

@@ -6,7 +6,7 @@ use mathlib.Core.List.{List, [], _∷_, _++_}
 use lib.Dec.{eqb}
 use lib.ListN.{getD, length, take, drop, replicate}
 
--- the 16-bit number at a place
+-- the 16-bit number at a place [F1]
 unfoldable pub word : List ℕ → ℕ → ℕ
 word b i = getD b i 0 + 256 * getD b (i + 1) 0
 
@@ -34,7 +34,7 @@ sameBytes [] (y ∷ b) = false
 sameBytes (x ∷ a) [] = false
 sameBytes (x ∷ a) (y ∷ b) = eqb x y && sameBytes a b
 
--- n bytes from a place on
+-- n bytes from a place on [F2]
 unfoldable pub part : List ℕ → ℕ → ℕ → List ℕ
 part b at n = take n (drop at b)
 

@@ -9,11 +9,12 @@ use Rattle.model.specs.Bytes.{two, sameBytes, padded}
 use Rattle.model.specs.Vector.{compareOf, vectorBytes}
 use Rattle.model.specs.Date.{isDate}
 use Rattle.model.specs.Record.{Rec, identity, root, wellFormed}
-use Rattle.model.specs.Log.{soundAfter}
+use Rattle.model.specs.Log.{recordFault, soundAfter}
 use Rattle.model.specs.Replay.{Entry, Aside, Tree, replay, presentOnes, isDisputed}
 use Rattle.model.specs.Table.{identityBytes}
 use Rattle.model.specs.File.{blockCount}
 use Rattle.model.specs.Outcome.{Took, refused, taken, takeAll}
+use Rattle.model.specs.Listing.{decimal, headLine, seenLine}
 
 infix 90 _·_
 -- the identity unit.number
@@ -132,6 +133,10 @@ pub data Row : Type 0 where
   refuses : List Rec → List Rec → ℕ → Row
   -- how many records, and how many blocks their file has
   blocks : ℕ → ℕ → Row
+  -- the records of a file before a record, last first, that record, and its fault
+  faulty : List Rec → Rec → ℕ → Row
+  -- a text of the listing, and its bytes
+  prints : List ℕ → List ℕ → Row
 
 unfoldable pub showsTaken : Took → List Shown → List Standing → Bool
 showsTaken (refused n) es ss = false
@@ -149,6 +154,8 @@ right (tree l es ss) = shows l es ss
 right (takes l rs es ss) = soundAfter [] l && showsTaken (takeAll l rs) es ss
 right (refuses l rs n) = soundAfter [] l && isRefused (takeAll l rs) n
 right (blocks n k) = eqb (blockCount n) k
+right (faulty l r n) = eqb (recordFault l r) n
+right (prints t b) = sameBytes t b
 
 unfoldable pub allRight : List Row → Bool
 allRight [] = true
@@ -298,6 +305,21 @@ further =
     ∷ refuses (makesTrace 3 (0 · 1) [] root A ∷ []) (stores 3 (0 · 3) (2 ∷ []) (0 · 1) ∷ []) 8
     ∷ refuses (makesTrace 3 (0 · 1) [] root A ∷ []) (makesTrace 4 (0 · 1) [] root A ∷ []) 10
     ∷ refuses [] (makesTrace 3 (0 · 1) [] root (32 ∷ []) ∷ []) 7
+    -- in a file: a malformed record that is not next either, one that does not rise, one that is not next, one not closed
+    ∷ faulty [] (makesTrace 3 (0 · 2) (1 ∷ []) root (32 ∷ [])) 7
+    ∷ faulty (makesTrace 3 (1 · 1) [] root A ∷ []) (makesTrace 3 (0 · 1) [] root B) 20
+    ∷ faulty (makesTrace 3 (0 · 1) [] root A ∷ []) (makesTrace 3 (0 · 3) (2 ∷ []) root B) 8
+    ∷ faulty (makesTrace 3 (1 · 1) (1 ∷ []) root B ∷ makesTrace 3 (0 · 1) [] root A ∷ []) (makesTrace 3 (2 · 1) (0 ∷ 1 ∷ []) root C) 9
+    -- 0, 10 and 4294967295
+    ∷ prints (decimal 0) (48 ∷ [])
+    ∷ prints (decimal 10) (49 ∷ 48 ∷ [])
+    ∷ prints (decimal 4294967295) (52 ∷ 50 ∷ 57 ∷ 52 ∷ 57 ∷ 54 ∷ 55 ∷ 50 ∷ 57 ∷ 53 ∷ [])
+    -- archive 7 unit 0 records 3
+    ∷ prints (headLine 7 0 3)
+    (97 ∷ 114 ∷ 99 ∷ 104 ∷ 105 ∷ 118 ∷ 101 ∷ 32 ∷ 55 ∷ 32 ∷ 117 ∷ 110 ∷ 105 ∷ 116 ∷ 32 ∷ 48 ∷ 32 ∷ 114 ∷ 101 ∷ 99 ∷ 111 ∷ 114 ∷ 100 ∷ 115 ∷ 32 ∷ 51 ∷ 10 ∷ [])
+    -- seen 2 1 0 0 0 0 0 0
+    ∷ prints (seenLine (2 ∷ 1 ∷ 0 ∷ 0 ∷ 0 ∷ 0 ∷ 0 ∷ 0 ∷ []))
+    (115 ∷ 101 ∷ 101 ∷ 110 ∷ 32 ∷ 50 ∷ 32 ∷ 49 ∷ 32 ∷ 48 ∷ 32 ∷ 48 ∷ 32 ∷ 48 ∷ 32 ∷ 48 ∷ 32 ∷ 48 ∷ 32 ∷ 48 ∷ 10 ∷ [])
     ∷ []
 
 unfoldable pub table : List Row

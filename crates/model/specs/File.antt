@@ -14,14 +14,15 @@ use Rattle.model.specs.Vector.{vectorBytes}
 
 -- ---- writing
 
--- six records a block; an empty log is one block
+-- six records a block; an empty log is one block [F35]
 unfoldable pub blockCount : ℕ → ℕ
 blockCount n = max 1 ((n + 5) / 6)
 
+-- [F34]
 unfoldable pub headerOf : ℕ → ℕ → ℕ → List Rec → Header
 headerOf archive u place l = record { archive = archive; sender = u; place = place; vector = vectorOf l }
 
--- the block at a place of the file
+-- the block at a place of the file [F33]
 unfoldable pub fileBlock : ℕ → ℕ → List Rec → ℕ → List ℕ
 fileBlock archive u l k = blockOf (headerOf archive u k l) (take 6 (drop (6 * k) l))
 
@@ -36,7 +37,7 @@ fileOf archive u l = fileTo archive u l (blockCount (length l))
 
 -- ---- reading
 
--- 1 to 86 whole blocks
+-- 1 to 86 whole blocks [F32] [F38]
 unfoldable pub fileLength : List ℕ → Bool
 fileLength f = eqb (length f % 512) 0 && (leb 1 (length f / 512) && leb (length f / 512) 86)
 
@@ -46,11 +47,11 @@ blocksIn f = length f / 512
 unfoldable pub blockAt : List ℕ → ℕ → List ℕ
 blockAt f k = part f (512 * k) 512
 
--- full before the last; a count of 0 only in an only block
+-- full before the last; a count of 0 only in an only block [F42]
 unfoldable pub countFits : ℕ → ℕ → ℕ → Bool
 countFits n k c = cond (ltb (suc k) n) (eqb c 6) (eqb n 1 || leb 1 c)
 
--- block k of n against its place and block 0
+-- block k of n against its place and block 0 [F42]
 unfoldable pub agrees : ℕ → ℕ → List ℕ → List ℕ → Bool
 agrees n k first b =
     eqb (placeIn b) k
@@ -94,7 +95,7 @@ fileRecordsFrom f i (suc n) = fileRecord f i ∷ fileRecordsFrom f (suc i) n
 unfoldable pub fileRecords : List ℕ → List Rec
 fileRecords f = fileRecordsFrom f 0 (recordsCounted f)
 
--- the first fault of records behind others, i of them: 11 for a 513th, then 7, 20, 8, 9; those before stand last first
+-- the first fault of records behind others, i of them: 11 for a 513th, then 7, 20, 8, 9; those before stand last first [F43]
 unfoldable pub recordsFault : List Rec → ℕ → List Rec → Fault
 recordsFault pre i [] = fault 0 0
 recordsFault pre i (r ∷ l) =
@@ -102,7 +103,7 @@ recordsFault pre i (r ∷ l) =
     (cond (eqb (recordFault pre r) 0) (recordsFault (r ∷ pre) (suc i) l) (fault (recordFault pre r) (i / 6)))
     (fault fullLog (i / 6))
 
--- the header's vector against the record counts, at the last block
+-- the header's vector against the record counts, at the last block [F48]
 unfoldable pub countsFault : List ℕ → Fault
 countsFault f = cond (sameBytes (vectorIn (blockAt f 0)) (vectorOf (fileRecords f))) (fault 0 0) (fault badFile (blocksIn f - 1))
 
@@ -124,10 +125,12 @@ pub record ReadBack : Type 0 where
   pub vector : List ℕ
   pub log : List ℕ
 
+-- [F58]
 unfoldable pub notRead : List ℕ → ℕ → ℕ → ReadBack
 notRead log n p =
     record { number = n; place = p; archive = 0; sender = 0; records = 0; vector = 0 ∷ 0 ∷ 0 ∷ 0 ∷ 0 ∷ 0 ∷ 0 ∷ 0 ∷ []; log = log }
 
+-- [F74]
 unfoldable pub readBack : List ℕ → ReadBack
 readBack f =
     record {

@@ -13,7 +13,7 @@ use Rattle.model.specs.Table.{tableBytes}
 use Rattle.model.specs.Block.{archiveIn, senderIn, vectorIn}
 use Rattle.model.specs.File.{fileLength, fileFault, blockAt, recordsCounted, fileRecords}
 
--- ---- the words, in ASCII
+-- ---- the words, in ASCII [F49]
 
 -- "archive "
 abbrev pub archiveWord : List ℕ
@@ -82,7 +82,7 @@ unfoldable pub decimalTo : ℕ → ℕ → List ℕ
 decimalTo zero n = []
 decimalTo (suc k) n = cond (ltb n 10) ((48 + n) ∷ []) (decimalTo k (n / 10) ++ ((48 + n % 10) ∷ []))
 
--- a 32-bit number in decimal
+-- a 32-bit number in decimal [F59]
 unfoldable pub decimal : ℕ → List ℕ
 decimal n = decimalTo 10 n
 
@@ -96,7 +96,7 @@ fourDigits n = (48 + n / 1000 % 10) ∷ (48 + n / 100 % 10) ∷ (48 + n / 10 % 1
 unfoldable pub hexDigit : ℕ → ℕ
 hexDigit n = cond (ltb n 10) (48 + n) (87 + n)
 
--- bytes in lower-case hexadecimal
+-- bytes in lower-case hexadecimal [F60]
 unfoldable pub hexText : List ℕ → List ℕ
 hexText [] = []
 hexText (x ∷ b) = hexDigit (x / 16) ∷ hexDigit (x % 16) ∷ hexText b
@@ -107,7 +107,7 @@ hexText (x ∷ b) = hexDigit (x / 16) ∷ hexDigit (x % 16) ∷ hexText b
 unfoldable pub identityText : List ℕ → List ℕ
 identityText b = decimal (getD b 0 0) ++ (46 ∷ decimal (word b 2))
 
--- quote and backslash get a backslash before them
+-- quote and backslash get a backslash before them [F53]
 unfoldable pub escaped : List ℕ → List ℕ
 escaped [] = []
 escaped (x ∷ t) = cond (eqb x 34 || eqb x 92) (92 ∷ x ∷ escaped t) (x ∷ escaped t)
@@ -122,6 +122,7 @@ dateText b = fourDigits (word b 0) ++ (45 ∷ (twoDigits (getD b 2 0) ++ (45 ∷
 
 -- ---- lines, each with its line feed
 
+-- [F51]
 unfoldable pub headLine : ℕ → ℕ → ℕ → List ℕ
 headLine archive u n = archiveWord ++ (decimal archive ++ (unitWord ++ (decimal u ++ (recordsWord ++ (decimal n ++ (10 ∷ []))))))
 
@@ -129,6 +130,7 @@ unfoldable pub countsText : List ℕ → List ℕ
 countsText [] = []
 countsText (c ∷ v) = 32 ∷ (decimal c ++ countsText v)
 
+-- [F51]
 unfoldable pub seenLine : List ℕ → List ℕ
 seenLine v = seenWord ++ (countsText v ++ (10 ∷ []))
 
@@ -143,7 +145,7 @@ markText k b = cond (eqb k 1) [] (32 ∷ hexText b)
 unfoldable pub disputedText : ℕ → List ℕ
 disputedText d = cond (eqb d 1) disputedWord []
 
--- a row of 72 bytes of the tree table
+-- a row of 72 bytes of the tree table [F52]
 unfoldable pub entryLine : List ℕ → List ℕ
 entryLine row =
     kindText (getD row 0 0)
@@ -161,7 +163,7 @@ markedText b = cond (blank b) (45 ∷ []) (identityText b)
 unfoldable pub stateText : ℕ → List ℕ
 stateText s = cond (eqb s 1) openWord settledWord
 
--- a row of 12 bytes of the tree table
+-- a row of 12 bytes of the tree table [F54]
 unfoldable pub asideLine : List ℕ → List ℕ
 asideLine row =
     asideWord
@@ -182,6 +184,7 @@ asideLines t (suc n) = asideLines t n ++ asideLine (part t (36868 + 12 * n) 12)
 unfoldable pub treeLines : List ℕ → List ℕ
 treeLines t = entryLines t (word t 0) ++ asideLines t (word t 2)
 
+-- [F50]
 unfoldable pub refusedLine : ℕ → ℕ → List ℕ
 refusedLine n p = refusedWord ++ (decimal n ++ (atWord ++ (decimal p ++ (10 ∷ []))))
 

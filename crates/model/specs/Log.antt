@@ -18,11 +18,11 @@ abbrev pub sumTo : ℕ → (ℕ → ℕ) → ℕ
 sumTo zero f = 0
 sumTo (suc n) f = sumTo n f + f n
 
--- the sum of the eight seen counts, then the unit number: units are below 8
+-- the sum of the eight seen counts, then the unit number: units are below 8 [F11] [F15]
 unfoldable pub rank : Rec → ℕ
 rank r = 8 * sumTo 8 (seen r) + unit r
 
--- r put in by rank, behind what ranks no higher
+-- r put in by rank, behind what ranks no higher [F71]
 unfoldable pub insert : Rec → List Rec → List Rec
 insert r [] = r ∷ []
 insert r (x ∷ l) = cond (ltb (rank r) (rank x)) (r ∷ x ∷ l) (x ∷ insert r l)
@@ -39,7 +39,7 @@ unfoldable pub countsTo : List Rec → ℕ → List ℕ
 countsTo l zero = []
 countsTo l (suc n) = countsTo l n ++ (count n l ∷ [])
 
--- the record counts
+-- the record counts [F36]
 unfoldable pub vectorOf : List Rec → List ℕ
 vectorOf l = countsTo l 8
 
@@ -50,11 +50,11 @@ byId u c (r ∷ l) = cond (eqb (unit r) u && eqb (num r) c) (some r) (byId u c l
 
 -- ---- a record beside those held
 
--- the number is one above the held records of its unit
+-- the number is one above the held records of its unit [F46]
 unfoldable pub isNext : List Rec → Rec → Bool
 isNext l r = eqb (num r) (suc (count (unit r) l))
 
--- seen is within the held counts
+-- seen is within the held counts [F46]
 unfoldable pub isWithin : List Rec → Rec → Bool
 isWithin l r = covers (vectorOf l) (seenVector r)
 
@@ -67,18 +67,18 @@ unfoldable pub nowhereAbove : Rec → Option Rec → Bool
 nowhereAbove r none = true
 nowhereAbove r (some s) = covers (seenVector r) (seenVector s)
 
--- for each unit u with count c above 0, the seen of record u.c is nowhere above it
+-- for each unit u with count c above 0, the seen of record u.c is nowhere above it [F14] [F47]
 unfoldable pub isClosed : List Rec → Rec → Bool
 isClosed l r = allTo 8 (λ u. cond (eqb (seen r u) 0) true (nowhereAbove r (byId u (seen r u) l)))
 
--- ranks above the record just before; the records before stand last first
+-- ranks above the record just before; the records before stand last first [F45]
 unfoldable pub rises : List Rec → Rec → Bool
 rises [] r = true
 rises (s ∷ l) r = ltb (rank s) (rank r)
 
 -- ---- a sound log
 
--- the first of 7, 20, 8 and 9 that holds of a record behind others, or 0; the records before stand last first
+-- the first of 7, 20, 8 and 9 that holds of a record behind others, or 0; the records before stand last first [F44]
 unfoldable pub recordFault : List Rec → Rec → ℕ
 recordFault pre r =
     cond (wellFormed r)
@@ -99,11 +99,11 @@ unfoldable pub recordsIn : ℕ → List ℕ → List Rec
 recordsIn zero b = []
 recordsIn (suc n) b = cond (blank (take 80 b)) [] (take 80 b ∷ recordsIn n (drop 80 b))
 
--- the records of a lent log
+-- the records of a lent log [F37]
 unfoldable pub recordsOf : List ℕ → List Rec
 recordsOf b = recordsIn 512 b
 
--- the records are sound and the unused places are zero
+-- the records are sound and the unused places are zero [F63]
 unfoldable pub soundLog : List ℕ → Bool
 soundLog b = soundAfter [] (recordsOf b) && blank (drop (80 * length (recordsOf b)) b)
 

@@ -1,4 +1,4 @@
--- The numbers of the refusal table, and of the reasons for standing aside. Success is 0.
+-- The numbers of the refusal table, and of the reasons for standing aside. Success is 0. [F76]
 -- Assumes nothing.
 use Prim.Native.Nat.{ℕ}
 

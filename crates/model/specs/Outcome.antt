@@ -28,12 +28,13 @@ pub record Outcome : Type 0 where
 abbrev pub outcome : ℕ → ℕ → List ℕ → List ℕ → ℕ → Outcome
 outcome n p log lent k = record { number = n; place = p; log = log; lent = lent; blocks = k }
 
--- a refusal at place 0: all is left as it was
+-- a refusal at place 0: all is left as it was [F62]
 abbrev pub refusal : ℕ → List ℕ → List ℕ → Outcome
 refusal n log lent = outcome n 0 log lent 0
 
 -- ---- starting
 
+-- [F66]
 unfoldable pub startOf : ℕ → List ℕ → Outcome
 startOf u log =
     cond (eqb (length log) 40960)
@@ -42,6 +43,7 @@ startOf u log =
 
 -- ---- the checks 1, 21 and 19 come first; `ok` says that the other lent buffers have their stated lengths
 
+-- [F65]
 unfoldable pub guarded : ℕ → List ℕ → List ℕ → Bool → Outcome → Outcome
 guarded u log lent ok o =
     cond (eqb (length log) 40960 && ok)
@@ -50,11 +52,11 @@ guarded u log lent ok o =
 
 -- ---- acting
 
--- the wish with the next number and the held vector
+-- the wish with the next number and the held vector [F67]
 unfoldable pub stamped : ℕ → List Rec → List ℕ → Rec
 stamped u l w = take 2 w ++ (two (suc (count u l)) ++ (vectorBytes (vectorOf l) ++ drop 20 w))
 
--- a wish of the own unit, number and seen zero, well formed once stamped
+-- a wish of the own unit, number and seen zero, well formed once stamped [F67]
 unfoldable pub wishFits : ℕ → List Rec → List ℕ → Bool
 wishFits u l w = eqb (getD w 0 0) u && (blank (part w 2 18) && wellFormed (stamped u l w))
 
@@ -62,7 +64,7 @@ unfoldable pub reasonOf : Verdict → ℕ
 reasonOf fits = 0
 reasonOf (aside n k) = n
 
--- 7, 11, then the reason under which the record would stand aside; 0 if it fits
+-- 7, 11, then the reason under which the record would stand aside; 0 if it fits [F68]
 unfoldable pub actNumber : ℕ → List Rec → List ℕ → ℕ
 actNumber u l w =
     cond (wishFits u l w)
@@ -78,11 +80,12 @@ actOf u log w = guarded u log [] (eqb (length w) 80) (acted u log w (actNumber u
 
 -- ---- handing out
 
--- the records that the vector v lacks
+-- the records that the vector v lacks [F72]
 unfoldable pub lacking : List ℕ → List Rec → List Rec
 lacking v [] = []
 lacking v (r ∷ l) = cond (ltb (getD v (unit r) 0) (num r)) (r ∷ lacking v l) (lacking v l)
 
+-- [F72]
 unfoldable pub handBlock : ℕ → ℕ → List Rec → List ℕ → List ℕ
 handBlock archive u l v = blockOf (headerOf archive u 0 l) (take 6 (lacking v l))
 
@@ -92,6 +95,7 @@ handOf archive u log v lent =
 
 -- ---- writing a file
 
+-- [F73]
 unfoldable pub writeOf : ℕ → ℕ → List ℕ → List ℕ → Outcome
 writeOf archive u log lent =
     guarded u log lent (eqb (length lent) 44032)
@@ -104,6 +108,7 @@ pub data Took : Type 0 where
   refused : ℕ → Took
   taken : List Rec → Took
 
+-- [F70]
 unfoldable pub takeNew : List Rec → Rec → Took
 takeNew l r =
     cond (isNext l r && isWithin l r)
@@ -117,6 +122,7 @@ unfoldable pub takeHeld : Option Rec → List Rec → Rec → Took
 takeHeld none l r = takeNew l r
 takeHeld (some s) l r = cond (sameBytes s r) (taken l) (refused otherBytes)
 
+-- [F70]
 unfoldable pub takeOne : List Rec → Rec → Took
 takeOne l r = cond (wellFormed r) (takeHeld (byId (unit r) (num r) l) l r) (refused malformed)
 
@@ -125,13 +131,14 @@ unfoldable pub takeAll : List Rec → List Rec → Took
 takeAll l [] = taken l
 takeAll l (r ∷ rs) = elim (takeOne l r) [ refused n ↦ refused n | taken m ↦ takeAll m rs ]
 
--- the first of 2 to 6 that holds of a block, or 0
+-- the first of 2 to 6 that holds of a block, or 0 [F69]
 unfoldable pub givenFault : ℕ → List ℕ → ℕ
 givenFault archive b =
     cond (eqb (length b) 512)
     (cond (eqb (blockFault b) 0) (cond (eqb (archiveIn b) archive) 0 otherArchive) (blockFault b))
     badLength
 
+-- [F71]
 unfoldable pub tookAll : List ℕ → Took → Outcome
 tookAll log (refused n) = refusal n log []
 tookAll log (taken m) = outcome 0 0 (logBytes m) [] 0
@@ -145,6 +152,7 @@ takeOf archive u log b = guarded u log [] true (tookBlock log b (givenFault arch
 
 -- ---- showing the tree
 
+-- [F75]
 unfoldable pub showOf : List ℕ → List ℕ → Outcome
 showOf log lent =
     cond (eqb (length log) 40960 && eqb (length lent) 43012)

@@ -13,14 +13,14 @@ use Rattle.model.specs.Date.{isDate}
 abbrev pub Rec : Type 0
 Rec = List ℕ
 
--- the identity unit.number as one number; units are below 8, and the root 0.0 is 0
+-- the identity unit.number as one number; units are below 8, and the root 0.0 is 0 [F61]
 unfoldable pub identity : ℕ → ℕ → ℕ
 identity u n = 8 * n + u
 
 abbrev pub root : ℕ
 root = 0
 
--- ---- the fields
+-- ---- the fields [F55]
 
 unfoldable pub unit : Rec → ℕ
 unit r = getD r 0 0
@@ -32,7 +32,7 @@ op r = getD r 1 0
 unfoldable pub num : Rec → ℕ
 num r = word r 2
 
--- of the maker's vector just before, the count of unit u
+-- of the maker's vector just before, the count of unit u [F13]
 unfoldable pub seen : Rec → ℕ → ℕ
 seen r u = word r (4 + 2 * u)
 
@@ -75,7 +75,7 @@ unfoldable pub printable : List ℕ → Bool
 printable [] = true
 printable (x ∷ t) = leb 32 x && (leb x 126 && printable t)
 
--- a text of at least one byte, no space first or last, then zeros
+-- a text of at least one byte, no space first or last, then zeros [F9]
 unfoldable pub isLabel : List ℕ → Bool
 isLabel t =
     leb 1 (textLength t)
@@ -84,7 +84,7 @@ isLabel t =
     && (not (eqb (getD t (textLength t - 1) 0) 32)
     && blank (drop (textLength t) t))))
 
--- ---- which fields an operation uses
+-- ---- which fields an operation uses [F56]
 
 unfoldable pub usesObject : ℕ → Bool
 usesObject o = leb 3 o
@@ -100,11 +100,11 @@ usesMark o = eqb o 2 || eqb o 3
 
 -- ---- well formed
 
--- an unused field is zero
+-- an unused field is zero [F10]
 unfoldable pub unused : Rec → ℕ → ℕ → Bool
 unused r at n = blank (part r at n)
 
--- an identity is named at a place: unit 0 to 7, a zero byte, a number of at least 1 and within seen
+-- an identity is named at a place: unit 0 to 7, a zero byte, a number of at least 1 and within seen [F5]
 unfoldable pub names : Rec → ℕ → Bool
 names r at =
     leb (getD r at 0) 7
@@ -114,20 +114,21 @@ names r at =
 unfoldable pub objectFits : Rec → Bool
 objectFits r = cond (usesObject (op r)) (names r 20) (unused r 20 4)
 
--- only as folder the root is allowed
+-- only as folder the root is allowed [F6]
 unfoldable pub folderFits : Rec → Bool
 folderFits r = cond (usesFolder (op r)) (unused r 24 4 || names r 24) (unused r 24 4)
 
 unfoldable pub labelFits : Rec → Bool
 labelFits r = cond (usesLabel (op r)) (isLabel (labelOf r)) (unused r 32 32)
 
+-- [F12]
 unfoldable pub markFits : Rec → Bool
 markFits r = cond (usesMark (op r)) true (unused r 64 16)
 
 unfoldable pub dateFits : Rec → Bool
 dateFits r = isDate (word r 28) (getD r 30 0) (getD r 31 0)
 
--- unit, operation and number, and seen at the own unit is the number minus 1
+-- unit, operation and number, and seen at the own unit is the number minus 1 [F3] [F4]
 unfoldable pub headFits : Rec → Bool
 headFits r =
     leb (unit r) 7

@@ -46,11 +46,11 @@ pub data Verdict : Type 0 where
 unfoldable pub isPresent : Entry → Bool
 isPresent e = not (eqb (e .kind) 0)
 
--- equal labels
+-- equal labels [F21]
 unfoldable pub sameLabel : List ℕ → List ℕ → Bool
 sameLabel a b = sameBytes a b
 
--- the entry k, unless it is absent
+-- the entry k, unless it is absent [F19]
 unfoldable pub entryOf : ℕ → List Entry → Option Entry
 entryOf k [] = none
 entryOf k (e ∷ l) = cond (eqb (e .made) k && isPresent e) (some e) (entryOf k l)
@@ -71,7 +71,7 @@ unfoldable pub standsAside : ℕ → List Aside → Bool
 standsAside k [] = false
 standsAside k (a ∷ l) = eqb (a .who) k || standsAside k l
 
--- the number of the record k is above the count in what r has seen
+-- the number of the record k is above the count in what r has seen [F20]
 unfoldable pub unseen : Rec → ℕ → Bool
 unseen r k = ltb (seen r (k % 8)) (k / 8)
 
@@ -87,27 +87,32 @@ judgeMakeIn r es none = aside noFolder 0
 judgeMakeIn r es (some f) =
     cond (eqb (f .kind) 1) (freeLabel (holderOf (folderOf r) (labelOf r) es)) (aside wrongKind (f .made))
 
+-- [F22]
 unfoldable pub judgeMake : Rec → List Entry → Verdict
 judgeMake r es =
     cond (eqb (folderOf r) root) (freeLabel (holderOf root (labelOf r) es)) (judgeMakeIn r es (entryOf (folderOf r) es))
 
+-- [F23]
 unfoldable pub judgeStore : Rec → Option Entry → Verdict
 judgeStore r none = aside noObject 0
 judgeStore r (some e) =
     cond (eqb (e .kind) 1) (aside wrongKind (e .made))
     (cond (unseen r (e .contents)) (aside unseenChange (e .made)) fits)
 
+-- [F24]
 unfoldable pub judgeRemove : Rec → List Entry → Option Entry → Verdict
 judgeRemove r es none = aside noObject 0
 judgeRemove r es (some e) =
     cond (eqb (e .kind) 1 && hasEntries (e .made) es) (aside notEmpty (e .made))
     (cond (unseen r (e .contents) || unseen r (e .naming)) (aside unseenChange (e .made)) fits)
 
+-- [F25]
 unfoldable pub judgeRename : Rec → List Entry → Option Entry → Verdict
 judgeRename r es none = aside noObject 0
 judgeRename r es (some e) =
     cond (unseen r (e .naming)) (aside unseenChange (e .made)) (freeLabel (holderOf (e .inside) (labelOf r) es))
 
+-- [F26]
 unfoldable pub judgeSettle : Rec → List Aside → Verdict
 judgeSettle r l = cond (standsAside (objectOf r) l) fits (aside notAside 0)
 
@@ -135,6 +140,7 @@ newEntry r =
       naming = selfOf r;
     }
 
+-- [F17]
 unfoldable pub stored : Rec → Entry → Entry
 stored r e =
     record {
@@ -148,6 +154,7 @@ stored r e =
       naming = e .naming;
     }
 
+-- [F18]
 unfoldable pub renamed : Rec → Entry → Entry
 renamed r e =
     record {
@@ -179,12 +186,13 @@ unfoldable pub changed : (Entry → Entry) → ℕ → List Entry → List Entry
 changed f k [] = []
 changed f k (e ∷ l) = cond (eqb (e .made) k && isPresent e) (f e ∷ l) (e ∷ changed f k l)
 
--- the aside k is settled
+-- the aside k is settled [F28]
 unfoldable pub settled : ℕ → List Aside → List Aside
 settled k [] = []
 settled k (a ∷ l) =
     cond (eqb (a .who) k) (record { who = a .who; reason = a .reason; marked = a .marked; isOpen = false } ∷ l) (a ∷ settled k l)
 
+-- [F27]
 unfoldable pub effect : Rec → Tree → Tree
 effect r t =
     cond (leb (op r) 2) (record { entries = t .entries ++ (newEntry r ∷ []); asides = t .asides })
@@ -207,13 +215,13 @@ unfoldable pub replayFrom : Tree → List Rec → Tree
 replayFrom t [] = t
 replayFrom t (r ∷ l) = replayFrom (step t r) l
 
--- the records of a log in rank order, from the root alone on
+-- the records of a log in rank order, from the root alone on [F16]
 unfoldable pub replay : List Rec → Tree
 replay l = replayFrom emptyTree l
 
 -- ---- what is shown
 
--- an entry is disputed while an open aside marks it
+-- an entry is disputed while an open aside marks it [F29]
 unfoldable pub isDisputed : ℕ → List Aside → Bool
 isDisputed k [] = false
 isDisputed k (a ∷ l) = (a .isOpen && eqb (a .marked) k) || isDisputed k l

@@ -16,7 +16,7 @@ coversTo a b (suc n) = coversTo a b n && leb (getD b n 0) (getD a n 0)
 unfoldable pub covers : List ℕ → List ℕ → Bool
 covers a b = coversTo a b 8
 
--- 0 identical, 1 the first dominates, 2 the second dominates, 3 both ahead
+-- 0 identical, 1 the first dominates, 2 the second dominates, 3 both ahead [F64]
 unfoldable pub compareOf : List ℕ → List ℕ → ℕ
 compareOf a b = cond (covers a b) (cond (covers b a) 0 1) (cond (covers b a) 2 3)
 
