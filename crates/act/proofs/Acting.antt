@@ -25,8 +25,8 @@ use Rattle.lookup.proofs.Working.{works-tree}
 use Rattle.judge.specs.Judged.{verdictOf, Asks}
 use Rattle.replay.proofs.Sound.{formed-asks, count-few}
 use Rattle.answer.proofs.Guards.{log-unsound, guards-pass}
-use Rattle.act.specs.Stamp.{stampedBy, fitsAs}
-use Rattle.act.proofs.Stamping.{stamped-is, fits-is}
+use Rattle.stamping.specs.Stamp.{stampedBy, fitsAs}
+use Rattle.stamping.proofs.Stamping.{stamped-is, fits-is}
 
 -- ---- the reason
 

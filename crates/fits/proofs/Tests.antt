@@ -11,25 +11,6 @@ use Rattle.model.specs.Date.{isDate}
 use Rattle.model.specs.Record.{Rec, unit, op, num, seen, labelOf, isLabel, usesObject, usesFolder, usesLabel, usesMark, unused, names, headFits, objectFits, folderFits, dateFits, labelFits, markFits}
 use Rattle.fits.proofs.Blanks.{two-sixteens}
 
--- ---- which fields an operation uses
-
-module _ (o : ℕ) where
-  pub make-label : o ≤ 2 → leb o 2 ≡ usesLabel o
-  unfolding usesLabel
-  make-label h = rw (le-leb o 2 h)
-
-  pub other-label : 2 < o → eqb o 5 ≡ usesLabel o
-  unfolding usesLabel
-  other-label h = rw (lt-leb o 2 h)
-
-  pub make-mark : o ≡ 2 → eqb o 2 ≡ usesMark o
-  unfolding usesMark
-  make-mark h = rw (eq-eqb o 2 h)
-
-  pub other-mark : (o ≡ 2 → ⊥) → eqb o 3 ≡ usesMark o
-  unfolding usesMark
-  other-mark h = rw (ne-eqb o 2 h)
-
 -- ---- a named identity
 
 module _ (r : Rec) (at : ℕ) where

@@ -3,39 +3,13 @@ ghost use mathlib.Core.Path.{_≡_};
 ghost use Prim.Native.Nat.{_+_, _≤_};
 ghost use lib.ListN.{length};
 ghost use Rattle.model.specs.Bytes.{blank, part};
-ghost use Rattle.model.specs.Record.{usesObject, usesFolder, usesLabel, usesMark, names, headFits, objectFits, folderFits, dateFits, labelFits, markFits};
+ghost use Rattle.model.specs.Record.{names, headFits, objectFits, folderFits, dateFits, labelFits, markFits};
 use octets::le16;
 use octets::le32;
-
-// ---- which fields an operation uses
-
-// Store, remove, rename and settle.
-fn uses_object(op: u8) -> bool
-    ensures { λ r. ⌜ r ≡ usesObject op ⌝ }
-{
-    3 <= op
-}
-
-// The makes.
-fn uses_folder(op: u8) -> bool
-    ensures { λ r. ⌜ r ≡ usesFolder op ⌝ }
-{
-    op <= 2
-}
-
-// The makes and rename.
-fn uses_label(op: u8) -> bool
-    ensures { λ r. ⌜ r ≡ usesLabel op ⌝ }
-{
-    op <= 2 || op == 5
-}
-
-// Make trace and store.
-fn uses_mark(op: u8) -> bool
-    ensures { λ r. ⌜ r ≡ usesMark op ⌝ }
-{
-    op == 2 || op == 3
-}
+use uses::uses_folder;
+use uses::uses_label;
+use uses::uses_mark;
+use uses::uses_object;
 
 // ---- unused fields
 
@@ -129,7 +103,7 @@ pub fn date_fits(rec: &[u8]) -> bool
     requires { ⌜ length (now rec) ≡ 80 ⌝ }
     ensures { λ r. ⌜ r ≡ dateFits (now (rec .entry)) ⌝ }
 {
-    fields::is_date(le16(rec, 28), rec[30], rec[31])
+    dates::is_date(le16(rec, 28), rec[30], rec[31])
 }
 
 // A used label is a label, an unused one is zero.
@@ -138,7 +112,7 @@ pub fn label_fits(rec: &[u8]) -> bool
     ensures { λ r. ⌜ r ≡ labelFits (now (rec .entry)) ⌝ }
 {
     if uses_label(rec[1]) {
-        return fields::is_label(&rec[32..64]);
+        return labels::is_label(&rec[32..64]);
     }
     blank_16(rec, 32) & blank_16(rec, 48)
 }

@@ -141,6 +141,11 @@ pub blank-part : (b : List ℕ) (at n : ℕ) → blank b ≡ true → blank (par
 unfolding part
 blank-part b at n e = blank-take n (drop at b) (blank-drop at b e)
 
+pub zeros-blank : (b : List ℕ) → ((i : ℕ) → getD b i 0 ≡ 0) → blank b ≡ true
+unfolding blank
+zeros-blank [] f = refl
+zeros-blank (x ∷ b) f = rw (eq-eqb x 0 (f 0)) (zeros-blank b (λ i. f (suc i)))
+
 pub blank-getD : (b : List ℕ) (i : ℕ) → blank b ≡ true → getD b i 0 ≡ 0
 unfolding blank
 blank-getD [] i e = refl

@@ -179,7 +179,7 @@ pub fn put_label(out: &mut [u8], at: usize, t: &[u8]) -> usize
     requires { ⌜ at + length (labelText (now t)) ≤ length (now out) ⌝ }
     ensures { λ r. ⌜ Wrote (now (out .entry)) (now (out .exit)) at r (labelText (now (t .entry))) ⌝ }
 {
-    let n = fields::text_length(t);
+    let n = labels::text_length(t);
     let text = put_byte(out, at, b'"');
     let end = put_escaped(out, text, &t[0..n]);
     put_byte(out, end, b'"')

@@ -5,8 +5,8 @@ use Rattle.act.proofs.act_on.Tie as tie
 use Rattle.act.proofs.act_on.Reads as reads
 use Rattle.act.proofs.act_on.Lts as lts
 use Rattle.act.proofs.reason.Reads as reason-reads
-use Rattle.act.proofs.stamp.Reads as stamp-reads
-use Rattle.act.proofs.wish_fits.Reads as wish-fits-reads
+use Rattle.stamping.proofs.stamp.Reads as stamp-reads
+use Rattle.stamping.proofs.wish_fits.Reads as wish-fits-reads
 use Rattle.octets.proofs.put.Reads as put-reads
 
 -- src/lib.rt:65:9

@@ -4,7 +4,7 @@ use Rattle.fits.proofs.date_fits.Statement.{statement}
 use Rattle.fits.proofs.date_fits.Tie as tie
 use Rattle.fits.proofs.date_fits.Reads as reads
 use Rattle.fits.proofs.date_fits.Lts as lts
-use Rattle.fields.proofs.is_date.Reads as is-date-reads
+use Rattle.dates.proofs.is_date.Reads as is-date-reads
 use Rattle.octets.proofs.le16.Reads as le16-reads
 
 -- src/lib.rt:116:21

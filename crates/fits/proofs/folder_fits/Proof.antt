@@ -7,7 +7,7 @@ use Rattle.fits.proofs.folder_fits.Reads as reads
 use Rattle.fits.proofs.folder_fits.Lts as lts
 use Rattle.fits.proofs.blank_4.Reads as blank-4-reads
 use Rattle.fits.proofs.names.Reads as names-reads
-use Rattle.fits.proofs.uses_folder.Reads as uses-folder-reads
+use Rattle.uses.proofs.uses_folder.Reads as uses-folder-reads
 
 -- src/lib.rt:118:8
 blank-4-requires : tie.Need-blank-4-requires

@@ -5,9 +5,9 @@ use Rattle.fits.proofs.label_fits.Statement.{statement}
 use Rattle.fits.proofs.label_fits.Tie as tie
 use Rattle.fits.proofs.label_fits.Reads as reads
 use Rattle.fits.proofs.label_fits.Lts as lts
-use Rattle.fields.proofs.is_label.Reads as is-label-reads
+use Rattle.labels.proofs.is_label.Reads as is-label-reads
 use Rattle.fits.proofs.blank_16.Reads as blank-16-reads
-use Rattle.fits.proofs.uses_label.Reads as uses-label-reads
+use Rattle.uses.proofs.uses_label.Reads as uses-label-reads
 
 -- src/lib.rt:140:19
 shared-slice-read-uses-label : tie.Need-shared-slice-read-uses-label

@@ -6,7 +6,7 @@ use Rattle.fits.proofs.mark_fits.Tie as tie
 use Rattle.fits.proofs.mark_fits.Reads as reads
 use Rattle.fits.proofs.mark_fits.Lts as lts
 use Rattle.fits.proofs.blank_16.Reads as blank-16-reads
-use Rattle.fits.proofs.uses_mark.Reads as uses-mark-reads
+use Rattle.uses.proofs.uses_mark.Reads as uses-mark-reads
 
 -- src/lib.rt:151:18
 shared-slice-read-uses-mark : tie.Need-shared-slice-read-uses-mark

@@ -7,7 +7,7 @@ use Rattle.fits.proofs.object_fits.Reads as reads
 use Rattle.fits.proofs.object_fits.Lts as lts
 use Rattle.fits.proofs.blank_4.Reads as blank-4-reads
 use Rattle.fits.proofs.names.Reads as names-reads
-use Rattle.fits.proofs.uses_object.Reads as uses-object-reads
+use Rattle.uses.proofs.uses_object.Reads as uses-object-reads
 
 -- src/lib.rt:107:20
 shared-slice-read-uses-object : tie.Need-shared-slice-read-uses-object

@@ -4,7 +4,7 @@ use Rattle.text.proofs.put_label.Statement.{statement}
 use Rattle.text.proofs.put_label.Tie as tie
 use Rattle.text.proofs.put_label.Reads as reads
 use Rattle.text.proofs.put_label.Lts as lts
-use Rattle.fields.proofs.text_length.Reads as text-length-reads
+use Rattle.labels.proofs.text_length.Reads as text-length-reads
 use Rattle.text.proofs.put_byte.Reads as put-byte-reads
 use Rattle.text.proofs.put_escaped.Reads as put-escaped-reads
 

@@ -1,3 +1,0 @@
-pub mod RealDate
-pub mod Label
-pub mod Follow

@@ -1,0 +1,31 @@
+// Which fields of a record an operation uses.
+ghost use mathlib.Core.Path.{_≡_};
+ghost use Rattle.model.specs.Record.{usesObject, usesFolder, usesLabel, usesMark};
+
+// Store, remove, rename and settle.
+pub fn uses_object(op: u8) -> bool
+    ensures { λ r. ⌜ r ≡ usesObject op ⌝ }
+{
+    3 <= op
+}
+
+// The makes.
+pub fn uses_folder(op: u8) -> bool
+    ensures { λ r. ⌜ r ≡ usesFolder op ⌝ }
+{
+    op <= 2
+}
+
+// The makes and rename.
+pub fn uses_label(op: u8) -> bool
+    ensures { λ r. ⌜ r ≡ usesLabel op ⌝ }
+{
+    op <= 2 || op == 5
+}
+
+// Make trace and store.
+pub fn uses_mark(op: u8) -> bool
+    ensures { λ r. ⌜ r ≡ usesMark op ⌝ }
+{
+    op == 2 || op == 3
+}
