@@ -96,8 +96,25 @@ pub fn is_blank(s: &[u8]) -> bool
     blank_run(s, at, s.len() - at)
 }
 
-// All of src is written into dst from a place on.
-pub fn put(dst: &mut [u8], at: usize, src: &[u8])
+// Sixteen bytes by value.
+struct Sixteen {
+    bytes: [u8; 16],
+}
+
+// The 16 bytes from a place on.
+fn read_16(s: &[u8], at: usize) -> Sixteen
+    requires { ⌜ at + 16 ≤ length (now s) ⌝ }
+    ensures { λ r. ⌜ r .bytes ≡ part (now (s .entry)) at 16 ⌝ }
+{
+    let mut bytes = [0u8; 16];
+    for i in 0..16 {
+        bytes[i] = s[at + i];
+    }
+    Sixteen { bytes }
+}
+
+// All of src is written into dst from a place on, byte by byte.
+fn put_run(dst: &mut [u8], at: usize, src: &[u8])
     requires { ⌜ at + length (now src) ≤ length (now dst) ⌝ }
     ensures { λ _. ⌜ now (dst .exit) ≡ putAt (now (dst .entry)) at (now (src .entry)) ⌝ }
 {
@@ -106,6 +123,22 @@ pub fn put(dst: &mut [u8], at: usize, src: &[u8])
         dst[at + j] = src[j];
         j += 1;
     }
+}
+
+// All of src is written into dst from a place on: 16 bytes are read before they are written, and then the rest.
+pub fn put(dst: &mut [u8], at: usize, src: &[u8])
+    requires { ⌜ at + length (now src) ≤ length (now dst) ⌝ }
+    ensures { λ _. ⌜ now (dst .exit) ≡ putAt (now (dst .entry)) at (now (src .entry)) ⌝ }
+{
+    let mut j: usize = 0;
+    while 16 <= src.len() - j {
+        let s = read_16(src, j);
+        let bytes = s.bytes;
+        put_run(dst, at + j, &bytes);
+        j += 16;
+    }
+    let n = src.len();
+    put_run(dst, at + j, &src[j..n]);
 }
 
 // A number is written in two bytes, the lower first.

@@ -1,64 +1,86 @@
 use Prim.Native.Nat.{_≤_, _-_}
-use native.Mathlib.Numerals.{add-one}
-use mathlib.Core.Path.{_≡_, refl, _∙_}
-use lib.ListN.{length, length-set}
-use lib.Seq.{paste, paste-zero, paste-suc}
-use Rattle.octets.proofs.PutAt.{paste-put}
+use mathlib.Core.Path.{_≡_, refl}
+use lib.ListN.{length, take}
+use Rattle.model.specs.Bytes.{putAt}
+use Rattle.octets.proofs.Sixteens.{put-none, put-room, put-next, put-end}
 use borrow.Author.Needs.{needs}
 use native.Mathlib.Omega.{arith}
 use Rattle.octets.proofs.put.Statement.{statement}
 use Rattle.octets.proofs.put.Tie as tie
 use Rattle.octets.proofs.put.Reads as reads
 use Rattle.octets.proofs.put.Lts as lts
+use Rattle.octets.proofs.put_run.Reads as put-run-reads
+use Rattle.octets.proofs.read_16.Reads as read-16-reads
 
 abbrev Inv-loop : tie.InvT-loop
-Inv-loop dst₀ at src j₀ dst j = (j ≤ length src) × (length dst ≡ length dst₀) × (dst ≡ paste dst₀ at src j)
+Inv-loop dst₀ at src j₀ dst j = (j ≤ length src) × (length dst ≡ length dst₀) × (dst ≡ putAt dst₀ at (take j src))
 
 abbrev μ-loop : tie.MeasureT-loop
 μ-loop dst₀ at src j₀ dst j = length src - j
 
--- src/lib.rt:81:5
+-- src/lib.rt:134:5
 loop-holds : tie.Need-loop-holds Inv-loop μ-loop
-loop-holds c = (omega arith, refl, paste-zero (c .args .dst .now) (c .args .at) (c .args .src .now))
+loop-holds c = (omega arith, refl, search (put-none))
 
--- src/lib.rt:82:23
-shared-slice-read-dst : tie.Need-shared-slice-read-dst Inv-loop μ-loop
-shared-slice-read-dst c = search needs
+-- src/lib.rt:134:17
+sub-loop : tie.Need-sub-loop Inv-loop μ-loop
+sub-loop c = search needs
 
--- src/lib.rt:82:13
-add-dst : tie.Need-add-dst Inv-loop μ-loop
-add-dst c = search needs
+-- src/lib.rt:135:13
+read-16-requires : tie.Need-read-16-requires Inv-loop μ-loop
+read-16-requires c κs = search needs
 
--- src/lib.rt:82:9
-slice-write-dst : tie.Need-slice-write-dst Inv-loop μ-loop
-slice-write-dst c = search needs
+-- src/lib.rt:137:22
+add-put-run : tie.Need-add-put-run Inv-loop μ-loop
+add-put-run c = search needs
 
--- src/lib.rt:83:9
+-- src/lib.rt:137:30
+slice-aggregate-put-run : tie.Need-slice-aggregate-put-run Inv-loop μ-loop
+slice-aggregate-put-run c = search needs
+
+-- src/lib.rt:137:9
+put-run-requires : tie.Need-put-run-requires Inv-loop μ-loop
+put-run-requires c κs = search (put-room)
+
+-- src/lib.rt:138:9
 add-j : tie.Need-add-j Inv-loop μ-loop
 add-j c = search needs
 
--- src/lib.rt:81:5
+-- src/lib.rt:134:5
 loop-less : tie.Need-loop-less Inv-loop μ-loop
 loop-less c = search needs
 
--- src/lib.rt:81:5
+-- src/lib.rt:134:5
 loop-again : tie.Need-loop-again Inv-loop μ-loop
-loop-again c =
-    let a = c .before .before .before .args in
-    let l = c .before .before .loop in
-    (omega arith, simp length-set (l .inv .1), rw (l .inv .2, add-one) (paste-suc (a .dst .now) (a .at) (a .src .now) (l .j) 0 (omega arith) (omega arith)))
+loop-again c = (omega arith, search needs, search (put-next))
 
--- src/lib.rt:76:1
+-- src/lib.rt:141:18
+add-put-run-2 : tie.Need-add-put-run-2 Inv-loop μ-loop
+add-put-run-2 c = search needs
+
+-- src/lib.rt:141:26
+sub-put-run : tie.Need-sub-put-run Inv-loop μ-loop
+sub-put-run c = search needs
+
+-- src/lib.rt:141:26
+part-put-run-start : tie.Need-part-put-run-start Inv-loop μ-loop
+part-put-run-start c = search needs
+
+-- src/lib.rt:141:26
+part-put-run-end : tie.Need-part-put-run-end Inv-loop μ-loop
+part-put-run-end c = search needs
+
+-- src/lib.rt:141:5
+put-run-requires-2 : tie.Need-put-run-requires-2 Inv-loop μ-loop
+put-run-requires-2 c κs = search needs
+
+-- src/lib.rt:129:1
 same-length : tie.Need-same-length Inv-loop μ-loop
 same-length c = search needs
 
--- src/lib.rt:76:1
+-- src/lib.rt:129:1
 returns : tie.Need-returns Inv-loop μ-loop
-returns c =
-    let a = c .before .before .args in
-    let l = c .before .loop in
-    let e : l .j ≡ length (a .src .now) = omega arith in
-    (rw e at (l .inv .2)) ∙ paste-put (a .dst .now) (a .at) (a .src .now)
+returns c = search (put-end)
 
 pub put-spec : {M : Type 1} → statement M
 put-spec =
@@ -67,11 +89,18 @@ put-spec =
     Inv-loop
     μ-loop
     loop-holds
-    shared-slice-read-dst
-    add-dst
-    slice-write-dst
+    sub-loop
+    read-16-requires
+    add-put-run
+    slice-aggregate-put-run
+    put-run-requires
     add-j
     loop-less
     loop-again
+    add-put-run-2
+    sub-put-run
+    part-put-run-start
+    part-put-run-end
+    put-run-requires-2
     same-length
     returns)
