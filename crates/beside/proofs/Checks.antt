@@ -15,7 +15,7 @@ use Rattle.model.specs.Block.{archiveIn, blockFault, recordAt}
 use Rattle.model.specs.Outcome.{givenFault}
 use Rattle.octets.proofs.Parts.{part-is}
 use Rattle.order.proofs.Formed.{well-unit, well-own}
-use Rattle.index.specs.Tables.{slotOf, positionOf, closedBy, Placed}
+use Rattle.closure.specs.Tables.{slotOf, positionOf, closedBy, Placed}
 use Rattle.log.specs.Places.{offsetOf, laidAt}
 use Rattle.beside.specs.Judging.{Counted, heldAt, Step, step, heldBy, newBy, newStep, takeBy}
 

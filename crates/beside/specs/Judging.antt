@@ -12,7 +12,7 @@ use Rattle.model.specs.Vector.{covers}
 use Rattle.model.specs.Record.{Rec, unit, num, seenVector, wellFormed}
 use Rattle.model.specs.Block.{recordAt, blockRecords}
 use Rattle.model.specs.Outcome.{refused, taken, takeOne, takeAll}
-use Rattle.index.specs.Tables.{slotOf, positionOf, closedBy}
+use Rattle.closure.specs.Tables.{slotOf, positionOf, closedBy}
 use Rattle.log.specs.declared.Layout.the-variants.{Log}
 use Rattle.log.specs.Places.{laidAt}
 

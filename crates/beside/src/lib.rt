@@ -6,7 +6,7 @@ ghost use lib.ListN.{length};
 ghost use Rattle.model.specs.Bytes.{sameBytes};
 ghost use Rattle.model.specs.Record.{seenVector, wellFormed};
 ghost use Rattle.model.specs.Outcome.{givenFault};
-ghost use Rattle.index.specs.Tables.{Placed};
+ghost use Rattle.closure.specs.Tables.{Placed};
 ghost use Rattle.beside.specs.Judging.{Counted, heldAt, step, newBy, newStep};
 use vector::Vector;
 
@@ -66,7 +66,7 @@ pub fn new_fault(
     if !vector::covers(held, s) {
         return 8;
     }
-    if !index::is_closed(places, seens, s) {
+    if !closure::is_closed(places, seens, s) {
         return 9;
     }
     if 512 <= used {

@@ -12,7 +12,7 @@ use Rattle.model.specs.Record.{Rec, unit, num}
 use Rattle.model.specs.Log.{rank, count, recordFault}
 use Rattle.octets.proofs.Numbers.{eq-or-ne}
 use Rattle.order.proofs.Formed.{well-unit}
-use Rattle.index.specs.Tables.{faultBy, floorOf, Spare, Indexed, Noted, admitOf}
+use Rattle.closure.specs.Tables.{faultBy, floorOf, Spare, Indexed, Noted, admitOf}
 use Rattle.index.proofs.Counts.{count-few}
 use Rattle.index.proofs.Tables.{held-at, fault-is, indexed-note}
 use Rattle.index.proofs.Faults.{no-fault}

@@ -13,7 +13,7 @@ use Rattle.model.specs.Vector.{covers}
 use Rattle.model.specs.Record.{Rec, unit, num, seenVector, wellFormed}
 use Rattle.model.specs.Log.{rank}
 use Rattle.vector.proofs.Dominance.{covers-at}
-use Rattle.index.specs.Tables.{slotOf, closedBy, faultBy, Placed, Spare, noted, admitOf}
+use Rattle.closure.specs.Tables.{slotOf, closedBy, faultBy, Placed, Spare, noted, admitOf}
 use Rattle.order.proofs.Formed.{well-unit}
 
 -- what is seen lies within what is held, so its positions lie in the tables

@@ -1,5 +1,4 @@
 pub mod Counts
 pub mod Tables
-pub mod Closed
 pub mod Faults
 pub mod Admits

@@ -17,7 +17,7 @@ use Rattle.model.specs.Record.{Rec, unit, num, seen, seenVector, wellFormed}
 use Rattle.model.specs.Log.{rank, count, vectorOf, countsTo, byId, allTo, isNext, isWithin, isClosed, nowhereAbove, rises, recordFault}
 use Rattle.octets.proofs.Numbers.{lt-or-ge, eq-or-ne, bool-cases}
 use Rattle.octets.proofs.PutAt.{length-put, part-put, part-put-before}
-use Rattle.index.specs.Tables.{slotOf, positionOf, rowAt, unitClosed, closedBy, faultBy, floorOf, Placed, Stands, Indexed}
+use Rattle.closure.specs.Tables.{slotOf, positionOf, rowAt, unitClosed, closedBy, faultBy, floorOf, Placed, Stands, Indexed}
 use Rattle.index.proofs.Counts.{count-few, vector-cons, byId-same, byId-other, Alike, alike-vector}
 use Rattle.vector.proofs.Dominance.{covers-at}
 use Rattle.order.proofs.Counts.{count-cons}

@@ -18,7 +18,7 @@ use Rattle.model.specs.Outcome.{Took, refused, taken, takeNew, takeHeld, takeOn
 use Rattle.octets.proofs.Numbers.{lt-or-ge, eq-or-ne, bool-cases}
 use Rattle.order.proofs.Formed.{well-unit, well-own}
 use Rattle.order.proofs.Insert.{length-insert}
-use Rattle.index.specs.Tables.{positionOf, closedBy, Indexed}
+use Rattle.closure.specs.Tables.{positionOf, closedBy, Indexed}
 use Rattle.index.proofs.Counts.{Alike, alike-inside, count-few}
 use Rattle.index.proofs.Tables.{held-at, next-is, within-is, closed-is, indexed-note, indexed-alike, indexed-where}
 use Rattle.beside.specs.Judging.{Counted, Step, step, heldBy, newBy, newStep, takeBy, after}

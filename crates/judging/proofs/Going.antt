@@ -13,7 +13,7 @@ use Rattle.model.specs.Block.{countIn, recordAt, recordsFrom, blockRecords}
 use Rattle.model.specs.Outcome.{refused, takeOne, takeAll}
 use Rattle.octets.proofs.Parts.{part-is}
 use Rattle.order.proofs.Take.{takeAll-nil, takeAll-goes, takeAll-stops}
-use Rattle.index.specs.Tables.{Indexed, Placed}
+use Rattle.closure.specs.Tables.{Indexed, Placed}
 use Rattle.index.proofs.Tables.{indexed-placed, indexed-where}
 use Rattle.log.specs.declared.Layout.the-variants.{Log}
 use Rattle.log.specs.Places.{laidAt}

@@ -4,7 +4,7 @@ ghost use Prim.Native.Nat.{_+_, _≤_, _<_};
 ghost use lib.ListN.{length};
 ghost use Rattle.model.specs.Log.{recordsOf};
 ghost use Rattle.model.specs.Block.{countIn};
-ghost use Rattle.index.specs.Tables.{Placed, Indexed};
+ghost use Rattle.closure.specs.Tables.{Placed, Indexed};
 ghost use Rattle.log.specs.declared.Layout.the-variants.{Log};
 ghost use Rattle.log.specs.Places.{laidAt};
 ghost use Rattle.beside.specs.Judging.{Counted, heldAt, step, takeBy, JudgeGives};
@@ -39,7 +39,7 @@ pub fn take_record(
     if held.counts[u] < c {
         return take_new(rec, p, held, used, places, seens);
     }
-    let q = index::position(places, u, c);
+    let q = closure::position(places, u, c);
     if same_held(rec, q, log, b) {
         return Judged {
             number: 0,

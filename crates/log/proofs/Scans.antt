@@ -15,7 +15,7 @@ use Rattle.model.specs.Bytes.{part}
 use Rattle.model.specs.Record.{Rec, unit, num}
 use Rattle.model.specs.Log.{byId, recordFault}
 use Rattle.octets.proofs.Parts.{part-is}
-use Rattle.index.specs.Tables.{Indexed, Placed, Spare, floorOf, noted, admitOf}
+use Rattle.closure.specs.Tables.{Indexed, Placed, Spare, floorOf, noted, admitOf}
 use Rattle.index.proofs.Counts.{Alike, alike-cons, alike-trans, alike-inside}
 use Rattle.index.proofs.Tables.{indexed-placed, indexed-alike, indexed-none}
 use Rattle.index.proofs.Admits.{indexed-spare, admit-fault, admit-indexed, admit-floor, admit-next}

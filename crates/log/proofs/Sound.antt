@@ -17,7 +17,7 @@ use Rattle.model.specs.Log.{vectorOf, recordFault, soundAfter, recordsIn, recor
 use Rattle.octets.proofs.Numbers.{cond-cases, eq-or-ne, and-true}
 use Rattle.octets.proofs.Parts.{part-is}
 use Rattle.images.proofs.Logs.{sound-few}
-use Rattle.index.specs.Tables.{Indexed}
+use Rattle.closure.specs.Tables.{Indexed}
 use Rattle.log.specs.declared.Layout.the-variants.{Log}
 use Rattle.log.specs.Places.{offsetOf, laidAt, Laid}
 use Rattle.log.specs.InOrder.{listed, before, Found, firstFault, ScanGives, CheckGives}

@@ -8,7 +8,7 @@ use lib.ListN.{length}
 use lib.Dec.{eqb}
 use Rattle.model.specs.Record.{Rec}
 use Rattle.model.specs.Log.{recordFault, recordsOf, soundLog}
-use Rattle.index.specs.Tables.{Indexed}
+use Rattle.closure.specs.Tables.{Indexed}
 use Rattle.log.specs.declared.Layout.the-variants.{Log}
 use Rattle.log.specs.Places.{laidAt}
 

@@ -227,9 +227,17 @@ further =
     -- a label of 32 bytes; of 33 it is no record
     ∷ formed (march 3 1 (0 · 1) [] root root (replicate 32 65) []) true
     ∷ formed (march 3 1 (0 · 1) [] root root (replicate 32 65) A) false
-    -- no label, and a label with a space last
+    -- no label, a label with a space last, with a space first, with the byte 7F
     ∷ formed (march 3 1 (0 · 1) [] root root [] []) false
     ∷ formed (march 3 1 (0 · 1) [] root root (65 ∷ 32 ∷ []) []) false
+    ∷ formed (march 3 1 (0 · 1) [] root root (32 ∷ 65 ∷ []) []) false
+    ∷ formed (march 3 1 (0 · 1) [] root root (65 ∷ 127 ∷ []) []) false
+    -- a label and a mark that are not used
+    ∷ formed (march 3 4 (0 · 2) (1 ∷ []) (0 · 1) root A []) false
+    ∷ formed (march 3 4 (0 · 2) (1 ∷ []) (0 · 1) root [] A) false
+    -- no operation 7, nor 0
+    ∷ formed (march 3 7 (0 · 2) (1 ∷ []) (0 · 1) root [] []) false
+    ∷ formed (march 3 0 (0 · 1) [] root root A []) false
     -- a record does not name itself, and not the root as object
     ∷ formed (stores 3 (0 · 2) (1 ∷ []) (0 · 2)) false
     ∷ formed (removes 3 (0 · 2) (1 ∷ []) root) false

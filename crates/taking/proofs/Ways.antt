@@ -14,7 +14,7 @@ use Rattle.model.specs.Outcome.{Outcome, outcome, guarded, taken, takeAll, give
 use Rattle.octets.proofs.Numbers.{eq-or-ne}
 use Rattle.blocklaws.proofs.Faults.{header-right, stored-header}
 use Rattle.images.proofs.Logs.{sound-records, sound-bytes, sound-few}
-use Rattle.index.specs.Tables.{Indexed}
+use Rattle.closure.specs.Tables.{Indexed}
 use Rattle.log.specs.declared.Layout.the-variants.{Log}
 use Rattle.log.specs.Places.{laidAt}
 use Rattle.log.specs.InOrder.{CheckGives}

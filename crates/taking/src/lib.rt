@@ -7,7 +7,7 @@ ghost use lib.ListN.{length};
 ghost use Rattle.model.specs.Log.{recordsOf, soundLog, logBytes};
 ghost use Rattle.model.specs.Block.{recordAt, recordsFrom};
 ghost use Rattle.model.specs.Outcome.{outcome, taken, takeOne, takeAll, givenFault, tookBlock, takeOf};
-ghost use Rattle.index.specs.Tables.{Indexed};
+ghost use Rattle.closure.specs.Tables.{Indexed};
 ghost use Rattle.log.specs.declared.Layout.the-variants.{Log};
 ghost use Rattle.log.specs.Places.{laidAt};
 ghost use Rattle.beside.specs.Judging.{after, afterTo};

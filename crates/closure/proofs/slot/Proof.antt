@@ -1,7 +1,7 @@
-use Rattle.index.specs.Tables.{slotOf}
+use Rattle.closure.specs.Tables.{slotOf}
 use borrow.Author.Needs.{needs}
-use Rattle.index.proofs.slot.Statement.{statement}
-use Rattle.index.proofs.slot.Tie as tie
+use Rattle.closure.proofs.slot.Statement.{statement}
+use Rattle.closure.proofs.slot.Tie as tie
 
 mul-result : tie.Need-mul-result
 mul-result c = search needs

@@ -1,7 +1,7 @@
-use Rattle.index.specs.Tables.{positionOf}
+use Rattle.closure.specs.Tables.{positionOf}
 use borrow.Author.Needs.{needs}
-use Rattle.index.proofs.position.Statement.{statement}
-use Rattle.index.proofs.position.Tie as tie
+use Rattle.closure.proofs.position.Statement.{statement}
+use Rattle.closure.proofs.position.Tie as tie
 
 slot-requires : tie.Need-slot-requires
 slot-requires c κs = search needs

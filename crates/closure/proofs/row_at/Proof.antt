@@ -1,10 +1,10 @@
-use Rattle.index.proofs.Closed.{row-flat}
+use Rattle.closure.proofs.Closed.{row-flat}
 use native.Mathlib.Omega.{arith}
 use borrow.Author.Needs.{needs}
-use Rattle.index.proofs.row_at.Statement.{statement}
-use Rattle.index.proofs.row_at.Tie as tie
-use Rattle.index.proofs.row_at.Reads as reads
-use Rattle.index.proofs.row_at.Lts as lts
+use Rattle.closure.proofs.row_at.Statement.{statement}
+use Rattle.closure.proofs.row_at.Tie as tie
+use Rattle.closure.proofs.row_at.Reads as reads
+use Rattle.closure.proofs.row_at.Lts as lts
 
 -- src/lib.rt:52:14
 mul-at : tie.Need-mul-at

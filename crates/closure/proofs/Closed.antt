@@ -15,7 +15,7 @@ use Rattle.octets.proofs.Numbers.{lt-or-ge, and-wrong}
 use Rattle.octets.proofs.Parts.{part-length, getD-part}
 use Rattle.vector.proofs.Dominance.{less-fails, covers-next, covers-ends}
 use Rattle.vector.proofs.Higher.{eight}
-use Rattle.index.specs.Tables.{positionOf, rowAt, unitClosed, closedBy, Placed}
+use Rattle.closure.specs.Tables.{positionOf, rowAt, unitClosed, closedBy, Placed}
 
 all-false : (n : ℕ) (p : ℕ → Bool) (u : ℕ) → u < n → p u ≡ false → allTo n p ≡ false
 unfolding allTo

@@ -3,16 +3,16 @@ use mathlib.Core.Path.{_≡_, refl}
 use mathlib.Core.Bool.{true}
 use Rattle.model.specs.Vector.{coversTo}
 use Rattle.model.specs.Log.{allTo}
-use Rattle.index.specs.Tables.{rowAt, unitClosed}
-use Rattle.index.proofs.Closed.{few-seen, place-inside, row-next, none-counted, row-covered, none-above, one-above, all-closed}
+use Rattle.closure.specs.Tables.{rowAt, unitClosed}
+use Rattle.closure.proofs.Closed.{few-seen, place-inside, row-next, none-counted, row-covered, none-above, one-above, all-closed}
 use borrow.Author.Needs.{needs}
 use native.Mathlib.Omega.{arith}
-use Rattle.index.proofs.is_closed.Statement.{statement}
-use Rattle.index.proofs.is_closed.Tie as tie
-use Rattle.index.proofs.is_closed.Reads as reads
-use Rattle.index.proofs.is_closed.Lts as lts
-use Rattle.index.proofs.position.Reads as position-reads
-use Rattle.index.proofs.row_at.Reads as row-at-reads
+use Rattle.closure.proofs.is_closed.Statement.{statement}
+use Rattle.closure.proofs.is_closed.Tie as tie
+use Rattle.closure.proofs.is_closed.Reads as reads
+use Rattle.closure.proofs.is_closed.Lts as lts
+use Rattle.closure.proofs.position.Reads as position-reads
+use Rattle.closure.proofs.row_at.Reads as row-at-reads
 use Rattle.vector.proofs.covers.Reads as covers-reads
 
 abbrev Inv-loop : tie.InvT-loop
