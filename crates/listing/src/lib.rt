@@ -1,12 +1,10 @@
 // The listing of a file: what `readout` prints, written into lent memory.
 ghost use mathlib.Core.Path.{_≡_};
 ghost use mathlib.Core.List.{_++_};
-ghost use Prim.Native.Nat.{_+_, _≤_};
+ghost use Prim.Native.Nat.{_≤_};
 ghost use lib.ListN.{length};
 ghost use Rattle.model.specs.Bytes.{word};
 ghost use Rattle.model.specs.Log.{recordsOf, soundLog};
-ghost use Rattle.model.specs.Replay.{replay};
-ghost use Rattle.model.specs.Table.{tableBytes};
 ghost use Rattle.model.specs.Listing.{headLine, seenLine, treeLines, refusedLine};
 ghost use mathlib.Core.Bool.{true};
 ghost use Rattle.text.specs.Written.{Wrote};
@@ -24,15 +22,6 @@ fn file_lines(out: &mut [u8], tree: &[u8], archive: u32, unit: u8, records: u16,
     treelines::tree_lines(out, b, tree)
 }
 
-// The tree of the n records of a sound log is laid in the lent table.
-fn lay(log: &[u8], n: usize, tree: &mut [u8])
-    requires { ⌜ (length (now log) ≡ 40960) × (soundLog (now log) ≡ true) × (n ≡ length (recordsOf (now log))) × (length (now tree) ≡ 43012) ⌝ }
-    ensures { λ _. ⌜ now (tree .exit) ≡ tableBytes (replay (recordsOf (now (log .entry)))) ⌝ }
-{
-    let mut register = [0u16; 9729];
-    show::lay_tree(log, n, tree, &mut register);
-}
-
 // The lines of a sound log, behind its archive number, unit, record count and vector; the lent table shows its tree.
 fn log_lines(
     text: &mut [u8],
@@ -46,7 +35,7 @@ fn log_lines(
     requires { ⌜ (length (now text) ≡ 76800) × (length (now log) ≡ 40960) × (soundLog (now log) ≡ true) × (records ≡ length (recordsOf (now log))) × (length (now tree) ≡ 43012) ⌝ }
     ensures { λ r. ⌜ Lists archive unit records (v .counts) (now (log .entry)) (now (tree .exit)) (now (text .entry)) (now (text .exit)) r ⌝ }
 {
-    lay(log, records as usize, tree);
+    show::lay_tree(log, records as usize, tree);
     file_lines(text, tree, archive, unit, records, v) as u32
 }
 

@@ -175,12 +175,12 @@ empty-rows : (b : List ℕ) → treeIn b 0 0 ≡ emptyTree
 unfolding treeIn emptyTree entriesFrom asidesFrom
 empty-rows b = refl
 
-pub start-holds : (b₀ register₀ b register : List ℕ) → length b₀ ≡ 43012 → length register₀ ≡ 9729 → b ≡ replicate (length b₀) 0 → register ≡ replicate (length register₀) 0 → Holds b register 0 0
-start-holds b₀ register₀ b register p q e f = works-holds b register 0 0 emptyTree (start-works b register (rw p at e) (rw q at f))
+pub start-holds : (b register : List ℕ) → b ≡ replicate 43012 0 → register ≡ replicate 9729 0 → Holds b register 0 0
+start-holds b register e f = works-holds b register 0 0 emptyTree (start-works b register e f)
 
-pub start-nodes : (register₀ register : List ℕ) (n : ℕ) → length register₀ ≡ 9729 → register ≡ replicate (length register₀) 0 → n ≤ 512 → nodesIn register + n ≤ 512
-start-nodes register₀ register n q f h =
-    let z : nodesIn register ≡ 0 = ap nodesIn (rw q at f) ∙ blank-nodes in
+pub start-nodes : (register : List ℕ) (n : ℕ) → register ≡ replicate 9729 0 → n ≤ 512 → nodesIn register + n ≤ 512
+start-nodes register n f h =
+    let z : nodesIn register ≡ 0 = ap nodesIn f ∙ blank-nodes in
     omega arith
 
 module _ (b : List ℕ) (n : ℕ) (c : n ≡ length (recordsOf b)) where

@@ -50,24 +50,11 @@ pub fn replay(
     size
 }
 
-// Every number becomes 0.
-pub fn clear_register(register: &mut [u16])
-    ensures { λ _. ⌜ now (register .exit) ≡ replicate (length (now (register .entry))) 0 ⌝ }
-{
-    let mut i = 0;
-    while i < register.len() {
-        register[i] = 0;
-        i += 1;
-    }
-}
-
-// The n records of a sound log, from the root alone on. Table and register may hold anything before.
+// The n records of a sound log, from the root alone on, into a table and a register of zeros.
 pub fn replay_log(log: &[u8], n: usize, table: &mut [u8], register: &mut [u16]) -> Size
-    requires { ⌜ (length (now log) ≡ 40960) × (soundLog (now log) ≡ true) × (n ≡ length (recordsOf (now log))) × (length (now table) ≡ 43012) × (length (now register) ≡ 9729) ⌝ }
+    requires { ⌜ (length (now log) ≡ 40960) × (soundLog (now log) ≡ true) × (n ≡ length (recordsOf (now log))) × (now table ≡ replicate 43012 0) × (now register ≡ replicate 9729 0) ⌝ }
     ensures { λ r. ⌜ Works (now (table .exit)) (now (register .exit)) (r .entries) (r .asides) (replayOf (recordsOf (now (log .entry)))) ⌝ }
 {
-    octets::clear(table);
-    clear_register(register);
     replay(
         log,
         Layout::Log,

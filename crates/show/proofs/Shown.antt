@@ -4,7 +4,7 @@ use Prim.Native.Nat.{ℕ}
 use mathlib.Core.Path.{_≡_, ap, _∙_}
 use mathlib.Core.Bool.{Bool, true, false, not}
 use mathlib.Core.List.{List}
-use lib.ListN.{length}
+use lib.ListN.{length, replicate}
 use borrow.Author.Tests.{eq-eqb, ne-eqb, not-true, not-false}
 use Rattle.model.specs.Log.{recordsOf, soundLog}
 use Rattle.model.specs.Replay.{Tree, replay}
@@ -18,6 +18,9 @@ use Rattle.lookup.proofs.Working.{works-tree}
 
 pub laid : (b register : List ℕ) (n m : ℕ) (t : Tree) (f : List ℕ) → Works b register n m t → f ≡ tableBytes (treeIn b n m) → f ≡ tableBytes t
 laid b register n m t f w e = e ∙ ap tableBytes (works-tree b register n m t w)
+
+pub zeroed : (b₀ b : List ℕ) → length b₀ ≡ 43012 → b ≡ replicate (length b₀) 0 → b ≡ replicate 43012 0
+zeroed b₀ b h e = rw h at e
 
 -- ---- the answers
 

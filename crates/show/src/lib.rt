@@ -1,29 +1,30 @@
 // Showing the tree: the replay of a sound log, laid in a lent table.
 ghost use mathlib.Core.Path.{_≡_};
 ghost use mathlib.Core.Bool.{true};
-ghost use lib.ListN.{length};
+ghost use lib.ListN.{length, replicate};
 ghost use Rattle.model.specs.Log.{recordsOf, soundLog};
 ghost use Rattle.model.specs.Replay.{replay};
 ghost use Rattle.model.specs.Table.{tableBytes};
 ghost use Rattle.model.specs.Outcome.{outcome, showOf};
 use answer::Answer;
 
-// The tree of the n records of a sound log is laid in a table. Table and register may hold anything before.
-pub fn lay_tree(log: &[u8], n: usize, tree: &mut [u8], register: &mut [u16])
-    requires { ⌜ (length (now log) ≡ 40960) × (soundLog (now log) ≡ true) × (n ≡ length (recordsOf (now log))) × (length (now tree) ≡ 43012) × (length (now register) ≡ 9729) ⌝ }
+// The tree of the n records of a sound log is laid in a table of zeros, by a register of zeros.
+fn fill_tree(log: &[u8], n: usize, tree: &mut [u8], register: &mut [u16])
+    requires { ⌜ (length (now log) ≡ 40960) × (soundLog (now log) ≡ true) × (n ≡ length (recordsOf (now log))) × (now tree ≡ replicate 43012 0) × (now register ≡ replicate 9729 0) ⌝ }
     ensures { λ _. ⌜ now (tree .exit) ≡ tableBytes (replay (recordsOf (now (log .entry)))) ⌝ }
 {
     let size = replay::replay_log(log, n, tree, register);
     finish::finish(tree, register, size);
 }
 
-// The same, with a register of its own.
-fn lay(log: &[u8], n: usize, tree: &mut [u8])
+// The tree of the n records of a sound log is laid in a lent table, which may hold anything before.
+pub fn lay_tree(log: &[u8], n: usize, tree: &mut [u8])
     requires { ⌜ (length (now log) ≡ 40960) × (soundLog (now log) ≡ true) × (n ≡ length (recordsOf (now log))) × (length (now tree) ≡ 43012) ⌝ }
     ensures { λ _. ⌜ now (tree .exit) ≡ tableBytes (replay (recordsOf (now (log .entry)))) ⌝ }
 {
+    octets::clear(tree);
     let mut register = [0u16; 9729];
-    lay_tree(log, n, tree, &mut register);
+    fill_tree(log, n, tree, &mut register);
 }
 
 // The lent table shows the tree and the asides of the lent log. A refusal leaves the table as it was.
@@ -49,7 +50,7 @@ pub fn show_tree(log: &[u8], tree: &mut [u8]) -> Answer
             place: 0,
         };
     }
-    lay(log, c.used, tree);
+    lay_tree(log, c.used, tree);
     Answer {
         number: 0,
         place: 0,

@@ -5,11 +5,10 @@ use Rattle.listing.proofs.log_lines.Tie as tie
 use Rattle.listing.proofs.log_lines.Reads as reads
 use Rattle.listing.proofs.log_lines.Lts as lts
 use Rattle.listing.proofs.file_lines.Reads as file-lines-reads
-use Rattle.listing.proofs.lay.Reads as lay-reads
 
 -- src/lib.rt:41:5
-lay-requires : tie.Need-lay-requires
-lay-requires c κs = search needs
+lay-tree-requires : tie.Need-lay-tree-requires
+lay-tree-requires c κs = search needs
 
 -- src/lib.rt:42:5
 file-lines-requires : tie.Need-file-lines-requires
@@ -34,4 +33,4 @@ returns c = search (log-listed)
 pub log-lines-spec : {M : Type 1} → statement M
 log-lines-spec =
     tie.close
-    (tie.spec lay-requires file-lines-requires cast-result same-length same-length-2 returns)
+    (tie.spec lay-tree-requires file-lines-requires cast-result same-length same-length-2 returns)

@@ -4,12 +4,6 @@ use borrow.Author.Needs.{needs}
 use Rattle.replay.proofs.replay_log.Statement.{statement}
 use Rattle.replay.proofs.replay_log.Tie as tie
 
-clear-requires : tie.Need-clear-requires
-clear-requires c κs = search needs
-
-clear-register-requires : tie.Need-clear-register-requires
-clear-register-requires c κs = search needs
-
 replay-requires : tie.Need-replay-requires
 replay-requires c κs = (search (log-laid), search (log-playable), search (start-holds), search (log-room), search (log-room), search (start-nodes, few-records))
 
@@ -26,8 +20,6 @@ pub replay-log-spec : {M : Type 1} → statement M
 replay-log-spec =
     tie.close
     (tie.spec
-    clear-requires
-    clear-register-requires
     replay-requires
     same-length
     same-length-2

@@ -1,24 +1,25 @@
-use Rattle.show.proofs.Shown.{laid}
-use Rattle.lookup.proofs.Working.{works-holds}
+use mathlib.Core.Path.{refl}
+use Rattle.show.proofs.Shown.{zeroed}
 use borrow.Author.Needs.{needs}
 use Rattle.show.proofs.lay_tree.Statement.{statement}
 use Rattle.show.proofs.lay_tree.Tie as tie
 
-replay-log-requires : tie.Need-replay-log-requires
-replay-log-requires c κs = search needs
+clear-requires : tie.Need-clear-requires
+clear-requires c κs = search needs
 
-finish-requires : tie.Need-finish-requires
-finish-requires c κs = search (works-holds)
+slice-aggregate-fill-tree : tie.Need-slice-aggregate-fill-tree
+slice-aggregate-fill-tree c = search needs
+
+fill-tree-requires : tie.Need-fill-tree-requires
+fill-tree-requires c κs = (search, search, search, search (zeroed), refl)
 
 same-length : tie.Need-same-length
 same-length c = search needs
 
-same-length-2 : tie.Need-same-length-2
-same-length-2 c = search needs
-
 returns : tie.Need-returns
-returns c = search (laid)
+returns c = search needs
 
 pub lay-tree-spec : {M : Type 1} → statement M
 lay-tree-spec =
-    tie.close (tie.spec replay-log-requires finish-requires same-length same-length-2 returns)
+    tie.close
+    (tie.spec clear-requires slice-aggregate-fill-tree fill-tree-requires same-length returns)

@@ -16,8 +16,8 @@ check-requires c κs = search needs
 returns-3 : tie.Need-returns-3
 returns-3 c = search (unsound)
 
-lay-requires : tie.Need-lay-requires
-lay-requires c κs = (search, search (known-sound), search (known-used), search)
+lay-tree-requires : tie.Need-lay-tree-requires
+lay-tree-requires c κs = (search, search (known-sound), search (known-used), search)
 
 same-length : tie.Need-same-length
 same-length c = search needs
@@ -28,4 +28,4 @@ returns-4 c = search (shown)
 pub show-tree-spec : {M : Type 1} → statement M
 show-tree-spec =
     tie.close
-    (tie.spec returns returns-2 check-requires returns-3 lay-requires same-length returns-4)
+    (tie.spec returns returns-2 check-requires returns-3 lay-tree-requires same-length returns-4)
