@@ -1,2 +1,2 @@
-pub mod Changes
+pub mod Additions
 pub mod Effects

@@ -14,7 +14,7 @@ use Rattle.replaylaws.proofs.Settling.{replay-append}
 use Rattle.table.specs.Rows.{treeIn}
 use Rattle.lookup.specs.Roles.{roleOf, Works, Holds}
 use Rattle.lookup.proofs.Working.{works-tree, works-holds}
-use Rattle.apply.specs.Effects.{Takes}
+use Rattle.amend.specs.Effects.{Takes}
 use Rattle.log.specs.declared.Layout.{Layout}
 use Rattle.log.specs.Places.{offsetOf, laidAt, Laid}
 use Rattle.log.specs.InOrder.{listed}

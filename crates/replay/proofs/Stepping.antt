@@ -16,7 +16,7 @@ use Rattle.table.specs.Rows.{treeIn, asidesFrom, newAside, InRange}
 use Rattle.lookup.specs.Roles.{rowFrom, noteFrom, rowOf, noteOf, roleOf, Works, Holds}
 use Rattle.lookup.proofs.Places.{row-more, note-more}
 use Rattle.judge.specs.Judged.{verdictOf}
-use Rattle.apply.specs.Effects.{withAsides}
+use Rattle.amend.specs.Effects.{withAsides}
 use Rattle.replay.proofs.Marks.{marked-fits}
 
 -- ---- changes keep places and lengths

@@ -8,7 +8,7 @@ ghost use Rattle.model.specs.Replay.{step as stepOf, replayFrom, replay as repl
 ghost use Rattle.table.specs.Rows.{treeIn};
 ghost use Rattle.chains.specs.Chains.{nodesIn};
 ghost use Rattle.lookup.specs.Roles.{Works, Holds};
-ghost use Rattle.apply.specs.Effects.{Takes};
+ghost use Rattle.amend.specs.Effects.{Takes};
 ghost use Rattle.log.specs.Places.{laidAt, Laid};
 ghost use Rattle.log.specs.InOrder.{listed};
 ghost use Rattle.replay.specs.Playable.{Playable};

@@ -1,44 +1,33 @@
--- A working table after one change: a row more, a row changed, an aside more, an aside settled.
+-- A working table after a row more: a new entry, a new aside.
 -- Assumes nothing.
-use Prim.Native.Nat.{ℕ, zero, suc, _+_, _*_, _≤_, _<_}
+use Prim.Native.Nat.{ℕ, _+_, _*_, _≤_, _<_}
 use native.Mathlib.Omega.{arith}
 use mathlib.Core.Path.{_≡_, refl, sym, _∙_}
 use mathlib.Core.Logic.{_⊎_, inl, inr, ⊎-elim}
 use mathlib.Core.Bool.{true}
 use mathlib.Core.List.{List, [], _∷_, _++_}
-use lib.ListN.{getD, length, set, length-append, length-set}
+use lib.ListN.{getD, set, length-append, length-set}
 use lib.Seq.{getD-set-same, getD-set-other}
-use Rattle.model.specs.Bytes.{part, putAt}
+use Rattle.model.specs.Bytes.{putAt}
 use Rattle.model.specs.Replay.{Entry, Aside, Tree, isPresent, isDisputed}
 use Rattle.model.specs.Table.{entryRow, asideRow}
 use Rattle.octets.proofs.Numbers.{eq-or-ne}
 use Rattle.table.specs.Rows.{flagged, workBytes, InRange, Proper, AllProper}
-use Rattle.table.proofs.Writes.{add-entry, set-entry, part-entry, add-aside, set-aside, part-aside}
-use Rattle.table.proofs.Fields.{settledOne}
+use Rattle.table.proofs.Writes.{add-entry, add-aside}
 use Rattle.lookup.specs.Roles.{rowFrom, noteFrom, rowOf, noteOf, behindRows, roleOf, MarksFit, Works}
 use Rattle.chains.specs.Chains.{nodesIn}
-use Rattle.keys.specs.Keys.{slotOf, entered, Keyed}
+use Rattle.keys.specs.Keys.{slotOf, entered}
 use Rattle.keys.proofs.Counts.{slot-one, slot-low}
 use Rattle.keys.proofs.Keeping.{keyed-role, keyed-made, role-nodes, entered-role, entered-long}
-use Rattle.lookup.proofs.Places.{row-absent, row-set, note-set, row-more, row-new, note-more, note-new, lone-set, lone-more}
-use Rattle.lookup.proofs.Working.{blankEntry, blankAside, behind-cases}
-use Rattle.apply.specs.Effects.{withEntries, withAsides}
+use Rattle.lookup.proofs.Places.{row-absent, row-more, row-new, note-more, note-new, lone-more}
+use Rattle.lookup.proofs.Working.{behind-cases}
+use Rattle.amend.specs.Effects.{withEntries, withAsides}
 
 -- ---- proper entries, and marks that fit
-
-proper-set : (l : List Entry) (i : ℕ) (e : Entry) → Proper e → AllProper l → AllProper (set l i e)
-proper-set [] i e h p = tt
-proper-set (x ∷ l) zero e h p = (h, p .1)
-proper-set (x ∷ l) (suc i) e h p = (p .0, proper-set l i e h (p .1))
 
 proper-more : (l : List Entry) (e : Entry) → Proper e → AllProper l → AllProper (l ++ (e ∷ []))
 proper-more [] e h p = (h, tt)
 proper-more (x ∷ l) e h p = (p .0, proper-more l e h (p .1))
-
-marks-set : (l : List Aside) (i : ℕ) (d : Aside) → MarksFit l → MarksFit (set l i (settledOne (getD l i d)))
-marks-set [] i d p = tt
-marks-set (a ∷ l) zero d p = p
-marks-set (a ∷ l) (suc i) d p = (p .0, marks-set l i d (p .1))
 
 marks-more : (l : List Aside) (a : Aside) → (a .marked ≡ 0) ⊎ InRange (a .marked) → MarksFit l → MarksFit (l ++ (a ∷ []))
 marks-more [] a h p = (h, tt)
@@ -58,82 +47,9 @@ module _ (k : ℕ) (t : Tree) (fresh : roleOf k t ≡ 0) where
       (λ (y : (1 ≤ noteOf k t) × (behindRows (noteOf k t) ≡ 512 + noteOf k t)). absurd (omega (arith, y .1)))
       (behind-cases (noteOf k t))
 
--- ---- the changes
+-- ---- the rows
 
 module _ (b register : List ℕ) (n m : ℕ) (t : Tree) (w : Works b register n m t) where
-  pub works-part : (i : ℕ) → i < n → part b (4 + 72 * i) 72 ≡ entryRow 0 (getD (t .entries) i blankEntry)
-  unfolding workBytes isDisputed
-  works-part i h =
-      let rows = w .rows in
-      let fit = w .rows-fit in
-      rw (w .bytes) (part-entry [] (t .entries) (t .asides) (w .proper) (omega arith) i blankEntry (omega arith))
-
-  pub works-part-aside : (i : ℕ) → i < m → part b (36868 + 12 * i) 12 ≡ asideRow (getD (t .asides) i blankAside)
-  unfolding workBytes
-  works-part-aside i h =
-      let rows = w .rows in
-      let notes = w .notes in
-      let fit = w .rows-fit in
-      rw (w .bytes) (part-aside [] (t .entries) (t .asides) (w .proper) (omega arith) i blankAside (omega arith))
-
-  -- row i holds another entry of the same identity, and the register goes with it
-  pub works-change : (i : ℕ) (e : Entry) (l : List ℕ) → i < n → e .made ≡ getD (t .entries) i blankEntry .made → Proper e
-      → length l ≡ length register → ((s : ℕ) → s < 4096 → getD l s 0 ≡ getD register s 0) → Keyed l n (set (t .entries) i e)
-      → Works (putAt b (4 + 72 * i) (entryRow 0 e)) l n m (withEntries t (set (t .entries) i e))
-  unfolding withEntries workBytes isDisputed rowOf noteOf roleOf
-  works-change i e l h q p long low key =
-      let es = t .entries in
-      let as′ = t .asides in
-      let rows = w .rows in
-      let fit = w .rows-fit in
-      let same : (k : ℕ) → rowFrom k 0 (set es i e) ≡ rowFrom k 0 es = λ k. row-set k 0 es i e blankEntry q in
-      record {
-        bytes = rw (w .bytes) (set-entry [] es as′ (w .proper) (omega arith) i e (omega arith) p);
-        rows = length-set es i e ∙ w .rows;
-        notes = w .notes;
-        rows-fit = fit;
-        notes-fit = w .notes-fit;
-        proper = proper-set es i e p (w .proper);
-        lone = lone-set es i e blankEntry q (w .lone);
-        marks = w .marks;
-        apart = λ k. rw (same k) (w .apart k);
-        wide = long ∙ w .wide;
-        right = λ k u. low (slotOf k) (slot-low k u) ∙ rw (same k) (w .right k u);
-        keyed = key;
-      }
-
-  -- an aside is settled
-  pub works-settle : (i : ℕ) → i < m
-      → Works
-      (putAt b (36868 + 12 * i) (asideRow (settledOne (getD (t .asides) i blankAside))))
-      register
-      n
-      m
-      (withAsides t (set (t .asides) i (settledOne (getD (t .asides) i blankAside))))
-  unfolding withAsides workBytes rowOf noteOf roleOf
-  works-settle i h =
-      let es = t .entries in
-      let l = t .asides in
-      let a = settledOne (getD l i blankAside) in
-      let rows = w .rows in
-      let notes = w .notes in
-      let fit = w .rows-fit in
-      let same : (k : ℕ) → noteFrom k 0 (set l i a) ≡ noteFrom k 0 l = λ k. note-set k 0 l i a blankAside refl in
-      record {
-        bytes = rw (w .bytes) (set-aside [] es l (w .proper) (omega arith) i a (omega arith));
-        rows = w .rows;
-        notes = length-set l i a ∙ w .notes;
-        rows-fit = fit;
-        notes-fit = w .notes-fit;
-        proper = w .proper;
-        lone = w .lone;
-        marks = marks-set l i blankAside (w .marks);
-        apart = λ k. rw (same k) (w .apart k);
-        wide = w .wide;
-        right = λ k u. rw (same k) (w .right k u);
-        keyed = w .keyed;
-      }
-
   module _ (k : ℕ) (own : InRange k) (fresh : roleOf k t ≡ 0) (v : ℕ) where
     slots : (j : ℕ) → InRange j → ((j ≡ k) × (getD (set register (slotOf k) v) (slotOf j) 0 ≡ v)) ⊎ ((j ≡ k → ⊥) × (getD (set register (slotOf k) v) (slotOf j) 0 ≡ roleOf j t))
     slots j u =

@@ -1,12 +1,12 @@
 use Rattle.judge.proofs.Reasons.{object-range}
-use Rattle.apply.proofs.Effects.{unchanged, rename-done, rename-nodes, row-end, label-end, works-chains}
+use Rattle.amend.proofs.Amending.{unchanged, rename-done, rename-nodes, row-end, label-end, works-chains}
 use Rattle.lookup.proofs.Working.{works-long}
 use Rattle.model.specs.Record.{labelOf}
 use Rattle.model.specs.Bytes.{part}
 use native.Mathlib.Omega.{arith}
 use borrow.Author.Needs.{needs}
-use Rattle.apply.proofs.rename.Statement.{statement}
-use Rattle.apply.proofs.rename.Tie as tie
+use Rattle.amend.proofs.rename.Statement.{statement}
+use Rattle.amend.proofs.rename.Tie as tie
 
 object-of-requires : tie.Need-object-of-requires
 object-of-requires c κs = search needs

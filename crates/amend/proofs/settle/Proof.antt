@@ -1,8 +1,8 @@
 use Rattle.judge.proofs.Reasons.{object-range}
-use Rattle.apply.proofs.Effects.{nothing-settled, aside-settled, note-end}
+use Rattle.amend.proofs.Amending.{nothing-settled, aside-settled, note-end}
 use borrow.Author.Needs.{needs}
-use Rattle.apply.proofs.settle.Statement.{statement}
-use Rattle.apply.proofs.settle.Tie as tie
+use Rattle.amend.proofs.settle.Statement.{statement}
+use Rattle.amend.proofs.settle.Tie as tie
 
 object-of-requires : tie.Need-object-of-requires
 object-of-requires c κs = search needs

@@ -1,8 +1,8 @@
 use Rattle.judge.proofs.Reasons.{object-range}
-use Rattle.apply.proofs.Effects.{unchanged, store-done, row-end}
+use Rattle.amend.proofs.Amending.{unchanged, store-done, row-end}
 use borrow.Author.Needs.{needs}
-use Rattle.apply.proofs.store.Statement.{statement}
-use Rattle.apply.proofs.store.Tie as tie
+use Rattle.amend.proofs.store.Statement.{statement}
+use Rattle.amend.proofs.store.Tie as tie
 
 object-of-requires : tie.Need-object-of-requires
 object-of-requires c κs = search needs

@@ -1,10 +1,10 @@
 use Rattle.judge.proofs.Reasons.{object-range}
-use Rattle.apply.proofs.Effects.{unchanged, remove-done, remove-nodes, leave-counts, row-end, label-end, works-chains}
+use Rattle.amend.proofs.Amending.{unchanged, remove-done, remove-nodes, leave-counts, row-end, label-end, works-chains}
 use Rattle.lookup.proofs.Working.{works-long}
 use native.Mathlib.Omega.{arith}
 use borrow.Author.Needs.{needs}
-use Rattle.apply.proofs.remove.Statement.{statement}
-use Rattle.apply.proofs.remove.Tie as tie
+use Rattle.amend.proofs.remove.Statement.{statement}
+use Rattle.amend.proofs.remove.Tie as tie
 
 object-of-requires : tie.Need-object-of-requires
 object-of-requires c κs = search needs
