@@ -18,7 +18,7 @@ use Rattle.model.specs.File.{fileLength, blocksIn, blockAt, countFits, agrees, 
 use Rattle.octets.proofs.Numbers.{eq-or-ne}
 use Rattle.octets.proofs.Parts.{part-is}
 use Rattle.octets.proofs.Compare.{eq-same, ne-same}
-use Rattle.vector.proofs.Claims.{identical-equal, equal-identical}
+use Rattle.compare.proofs.Claims.{identical-equal, equal-identical}
 
 -- ---- the length
 

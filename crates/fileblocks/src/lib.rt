@@ -10,8 +10,8 @@ use block::count_in;
 use block::place_in;
 use block::sender_in;
 use block::vector_in;
+use compare::compare;
 use vector::Vector;
-use vector::compare;
 
 // A refusal and the place of its block; number 0 for none.
 pub struct Fault {

@@ -103,7 +103,7 @@ pub extern "C" fn limp_compare(first: &[u8], second: &[u8]) -> u32
     }
     let a = vector_at(first, 0);
     let b = vector_at(second, 0);
-    let c = vector::compare(a, b);
+    let c = compare::compare(a, b);
     pack(0, 0, wide(c.answer))
 }
 

@@ -1,4 +1,3 @@
 pub mod Dominance
 pub mod Higher
 pub mod InBytes
-pub mod Claims

@@ -4,17 +4,12 @@ ghost use mathlib.Core.Bool.{true, cond};
 ghost use Prim.Native.Nat.{_+_, _≤_, _<_};
 ghost use lib.ListN.{length, getD, set, replicate};
 ghost use Rattle.model.specs.Bytes.{putAt};
-ghost use Rattle.model.specs.Vector.{covers, compareOf, vectorAt, vectorBytes};
+ghost use Rattle.model.specs.Vector.{covers, vectorAt, vectorBytes};
 use octets::le16;
 use octets::put16;
 
 pub struct Vector {
     pub counts: [u16; 8],
-}
-
-// What a comparison says: 0 identical, 1 the first dominates, 2 the second dominates, 3 both ahead.
-pub struct Comparison {
-    pub answer: u8,
 }
 
 // Every count of a is at least that of b. No count ends the loop early: all eight are compared at once.
@@ -28,22 +23,6 @@ pub fn covers(a: Vector, b: Vector) -> bool
         u += 1;
     }
     covered
-}
-
-// How two vectors stand to each other.
-pub fn compare(a: Vector, b: Vector) -> Comparison
-    ensures { λ r. ⌜ r .answer ≡ compareOf (a .counts) (b .counts) ⌝ }
-{
-    if covers(a, b) {
-        if covers(b, a) {
-            return Comparison { answer: 0 };
-        }
-        return Comparison { answer: 1 };
-    }
-    if covers(b, a) {
-        return Comparison { answer: 2 };
-    }
-    Comparison { answer: 3 }
 }
 
 // The vector that stands at a place.

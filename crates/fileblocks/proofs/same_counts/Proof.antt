@@ -4,7 +4,7 @@ use Rattle.fileblocks.proofs.same_counts.Statement.{statement}
 use Rattle.fileblocks.proofs.same_counts.Tie as tie
 use Rattle.fileblocks.proofs.same_counts.Reads as reads
 use Rattle.fileblocks.proofs.same_counts.Lts as lts
-use Rattle.vector.proofs.compare.Reads as compare-reads
+use Rattle.compare.proofs.compare.Reads as compare-reads
 
 -- src/lib.rt:40:5
 compare-requires : tie.Need-compare-requires

@@ -6,7 +6,7 @@ use Rattle.limp.proofs.limp_compare.Reads as reads
 use Rattle.limp.proofs.limp_compare.Lts as lts
 use Rattle.words.proofs.pack.Reads as pack-reads
 use Rattle.octets.proofs.wide.Reads as wide-reads
-use Rattle.vector.proofs.compare.Reads as compare-reads
+use Rattle.compare.proofs.compare.Reads as compare-reads
 use Rattle.vector.proofs.vector_at.Reads as vector-at-reads
 
 -- src/lib.rt:123:9

@@ -7,71 +7,54 @@ use Rattle.vector.proofs.bump.Reads as reads
 use Rattle.vector.proofs.bump.Lts as lts
 use Rattle.vector.proofs.counted.Reads as counted-reads
 
--- src/lib.rt:103:21
 element-copy-out-counted : tie.Need-element-copy-out-counted
 element-copy-out-counted c = search needs
 
--- src/lib.rt:103:13
 counted-requires : tie.Need-counted-requires
 counted-requires c κs = search (has-room)
 
--- src/lib.rt:104:21
 element-copy-out-counted-2 : tie.Need-element-copy-out-counted-2
 element-copy-out-counted-2 c = search needs
 
--- src/lib.rt:104:13
 counted-requires-2 : tie.Need-counted-requires-2
 counted-requires-2 c κs = search (has-room)
 
--- src/lib.rt:105:21
 element-copy-out-counted-3 : tie.Need-element-copy-out-counted-3
 element-copy-out-counted-3 c = search needs
 
--- src/lib.rt:105:13
 counted-requires-3 : tie.Need-counted-requires-3
 counted-requires-3 c κs = search (has-room)
 
--- src/lib.rt:106:21
 element-copy-out-counted-4 : tie.Need-element-copy-out-counted-4
 element-copy-out-counted-4 c = search needs
 
--- src/lib.rt:106:13
 counted-requires-4 : tie.Need-counted-requires-4
 counted-requires-4 c κs = search (has-room)
 
--- src/lib.rt:107:21
 element-copy-out-counted-5 : tie.Need-element-copy-out-counted-5
 element-copy-out-counted-5 c = search needs
 
--- src/lib.rt:107:13
 counted-requires-5 : tie.Need-counted-requires-5
 counted-requires-5 c κs = search (has-room)
 
--- src/lib.rt:108:21
 element-copy-out-counted-6 : tie.Need-element-copy-out-counted-6
 element-copy-out-counted-6 c = search needs
 
--- src/lib.rt:108:13
 counted-requires-6 : tie.Need-counted-requires-6
 counted-requires-6 c κs = search (has-room)
 
--- src/lib.rt:109:21
 element-copy-out-counted-7 : tie.Need-element-copy-out-counted-7
 element-copy-out-counted-7 c = search needs
 
--- src/lib.rt:109:13
 counted-requires-7 : tie.Need-counted-requires-7
 counted-requires-7 c κs = search (has-room)
 
--- src/lib.rt:110:21
 element-copy-out-counted-8 : tie.Need-element-copy-out-counted-8
 element-copy-out-counted-8 c = search needs
 
--- src/lib.rt:110:13
 counted-requires-8 : tie.Need-counted-requires-8
 counted-requires-8 c κs = search (has-room)
 
--- src/lib.rt:97:1
 returns : tie.Need-returns
 returns c = search (one-higher, needs)
 

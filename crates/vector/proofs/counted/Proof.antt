@@ -6,15 +6,12 @@ use Rattle.vector.proofs.counted.Tie as tie
 use Rattle.vector.proofs.counted.Reads as reads
 use Rattle.vector.proofs.counted.Lts as lts
 
--- src/lib.rt:91:16
 add-result : tie.Need-add-result
 add-result c = let h = c .before .pre (c .if1 .taken) in omega arith
 
--- src/lib.rt:91:9
 returns : tie.Need-returns
 returns c = search (counted-up)
 
--- src/lib.rt:86:1
 returns-2 : tie.Need-returns-2
 returns-2 c = search needs
 

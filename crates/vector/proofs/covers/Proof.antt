@@ -15,40 +15,31 @@ Inv-loop a b covered₀ u₀ covered u = (u ≤ 8) × (covered ≡ coversTo (a .
 abbrev μ-loop : tie.MeasureT-loop
 μ-loop a b covered₀ u₀ covered u = 8 - u
 
--- src/lib.rt:26:5
 loop-holds : tie.Need-loop-holds Inv-loop μ-loop
 unfolding coversTo
 loop-holds c = (omega arith, refl)
 
--- src/lib.rt:27:30
 mul-covered : tie.Need-mul-covered Inv-loop μ-loop
 mul-covered c = search needs
 
--- src/lib.rt:27:30
 element-copy-out-covered : tie.Need-element-copy-out-covered Inv-loop μ-loop
 element-copy-out-covered c = search needs
 
--- src/lib.rt:27:45
 mul-covered-2 : tie.Need-mul-covered-2 Inv-loop μ-loop
 mul-covered-2 c = search needs
 
--- src/lib.rt:27:45
 element-copy-out-covered-2 : tie.Need-element-copy-out-covered-2 Inv-loop μ-loop
 element-copy-out-covered-2 c = search needs
 
--- src/lib.rt:28:9
 add-u : tie.Need-add-u Inv-loop μ-loop
 add-u c = search needs
 
--- src/lib.rt:26:5
 loop-less : tie.Need-loop-less Inv-loop μ-loop
 loop-less c = search needs
 
--- src/lib.rt:26:5
 loop-again : tie.Need-loop-again Inv-loop μ-loop
 loop-again c = (omega arith, search (covers-next))
 
--- src/lib.rt:21:1
 returns : tie.Need-returns Inv-loop μ-loop
 returns c = search (covers-ends)
 

@@ -19,40 +19,31 @@ Inv-loop dst₀ at v u₀ dst u = (u ≤ 8) × (length dst ≡ length dst₀) ×
 abbrev μ-loop : tie.MeasureT-loop
 μ-loop dst₀ at v u₀ dst u = 8 - u
 
--- src/lib.rt:74:5
 loop-holds : tie.Need-loop-holds Inv-loop μ-loop
 unfolding countBytes
 loop-holds c = (omega arith, refl, sym (put-nil _ _))
 
--- src/lib.rt:75:25
 mul-put16 : tie.Need-mul-put16 Inv-loop μ-loop
 mul-put16 c = search needs
 
--- src/lib.rt:75:20
 add-put16 : tie.Need-add-put16 Inv-loop μ-loop
 add-put16 c = search needs
 
--- src/lib.rt:75:32
 mul-put16-2 : tie.Need-mul-put16-2 Inv-loop μ-loop
 mul-put16-2 c = search needs
 
--- src/lib.rt:75:32
 element-copy-out-put16 : tie.Need-element-copy-out-put16 Inv-loop μ-loop
 element-copy-out-put16 c = search needs
 
--- src/lib.rt:75:9
 put16-requires : tie.Need-put16-requires Inv-loop μ-loop
 put16-requires c κs = search needs
 
--- src/lib.rt:74:9
 add-u : tie.Need-add-u Inv-loop μ-loop
 add-u c = search needs
 
--- src/lib.rt:74:5
 loop-less : tie.Need-loop-less Inv-loop μ-loop
 loop-less c = search needs
 
--- src/lib.rt:74:5
 loop-again : tie.Need-loop-again Inv-loop μ-loop
 loop-again c =
     let l = c .before .before .before .before .before .before .loop in
@@ -60,11 +51,9 @@ loop-again c =
     let k = c .before .before .put16 in
     (omega arith, omega arith, k .ensures ∙ rw (l .inv .2) (vector-more (a .dst .now) (a .at) (a .t3 .counts) (l .u) (omega arith)))
 
--- src/lib.rt:70:1
 same-length : tie.Need-same-length Inv-loop μ-loop
 same-length c = search needs
 
--- src/lib.rt:70:1
 returns : tie.Need-returns Inv-loop μ-loop
 unfolding vectorBytes
 returns c =

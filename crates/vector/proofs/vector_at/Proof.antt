@@ -6,67 +6,51 @@ use Rattle.vector.proofs.vector_at.Reads as reads
 use Rattle.vector.proofs.vector_at.Lts as lts
 use Rattle.octets.proofs.le16.Reads as le16-reads
 
--- src/lib.rt:57:13
 le16-requires : tie.Need-le16-requires
 le16-requires c κs = search needs
 
--- src/lib.rt:58:21
 add-le16 : tie.Need-add-le16
 add-le16 c = search needs
 
--- src/lib.rt:58:13
 le16-requires-2 : tie.Need-le16-requires-2
 le16-requires-2 c κs = search needs
 
--- src/lib.rt:59:21
 add-le16-2 : tie.Need-add-le16-2
 add-le16-2 c = search needs
 
--- src/lib.rt:59:13
 le16-requires-3 : tie.Need-le16-requires-3
 le16-requires-3 c κs = search needs
 
--- src/lib.rt:60:21
 add-le16-3 : tie.Need-add-le16-3
 add-le16-3 c = search needs
 
--- src/lib.rt:60:13
 le16-requires-4 : tie.Need-le16-requires-4
 le16-requires-4 c κs = search needs
 
--- src/lib.rt:61:21
 add-le16-4 : tie.Need-add-le16-4
 add-le16-4 c = search needs
 
--- src/lib.rt:61:13
 le16-requires-5 : tie.Need-le16-requires-5
 le16-requires-5 c κs = search needs
 
--- src/lib.rt:62:21
 add-le16-5 : tie.Need-add-le16-5
 add-le16-5 c = search needs
 
--- src/lib.rt:62:13
 le16-requires-6 : tie.Need-le16-requires-6
 le16-requires-6 c κs = search needs
 
--- src/lib.rt:63:21
 add-le16-6 : tie.Need-add-le16-6
 add-le16-6 c = search needs
 
--- src/lib.rt:63:13
 le16-requires-7 : tie.Need-le16-requires-7
 le16-requires-7 c κs = search needs
 
--- src/lib.rt:64:21
 add-le16-7 : tie.Need-add-le16-7
 add-le16-7 c = search needs
 
--- src/lib.rt:64:13
 le16-requires-8 : tie.Need-le16-requires-8
 le16-requires-8 c κs = search needs
 
--- src/lib.rt:51:1
 returns : tie.Need-returns
 returns c = cc (vectorAt-flat _ _)
 

@@ -8,9 +8,10 @@ use mathlib.Core.Bool.{true, false}
 use mathlib.Core.List.{List, [], _∷_}
 use lib.ListN.{getD, length}
 use Rattle.model.specs.Vector.{covers, compareOf}
-use Rattle.vector.specs.Raised.{raised}
 use Rattle.octets.proofs.Numbers.{bool-cases, test-false, not-both}
-use Rattle.vector.proofs.Dominance.{covers-at, all-covers, covers-refl, covers-trans, covers-antisym, covers-same, answer-is, said-0, said-1, said-2, said-3}
+use Rattle.vector.proofs.Dominance.{covers-at, all-covers, covers-refl, covers-trans, covers-antisym, covers-same}
+use Rattle.compare.specs.Raised.{raised}
+use Rattle.compare.proofs.Answers.{answer-is, said-0, said-1, said-2, said-3}
 
 -- ---- exchanged arguments exchange 1 and 2, and keep 0 and 3
 
