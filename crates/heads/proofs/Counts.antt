@@ -1,4 +1,4 @@
--- Numbers of one or two bytes in decimal, and the counts of a vector.
+-- The counts of a vector.
 -- Assumes nothing.
 use Prim.Native.Nat.{ℕ, _+_, _≤_, _<_}
 use native.Mathlib.Omega.{arith}
@@ -8,14 +8,6 @@ use lib.ListN.{length, take, getD}
 use Rattle.model.specs.Listing.{decimal, countsText}
 use Rattle.text.specs.Written.{Wrote}
 use Rattle.text.proofs.Written.{room-first, room-rest, wrote-length, wrote-more, text-room, wrote-next, wrote-all}
-
--- ---- a number that was made wider
-
-pub wider-fits : (at n v x : ℕ) → at + length (decimal x) ≤ n → v ≡ x → at + length (decimal v) ≤ n
-wider-fits at n v x room e = rw e room
-
-pub wrote-wider : {a b : List ℕ} {at r : ℕ} (v x : ℕ) → v ≡ x → Wrote a b at r (decimal v) → Wrote a b at r (decimal x)
-wrote-wider v x e w = rw (← e) w
 
 -- ---- a count
 

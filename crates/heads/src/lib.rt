@@ -1,32 +1,16 @@
-// The lines of a listing that are no rows of the tree table: archive, unit and record count; the vector; a refusal. Each function answers the
-// place behind what it wrote.
-ghost use mathlib.Core.Path.{_≡_};
+// The first two lines of a listing: archive, unit and record count; the vector. Each function answers the place behind what it wrote.
 ghost use Prim.Native.Nat.{_+_, _≤_};
 ghost use mathlib.Core.List.{[], _∷_};
 ghost use lib.ListN.{length};
-ghost use Rattle.model.specs.Listing.{decimal, headLine, countsText, seenLine, refusedLine};
+ghost use Rattle.model.specs.Listing.{headLine, countsText, seenLine};
 ghost use Rattle.text.specs.Written.{Wrote};
-ghost use Rattle.heads.specs.Parts.{headRecords, headUnit, refusedPlace};
+ghost use Rattle.heads.specs.Parts.{headRecords, headUnit};
 use text::put_byte;
 use text::put_decimal;
+use text::put_number;
+use text::put_small;
 use text::put_word;
 use vector::Vector;
-
-// A byte in decimal.
-pub fn put_small(out: &mut [u8], at: usize, x: u8) -> usize
-    requires { ⌜ at + length (decimal x) ≤ length (now out) ⌝ }
-    ensures { λ r. ⌜ Wrote (now (out .entry)) (now (out .exit)) at r (decimal x) ⌝ }
-{
-    put_decimal(out, at, octets::wide32(x))
-}
-
-// A 16-bit number in decimal.
-fn put_number(out: &mut [u8], at: usize, x: u16) -> usize
-    requires { ⌜ at + length (decimal x) ≤ length (now out) ⌝ }
-    ensures { λ r. ⌜ Wrote (now (out .entry)) (now (out .exit)) at r (decimal x) ⌝ }
-{
-    put_decimal(out, at, octets::wider(x))
-}
 
 // The head line from its record count on.
 fn head_records(out: &mut [u8], at: usize, n: u16) -> usize
@@ -89,24 +73,4 @@ pub fn seen_line(out: &mut [u8], at: usize, v: Vector) -> usize
     let a = put_word(out, at, b"seen");
     let b = put_counts(out, a, v);
     put_byte(out, b, b'\n')
-}
-
-// A refusal from its place on.
-fn refused_place(out: &mut [u8], at: usize, p: u8) -> usize
-    requires { ⌜ at + length (refusedPlace p) ≤ length (now out) ⌝ }
-    ensures { λ r. ⌜ Wrote (now (out .entry)) (now (out .exit)) at r (refusedPlace p) ⌝ }
-{
-    let a = put_word(out, at, b" at ");
-    let b = put_small(out, a, p);
-    put_byte(out, b, b'\n')
-}
-
-// The number and the place of a refusal.
-pub fn refused_line(out: &mut [u8], at: usize, n: u8, p: u8) -> usize
-    requires { ⌜ at + length (refusedLine n p) ≤ length (now out) ⌝ }
-    ensures { λ r. ⌜ Wrote (now (out .entry)) (now (out .exit)) at r (refusedLine n p) ⌝ }
-{
-    let a = put_word(out, at, b"refused ");
-    let b = put_small(out, a, n);
-    refused_place(out, b, p)
 }

@@ -7,7 +7,7 @@ use lib.ListN.{length}
 use Rattle.model.specs.Listing.{headLine, seenLine, treeLines}
 use Rattle.text.specs.Written.{Wrote}
 use Rattle.text.proofs.Written.{room-first}
-use Rattle.heads.proofs.Chains.{second-fits, last-of-three, wrote-three}
+use Rattle.text.proofs.Chains.{second-fits, last-of-three, wrote-three}
 
 module _ (archive u n : ℕ) (v t a : List ℕ) (room : length (headLine archive u n ++ (seenLine v ++ treeLines t)) ≤ length a) where
   from-start : 0 + length (headLine archive u n ++ (seenLine v ++ treeLines t)) ≤ length a

@@ -44,7 +44,7 @@ fn refuse(text: &mut [u8], number: u8, place: u8) -> u32
     requires { ⌜ length (now text) ≡ 76800 ⌝ }
     ensures { λ r. ⌜ Wrote (now (text .entry)) (now (text .exit)) 0 r (refusedLine number place) ⌝ }
 {
-    heads::refused_line(text, 0, number, place) as u32
+    refusals::refused_line(text, 0, number, place) as u32
 }
 
 // What listing a file answers: the number and place of the file's check, and the length of the listing.

@@ -1,33 +1,22 @@
 -- Texts of several parts: the room for each part, and the whole once all are written.
 -- Assumes nothing.
-use Prim.Native.Nat.{ℕ, _+_, _-_, _/_, _%_, _≤_}
-use native.Mathlib.Nat.{sub-zero}
+use Prim.Native.Nat.{ℕ, _+_, _/_, _%_, _≤_}
 use native.Mathlib.Omega.{arith}
-use mathlib.Core.Path.{_≡_, refl, ap, _∙_}
-use mathlib.Core.Bool.{Bool, true, false, _||_}
+use mathlib.Core.Path.{_≡_, refl, _∙_}
 use mathlib.Core.List.{List, [], _∷_, _++_}
-use lib.ListN.{length, take, getD}
-use lib.Dec.{eqb}
-use borrow.Author.Tests.{eq-eqb, ne-eqb}
+use lib.ListN.{length, getD}
 use Rattle.model.specs.Bytes.{word}
-use Rattle.model.specs.Record.{textLength}
-use Rattle.model.specs.Listing.{decimal, escaped, identityText, labelText, dateText, fourDigits, twoDigits}
+use Rattle.model.specs.Listing.{decimal, identityText, dateText, fourDigits, twoDigits}
 use Rattle.text.specs.Written.{Wrote}
-use Rattle.text.proofs.Written.{room-first, room-rest, wrote-then, wrote-more, escaped-two, escaped-one}
+use Rattle.text.proofs.Written.{room-first, room-rest, wrote-then, wrote-more}
 
--- ---- a byte that may want a backslash
+-- ---- a number that was made wider
 
-pub quote-escapes : (x : ℕ) → x ≡ 34 → true ≡ (eqb x 34 || eqb x 92)
-quote-escapes x e = rw (eq-eqb x 34 e)
+pub wider-fits : (at n v x : ℕ) → at + length (decimal x) ≤ n → v ≡ x → at + length (decimal v) ≤ n
+wider-fits at n v x room e = rw e room
 
-pub other-escapes : (x : ℕ) → (x ≡ 34 → ⊥) → eqb x 92 ≡ (eqb x 34 || eqb x 92)
-other-escapes x e = rw (ne-eqb x 34 e)
-
-pub two-fit : (x at n : ℕ) (t : Bool) → t ≡ (eqb x 34 || eqb x 92) → t ≡ true → at + length (escaped (x ∷ [])) ≤ n → at + 2 ≤ n
-two-fit x at n t e f h = let k = ap length (escaped-two x t e f) in omega arith
-
-pub one-fits : (x at n : ℕ) (t : Bool) → t ≡ (eqb x 34 || eqb x 92) → t ≡ false → at + length (escaped (x ∷ [])) ≤ n → at + 1 ≤ n
-one-fits x at n t e f h = let k = ap length (escaped-one x t e f) in omega arith
+pub wrote-wider : {a b : List ℕ} {at r : ℕ} (v x : ℕ) → v ≡ x → Wrote a b at r (decimal v) → Wrote a b at r (decimal x)
+wrote-wider v x e w = rw (← e) w
 
 -- ---- an identity
 
@@ -69,26 +58,3 @@ pub wrote-date : {a b : List ℕ} {at r : ℕ} (s : List ℕ) (w y m d y₁ y₂
 unfolding dateText fourDigits twoDigits
 wrote-date s w y m d y₁ y₂ y₃ y₄ m₁ m₂ d₁ d₂ t ew ey em ed e₁ e₂ e₃ e₄ f₁ f₂ g₁ g₂ =
     rw (← ew, ← ey, ← em, ← ed, ← e₁, ← e₂, ← e₃, ← e₄, ← f₁, ← f₂, ← g₁, ← g₂) t
-
--- ---- a label
-
-module _ (t a b c : List ℕ) (at m k n : ℕ) (e : n ≡ textLength t) (room : at + length (labelText t) ≤ length a) where
-  label-parts : labelText t ≡ (34 ∷ []) ++ (escaped (take (n - 0) t) ++ (34 ∷ []))
-  unfolding labelText
-  label-parts = rw (sub-zero n, e)
-
-  label-room : at + length ((34 ∷ []) ++ (escaped (take (n - 0) t) ++ (34 ∷ []))) ≤ length a
-  label-room = rw label-parts at room
-
-  pub text-fits : Wrote a b at m (34 ∷ []) → m + length (escaped (take (n - 0) t)) ≤ length b
-  text-fits x = room-first m (length b) (escaped (take (n - 0) t)) (34 ∷ []) (room-rest (escaped (take (n - 0) t) ++ (34 ∷ [])) label-room x)
-
-  pub quote-fits : Wrote a b at m (34 ∷ []) → Wrote b c m k (escaped (take (n - 0) t)) → k + 1 ≤ length c
-  quote-fits x y = room-rest (34 ∷ []) (room-rest (escaped (take (n - 0) t) ++ (34 ∷ [])) label-room x) y
-
-  pub wrote-label : (d : List ℕ) (r : ℕ) → Wrote a b at m (34 ∷ []) → Wrote b c m k (escaped (take (n - 0) t)) → Wrote c d k r (34 ∷ []) → Wrote a d at r (labelText t)
-  wrote-label d r x y z = rw label-parts (wrote-then label-room x (λ q. wrote-more q y z))
-
-pub first-quote-fits : (t a : List ℕ) (at : ℕ) → at + length (labelText t) ≤ length a → at + 1 ≤ length a
-unfolding labelText
-first-quote-fits t a at room = omega arith

@@ -1,16 +1,12 @@
 -- One text written behind another.
 -- Assumes nothing.
-use Prim.Native.Nat.{ℕ, _+_, _/_, _%_, _≤_, _<_}
+use Prim.Native.Nat.{ℕ, _+_, _≤_, _<_}
 use native.Mathlib.Omega.{arith}
 use native.Mathlib.Numerals.{add-one}
-use mathlib.Core.Path.{_≡_, refl, sym, ap, _∙_}
-use mathlib.Core.Bool.{Bool, true, false, cond, _||_}
+use mathlib.Core.Path.{_≡_, sym, ap, _∙_}
 use mathlib.Core.List.{List, [], _∷_, _++_}
 use lib.ListN.{length, take, drop, getD, length-append, take-append-drop}
 use lib.Seq.{take-suc, take-all}
-use lib.Dec.{eqb}
-use borrow.Author.Tests.{lt-ltb, le-ltb}
-use Rattle.model.specs.Listing.{hexDigit, hexText, escaped}
 use Rattle.octets.proofs.PutAt.{put-more, put-nil, length-put}
 use Rattle.text.specs.Written.{Wrote}
 
@@ -51,20 +47,6 @@ wrote-same s t e w = rw (← e) w
 
 -- ---- texts that are written element by element
 
-pub escaped-append : (s t : List ℕ) → escaped (s ++ t) ≡ escaped s ++ escaped t
-unfolding escaped
-escaped-append [] t = refl
-escaped-append (x ∷ s) t = go (eqb x 34 || eqb x 92) (escaped-append s t)
-  where
-    go : (b : Bool) → escaped (s ++ t) ≡ escaped s ++ escaped t → cond b (92 ∷ x ∷ escaped (s ++ t)) (x ∷ escaped (s ++ t)) ≡ cond b (92 ∷ x ∷ escaped s) (x ∷ escaped s) ++ escaped t
-    go true rest = ap (λ (l : List ℕ). 92 ∷ x ∷ l) rest
-    go false rest = ap (λ (l : List ℕ). x ∷ l) rest
-
-pub hex-append : (s t : List ℕ) → hexText (s ++ t) ≡ hexText s ++ hexText t
-unfolding hexText
-hex-append [] t = refl
-hex-append (x ∷ s) t = rw (hex-append s t)
-
 -- of a text that goes over lists laid end to end: the next element, and the room for it
 module _ (f : List ℕ → List ℕ) (over : (s t : List ℕ) → f (s ++ t) ≡ f s ++ f t) (t : List ℕ) where
   pub next-text : (i : ℕ) → i < length t → f (take (i + 1) t) ≡ f (take i t) ++ f (getD t i 0 ∷ [])
@@ -76,34 +58,6 @@ module _ (f : List ℕ → List ℕ) (over : (s t : List ℕ) → f (s ++ t) ≡
       let n = ap length e ∙ length-append (f (take (i + 1) t)) (f (drop (i + 1) t)) in
       let m = ap length (next-text i h) ∙ length-append (f (take i t)) (f (getD t i 0 ∷ [])) in
       omega arith
-
--- ---- single bytes
-
-pub hex-low : (n : ℕ) → n < 10 → 48 + n ≡ hexDigit n
-unfolding hexDigit
-hex-low n h = rw (lt-ltb n 10 h)
-
-pub hex-high : (n : ℕ) → 10 ≤ n → 87 + n ≡ hexDigit n
-unfolding hexDigit
-hex-high n h = rw (le-ltb n 10 h)
-
-pub hex-byte : {a b : List ℕ} {at r : ℕ} (x u v : ℕ) → u ≡ hexDigit (x / 16) → v ≡ hexDigit (x % 16) → Wrote a b at r (u ∷ v ∷ []) → Wrote a b at r (hexText (x ∷ []))
-unfolding hexText
-hex-byte x u v e f w = rw (← e, ← f) w
-
-pub escaped-two : (x : ℕ) (t : Bool) → t ≡ (eqb x 34 || eqb x 92) → t ≡ true → escaped (x ∷ []) ≡ 92 ∷ x ∷ []
-unfolding escaped
-escaped-two x t e f = rw (sym e ∙ f)
-
-pub escaped-one : (x : ℕ) (t : Bool) → t ≡ (eqb x 34 || eqb x 92) → t ≡ false → escaped (x ∷ []) ≡ x ∷ []
-unfolding escaped
-escaped-one x t e f = rw (sym e ∙ f)
-
-pub wrote-escaped : {a b : List ℕ} {at r : ℕ} (x : ℕ) (t : Bool) → t ≡ (eqb x 34 || eqb x 92) → t ≡ true → Wrote a b at r (92 ∷ x ∷ []) → Wrote a b at r (escaped (x ∷ []))
-wrote-escaped x t e f w = rw (escaped-two x t e f) w
-
-pub wrote-plain : {a b : List ℕ} {at r : ℕ} (x : ℕ) (t : Bool) → t ≡ (eqb x 34 || eqb x 92) → t ≡ false → Wrote a b at r (x ∷ []) → Wrote a b at r (escaped (x ∷ []))
-wrote-plain x t e f w = rw (escaped-one x t e f) w
 
 -- a turn of a loop that writes element by element, and its end
 module _ (f : List ℕ → List ℕ) (over : (s t : List ℕ) → f (s ++ t) ≡ f s ++ f t) (a b c t : List ℕ) (at m r i : ℕ) where

@@ -15,7 +15,7 @@ fn entry_lines(out: &mut [u8], at: usize, table: &[u8], n: usize) -> usize
     let mut i: usize = 0;
     while i < n {
         let from = 4 + 72 * i;
-        m = lines::entry_line(out, m, &table[from..from + 72]);
+        m = entrylines::entry_line(out, m, &table[from..from + 72]);
         i += 1;
     }
     m
@@ -30,7 +30,7 @@ fn aside_lines(out: &mut [u8], at: usize, table: &[u8], n: usize) -> usize
     let mut i: usize = 0;
     while i < n {
         let from = 36868 + 12 * i;
-        m = lines::aside_line(out, m, &table[from..from + 12]);
+        m = asidelines::aside_line(out, m, &table[from..from + 12]);
         i += 1;
     }
     m

@@ -8,27 +8,27 @@ use Rattle.heads.proofs.head_unit.Reads as head-unit-reads
 use Rattle.text.proofs.put_decimal.Reads as put-decimal-reads
 use Rattle.text.proofs.put_word.Reads as put-word-reads
 
--- src/lib.rt:198:31
+-- src/lib.rt:40:31
 slice-aggregate-put-word : tie.Need-slice-aggregate-put-word
 slice-aggregate-put-word c = search needs
 
--- src/lib.rt:198:9
+-- src/lib.rt:40:9
 put-word-requires : tie.Need-put-word-requires
 put-word-requires c κs = search (archive-word-has-room)
 
--- src/lib.rt:199:9
+-- src/lib.rt:41:9
 put-decimal-requires : tie.Need-put-decimal-requires
 put-decimal-requires c κs = search (archive-has-room)
 
--- src/lib.rt:200:5
+-- src/lib.rt:42:5
 head-unit-requires : tie.Need-head-unit-requires
 head-unit-requires c κs = search (behind-archive-has-room)
 
--- src/lib.rt:194:1
+-- src/lib.rt:36:1
 same-length : tie.Need-same-length
 same-length c = search needs
 
--- src/lib.rt:194:1
+-- src/lib.rt:36:1
 returns : tie.Need-returns
 returns c = search (wrote-head-line)
 

@@ -4,31 +4,31 @@ use Rattle.heads.proofs.head_records.Statement.{statement}
 use Rattle.heads.proofs.head_records.Tie as tie
 use Rattle.heads.proofs.head_records.Reads as reads
 use Rattle.heads.proofs.head_records.Lts as lts
-use Rattle.heads.proofs.put_number.Reads as put-number-reads
+use Rattle.text.proofs.put_number.Reads as put-number-reads
 use Rattle.text.proofs.put_byte.Reads as put-byte-reads
 use Rattle.text.proofs.put_word.Reads as put-word-reads
 
--- src/lib.rt:178:31
+-- src/lib.rt:20:31
 slice-aggregate-put-word : tie.Need-slice-aggregate-put-word
 slice-aggregate-put-word c = search needs
 
--- src/lib.rt:178:9
+-- src/lib.rt:20:9
 put-word-requires : tie.Need-put-word-requires
 put-word-requires c κs = search (records-has-room)
 
--- src/lib.rt:179:9
+-- src/lib.rt:21:9
 put-number-requires : tie.Need-put-number-requires
 put-number-requires c κs = search (count-has-room)
 
--- src/lib.rt:180:5
+-- src/lib.rt:22:5
 put-byte-requires : tie.Need-put-byte-requires
 put-byte-requires c κs = search (head-feed-has-room)
 
--- src/lib.rt:174:1
+-- src/lib.rt:16:1
 same-length : tie.Need-same-length
 same-length c = search needs
 
--- src/lib.rt:174:1
+-- src/lib.rt:16:1
 returns : tie.Need-returns
 returns c = search (wrote-head-records)
 

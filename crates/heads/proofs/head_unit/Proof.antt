@@ -5,30 +5,30 @@ use Rattle.heads.proofs.head_unit.Tie as tie
 use Rattle.heads.proofs.head_unit.Reads as reads
 use Rattle.heads.proofs.head_unit.Lts as lts
 use Rattle.heads.proofs.head_records.Reads as head-records-reads
-use Rattle.heads.proofs.put_small.Reads as put-small-reads
+use Rattle.text.proofs.put_small.Reads as put-small-reads
 use Rattle.text.proofs.put_word.Reads as put-word-reads
 
--- src/lib.rt:188:31
+-- src/lib.rt:30:31
 slice-aggregate-put-word : tie.Need-slice-aggregate-put-word
 slice-aggregate-put-word c = search needs
 
--- src/lib.rt:188:9
+-- src/lib.rt:30:9
 put-word-requires : tie.Need-put-word-requires
 put-word-requires c κs = search (unit-word-has-room)
 
--- src/lib.rt:189:9
+-- src/lib.rt:31:9
 put-small-requires : tie.Need-put-small-requires
 put-small-requires c κs = search (unit-has-room)
 
--- src/lib.rt:190:5
+-- src/lib.rt:32:5
 head-records-requires : tie.Need-head-records-requires
 head-records-requires c κs = search (behind-unit-has-room)
 
--- src/lib.rt:184:1
+-- src/lib.rt:26:1
 same-length : tie.Need-same-length
 same-length c = search needs
 
--- src/lib.rt:184:1
+-- src/lib.rt:26:1
 returns : tie.Need-returns
 returns c = search (wrote-head-unit)
 

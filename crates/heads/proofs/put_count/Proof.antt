@@ -4,22 +4,22 @@ use Rattle.heads.proofs.put_count.Statement.{statement}
 use Rattle.heads.proofs.put_count.Tie as tie
 use Rattle.heads.proofs.put_count.Reads as reads
 use Rattle.heads.proofs.put_count.Lts as lts
-use Rattle.heads.proofs.put_number.Reads as put-number-reads
+use Rattle.text.proofs.put_number.Reads as put-number-reads
 use Rattle.text.proofs.put_byte.Reads as put-byte-reads
 
--- src/lib.rt:208:9
+-- src/lib.rt:50:9
 put-byte-requires : tie.Need-put-byte-requires
 put-byte-requires c κs = search (count-space-fits)
 
--- src/lib.rt:209:5
+-- src/lib.rt:51:5
 put-number-requires : tie.Need-put-number-requires
 put-number-requires c κs = search (count-fits)
 
--- src/lib.rt:204:1
+-- src/lib.rt:46:1
 same-length : tie.Need-same-length
 same-length c = search needs
 
--- src/lib.rt:204:1
+-- src/lib.rt:46:1
 returns : tie.Need-returns
 returns c = search (wrote-count)
 

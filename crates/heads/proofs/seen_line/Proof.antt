@@ -8,27 +8,27 @@ use Rattle.heads.proofs.put_counts.Reads as put-counts-reads
 use Rattle.text.proofs.put_byte.Reads as put-byte-reads
 use Rattle.text.proofs.put_word.Reads as put-word-reads
 
--- src/lib.rt:231:31
+-- src/lib.rt:73:31
 slice-aggregate-put-word : tie.Need-slice-aggregate-put-word
 slice-aggregate-put-word c = search needs
 
--- src/lib.rt:231:9
+-- src/lib.rt:73:9
 put-word-requires : tie.Need-put-word-requires
 put-word-requires c κs = search (seen-word-has-room)
 
--- src/lib.rt:232:9
+-- src/lib.rt:74:9
 put-counts-requires : tie.Need-put-counts-requires
 put-counts-requires c κs = search (counts-have-room)
 
--- src/lib.rt:233:5
+-- src/lib.rt:75:5
 put-byte-requires : tie.Need-put-byte-requires
 put-byte-requires c κs = search (seen-feed-has-room)
 
--- src/lib.rt:227:1
+-- src/lib.rt:69:1
 same-length : tie.Need-same-length
 same-length c = search needs
 
--- src/lib.rt:227:1
+-- src/lib.rt:69:1
 returns : tie.Need-returns
 returns c = search (wrote-seen-line)
 

@@ -10,75 +10,75 @@ use Rattle.octets.proofs.wider.Reads as wider-reads
 use Rattle.text.proofs.digit.Reads as digit-reads
 use Rattle.text.proofs.put_word.Reads as put-word-reads
 
--- src/lib.rt:90:27
+-- src/lib.rt:106:27
 le16-requires : tie.Need-le16-requires
 le16-requires c κs = search needs
 
--- src/lib.rt:90:9
+-- src/lib.rt:106:9
 wider-requires : tie.Need-wider-requires
 wider-requires c κs = search needs
 
--- src/lib.rt:91:28
+-- src/lib.rt:107:28
 shared-slice-read-wide32 : tie.Need-shared-slice-read-wide32
 shared-slice-read-wide32 c = search needs
 
--- src/lib.rt:91:9
+-- src/lib.rt:107:9
 wide32-requires : tie.Need-wide32-requires
 wide32-requires c κs = search needs
 
--- src/lib.rt:92:28
+-- src/lib.rt:108:28
 shared-slice-read-wide32-2 : tie.Need-shared-slice-read-wide32-2
 shared-slice-read-wide32-2 c = search needs
 
--- src/lib.rt:92:9
+-- src/lib.rt:108:9
 wide32-requires-2 : tie.Need-wide32-requires-2
 wide32-requires-2 c κs = search needs
 
--- src/lib.rt:94:9
+-- src/lib.rt:110:9
 digit-requires : tie.Need-digit-requires
 digit-requires c κs = search needs
 
--- src/lib.rt:95:9
+-- src/lib.rt:111:9
 digit-requires-2 : tie.Need-digit-requires-2
 digit-requires-2 c κs = search needs
 
--- src/lib.rt:96:9
+-- src/lib.rt:112:9
 digit-requires-3 : tie.Need-digit-requires-3
 digit-requires-3 c κs = search needs
 
--- src/lib.rt:97:9
+-- src/lib.rt:113:9
 digit-requires-4 : tie.Need-digit-requires-4
 digit-requires-4 c κs = search needs
 
--- src/lib.rt:99:9
+-- src/lib.rt:115:9
 digit-requires-5 : tie.Need-digit-requires-5
 digit-requires-5 c κs = search needs
 
--- src/lib.rt:100:9
+-- src/lib.rt:116:9
 digit-requires-6 : tie.Need-digit-requires-6
 digit-requires-6 c κs = search needs
 
--- src/lib.rt:102:9
+-- src/lib.rt:118:9
 digit-requires-7 : tie.Need-digit-requires-7
 digit-requires-7 c κs = search needs
 
--- src/lib.rt:103:9
+-- src/lib.rt:119:9
 digit-requires-8 : tie.Need-digit-requires-8
 digit-requires-8 c κs = search needs
 
--- src/lib.rt:105:23
+-- src/lib.rt:121:23
 slice-aggregate-put-word : tie.Need-slice-aggregate-put-word
 slice-aggregate-put-word c = search needs
 
--- src/lib.rt:105:5
+-- src/lib.rt:121:5
 put-word-requires : tie.Need-put-word-requires
 put-word-requires c κs = search (ten-fit)
 
--- src/lib.rt:86:1
+-- src/lib.rt:102:1
 same-length : tie.Need-same-length
 same-length c = search needs
 
--- src/lib.rt:86:1
+-- src/lib.rt:102:1
 returns : tie.Need-returns
 returns c = search (wrote-date)
 

@@ -11,7 +11,7 @@ use Rattle.treelines.proofs.aside_lines.Statement.{statement}
 use Rattle.treelines.proofs.aside_lines.Tie as tie
 use Rattle.treelines.proofs.aside_lines.Reads as reads
 use Rattle.treelines.proofs.aside_lines.Lts as lts
-use Rattle.lines.proofs.aside_line.Reads as aside-line-reads
+use Rattle.asidelines.proofs.aside_line.Reads as aside-line-reads
 
 abbrev Inv-loop : tie.InvT-loop
 Inv-loop out₀ at table n m₀ i₀ out m i = (i ≤ n) × (length out ≡ length out₀) × Wrote out₀ out at m (asideLines table i)

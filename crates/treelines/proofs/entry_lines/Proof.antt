@@ -11,7 +11,7 @@ use Rattle.treelines.proofs.entry_lines.Statement.{statement}
 use Rattle.treelines.proofs.entry_lines.Tie as tie
 use Rattle.treelines.proofs.entry_lines.Reads as reads
 use Rattle.treelines.proofs.entry_lines.Lts as lts
-use Rattle.lines.proofs.entry_line.Reads as entry-line-reads
+use Rattle.entrylines.proofs.entry_line.Reads as entry-line-reads
 
 abbrev Inv-loop : tie.InvT-loop
 Inv-loop out₀ at table n m₀ i₀ out m i = (i ≤ n) × (length out ≡ length out₀) × Wrote out₀ out at m (entryLines table i)
