@@ -1,2 +1,3 @@
 pub mod Ranked
-pub mod Shifted
+pub mod Rising
+pub mod Merged

@@ -85,12 +85,12 @@ module _ (at : ℕ → Rec) where
       rw (le-leb (rank (at n)) k h, e) h)
       (lt-or-ge k (rank (at n)))
 
-  below : (n : ℕ) → Sound (listed at 0 n) → (k j : ℕ) → j < placeBehind at k n → rank (at j) ≤ k
-  below n h k j a =
-      let p = placeBehind at k n in
+  below : (n : ℕ) → Sound (listed at 0 n) → (m : ℕ) → m ≤ n → (k j : ℕ) → j < placeBehind at k m → rank (at j) ≤ k
+  below n h m q k j a =
+      let p = placeBehind at k m in
       ⊎-elim
-      (λ (l : j < p - 1). omega (arith, last-below k n (omega arith), rises [] 0 n h j (p - 1) (omega arith) l (omega (arith, place-at-most k n))))
-      (λ l. let e : j ≡ p - 1 = omega arith in rw e (last-below k n (omega arith)))
+      (λ (l : j < p - 1). omega (arith, last-below k m (omega arith), rises [] 0 n h j (p - 1) (omega arith) l (omega (arith, place-at-most k m))))
+      (λ l. let e : j ≡ p - 1 = omega arith in rw e (last-below k m (omega arith)))
       (lt-or-ge j (p - 1))
 
   -- ---- insertion
@@ -107,15 +107,21 @@ module _ (at : ℕ → Rec) where
       let f : i + suc m ≡ suc i + m = omega arith in
       rw (e, le-ltb (rank r) (rank (at i)) (a i (omega arith) (omega arith)), f, put-in r (suc i) m n (λ j l h. a j (omega arith) (omega arith)) (λ j l h. b j (omega arith) (omega arith)))
 
-  -- into a sound list a record goes to the place found from the end
-  pub insert-at : (r : Rec) (n : ℕ) → Sound (listed at 0 n)
-      → insert r (listed at 0 n) ≡ listed at 0 (placeBehind at (rank r) n) ++ r ∷ listed at (placeBehind at (rank r) n) (n - placeBehind at (rank r) n)
-  insert-at r n h =
-      let p = placeBehind at (rank r) n in
-      let k = place-at-most (rank r) n in
-      let e : n ≡ p + (n - p) = omega arith in
-      let g : insert r (listed at 0 (p + (n - p))) ≡ listed at 0 p ++ r ∷ listed at (0 + p) (n - p) = put-in r 0 p (n - p) (λ j l b. below n h (rank r) j (omega arith)) (λ j l b. above (rank r) n j (omega arith) (omega arith)) in
+  -- among the first m records of a sound list a record goes to the place found from the end
+  pub insert-at : (r : Rec) (n : ℕ) → Sound (listed at 0 n) → (m : ℕ) → m ≤ n
+      → insert r (listed at 0 m) ≡ listed at 0 (placeBehind at (rank r) m) ++ r ∷ listed at (placeBehind at (rank r) m) (m - placeBehind at (rank r) m)
+  insert-at r n h m q =
+      let p = placeBehind at (rank r) m in
+      let k = place-at-most (rank r) m in
+      let e : m ≡ p + (m - p) = omega arith in
+      let g : insert r (listed at 0 (p + (m - p))) ≡ listed at 0 p ++ r ∷ listed at (0 + p) (m - p) = put-in r 0 p (m - p) (λ j l b. below n h m q (rank r) j (omega arith)) (λ j l b. above (rank r) m j (omega arith) (omega arith)) in
       ap (λ (x : ℕ). insert r (listed at 0 x)) e ∙ (rw (zero-add p) at g)
+
+-- the place goes by the records before it alone
+pub place-same : (at to : ℕ → Rec) (k n : ℕ) → ((j : ℕ) → j < n → at j ≡ to j) → placeBehind at k n ≡ placeBehind to k n
+unfolding placeBehind
+place-same at to k zero h = refl
+place-same at to k (suc n) h = rw (h n (omega arith), place-same at to k n (λ j l. h j (omega arith)))
 
 -- ---- what the loop of `place_behind` is asked, over plain values
 

@@ -1,12 +1,12 @@
-// One record more is put into a log by rank.
+// Records are put into a log by rank.
 ghost use mathlib.Core.Path.{_≡_};
 ghost use mathlib.Core.Bool.{true};
-ghost use Prim.Native.Nat.{_≤_, _<_};
+ghost use Prim.Native.Nat.{_+_, _*_, _≤_};
 ghost use lib.ListN.{length};
-ghost use Rattle.model.specs.Log.{insert, recordsOf, soundLog, logBytes};
+ghost use Rattle.model.specs.Log.{recordsOf, soundLog, logBytes};
 ghost use Rattle.log.specs.Places.{laidAt};
 ghost use Rattle.log.specs.declared.Layout.the-variants.{Log};
-ghost use Rattle.inserting.specs.Where.{placeBehind};
+ghost use Rattle.inserting.specs.Where.{placeBehind, Rising, insertTo};
 
 // The place behind the last of the first n records that ranks no higher than k.
 pub fn place_behind(log: &[u8], n: usize, k: u32) -> usize
@@ -24,13 +24,21 @@ pub fn place_behind(log: &[u8], n: usize, k: u32) -> usize
     0
 }
 
-// A record is put in by rank among the n records of a sound log.
-pub fn insert_record(log: &mut [u8], n: usize, rec: &[u8])
-    requires { ⌜ (length (now log) ≡ 40960) × (soundLog (now log) ≡ true) × (n ≡ length (recordsOf (now log))) × (n < 512) × (length (now rec) ≡ 80) ⌝ }
-    ensures { λ _. ⌜ now (log .exit) ≡ logBytes (insert (now (rec .entry)) (recordsOf (now (log .entry)))) ⌝ }
+// The k records in recs, which rise in rank, are put in by rank among the n records of a sound log. The last goes in first, so that each
+// record of the log moves once.
+pub fn insert_records(log: &mut [u8], n: usize, recs: &[u8], k: usize)
+    requires { ⌜ (length (now log) ≡ 40960) × (soundLog (now log) ≡ true) × (n ≡ length (recordsOf (now log))) × (n + k ≤ 512) × (length (now recs) ≡ 80 * k) × Rising (laidAt Log (now recs)) k ⌝ }
+    ensures { λ _. ⌜ now (log .exit) ≡ logBytes (insertTo (recordsOf (now (log .entry))) (laidAt Log (now (recs .entry))) k) ⌝ }
 {
-    let k = record::rank_of(rec);
-    let i = place_behind(log, n, k);
-    octets::move_up(log, 80 * i, 80 * n, 80);
-    octets::put(log, 80 * i, rec);
+    let mut end = n;
+    let mut left = k;
+    while 0 < left {
+        let last = left - 1;
+        let at = 80 * last;
+        let i = place_behind(log, end, record::rank_of(&recs[at..at + 80]));
+        octets::move_up(log, 80 * i, 80 * end, 80 * left);
+        octets::put(log, 80 * (i + last), &recs[at..at + 80]);
+        end = i;
+        left = last;
+    }
 }

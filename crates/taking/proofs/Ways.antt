@@ -19,7 +19,7 @@ use Rattle.log.specs.declared.Layout.the-variants.{Log}
 use Rattle.log.specs.Places.{laidAt}
 use Rattle.log.specs.InOrder.{CheckGives}
 use Rattle.beside.specs.Judging.{afterTo, JudgeGives}
-use Rattle.taking.specs.Stored.{Stored}
+use Rattle.storing.specs.Stored.{Stored}
 
 -- ---- a block without a fault
 

@@ -2,58 +2,15 @@
 ghost use mathlib.Core.Path.{_≡_};
 ghost use mathlib.Core.Bool.{true};
 ghost use mathlib.Core.List.{[]};
-ghost use Prim.Native.Nat.{_≤_};
 ghost use lib.ListN.{length};
-ghost use Rattle.model.specs.Log.{recordsOf, soundLog, logBytes};
-ghost use Rattle.model.specs.Block.{recordAt, recordsFrom};
-ghost use Rattle.model.specs.Outcome.{outcome, taken, takeOne, takeAll, givenFault, tookBlock, takeOf};
+ghost use Rattle.model.specs.Log.{recordsOf, soundLog};
+ghost use Rattle.model.specs.Outcome.{outcome, givenFault, tookBlock, takeOf};
 ghost use Rattle.closure.specs.Tables.{Indexed};
 ghost use Rattle.log.specs.declared.Layout.the-variants.{Log};
 ghost use Rattle.log.specs.Places.{laidAt};
-ghost use Rattle.beside.specs.Judging.{after, afterTo};
-ghost use Rattle.taking.specs.Stored.{Stored};
 use answer::Answer;
+use storing::Stock;
 use vector::Vector;
-
-// What a log holds: how many records, and their counts.
-pub struct Stock {
-    pub used: usize,
-    pub held: Vector,
-}
-
-// A record that passed is stored: a new one by rank, a held one not again.
-pub fn store_record(log: &mut [u8], rec: &[u8], s: Stock) -> Stock
-    requires { ⌜ (length (now log) ≡ 40960) × (length (now rec) ≡ 80) × Stored (recordsOf (now log)) (now log) (s .used) (s .held .counts) × (takeOne (recordsOf (now log)) (now rec) ≡ taken (after (recordsOf (now log)) (now rec))) ⌝ }
-    ensures { λ r. ⌜ Stored (after (recordsOf (now (log .entry))) (now (rec .entry))) (now (log .exit)) (r .used) (r .held .counts) ⌝ }
-{
-    let u = record::unit_of(rec) as usize;
-    let held = s.held;
-    if record::number_of(rec) <= held.counts[u] {
-        return s;
-    }
-    let n = s.used;
-    inserting::insert_record(log, n, rec);
-    let more = vector::bump(held, u);
-    Stock {
-        used: n + 1,
-        held: more,
-    }
-}
-
-// The n records of a block that passed are stored, one after another.
-pub fn store(log: &mut [u8], b: &[u8], n: usize, s: Stock)
-    requires { ⌜ (length (now log) ≡ 40960) × (length (now b) ≡ 512) × (n ≤ 6) × Stored (recordsOf (now log)) (now log) (s .used) (s .held .counts) × (takeAll (recordsOf (now log)) (recordsFrom (now b) 0 n) ≡ taken (afterTo (recordsOf (now log)) (recordAt (now b)) n)) ⌝ }
-    ensures { λ _. ⌜ now (log .exit) ≡ logBytes (afterTo (recordsOf (now (log .entry))) (recordAt (now (b .entry))) n) ⌝ }
-{
-    let mut cur = s;
-    let mut j: usize = 0;
-    while j < n {
-        let at = 28 + 80 * j;
-        let next = store_record(log, &b[at..at + 80], cur);
-        cur = next;
-        j += 1;
-    }
-}
 
 // A block is taken into a sound log, or refused: 2 to 6, then each record 7, and 10 if held, else 8, 9, 11.
 pub fn take_block(
@@ -77,7 +34,7 @@ pub fn take_block(
     if k != 0 {
         return k;
     }
-    store(log, b, n, Stock { used, held });
+    storing::store(log, b, n, Stock { used, held });
     0
 }
 

@@ -2,14 +2,17 @@ use Prim.Native.Nat.{_≤_, _-_}
 use mathlib.Core.Path.{_≡_, refl}
 use lib.ListN.{length}
 use Rattle.model.specs.Log.{recordsOf}
-use Rattle.taking.proofs.Storing.{Storing, storing-starts, storing-stored, storing-takes, storing-next, storing-ends}
+use Rattle.model.specs.Block.{recordAt}
+use Rattle.beside.specs.Judging.{afterTo}
+use Rattle.storing.specs.Stored.{Stored}
+use Rattle.storing.proofs.Storing.{storing-starts, storing-stored, storing-takes, storing-next, storing-ends}
 use borrow.Author.Needs.{needs}
 use native.Mathlib.Omega.{arith}
-use Rattle.taking.proofs.store.Statement.{statement}
-use Rattle.taking.proofs.store.Tie as tie
+use Rattle.storing.proofs.store_each.Statement.{statement}
+use Rattle.storing.proofs.store_each.Tie as tie
 
 abbrev Inv-loop : tie.InvT-loop
-Inv-loop log₀ b n cur₀ j₀ log cur j = (j ≤ n) × (length log ≡ length log₀) × Storing (recordsOf log₀) b n j log (cur .used) (cur .held .counts)
+Inv-loop log₀ b n cur₀ j₀ log cur j = (j ≤ n) × (length log ≡ length log₀) × Stored (afterTo (recordsOf log₀) (recordAt b) j) log (cur .used) (cur .held .counts)
 
 abbrev μ-loop : tie.MeasureT-loop
 μ-loop log₀ b n cur₀ j₀ log cur j = n - j
@@ -53,8 +56,8 @@ same-length c = search needs
 returns : tie.Need-returns Inv-loop μ-loop
 returns c = search (storing-ends)
 
-pub store-spec : {M : Type 1} → statement M
-store-spec =
+pub store-each-spec : {M : Type 1} → statement M
+store-each-spec =
     tie.close
     (tie.spec
     Inv-loop
