@@ -9,7 +9,7 @@ use lib.Dec.{leb, eqb}
 use borrow.Author.Tests.{leb-true, eqb-true, eqb-false, le-leb, eq-eqb, ne-eqb, not-true}
 use Rattle.model.specs.Date.{isLeap, daysOf, isDate}
 use Rattle.octets.proofs.Numbers.{eq-or-ne, and-true, or-true, bool-cases}
-use Rattle.dates.proofs.Date.{february-leap, february, short-month, other-month, long-month}
+use Rattle.dates.proofs.Date.{short-or-not, february-leap, february, short-month, other-month, long-month}
 use Rattle.dates.specs.RealDate.{Leap, Short, HasDay, RealDate}
 use Rattle.dates.specs.RealDate.HasDay.{of-28, of-29, of-30, of-31}
 
@@ -36,15 +36,6 @@ pub leap-exact : (y : ℕ) → isLeap y ≡ true ↔ Leap y
 leap-exact y = (leap-means y, leap-is y)
 
 -- ---- dates
-
-short-or-not : (m : ℕ) → Short m ⊎ (Short m → ⊥)
-short-or-not m =
-    ⊎-elim (λ e. inl (inl e)) (λ n4.
-    ⊎-elim (λ e. inl (inr (inl e))) (λ n6.
-    ⊎-elim (λ e. inl (inr (inr (inl e)))) (λ n9.
-    ⊎-elim (λ e. inl (inr (inr (inr e)))) (λ n11.
-    inr (⊎-elim n4 (⊎-elim n6 (⊎-elim n9 n11))))
-    (eq-or-ne m 11)) (eq-or-ne m 9)) (eq-or-ne m 6)) (eq-or-ne m 4)
 
 short-range : (m : ℕ) → Short m → (1 ≤ m) × (m ≤ 12)
 short-range m = ⊎-elim (λ e. (omega arith, omega arith)) (⊎-elim (λ e. (omega arith, omega arith)) (⊎-elim (λ e. (omega arith, omega arith)) (λ e. (omega arith, omega arith))))

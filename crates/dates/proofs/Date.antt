@@ -2,12 +2,13 @@
 -- Assumes nothing.
 use Prim.Native.Nat.{ℕ, _%_, _≤_, _<_}
 use native.Mathlib.Omega.{arith}
-use mathlib.Core.Path.{_≡_}
+use mathlib.Core.Path.{_≡_, refl}
 use mathlib.Core.Bool.{Bool, true, false, cond, not, _&&_}
 use mathlib.Core.Logic.{_⊎_, inl, inr, ⊎-elim}
 use lib.Dec.{leb, eqb}
 use borrow.Author.Tests.{eq-eqb, ne-eqb, le-leb, lt-leb}
 use Rattle.model.specs.Date.{isLeap, daysOf, isDate}
+use Rattle.octets.proofs.Numbers.{lt-or-ge, eq-or-ne, bool-cases}
 use Rattle.dates.specs.RealDate.{Short}
 
 -- ---- leap years
@@ -26,6 +27,15 @@ module _ (y : ℕ) where
   not-four a = rw (ne-eqb (y % 4) 0 a)
 
 -- ---- the days of a month
+
+pub short-or-not : (m : ℕ) → Short m ⊎ (Short m → ⊥)
+short-or-not m =
+    ⊎-elim (λ e. inl (inl e)) (λ n4.
+    ⊎-elim (λ e. inl (inr (inl e))) (λ n6.
+    ⊎-elim (λ e. inl (inr (inr (inl e)))) (λ n9.
+    ⊎-elim (λ e. inl (inr (inr (inr e)))) (λ n11.
+    inr (⊎-elim n4 (⊎-elim n6 (⊎-elim n9 n11))))
+    (eq-or-ne m 11)) (eq-or-ne m 9)) (eq-or-ne m 6)) (eq-or-ne m 4)
 
 -- the months that the match of `days` looks up one by one in its last range
 abbrev Key : ℕ → Type 0
@@ -75,6 +85,20 @@ module _ (y m : ℕ) where
   pub july-august : (m ≡ 2 → ⊥) → (Short m → ⊥) → 1 ≤ m → m < 9 → 31 ≡ daysOf y m
   july-august n s lo hi = long-month n s lo (omega arith)
 
+  -- every month has 28 days
+  least-days : 1 ≤ m → m ≤ 12 → 28 ≤ daysOf y m
+  least-days lo hi =
+      ⊎-elim
+      (λ (e : m ≡ 2). ⊎-elim (λ l. omega (arith, february-leap e refl l)) (λ l. omega (arith, february e refl l)) (bool-cases (isLeap y)))
+      (λ (n : m ≡ 2 → ⊥). ⊎-elim (λ (k : Short m). omega (arith, short-month k)) (λ (k : Short m → ⊥). omega (arith, long-month n k lo hi)) (short-or-not m))
+      (eq-or-ne m 2)
+
+  not-short-above : 12 < m → Short m → ⊥
+  not-short-above h = ⊎-elim (λ e. omega arith) (⊎-elim (λ e. omega arith) (⊎-elim (λ e. omega arith) (λ e. omega arith)))
+
+  after-months : 12 < m → 0 ≡ daysOf y m
+  after-months h = rw (le-leb 1 m (omega arith), lt-leb m 12 h) at (other-month (omega arith) (not-short-above h))
+
 -- ---- a date
 
 module _ (y m d : ℕ) where
@@ -93,3 +117,18 @@ module _ (y m d : ℕ) where
   pub day-within : {n : ℕ} → 1990 ≤ y → y ≤ 2199 → 1 ≤ d → n ≡ daysOf y m → leb d n ≡ isDate y m d
   unfolding isDate
   day-within a b e f = rw (le-leb 1990 y a, le-leb y 2199 b, le-leb 1 d e, f)
+
+  -- of the first 28 days the month alone tells
+  module _ (a : 1990 ≤ y) (b : y ≤ 2199) (e : 1 ≤ d) where
+    pub no-month : m < 1 → false ≡ isDate y m d
+    unfolding isDate
+    no-month h = rw (le-leb 1990 y a, le-leb y 2199 b, le-leb 1 d e, lt-leb d (daysOf y m) (omega (arith, before-months y m h)))
+
+    pub month-tells : d < 29 → 1 ≤ m → leb m 12 ≡ isDate y m d
+    unfolding isDate
+    month-tells f lo =
+        rw (le-leb 1990 y a, le-leb y 2199 b, le-leb 1 d e)
+        (⊎-elim
+        (λ (h : 12 < m). rw (lt-leb m 12 h, lt-leb d (daysOf y m) (omega (arith, after-months y m h))))
+        (λ (h : m ≤ 12). rw (le-leb m 12 h, le-leb d (daysOf y m) (omega (arith, least-days y m lo h))))
+        (lt-or-ge 12 m))

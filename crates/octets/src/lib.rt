@@ -170,8 +170,8 @@ pub fn clear(dst: &mut [u8])
     }
 }
 
-// The bytes from one place up to another move up. The last byte moves first, so the places may overlap.
-pub fn move_up(buf: &mut [u8], from: usize, to: usize, by: usize)
+// The bytes from one place up to another move up, the last byte first, so that the places may overlap.
+fn move_run(buf: &mut [u8], from: usize, to: usize, by: usize)
     requires { ⌜ (from ≤ to) × (to + by ≤ length (now buf)) × (0 < by) ⌝ }
     ensures { λ _. ⌜ now (buf .exit) ≡ putAt (now (buf .entry)) (from + by) (part (now (buf .entry)) from (to - from)) ⌝ }
 {
@@ -180,4 +180,19 @@ pub fn move_up(buf: &mut [u8], from: usize, to: usize, by: usize)
         i -= 1;
         buf[i + by] = buf[i];
     }
+}
+
+// The bytes from one place up to another move up: the last 16 are read before they are written, and so on, and then the rest.
+pub fn move_up(buf: &mut [u8], from: usize, to: usize, by: usize)
+    requires { ⌜ (from ≤ to) × (to + by ≤ length (now buf)) × (0 < by) ⌝ }
+    ensures { λ _. ⌜ now (buf .exit) ≡ putAt (now (buf .entry)) (from + by) (part (now (buf .entry)) from (to - from)) ⌝ }
+{
+    let mut i = to;
+    while 16 <= i - from {
+        i -= 16;
+        let s = read_16(buf, i);
+        let bytes = s.bytes;
+        put_run(buf, i + by, &bytes);
+    }
+    move_run(buf, from, i, by);
 }

@@ -1,16 +1,12 @@
 use Prim.Native.Nat.{_≤_, _-_, _+_}
-use native.Mathlib.Nat.{sub-self}
 use mathlib.Core.Path.{_≡_, refl}
-use lib.ListN.{length, length-set}
+use lib.ListN.{length}
 use Rattle.model.specs.Bytes.{putAt, part}
-use Rattle.octets.proofs.Parts.{part-none}
-use Rattle.octets.proofs.PutAt.{put-nil, moved}
+use Rattle.octets.proofs.Sixteens.{move-none, move-room, move-next, move-more}
 use borrow.Author.Needs.{needs}
 use native.Mathlib.Omega.{arith}
 use Rattle.octets.proofs.move_up.Statement.{statement}
 use Rattle.octets.proofs.move_up.Tie as tie
-use Rattle.octets.proofs.move_up.Reads as reads
-use Rattle.octets.proofs.move_up.Lts as lts
 
 abbrev Inv-loop : tie.InvT-loop
 Inv-loop buf₀ from to by i₀ buf i = (from ≤ i) × (i ≤ to) × (length buf ≡ length buf₀) × (buf ≡ putAt buf₀ (i + by) (part buf₀ i (to - i)))
@@ -18,47 +14,41 @@ Inv-loop buf₀ from to by i₀ buf i = (from ≤ i) × (i ≤ to) × (length bu
 abbrev μ-loop : tie.MeasureT-loop
 μ-loop buf₀ from to by i₀ buf i = i
 
--- src/lib.rt:122:5
 loop-holds : tie.Need-loop-holds Inv-loop μ-loop
-loop-holds c = (omega arith, omega arith, refl, rw (sub-self, part-none, put-nil))
+loop-holds c = (omega arith, omega arith, refl, search (move-none))
 
--- src/lib.rt:123:9
+put-run-requires : tie.Need-put-run-requires Inv-loop μ-loop
+put-run-requires c κs = search (move-room)
+
+loop-again : tie.Need-loop-again Inv-loop μ-loop
+loop-again c = (omega arith, omega arith, search needs, search (move-next))
+
+returns : tie.Need-returns Inv-loop μ-loop
+returns c = search (move-more)
+
+sub-loop : tie.Need-sub-loop Inv-loop μ-loop
+sub-loop c = search needs
+
 sub-i : tie.Need-sub-i Inv-loop μ-loop
 sub-i c = search needs
 
--- src/lib.rt:124:23
-slice-read-buf : tie.Need-slice-read-buf Inv-loop μ-loop
-slice-read-buf c = search needs
+read-16-requires : tie.Need-read-16-requires Inv-loop μ-loop
+read-16-requires c κs = search needs
 
--- src/lib.rt:124:13
-add-buf : tie.Need-add-buf Inv-loop μ-loop
-add-buf c = search needs
+add-put-run : tie.Need-add-put-run Inv-loop μ-loop
+add-put-run c = search needs
 
--- src/lib.rt:124:9
-slice-write-buf : tie.Need-slice-write-buf Inv-loop μ-loop
-slice-write-buf c = search needs
+slice-aggregate-put-run : tie.Need-slice-aggregate-put-run Inv-loop μ-loop
+slice-aggregate-put-run c = search needs
 
--- src/lib.rt:122:5
 loop-less : tie.Need-loop-less Inv-loop μ-loop
 loop-less c = search needs
 
--- src/lib.rt:122:5
-loop-again : tie.Need-loop-again Inv-loop μ-loop
-loop-again c =
-    let l = c .before .before .loop in
-    let a = c .before .before .before .args in
-    (omega arith, omega arith, simp length-set (l .inv .2), moved (a .buf .now) (l .buf) (l .i) (a .to) (a .by) (omega arith) (omega arith) (omega arith) (omega arith) (l .inv .3))
+move-run-requires : tie.Need-move-run-requires Inv-loop μ-loop
+move-run-requires c κs = search needs
 
--- src/lib.rt:117:1
 same-length : tie.Need-same-length Inv-loop μ-loop
 same-length c = search needs
-
--- src/lib.rt:117:1
-returns : tie.Need-returns Inv-loop μ-loop
-returns c =
-    let l = c .before .loop in
-    let e : l .i ≡ c .before .before .args .from = omega arith in
-    rw e at (l .inv .3)
 
 pub move-up-spec : {M : Type 1} → statement M
 move-up-spec =
@@ -67,11 +57,14 @@ move-up-spec =
     Inv-loop
     μ-loop
     loop-holds
+    sub-loop
     sub-i
-    slice-read-buf
-    add-buf
-    slice-write-buf
+    read-16-requires
+    add-put-run
+    slice-aggregate-put-run
+    put-run-requires
     loop-less
     loop-again
+    move-run-requires
     same-length
     returns)
