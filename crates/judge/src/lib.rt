@@ -51,7 +51,11 @@ pub fn judge_make(rec: &[u8], table: &[u8], register: &[u16], size: Size) -> Jud
 {
     let f = table::folder_of(rec);
     if f == 0 {
-        return free_label(rec, table, register, size, f);
+        let j = free_label(rec, table, register, size, f);
+        return Judged {
+            reason: j.reason,
+            marked: j.marked,
+        };
     }
     let row = lookup::entry_of(table, register, size, f);
     if size.entries <= row {
@@ -66,7 +70,11 @@ pub fn judge_make(rec: &[u8], table: &[u8], register: &[u16], size: Size) -> Jud
             marked: table::made_at(table, row),
         };
     }
-    free_label(rec, table, register, size, f)
+    let j = free_label(rec, table, register, size, f);
+    Judged {
+        reason: j.reason,
+        marked: j.marked,
+    }
 }
 
 // A store on the entry in a row: 12 for no entry, 14 for a folder, 17 for unseen contents.
@@ -170,7 +178,11 @@ pub fn judge_rename(rec: &[u8], table: &[u8], register: &[u16], size: Size, row:
             marked: made,
         };
     }
-    free_label(rec, table, register, size, inside)
+    let j = free_label(rec, table, register, size, inside);
+    Judged {
+        reason: j.reason,
+        marked: j.marked,
+    }
 }
 
 // A settle of the record k: 18 if it does not stand aside.
