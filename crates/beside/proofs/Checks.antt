@@ -3,19 +3,19 @@
 use Prim.Native.Nat.{ℕ, suc, _+_, _-_, _*_, _≤_, _<_}
 use native.Mathlib.Omega.{arith}
 use mathlib.Core.Path.{_≡_, refl, sym, _∙_}
-use mathlib.Core.Bool.{Bool, true, false, cond, not, _&&_}
+use mathlib.Core.Bool.{Bool, true, false, cond, not}
 use mathlib.Core.List.{List}
 use lib.Dec.{ltb, eqb}
 use lib.ListN.{getD, length, take, drop, set}
-use borrow.Author.Tests.{lt-ltb, le-ltb, ltb-true, le-leb, lt-leb, eq-eqb, ne-eqb, eqb-true, not-true, not-false}
+use borrow.Author.Tests.{lt-ltb, le-ltb, ltb-true, le-leb, lt-leb, eq-eqb, ne-eqb, eqb-true, eqb-false, not-true, not-false}
 use Rattle.model.specs.Bytes.{sameBytes, putAt}
-use Rattle.model.specs.Vector.{covers}
 use Rattle.model.specs.Record.{Rec, unit, num, seenVector, wellFormed}
 use Rattle.model.specs.Block.{archiveIn, blockFault, recordAt}
 use Rattle.model.specs.Outcome.{givenFault}
 use Rattle.octets.proofs.Parts.{part-is}
 use Rattle.order.proofs.Formed.{well-unit, well-own}
-use Rattle.closure.specs.Tables.{slotOf, positionOf, closedBy, Placed}
+use Rattle.closure.specs.Tables.{slotOf, positionOf, joinFault, Placed}
+use Rattle.index.proofs.Faults.{formed, join-next}
 use Rattle.log.specs.Places.{offsetOf, laidAt}
 use Rattle.beside.specs.Judging.{Counted, heldAt, Step, step, heldBy, newBy, newStep, takeBy}
 
@@ -53,37 +53,19 @@ module _ (log b rec : List ℕ) (p : ℕ) (t : Bool) where
 
 -- ---- a new record
 
-module _ (r : Rec) (held : List ℕ) (used : ℕ) (places seens : List ℕ) where
-  module _ (w : wellFormed r ≡ true) (u : ℕ) (a : u ≡ unit r) where
-    pub unit-small : u < 8
-    unit-small = rw a (well-unit r w)
+module _ (r : Rec) (held : List ℕ) (used : ℕ) (places seens : List ℕ) (n : ℕ) (e : n ≡ joinFault held places seens r) where
+  pub new-barred : (n ≡ 0 → ⊥) → n ≡ newBy held used places seens r
+  unfolding newBy
+  new-barred h = rw (← e, ne-eqb n 0 h)
 
-    pub count-fits : Placed held places → getD held u 0 + 1 < 65536
-    count-fits p = omega (arith, p .few u unit-small)
-
-  module _ (u n : ℕ) (a : u ≡ unit r) (b : n ≡ num r) where
-    pub new-number : (n ≡ getD held u 0 + 1 → ⊥) → 8 ≡ newBy held used places seens r
+  module _ (z : n ≡ 0) where
+    pub new-full : 512 ≤ used → 11 ≡ newBy held used places seens r
     unfolding newBy
-    new-number d = rw (← a, ← b, ne-eqb n (suc (getD held u 0)) (λ f. d (omega arith)))
+    new-full k = rw (← e, eq-eqb n 0 z, le-ltb used 512 k)
 
-    module _ (d : n ≡ getD held u 0 + 1) (s : List ℕ) (v : s ≡ seenVector r) (t : Bool) (f : t ≡ covers held s) where
-      pub new-above : not t ≡ true → 8 ≡ newBy held used places seens r
-      unfolding newBy
-      new-above z = rw (← a, ← b, eq-eqb n (suc (getD held u 0)) (omega arith), ← v, ← f, not-true t z)
-
-      module _ (z : not t ≡ false) (o : Bool) (i : o ≡ closedBy places seens s) where
-        pub new-open : not o ≡ true → 9 ≡ newBy held used places seens r
-        unfolding newBy
-        new-open x = rw (← a, ← b, eq-eqb n (suc (getD held u 0)) (omega arith), ← v, ← f, not-false t z, ← i, not-true o x)
-
-        module _ (x : not o ≡ false) where
-          pub new-full : 512 ≤ used → 11 ≡ newBy held used places seens r
-          unfolding newBy
-          new-full k = rw (← a, ← b, eq-eqb n (suc (getD held u 0)) (omega arith), ← v, ← f, not-false t z, ← i, not-false o x, le-ltb used 512 k)
-
-          pub new-none : used < 512 → 0 ≡ newBy held used places seens r
-          unfolding newBy
-          new-none k = rw (← a, ← b, eq-eqb n (suc (getD held u 0)) (omega arith), ← v, ← f, not-false t z, ← i, not-false o x, lt-ltb used 512 k)
+    pub new-none : used < 512 → 0 ≡ newBy held used places seens r
+    unfolding newBy
+    new-none k = rw (← e, eq-eqb n 0 z, lt-ltb used 512 k)
 
 -- ---- a new record is refused or held
 
@@ -96,15 +78,12 @@ module _ (r : Rec) (held : List ℕ) (used : ℕ) (places seens : List ℕ) (n :
     -- it is its unit's next, and there is room
     pub new-free : (num r ≡ suc (getD held (unit r) 0)) × (used < 512)
     unfolding newBy
-    new-free =
-        go (eqb (num r) (suc (getD held (unit r) 0))) (covers held (seenVector r)) (closedBy places seens (seenVector r)) (ltb used 512) refl refl (sym e ∙ z)
+    new-free = go (eqb (joinFault held places seens r) 0) (ltb used 512) refl refl (sym e ∙ z)
       where
-        go : (a b c d : Bool) → eqb (num r) (suc (getD held (unit r) 0)) ≡ a → ltb used 512 ≡ d → _≡_ {A = ℕ} (cond (a && b) (cond c (cond d 0 11) 9) 8) 0 → (num r ≡ suc (getD held (unit r) 0)) × (used < 512)
-        go true true true true p q x = (eqb-true (num r) (suc (getD held (unit r) 0)) p, ltb-true used 512 q)
-        go true true true false p q x = absurd (omega arith)
-        go true true false d p q x = absurd (omega arith)
-        go true false c d p q x = absurd (omega arith)
-        go false b c d p q x = absurd (omega arith)
+        go : (a b : Bool) → eqb (joinFault held places seens r) 0 ≡ a → ltb used 512 ≡ b → _≡_ {A = ℕ} (cond a (cond b 0 11) (joinFault held places seens r)) 0 → (num r ≡ suc (getD held (unit r) 0)) × (used < 512)
+        go true true p q x = (join-next r held places seens (eqb-true (joinFault held places seens r) 0 p), ltb-true used 512 q)
+        go true false p q x = absurd (omega arith)
+        go false b p q x = absurd (eqb-false (joinFault held places seens r) 0 p x)
 
     module _ (c : ℕ) (b : c ≡ num r) where
       pub new-least : 1 ≤ c
@@ -129,36 +108,32 @@ module _ (at : ℕ → Rec) (r : Rec) (p : ℕ) (held : List ℕ) (used : ℕ) (
   unfolding takeBy
   take-malformed g = rw (← e, not-true w g)
 
-  module _ (g : not w ≡ false) where
-    pub judged-well : wellFormed r ≡ true
-    judged-well = sym e ∙ not-false w g
+  module _ (g : not w ≡ false) (u c : ℕ) (a : u ≡ unit r) (b : c ≡ num r) where
+    pub unit-judged : u < 8
+    unit-judged = rw a (well-unit r (formed r w e g))
 
-    module _ (u c : ℕ) (a : u ≡ unit r) (b : c ≡ num r) where
-      pub unit-judged : u < 8
-      unit-judged = rw a (well-unit r judged-well)
+    pub take-unheld : getD held u 0 < c → (o : Step) → o ≡ newStep r p held used places seens → o ≡ takeBy at r p held used places seens
+    unfolding takeBy
+    take-unheld h o f = f ∙ rw (← e, not-false w g, ← a, ← b, lt-leb c (getD held u 0) h)
 
-      pub take-unheld : getD held u 0 < c → (o : Step) → o ≡ newStep r p held used places seens → o ≡ takeBy at r p held used places seens
-      unfolding takeBy
-      take-unheld h o f = f ∙ rw (← e, not-false w g, ← a, ← b, lt-leb c (getD held u 0) h)
+    module _ (h : c ≤ getD held u 0) where
+      pub held-least : 1 ≤ c
+      held-least = omega (arith, well-own r (formed r w e g))
 
-      module _ (h : c ≤ getD held u 0) where
-        pub held-least : 1 ≤ c
-        held-least = omega (arith, well-own r judged-well)
+      pub held-most : Placed held places → c ≤ 512
+      held-most k = omega (arith, k .few u unit-judged)
 
-        pub held-most : Placed held places → c ≤ 512
-        held-most k = omega (arith, k .few u unit-judged)
+      module _ (q : ℕ) (i : q ≡ positionOf places u c) where
+        pub held-inside : Placed held places → q < 518
+        held-inside k = rw i (k .inside u c unit-judged held-least h)
 
-        module _ (q : ℕ) (i : q ≡ positionOf places u c) where
-          pub held-inside : Placed held places → q < 518
-          held-inside k = rw i (k .inside u c unit-judged held-least h)
+        module _ (t : Bool) (f : t ≡ sameBytes (at q) r) where
+          held-number : takeBy at r p held used places seens ≡ step (cond t 0 10) held used places seens
+          unfolding takeBy heldBy
+          held-number = rw (← e, not-false w g, ← a, ← b, le-leb c (getD held u 0) h, ← i, ← f)
 
-          module _ (t : Bool) (f : t ≡ sameBytes (at q) r) where
-            held-number : takeBy at r p held used places seens ≡ step (cond t 0 10) held used places seens
-            unfolding takeBy heldBy
-            held-number = rw (← e, not-false w g, ← a, ← b, le-leb c (getD held u 0) h, ← i, ← f)
+          pub take-held : t ≡ true → step 0 held used places seens ≡ takeBy at r p held used places seens
+          take-held z = sym (rw z at held-number)
 
-            pub take-held : t ≡ true → step 0 held used places seens ≡ takeBy at r p held used places seens
-            take-held z = sym (rw z at held-number)
-
-            pub take-differs : t ≡ false → step 10 held used places seens ≡ takeBy at r p held used places seens
-            take-differs z = sym (rw z at held-number)
+          pub take-differs : t ≡ false → step 10 held used places seens ≡ takeBy at r p held used places seens
+          take-differs z = sym (rw z at held-number)

@@ -2,17 +2,16 @@
 -- Assumes nothing.
 use Prim.Native.Nat.{ℕ, zero, suc, _+_, _-_, _*_, _≤_, _<_}
 use mathlib.Core.Path.{_≡_}
-use mathlib.Core.Bool.{cond, _&&_}
+use mathlib.Core.Bool.{cond}
 use mathlib.Core.List.{List}
 use lib.Dec.{ltb, leb, eqb}
 use lib.ListN.{getD, set}
-use Rattle.model.specs.Numbers.{malformed, notNext, notClosed, otherBytes, fullLog}
+use Rattle.model.specs.Numbers.{malformed, otherBytes, fullLog}
 use Rattle.model.specs.Bytes.{sameBytes, putAt}
-use Rattle.model.specs.Vector.{covers}
 use Rattle.model.specs.Record.{Rec, unit, num, seenVector, wellFormed}
 use Rattle.model.specs.Block.{recordAt, blockRecords}
 use Rattle.model.specs.Outcome.{refused, taken, takeOne, takeAll}
-use Rattle.closure.specs.Tables.{slotOf, positionOf, closedBy}
+use Rattle.closure.specs.Tables.{slotOf, positionOf, joinFault}
 use Rattle.log.specs.declared.Layout.the-variants.{Log}
 use Rattle.log.specs.Places.{laidAt}
 
@@ -44,9 +43,7 @@ heldBy at places r = cond (sameBytes (at (positionOf places (unit r) (num r))) r
 -- the first of 8, 9 and 11 that holds of a record whose identity is not held, or 0
 unfoldable pub newBy : List ℕ → ℕ → List ℕ → List ℕ → Rec → ℕ
 newBy held used places seens r =
-    cond (eqb (num r) (suc (getD held (unit r) 0)) && covers held (seenVector r))
-    (cond (closedBy places seens (seenVector r)) (cond (ltb used 512) 0 fullLog) notClosed)
-    notNext
+    cond (eqb (joinFault held places seens r) 0) (cond (ltb used 512) 0 fullLog) (joinFault held places seens r)
 
 -- a new record is refused, or held at the position p
 unfoldable pub newStep : Rec → ℕ → List ℕ → ℕ → List ℕ → List ℕ → Step

@@ -59,15 +59,9 @@ pub fn new_fault(
     requires { ⌜ (length (now rec) ≡ 80) × (wellFormed (now rec) ≡ true) × (s .counts ≡ seenVector (now rec)) × (length (now places) ≡ 4096) × (length (now seens) ≡ 4144) × Placed (held .counts) (now places) ⌝ }
     ensures { λ r. ⌜ r ≡ newBy (held .counts) used (now (places .entry)) (now (seens .entry)) (now (rec .entry)) ⌝ }
 {
-    let u = record::unit_of(rec) as usize;
-    if record::number_of(rec) != held.counts[u] + 1 {
-        return 8;
-    }
-    if !vector::covers(held, s) {
-        return 8;
-    }
-    if !closure::is_closed(places, seens, s) {
-        return 9;
+    let f = index::join_fault(rec, s, held, places, seens);
+    if f != 0 {
+        return f;
     }
     if 512 <= used {
         return 11;

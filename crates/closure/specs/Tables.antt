@@ -38,16 +38,14 @@ unfoldable pub floorOf : List Rec → ℕ
 floorOf [] = 0
 floorOf (s ∷ l) = suc (rank s)
 
+-- the first of 8 and 9 that holds of a record beside those held, or 0, as the tables have it
+unfoldable pub joinFault : List ℕ → List ℕ → List ℕ → Rec → ℕ
+joinFault held places seens r =
+    cond (eqb (num r) (suc (getD held (unit r) 0)) && covers held (seenVector r)) (cond (closedBy places seens (seenVector r)) 0 notClosed) notNext
+
 -- the first of 7, 20, 8 and 9 that holds of a record, or 0, as the tables have it; floor is the lowest rank that rises
 unfoldable pub faultBy : ℕ → List ℕ → List ℕ → List ℕ → Rec → ℕ
-faultBy floor held places seens r =
-    cond (wellFormed r)
-    (cond (leb floor (rank r))
-    (cond (eqb (num r) (suc (getD held (unit r) 0)) && covers held (seenVector r))
-    (cond (closedBy places seens (seenVector r)) 0 notClosed)
-    notNext)
-    badFile)
-    malformed
+faultBy floor held places seens r = cond (wellFormed r) (cond (leb floor (rank r)) (joinFault held places seens r) badFile) malformed
 
 -- what is known of the records before, with the number that the last of them gave
 pub record Noted : Type 0 where

@@ -1,4 +1,4 @@
--- What the checks of a record behind others are asked, over plain values.
+-- What the checks of a record are asked, over plain values.
 -- Assumes nothing.
 use Prim.Native.Nat.{ℕ, suc, _+_, _*_, _≤_, _<_}
 use native.Mathlib.Omega.{arith}
@@ -13,8 +13,11 @@ use Rattle.model.specs.Vector.{covers}
 use Rattle.model.specs.Record.{Rec, unit, num, seenVector, wellFormed}
 use Rattle.model.specs.Log.{rank}
 use Rattle.vector.proofs.Dominance.{covers-at}
-use Rattle.closure.specs.Tables.{slotOf, closedBy, faultBy, Placed, Spare, noted, admitOf}
+use Rattle.closure.specs.Tables.{slotOf, closedBy, joinFault, faultBy, Placed, Spare, noted, admitOf}
 use Rattle.order.proofs.Formed.{well-unit}
+
+pub formed : (r : Rec) (t : Bool) → t ≡ wellFormed r → not t ≡ false → wellFormed r ≡ true
+formed r t e g = sym e ∙ not-false t g
 
 -- what is seen lies within what is held, so its positions lie in the tables
 pub placed-within : (held s places : List ℕ) (t : Bool) → Placed held places → t ≡ covers held s → not t ≡ false → Placed s places
@@ -25,40 +28,59 @@ placed-within held s places t p e g =
       inside = λ u c h l k. p .inside u c h l (omega (arith, covers-at held s w u h));
     }
 
+-- ---- a record joins those held
+
+module _ (r : Rec) (held places seens : List ℕ) where
+  module _ (w : wellFormed r ≡ true) (u : ℕ) (a : u ≡ unit r) where
+    pub unit-small : u < 8
+    unit-small = rw a (well-unit r w)
+
+    pub count-fits : Placed held places → getD held u 0 + 1 < 65536
+    count-fits p = omega (arith, p .few u unit-small)
+
+  module _ (u n : ℕ) (a : u ≡ unit r) (b : n ≡ num r) where
+    pub join-number : (n ≡ getD held u 0 + 1 → ⊥) → 8 ≡ joinFault held places seens r
+    unfolding joinFault
+    join-number d = rw (← a, ← b, ne-eqb n (suc (getD held u 0)) (λ f. d (omega arith)))
+
+    module _ (d : n ≡ getD held u 0 + 1) (s : List ℕ) (v : s ≡ seenVector r) (t : Bool) (f : t ≡ covers held s) where
+      pub join-above : not t ≡ true → 8 ≡ joinFault held places seens r
+      unfolding joinFault
+      join-above z = rw (← a, ← b, eq-eqb n (suc (getD held u 0)) (omega arith), ← v, ← f, not-true t z)
+
+      module _ (z : not t ≡ false) (o : Bool) (i : o ≡ closedBy places seens s) where
+        pub join-open : not o ≡ true → 9 ≡ joinFault held places seens r
+        unfolding joinFault
+        join-open x = rw (← a, ← b, eq-eqb n (suc (getD held u 0)) (omega arith), ← v, ← f, not-false t z, ← i, not-true o x)
+
+        pub join-none : not o ≡ false → 0 ≡ joinFault held places seens r
+        unfolding joinFault
+        join-none x = rw (← a, ← b, eq-eqb n (suc (getD held u 0)) (omega arith), ← v, ← f, not-false t z, ← i, not-false o x)
+
+  -- a record that joins is its unit's next
+  pub join-next : joinFault held places seens r ≡ 0 → num r ≡ suc (getD held (unit r) 0)
+  unfolding joinFault
+  join-next z = go (eqb (num r) (suc (getD held (unit r) 0))) refl z
+    where
+      go : (a : Bool) → eqb (num r) (suc (getD held (unit r) 0)) ≡ a → _≡_ {A = ℕ} (cond (a && covers held (seenVector r)) (cond (closedBy places seens (seenVector r)) 0 9) 8) 0 → num r ≡ suc (getD held (unit r) 0)
+      go true q x = eqb-true (num r) (suc (getD held (unit r) 0)) q
+      go false q x = absurd (omega arith)
+
+-- ---- a record behind others
+
 module _ (r : Rec) (floor : ℕ) (held places seens : List ℕ) (w : Bool) (e : w ≡ wellFormed r) where
   pub fault-malformed : not w ≡ true → 7 ≡ faultBy floor held places seens r
   unfolding faultBy
   fault-malformed g = rw (← e, not-true w g)
 
-  module _ (g : not w ≡ false) where
-    pub unit-small : (u : ℕ) → u ≡ unit r → u < 8
-    unit-small u q = rw q (well-unit r (sym e ∙ not-false w g))
-
-    pub count-fits : (u : ℕ) → u ≡ unit r → Placed held places → getD held u 0 + 1 < 65536
-    count-fits u q p = omega (arith, p .few u (unit-small u q))
-
-    pub fault-low : (k : ℕ) → k ≡ rank r → k < floor → 20 ≡ faultBy floor held places seens r
+  module _ (g : not w ≡ false) (k : ℕ) (q : k ≡ rank r) where
+    pub fault-low : k < floor → 20 ≡ faultBy floor held places seens r
     unfolding faultBy
-    fault-low k q h = rw (← e, not-false w g, ← q, lt-leb floor k h)
+    fault-low h = rw (← e, not-false w g, ← q, lt-leb floor k h)
 
-    module _ (k : ℕ) (q : k ≡ rank r) (h : floor ≤ k) (u n : ℕ) (a : u ≡ unit r) (b : n ≡ num r) where
-      pub fault-number : (n ≡ getD held u 0 + 1 → ⊥) → 8 ≡ faultBy floor held places seens r
-      unfolding faultBy
-      fault-number d = rw (← e, not-false w g, ← q, le-leb floor k h, ← a, ← b, ne-eqb n (suc (getD held u 0)) (λ f. d (omega arith)))
-
-      module _ (d : n ≡ getD held u 0 + 1) (s : List ℕ) (v : s ≡ seenVector r) (t : Bool) (f : t ≡ covers held s) where
-        pub fault-above : not t ≡ true → 8 ≡ faultBy floor held places seens r
-        unfolding faultBy
-        fault-above z = rw (← e, not-false w g, ← q, le-leb floor k h, ← a, ← b, eq-eqb n (suc (getD held u 0)) (omega arith), ← v, ← f, not-true t z)
-
-        module _ (z : not t ≡ false) (o : Bool) (i : o ≡ closedBy places seens s) where
-          pub fault-open : not o ≡ true → 9 ≡ faultBy floor held places seens r
-          unfolding faultBy
-          fault-open x = rw (← e, not-false w g, ← q, le-leb floor k h, ← a, ← b, eq-eqb n (suc (getD held u 0)) (omega arith), ← v, ← f, not-false t z, ← i, not-true o x)
-
-          pub fault-none : not o ≡ false → 0 ≡ faultBy floor held places seens r
-          unfolding faultBy
-          fault-none x = rw (← e, not-false w g, ← q, le-leb floor k h, ← a, ← b, eq-eqb n (suc (getD held u 0)) (omega arith), ← v, ← f, not-false t z, ← i, not-false o x)
+    pub fault-joins : floor ≤ k → (n : ℕ) → n ≡ joinFault held places seens r → n ≡ faultBy floor held places seens r
+    unfolding faultBy
+    fault-joins h n f = rw (← e, not-false w g, ← q, le-leb floor k h) f
 
 -- ---- a record behind others is admitted
 
@@ -70,16 +92,12 @@ module _ (r : Rec) (floor : ℕ) (held places seens : List ℕ) (n : ℕ) (e : n
   module _ (z : n ≡ 0) where
     pub no-fault : (wellFormed r ≡ true) × (num r ≡ suc (getD held (unit r) 0))
     unfolding faultBy
-    no-fault =
-        go (wellFormed r) (leb floor (rank r)) (eqb (num r) (suc (getD held (unit r) 0))) (covers held (seenVector r)) (closedBy places seens (seenVector r)) refl refl (sym e ∙ z)
+    no-fault = go (wellFormed r) (leb floor (rank r)) refl (sym e ∙ z)
       where
-        go : (a b c d f : Bool) → wellFormed r ≡ a → eqb (num r) (suc (getD held (unit r) 0)) ≡ c → _≡_ {A = ℕ} (cond a (cond b (cond (c && d) (cond f 0 9) 8) 20) 7) 0 → (wellFormed r ≡ true) × (num r ≡ suc (getD held (unit r) 0))
-        go true true true true true p q x = (p, eqb-true (num r) (suc (getD held (unit r) 0)) q)
-        go true true true true false p q x = absurd (omega arith)
-        go true true true false f p q x = absurd (omega arith)
-        go true true false d f p q x = absurd (omega arith)
-        go true false c d f p q x = absurd (omega arith)
-        go false b c d f p q x = absurd (omega arith)
+        go : (a b : Bool) → wellFormed r ≡ a → _≡_ {A = ℕ} (cond a (cond b (joinFault held places seens r) 20) 7) 0 → (wellFormed r ≡ true) × (num r ≡ suc (getD held (unit r) 0))
+        go true true p x = (p, join-next r held places seens x)
+        go true false p x = absurd (omega arith)
+        go false b p x = absurd (omega arith)
 
     module _ (u : ℕ) (a : u ≡ unit r) where
       pub unit-admitted : u < 8

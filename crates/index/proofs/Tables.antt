@@ -11,13 +11,14 @@ use lib.Dec.{leb, eqb}
 use lib.ListN.{getD, length, set, replicate, length-set}
 use lib.Seq.{getD-set-same, getD-set-other}
 use borrow.Author.Tests.{lt-ltb, le-ltb, le-leb, lt-leb, ne-eqb}
+use Rattle.model.specs.Numbers.{notNext, notClosed}
 use Rattle.model.specs.Bytes.{putAt}
 use Rattle.model.specs.Vector.{covers}
 use Rattle.model.specs.Record.{Rec, unit, num, seen, seenVector, wellFormed}
 use Rattle.model.specs.Log.{rank, count, vectorOf, countsTo, byId, allTo, isNext, isWithin, isClosed, nowhereAbove, rises, recordFault}
 use Rattle.octets.proofs.Numbers.{lt-or-ge, eq-or-ne, bool-cases}
 use Rattle.octets.proofs.PutAt.{length-put, part-put, part-put-before}
-use Rattle.closure.specs.Tables.{slotOf, positionOf, rowAt, unitClosed, closedBy, faultBy, floorOf, Placed, Stands, Indexed}
+use Rattle.closure.specs.Tables.{slotOf, positionOf, rowAt, unitClosed, closedBy, joinFault, faultBy, floorOf, Placed, Stands, Indexed}
 use Rattle.index.proofs.Counts.{count-few, vector-cons, byId-same, byId-other, Alike, alike-vector}
 use Rattle.vector.proofs.Dominance.{covers-at}
 use Rattle.order.proofs.Counts.{count-cons}
@@ -78,35 +79,39 @@ module _ (at : ℕ → Rec) (top : ℕ) (m : List Rec) (held places seens : List
       rw (ne-eqb (seen r u) 0 e, s .found, s .row))
       (eq-or-ne (seen r u) 0))
 
-  pub closed-is : (r : Rec) → covers held (seenVector r) ≡ true → closedBy places seens (seenVector r) ≡ isClosed m r
+  closed-is : (r : Rec) → covers held (seenVector r) ≡ true → closedBy places seens (seenVector r) ≡ isClosed m r
   unfolding closedBy isClosed
   closed-is r w = all-same 8 (unitClosed places seens (seenVector r)) _ (closed-unit r w)
 
-  pub next-is : (r : Rec) → unit r < 8 → eqb (num r) (suc (getD held (unit r) 0)) ≡ isNext m r
+  next-is : (r : Rec) → unit r < 8 → eqb (num r) (suc (getD held (unit r) 0)) ≡ isNext m r
   unfolding isNext
   next-is r k = rw (held-at (unit r) k)
 
-  pub within-is : (r : Rec) → covers held (seenVector r) ≡ isWithin m r
+  within-is : (r : Rec) → covers held (seenVector r) ≡ isWithin m r
   unfolding isWithin
   within-is r = rw (h .counts)
+
+  -- joining, by the tables and by the list
+  pub join-is : (r : Rec) → unit r < 8 → joinFault held places seens r ≡ cond (isNext m r && isWithin m r) (cond (isClosed m r) 0 notClosed) notNext
+  unfolding joinFault
+  join-is r k =
+      rw (next-is r k, ← within-is r)
+      (⊎-elim
+      (λ (c : covers held (seenVector r) ≡ true). rw (closed-is r c))
+      (λ (c : covers held (seenVector r) ≡ false). rw c (none-within (isNext m r) (closedBy places seens (seenVector r)) (isClosed m r)))
+      (bool-cases (covers held (seenVector r))))
+    where
+      none-within : (t a b : Bool) → _≡_ {A = ℕ} (cond (t && false) (cond a 0 9) 8) (cond (t && false) (cond b 0 9) 8)
+      none-within true a b = refl
+      none-within false a b = refl
 
   pub fault-is : (floor : ℕ) → floor ≡ floorOf m → (r : Rec) → faultBy floor held places seens r ≡ recordFault m r
   unfolding faultBy recordFault
   fault-is floor f r =
       ⊎-elim
-      (λ (w : wellFormed r ≡ true). rw (w, f, rises-is m r, next-is r (well-unit r w)) (go w (bool-cases (covers held (seenVector r)))))
+      (λ (w : wellFormed r ≡ true). rw (w, f, rises-is m r, join-is r (well-unit r w)))
       (λ (w : wellFormed r ≡ false). rw w)
       (bool-cases (wellFormed r))
-    where
-      end : (t a b : Bool) → _≡_ {A = ℕ} (cond (t && false) (cond a 0 9) 8) (cond (t && false) (cond b 0 9) 8)
-      end true a b = refl
-      end false a b = refl
-
-      go : wellFormed r ≡ true → (covers held (seenVector r) ≡ true) ⊎ (covers held (seenVector r) ≡ false)
-          → _≡_ {A = ℕ} (cond (leb (floorOf m) (rank r)) (cond (isNext m r && covers held (seenVector r)) (cond (closedBy places seens (seenVector r)) 0 9) 8) 20)
-          (cond (leb (floorOf m) (rank r)) (cond (isNext m r && isWithin m r) (cond (isClosed m r) 0 9) 8) 20)
-      go w (inl c) = rw (closed-is r c, within-is r)
-      go w (inr c) = rw (← within-is r, c, end (isNext m r) (closedBy places seens (seenVector r)) (isClosed m r))
 
 -- ---- what changes
 

@@ -1,11 +1,12 @@
 // The tables of the records held, and the checks that go by them.
 ghost use mathlib.Core.Path.{_≡_};
+ghost use mathlib.Core.Bool.{true};
 ghost use Prim.Native.Nat.{_+_, _*_, _≤_, _<_};
 ghost use lib.ListN.{length, set};
 ghost use Rattle.model.specs.Bytes.{putAt};
-ghost use Rattle.model.specs.Record.{seenVector};
+ghost use Rattle.model.specs.Record.{seenVector, wellFormed};
 ghost use Rattle.model.specs.Log.{rank};
-ghost use Rattle.closure.specs.Tables.{slotOf, faultBy, Placed, Spare, noted, admitOf};
+ghost use Rattle.closure.specs.Tables.{slotOf, joinFault, faultBy, Placed, Spare, noted, admitOf};
 use closure::is_closed;
 use closure::slot;
 use vector::Vector;
@@ -42,18 +43,11 @@ pub fn note(u: usize, c: u16, p: usize, s: Vector, places: &mut [u16], seens: &m
     put_row(seens, p, s);
 }
 
-// The first of 7, 20, 8 and 9 that holds of a record behind others, or 0. Its seen and its rank are given.
-pub fn record_fault(rec: &[u8], s: Vector, k: u32, b: Before, places: &[u16], seens: &[u16]) -> u8
-    requires { ⌜ (length (now rec) ≡ 80) × (s .counts ≡ seenVector (now rec)) × (k ≡ rank (now rec)) × (length (now places) ≡ 4096) × (length (now seens) ≡ 4144) × Placed (b .held .counts) (now places) ⌝ }
-    ensures { λ r. ⌜ r ≡ faultBy (b .floor) (b .held .counts) (now (places .entry)) (now (seens .entry)) (now (rec .entry)) ⌝ }
+// The first of 8 and 9 that holds of a well-formed record beside those held, or 0. Its seen is given.
+pub fn join_fault(rec: &[u8], s: Vector, held: Vector, places: &[u16], seens: &[u16]) -> u8
+    requires { ⌜ (length (now rec) ≡ 80) × (wellFormed (now rec) ≡ true) × (s .counts ≡ seenVector (now rec)) × (length (now places) ≡ 4096) × (length (now seens) ≡ 4144) × Placed (held .counts) (now places) ⌝ }
+    ensures { λ r. ⌜ r ≡ joinFault (held .counts) (now (places .entry)) (now (seens .entry)) (now (rec .entry)) ⌝ }
 {
-    if !record::well_formed(rec) {
-        return 7;
-    }
-    if k < b.floor {
-        return 20;
-    }
-    let held = b.held;
     let u = record::unit_of(rec) as usize;
     if record::number_of(rec) != held.counts[u] + 1 {
         return 8;
@@ -65,6 +59,20 @@ pub fn record_fault(rec: &[u8], s: Vector, k: u32, b: Before, places: &[u16], se
         return 9;
     }
     0
+}
+
+// The first of 7, 20, 8 and 9 that holds of a record behind others, or 0. Its seen and its rank are given.
+pub fn record_fault(rec: &[u8], s: Vector, k: u32, b: Before, places: &[u16], seens: &[u16]) -> u8
+    requires { ⌜ (length (now rec) ≡ 80) × (s .counts ≡ seenVector (now rec)) × (k ≡ rank (now rec)) × (length (now places) ≡ 4096) × (length (now seens) ≡ 4144) × Placed (b .held .counts) (now places) ⌝ }
+    ensures { λ r. ⌜ r ≡ faultBy (b .floor) (b .held .counts) (now (places .entry)) (now (seens .entry)) (now (rec .entry)) ⌝ }
+{
+    if !record::well_formed(rec) {
+        return 7;
+    }
+    if k < b.floor {
+        return 20;
+    }
+    join_fault(rec, s, b.held, places, seens)
 }
 
 // A record behind others is refused with its fault, or noted at the position p.

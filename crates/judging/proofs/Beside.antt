@@ -7,20 +7,19 @@ use mathlib.Core.Logic.{_⊎_, inl, inr, ⊎-elim}
 use mathlib.Core.Bool.{Bool, true, false, cond, _&&_}
 use mathlib.Core.Option.{none}
 use mathlib.Core.List.{List, [], _∷_, _++_}
-use lib.Dec.{ltb}
+use lib.Dec.{ltb, eqb}
 use lib.ListN.{getD, length}
 use borrow.Author.Tests.{lt-ltb, le-ltb, le-leb, lt-leb, ne-eqb}
 use Rattle.model.specs.Bytes.{sameBytes}
-use Rattle.model.specs.Vector.{covers}
-use Rattle.model.specs.Record.{Rec, unit, num, seenVector, wellFormed}
-use Rattle.model.specs.Log.{rank, insert, count, byId, isNext, isClosed}
+use Rattle.model.specs.Record.{Rec, unit, num, wellFormed}
+use Rattle.model.specs.Log.{rank, insert, count, byId, isNext, isWithin, isClosed}
 use Rattle.model.specs.Outcome.{Took, refused, taken, takeNew, takeHeld, takeOne}
 use Rattle.octets.proofs.Numbers.{lt-or-ge, eq-or-ne, bool-cases}
 use Rattle.order.proofs.Formed.{well-unit, well-own}
 use Rattle.order.proofs.Insert.{length-insert}
-use Rattle.closure.specs.Tables.{positionOf, closedBy, Indexed}
+use Rattle.closure.specs.Tables.{positionOf, Indexed}
 use Rattle.index.proofs.Counts.{Alike, alike-inside, count-few}
-use Rattle.index.proofs.Tables.{held-at, next-is, within-is, closed-is, indexed-note, indexed-alike, indexed-where}
+use Rattle.index.proofs.Tables.{held-at, join-is, indexed-note, indexed-alike, indexed-where}
 use Rattle.beside.specs.Judging.{Counted, Step, step, heldBy, newBy, newStep, takeBy, after}
 use Rattle.beside.proofs.Checks.{new-free}
 
@@ -64,23 +63,14 @@ module _ (at : ℕ → Rec) (top : ℕ) (m : List Rec) (held places seens : List
   new-is : (r : Rec) → unit r < 8 → takeNew m r ≡ tookNew (newBy held used places seens r) (insert r m)
   unfolding takeNew newBy tookNew
   new-is r u8 =
-      rw (next-is at top m held places seens h r u8, ← within-is at top m held places seens h r, e)
-      (⊎-elim
-      (λ (c : covers held (seenVector r) ≡ true). rw (closed-is at top m held places seens h r c) (go (isNext m r) (covers held (seenVector r)) (isClosed m r) (ltb (length m) 512)))
-      (λ (c : covers held (seenVector r) ≡ false). rw c (not-within (isNext m r)))
-      (bool-cases (covers held (seenVector r))))
+      rw (join-is at top m held places seens h r u8, e) (go (isNext m r && isWithin m r) (isClosed m r) (ltb (length m) 512))
     where
-      go : (a b c d : Bool) → cond (a && b) (cond c (cond d (taken (insert r m)) (refused 11)) (refused 9)) (refused 8) ≡ tookNew (cond (a && b) (cond c (cond d 0 11) 9) 8) (insert r m)
-      go true true true true = refl
-      go true true true false = refl
-      go true true false d = refl
-      go true false c d = refl
-      go false b c d = refl
-
-      not-within : (a : Bool) → cond (a && false) (cond (isClosed m r) (cond (ltb (length m) 512) (taken (insert r m)) (refused 11)) (refused 9)) (refused 8)
-          ≡ tookNew (cond (a && false) (cond (closedBy places seens (seenVector r)) (cond (ltb (length m) 512) 0 11) 9) 8) (insert r m)
-      not-within true = refl
-      not-within false = refl
+      go : (a b c : Bool) → cond a (cond b (cond c (taken (insert r m)) (refused 11)) (refused 9)) (refused 8)
+          ≡ tookNew (cond (eqb (cond a (cond b 0 9) 8) 0) (cond c 0 11) (cond a (cond b 0 9) 8)) (insert r m)
+      go true true true = refl
+      go true true false = refl
+      go true false c = refl
+      go false b c = refl
 
   module _ (r : Rec) (p : ℕ) (lo : top ≤ p) (hi : p < 518) (q : at p ≡ r) where
     -- taken: the tables have the records held then

@@ -1,64 +1,19 @@
-use Rattle.index.proofs.Faults.{placed-within}
-use Rattle.beside.proofs.Checks.{unit-small, count-fits, new-number, new-above, new-open, new-full, new-none}
+use Rattle.beside.proofs.Checks.{new-barred, new-full, new-none}
 use borrow.Author.Needs.{needs}
 use Rattle.beside.proofs.new_fault.Statement.{statement}
 use Rattle.beside.proofs.new_fault.Tie as tie
 
-ruleset ways = (new-number, new-above, new-open, new-full, new-none)
-
-unit-of-requires : tie.Need-unit-of-requires
-unit-of-requires c κs = search needs
-
-cast-u : tie.Need-cast-u
-cast-u c = search needs
-
-number-of-requires : tie.Need-number-of-requires
-number-of-requires c κs = search needs
-
-mul-if1 : tie.Need-mul-if1
-mul-if1 c = search needs
-
-element-copy-out-if1 : tie.Need-element-copy-out-if1
-element-copy-out-if1 c = search (unit-small)
-
-add-if1 : tie.Need-add-if1
-add-if1 c = search (count-fits)
+join-fault-requires : tie.Need-join-fault-requires
+join-fault-requires c κs = search needs
 
 returns : tie.Need-returns
-returns c = search ways
-
-covers-requires : tie.Need-covers-requires
-covers-requires c κs = search needs
+returns c = search (new-barred)
 
 returns-2 : tie.Need-returns-2
-returns-2 c = search ways
-
-is-closed-requires : tie.Need-is-closed-requires
-is-closed-requires c κs = (search needs, search needs, search (placed-within))
+returns-2 c = search (new-full)
 
 returns-3 : tie.Need-returns-3
-returns-3 c = search ways
-
-returns-4 : tie.Need-returns-4
-returns-4 c = search ways
-
-returns-5 : tie.Need-returns-5
-returns-5 c = search ways
+returns-3 c = search (new-none)
 
 pub new-fault-spec : {M : Type 1} → statement M
-new-fault-spec =
-    tie.close
-    (tie.spec
-    unit-of-requires
-    cast-u
-    number-of-requires
-    mul-if1
-    element-copy-out-if1
-    add-if1
-    returns
-    covers-requires
-    returns-2
-    is-closed-requires
-    returns-3
-    returns-4
-    returns-5)
+new-fault-spec = tie.close (tie.spec join-fault-requires returns returns-2 returns-3)

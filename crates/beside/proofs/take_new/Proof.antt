@@ -1,4 +1,5 @@
-use Rattle.beside.proofs.Checks.{unit-small, new-refuses, new-least, new-most, new-spare, new-notes}
+use Rattle.index.proofs.Faults.{unit-small}
+use Rattle.beside.proofs.Checks.{new-refuses, new-least, new-most, new-spare, new-notes}
 use borrow.Author.Needs.{needs}
 use Rattle.beside.proofs.take_new.Statement.{statement}
 use Rattle.beside.proofs.take_new.Tie as tie

@@ -1,4 +1,5 @@
-use Rattle.beside.proofs.Checks.{take-malformed, judged-well, unit-judged, take-unheld, held-least, held-most, held-inside, take-held, take-differs}
+use Rattle.index.proofs.Faults.{formed}
+use Rattle.beside.proofs.Checks.{take-malformed, unit-judged, take-unheld, held-least, held-most, held-inside, take-held, take-differs}
 use borrow.Author.Needs.{needs}
 use Rattle.judging.proofs.take_record.Statement.{statement}
 use Rattle.judging.proofs.take_record.Tie as tie
@@ -25,7 +26,7 @@ element-copy-out-if2 : tie.Need-element-copy-out-if2
 element-copy-out-if2 c = search (unit-judged)
 
 take-new-requires : tie.Need-take-new-requires
-take-new-requires c κs = (search needs, search (judged-well), search needs, search needs, search needs, search needs, search needs, search needs)
+take-new-requires c κs = (search needs, search (formed), search needs, search needs, search needs, search needs, search needs, search needs)
 
 same-length : tie.Need-same-length
 same-length c = search needs
