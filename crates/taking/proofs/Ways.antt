@@ -1,18 +1,19 @@
 -- The ways out of taking a block, over plain values.
 -- Assumes nothing.
-use Prim.Native.Nat.{ℕ, zero, suc, _≤_, _<_}
+use Prim.Native.Nat.{ℕ, zero, suc, _≤_}
 use native.Mathlib.Omega.{arith}
 use mathlib.Core.Path.{_≡_, refl, sym, _∙_}
 use mathlib.Core.Logic.{⊎-elim}
 use mathlib.Core.Bool.{Bool, true, false, not}
 use mathlib.Core.List.{List, []}
 use lib.ListN.{length}
-use borrow.Author.Tests.{le-leb, lt-leb, eq-eqb, ne-eqb, not-true, not-false}
+use borrow.Author.Tests.{eq-eqb, ne-eqb}
 use Rattle.model.specs.Log.{recordsOf, soundLog, logBytes}
 use Rattle.model.specs.Block.{countIn, blockFault, recordAt, recordsFrom, blockRecords}
-use Rattle.model.specs.Outcome.{Outcome, outcome, guarded, taken, takeAll, givenFault, tookAll, tookBlock, takeOf}
+use Rattle.model.specs.Outcome.{Outcome, outcome, taken, takeAll, givenFault, tookAll, tookBlock, takeOf}
 use Rattle.octets.proofs.Numbers.{eq-or-ne}
 use Rattle.blocklaws.proofs.Faults.{header-right, stored-header}
+use Rattle.answer.proofs.Guards.{guards-pass, known-sound}
 use Rattle.images.proofs.Logs.{sound-records, sound-bytes, sound-few}
 use Rattle.closure.specs.Tables.{Indexed}
 use Rattle.log.specs.declared.Layout.the-variants.{Log}
@@ -73,33 +74,13 @@ pub log-stored : (log : List ℕ) (used : ℕ) (held places seens : List ℕ) �
 log-stored log used held places seens n s u i =
     record { bytes = sym (sound-bytes log n s); sound = sound-records log s; few = sound-few log; used-is = u; counts = i .counts }
 
--- ---- the checks that come first
+-- ---- a log that was checked
 
-module _ (archive u : ℕ) (log b : List ℕ) where
-  pub other-length : (length log ≡ 40960 → ⊥) → outcome 1 0 log [] 0 ≡ takeOf archive u log b
-  unfolding takeOf guarded
-  other-length h = rw (ne-eqb (length log) 40960 h)
+pub took : (archive u : ℕ) (log b : List ℕ) {s : Bool} → length log ≡ 40960 → u ≤ 7 → s ≡ soundLog log → not s ≡ false
+    → (o : Outcome) → o ≡ tookBlock log b (givenFault archive b) → o ≡ takeOf archive u log b
+unfolding takeOf
+took archive u log b n h c g o q = q ∙ guards-pass u log [] [] 0 (tookBlock log b (givenFault archive b)) n refl h c g
 
-  module _ (n : length log ≡ 40960) where
-    pub no-unit : 7 < u → outcome 21 0 log [] 0 ≡ takeOf archive u log b
-    unfolding takeOf guarded
-    no-unit h = rw (eq-eqb (length log) 40960 n, lt-leb u 7 h)
-
-    module _ (h : u ≤ 7) (t : Bool) (c : t ≡ soundLog log) where
-      pub not-sound : not t ≡ true → outcome 19 0 log [] 0 ≡ takeOf archive u log b
-      unfolding takeOf guarded
-      not-sound g = rw (eq-eqb (length log) 40960 n, le-leb u 7 h, ← c, not-true t g)
-
-      pub took : not t ≡ false → (o : Outcome) → o ≡ tookBlock log b (givenFault archive b) → o ≡ takeOf archive u log b
-      unfolding takeOf guarded
-      took g o q = q ∙ rw (eq-eqb (length log) 40960 n, le-leb u 7 h, ← c, not-false t g)
-
-module _ (log : List ℕ) (t : Bool) (used : ℕ) (held places seens : List ℕ) (c : CheckGives log t used held places seens) where
-  pub checked-used : used ≡ length (recordsOf log)
-  checked-used = c .used-is
-
-  pub checked-sound : not t ≡ false → soundLog log ≡ true
-  checked-sound g = sym (c .sound-is) ∙ not-false t g
-
-  pub checked-indexed : not t ≡ false → Indexed (laidAt Log log) used (recordsOf log) held places seens
-  checked-indexed g = c .holds (checked-sound g)
+pub checked-indexed : (log : List ℕ) {s : Bool} {used : ℕ} {held places seens : List ℕ} → CheckGives log s used held places seens → not s ≡ false
+    → Indexed (laidAt Log log) used (recordsOf log) held places seens
+checked-indexed log c g = c .holds (known-sound log (c .sound-is) g)

@@ -1,13 +1,20 @@
-use Rattle.taking.proofs.Ways.{other-length, no-unit, not-sound, checked-sound, checked-used, checked-indexed, took}
+use mathlib.Core.Path.{refl}
+use mathlib.Core.List.{[]}
+use Rattle.model.specs.Outcome.{takeOf}
+use Rattle.answer.proofs.Guards.{log-length, unit-above, log-unsound, known-sound}
+use Rattle.taking.proofs.Ways.{checked-indexed, took}
 use borrow.Author.Needs.{needs}
 use Rattle.taking.proofs.take.Statement.{statement}
 use Rattle.taking.proofs.take.Tie as tie
 
+-- nothing is lent besides the log: [], of length 0, is the buffer that the checks of a call judge
 returns : tie.Need-returns
-returns c = search (other-length)
+unfolding takeOf
+returns c = log-length _ _ _ [] 0 _ (search needs)
 
 returns-2 : tie.Need-returns-2
-returns-2 c = search (no-unit)
+unfolding takeOf
+returns-2 c = unit-above _ _ _ [] 0 _ (search needs) refl (search needs)
 
 fresh-places-requires : tie.Need-fresh-places-requires
 fresh-places-requires c κs = search needs
@@ -28,10 +35,10 @@ same-length : tie.Need-same-length
 same-length c = search needs
 
 returns-3 : tie.Need-returns-3
+unfolding takeOf
 returns-3 c =
     let k = c .before .before .before .before in
-    let e = k .before .before .before .before .before .before in
-    not-sound _ _ _ _ (e .before .if1 .left) (e .if2 .left) _ (k .check-into .ensures .sound-is) (c .if3 .taken)
+    log-unsound _ _ _ [] 0 _ (search needs) refl (search needs) (k .check-into .ensures .sound-is) (c .if3 .taken)
 
 slice-aggregate-take-block : tie.Need-slice-aggregate-take-block
 slice-aggregate-take-block c = search needs
@@ -40,7 +47,7 @@ slice-aggregate-take-block-2 : tie.Need-slice-aggregate-take-block-2
 slice-aggregate-take-block-2 c = search needs
 
 take-block-requires : tie.Need-take-block-requires
-take-block-requires c κs = (search needs, search (checked-sound), search (checked-used), search needs, search needs, search (checked-indexed))
+take-block-requires c κs = (search needs, search (known-sound), search needs, search needs, search needs, search (checked-indexed))
 
 same-length-2 : tie.Need-same-length-2
 same-length-2 c = search needs
