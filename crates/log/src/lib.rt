@@ -2,7 +2,7 @@
 ghost use mathlib.Core.Path.{_≡_};
 ghost use mathlib.Core.Bool.{true};
 ghost use Prim.Native.Nat.{_+_, _≤_, _<_};
-ghost use lib.ListN.{length};
+ghost use lib.ListN.{length, replicate};
 ghost use Rattle.model.specs.Bytes.{blank};
 ghost use Rattle.model.specs.Log.{vectorOf, recordsOf, soundLog};
 ghost use Rattle.log.specs.Places.{offsetOf, laidAt, Laid};
@@ -131,16 +131,16 @@ pub fn check_into(log: &[u8], places: &mut [u16], seens: &mut [u16]) -> Checked
     }
 }
 
-// A table of 4,096 positions.
+// A table of 4,096 positions, all zero.
 pub fn fresh_places() -> [u16; 4096]
-    ensures { λ r. ⌜ length r ≡ 4096 ⌝ }
+    ensures { λ r. ⌜ (r ≡ replicate 4096 0) × (length r ≡ 4096) ⌝ }
 {
     [0u16; 4096]
 }
 
-// A table of 518 rows of 8 counts.
+// A table of 518 rows of 8 counts, all zero.
 pub fn fresh_seens() -> [u16; 4144]
-    ensures { λ r. ⌜ length r ≡ 4144 ⌝ }
+    ensures { λ r. ⌜ (r ≡ replicate 4144 0) × (length r ≡ 4144) ⌝ }
 {
     [0u16; 4144]
 }
