@@ -21,7 +21,7 @@ demand archive before cs d =
     record {
       good = i .good;
       converged = converge archive (play archive bare (before ++ cs)) i d;
-      covered = λ a b _ b8 p.
+      covered = λ a b b8 p.
           cover archive cs (play archive bare before) a b b8 (inv-play archive before bare (inv-bare archive))
           (subst (λ (s : Bench). distinct (s .used) ≡ true) (play-append archive before cs bare) d) p;
     }

@@ -164,7 +164,7 @@ conflict = rw (play-append 7 before passing bare) (met .conflict)
 
 -- so by the claim unit 1 covers unit 0, and units 0 and 3 have the same log
 pub covers-it : C.Covered 7 0 1 (play 7 bare before) passing
-covers-it = demand 7 before passing no-number-twice .covered 0 1 (omega arith) (omega arith) premises
+covers-it = demand 7 before passing no-number-twice .covered 0 1 (omega arith) premises
 
 pub same-log : play 7 bare (before ++ passing) .logs 0 ≡ play 7 bare (before ++ passing) .logs 3
 same-log = demand 7 before passing no-number-twice .converged 0 3 .bytes (rw (play-append 7 before passing bare) (met .vector-0 ∙ sym (met .vector-3)))

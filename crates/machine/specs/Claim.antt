@@ -113,7 +113,7 @@ pub record Covered (archive a b : ℕ) (s : Bench) (cs : List Call) : Type 0 whe
 pub record Claim (archive : ℕ) (before cs : List Call) : Type 0 where
   pub good : (u : ℕ) → Good (play archive bare (before ++ cs) .logs u)
   pub converged : (u v : ℕ) → Converged (play archive bare (before ++ cs)) u v
-  pub covered : (a b : ℕ) → a < 8 → b < 8 → Passed archive a b (play archive bare before) cs → Covered archive a b (play archive bare before) cs
+  pub covered : (a b : ℕ) → b < 8 → Passed archive a b (play archive bare before) cs → Covered archive a b (play archive bare before) cs
 
 -- for every list of calls, and every point of it. Nothing is presumed of units and blocks: a call at a unit above 7 and a take of
 -- a block that was not given are refused and change nothing
