@@ -250,6 +250,13 @@ impl Calls<'_> {
                     block.copy_within(28 + 80 * from..108 + 80 * from, 28 + 80 * to);
                 }
                 2 => block[self.chance.below(BLOCK)] ^= 1 << self.chance.below(8),
+                3 if count > 1 => {
+                    // Two records change places.
+                    let (one, other) = (self.chance.below(count), self.chance.below(count));
+                    for i in 28..108 {
+                        block.swap(i + 80 * one, i + 80 * other);
+                    }
+                }
                 _ if count > 0 => {
                     let record = 28 + 80 * self.chance.below(count);
                     let at = if self.chance.one_in(2) {

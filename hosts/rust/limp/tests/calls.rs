@@ -123,6 +123,54 @@ fn passing_blocks() {
     }
 }
 
+/// Every order of a list.
+fn orders<T: Copy>(list: &[T]) -> Vec<Vec<T>> {
+    let Some((first, rest)) = list.split_first() else {
+        return vec![Vec::new()];
+    };
+    let mut all = Vec::new();
+    for order in orders(rest) {
+        for place in 0..=order.len() {
+            let mut more = order.clone();
+            more.insert(place, *first);
+            all.push(more);
+        }
+    }
+    all
+}
+
+/// Six units that know nothing of each other: a block may have their records in
+/// any order, and any of them may be held already.
+#[test]
+fn records_in_any_order() {
+    let records: [[u8; WISH]; 6] = std::array::from_fn(|unit| {
+        let mut log = vec![0; LOG];
+        let wish = make_folder(unit as u8, "Bench");
+        limp::act(&mut log, ARCHIVE, unit as u8, &wish).unwrap();
+        log[..WISH].try_into().unwrap()
+    });
+    let log_with = |held: &dyn Fn(usize) -> bool| {
+        let held: Vec<_> = (0..6).filter(|i| held(*i)).map(|i| records[i]).collect();
+        let mut log = held.concat();
+        log.resize(LOG, 0);
+        log
+    };
+    let all = log_with(&|_| true);
+    let mut block = [0; BLOCK];
+    limp::hand_out(&all, ARCHIVE, 0, &[0; 8], &mut block).unwrap();
+    for order in orders(&records) {
+        block[28..508].copy_from_slice(&order.concat());
+        let (first, second) = plain::sums(&block);
+        block[508..510].copy_from_slice(&first.to_le_bytes());
+        block[510..].copy_from_slice(&second.to_le_bytes());
+        for held in 0..64 {
+            let mut log = log_with(&|i| held >> i & 1 == 1);
+            assert_eq!(limp::take(&mut log, ARCHIVE, 7, &block), Ok(()));
+            assert!(log == all);
+        }
+    }
+}
+
 #[test]
 fn files() {
     let log = a_log();
