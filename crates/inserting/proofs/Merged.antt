@@ -1,22 +1,21 @@
 -- Records put in by rank, in the bytes of a log: what the loop of `insert_records` is asked, over plain values.
 -- Assumes nothing.
 use Prim.Native.Nat.{ℕ, zero, suc, _+_, _-_, _*_, _≤_, _<_}
-use native.Mathlib.Nat.{sub-self, zero-add}
+use native.Mathlib.Nat.{sub-self}
 use native.Mathlib.Omega.{arith}
 use mathlib.Core.Path.{_≡_, refl, sym, ap, _∙_}
 use mathlib.Core.Bool.{true}
 use mathlib.Core.List.{List, [], _∷_, _++_, append-assoc, append-nil}
-use lib.ListN.{length, take, drop, replicate, take-append-drop, length-append, length-take, length-drop, length-replicate}
-use lib.Seq.{drop-drop, take-take, length-take-le}
+use lib.ListN.{length, take, drop, replicate, take-append-drop, length-append, length-drop, length-replicate}
+use lib.Seq.{drop-drop, take-take}
 use Rattle.model.specs.Bytes.{blank, part, putAt, padded, joined}
 use Rattle.model.specs.Record.{Rec}
 use Rattle.model.specs.Log.{rank, insert, soundAfter, recordsOf, soundLog, logBytes}
 use Rattle.octets.proofs.Numbers.{and-true}
 use Rattle.octets.proofs.Parts.{part-is, part-split, part-none, part-length, part-start, part-take}
-use Rattle.octets.proofs.PutAt.{put-front, take-put, drop-put-at, length-put}
+use Rattle.octets.proofs.PutAt.{put-front, take-put, drop-put-at}
 use Rattle.octets.proofs.Compare.{blank-eq, blank-drop}
 use Rattle.blocklaws.proofs.Fields.{joined-append}
-use Rattle.order.specs.Sound.{Sound}
 use Rattle.images.proofs.Logs.{sound-records}
 use Rattle.log.specs.declared.Layout.the-variants.{Log}
 use Rattle.log.specs.Places.{offsetOf, laidAt}

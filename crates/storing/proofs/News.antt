@@ -11,8 +11,7 @@ use mathlib.Core.List.{List, [], _∷_}
 use lib.Dec.{ltb, leb}
 use lib.ListN.{length, getD, take, drop}
 use borrow.Author.Tests.{lt-leb, le-leb, ltb-true, leb-true, not-true, not-false}
-use Rattle.model.specs.Bytes.{part}
-use Rattle.model.specs.Record.{Rec, unit, num, wellFormed}
+use Rattle.model.specs.Record.{Rec, unit, num}
 use Rattle.model.specs.Log.{rank, insert, count, vectorOf, logBytes}
 use Rattle.model.specs.Block.{recordAt, recordsFrom}
 use Rattle.model.specs.Outcome.{Took, refused, taken, takeOne, takeAll}

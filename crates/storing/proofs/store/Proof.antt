@@ -1,7 +1,6 @@
 use Rattle.storing.proofs.News.{taken-units, all-room, lent-rising, all-stored}
 use Rattle.storing.proofs.Storing.{stored-sound}
 use borrow.Author.Needs.{needs}
-use native.Mathlib.Omega.{arith}
 use Rattle.storing.proofs.store.Statement.{statement}
 use Rattle.storing.proofs.store.Tie as tie
 
