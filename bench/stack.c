@@ -4,7 +4,7 @@
 
 #define _DEFAULT_SOURCE
 
-#include "limp.h"
+#include "sab.h"
 
 #include <pthread.h>
 #include <stdio.h>
@@ -18,58 +18,58 @@ enum { STACK = 1 << 20, PAINT = 0xA7, ARCHIVE = 7, FULL = 512 };
 enum { MARGIN = 256 };
 
 /* The buffers that the calls get. */
-static uint8_t log_bytes[LIMP_LOG_BYTES], full[LIMP_LOG_BYTES], shorter[LIMP_LOG_BYTES],
-    block[LIMP_BLOCK_BYTES], file[LIMP_FILE_BYTES], out_file[LIMP_FILE_BYTES],
-    tree[LIMP_TREE_BYTES], listing[LIMP_LISTING_BYTES], length[LIMP_LENGTH_BYTES],
-    head[LIMP_HEAD_BYTES], asked[LIMP_VECTOR_BYTES], held[LIMP_VECTOR_BYTES],
-    wish[LIMP_RECORD_BYTES];
+static uint8_t log_bytes[SAB_LOG_BYTES], full[SAB_LOG_BYTES], shorter[SAB_LOG_BYTES],
+    block[SAB_BLOCK_BYTES], file[SAB_FILE_BYTES], out_file[SAB_FILE_BYTES],
+    tree[SAB_TREE_BYTES], listing[SAB_LISTING_BYTES], length[SAB_LENGTH_BYTES],
+    head[SAB_HEAD_BYTES], asked[SAB_VECTOR_BYTES], held[SAB_VECTOR_BYTES],
+    wish[SAB_RECORD_BYTES];
 static size_t file_length;
 static uint32_t result;
 
 static void run_compare(void)
 {
-    result = limp_compare(asked, sizeof asked, held, sizeof held);
+    result = sab_compare(asked, sizeof asked, held, sizeof held);
 }
 
 static void run_start(void)
 {
-    result = limp_start(log_bytes, sizeof log_bytes, ARCHIVE, 0);
+    result = sab_start(log_bytes, sizeof log_bytes, ARCHIVE, 0);
 }
 
 static void run_act(void)
 {
-    result = limp_act(shorter, sizeof shorter, ARCHIVE, 0, wish, sizeof wish);
+    result = sab_act(shorter, sizeof shorter, ARCHIVE, 0, wish, sizeof wish);
 }
 
 static void run_hand_out(void)
 {
-    result = limp_hand_out(log_bytes, sizeof log_bytes, ARCHIVE, 0, asked, sizeof asked, block,
+    result = sab_hand_out(log_bytes, sizeof log_bytes, ARCHIVE, 0, asked, sizeof asked, block,
                            sizeof block);
 }
 
 static void run_take(void)
 {
-    result = limp_take(shorter, sizeof shorter, ARCHIVE, 0, block, sizeof block);
+    result = sab_take(shorter, sizeof shorter, ARCHIVE, 0, block, sizeof block);
 }
 
 static void run_write_file(void)
 {
-    result = limp_write_file(log_bytes, sizeof log_bytes, ARCHIVE, 0, out_file, sizeof out_file);
+    result = sab_write_file(log_bytes, sizeof log_bytes, ARCHIVE, 0, out_file, sizeof out_file);
 }
 
 static void run_read_file(void)
 {
-    result = limp_read_file(log_bytes, sizeof log_bytes, file, file_length, head, sizeof head);
+    result = sab_read_file(log_bytes, sizeof log_bytes, file, file_length, head, sizeof head);
 }
 
 static void run_show(void)
 {
-    result = limp_show(log_bytes, sizeof log_bytes, tree, sizeof tree);
+    result = sab_show(log_bytes, sizeof log_bytes, tree, sizeof tree);
 }
 
 static void run_listing(void)
 {
-    result = limp_listing(file, file_length, log_bytes, sizeof log_bytes, tree, sizeof tree,
+    result = sab_listing(file, file_length, log_bytes, sizeof log_bytes, tree, sizeof tree,
                           listing, sizeof listing, length, sizeof length);
 }
 
@@ -79,11 +79,11 @@ struct entry {
 };
 
 static const struct entry ENTRIES[] = {
-    {"limp_compare", run_compare},       {"limp_start", run_start},
-    {"limp_act", run_act},               {"limp_hand_out", run_hand_out},
-    {"limp_take", run_take},             {"limp_write_file", run_write_file},
-    {"limp_read_file", run_read_file},   {"limp_show", run_show},
-    {"limp_listing", run_listing},
+    {"sab_compare", run_compare},       {"sab_start", run_start},
+    {"sab_act", run_act},               {"sab_hand_out", run_hand_out},
+    {"sab_take", run_take},             {"sab_write_file", run_write_file},
+    {"sab_read_file", run_read_file},   {"sab_show", run_show},
+    {"sab_listing", run_listing},
 };
 
 static void fail(const char *what)
@@ -123,8 +123,8 @@ static void measure(const struct entry *entry)
 static void counts(const uint8_t *log, uint8_t *vector)
 {
     size_t at;
-    memset(vector, 0, LIMP_VECTOR_BYTES);
-    for (at = 0; at < LIMP_LOG_BYTES && (log[at + 2] | log[at + 3]) != 0; at += LIMP_RECORD_BYTES)
+    memset(vector, 0, SAB_VECTOR_BYTES);
+    for (at = 0; at < SAB_LOG_BYTES && (log[at + 2] | log[at + 3]) != 0; at += SAB_RECORD_BYTES)
         if (++vector[2 * log[at]] == 0)
             vector[2 * log[at] + 1]++;
 }
@@ -132,8 +132,8 @@ static void counts(const uint8_t *log, uint8_t *vector)
 /* The first records of the full log. */
 static void first(uint8_t *log, size_t records)
 {
-    memset(log, 0, LIMP_LOG_BYTES);
-    memcpy(log, full, LIMP_RECORD_BYTES * records);
+    memset(log, 0, SAB_LOG_BYTES);
+    memcpy(log, full, SAB_RECORD_BYTES * records);
 }
 
 static size_t least(size_t a, size_t b)
@@ -148,16 +148,16 @@ static void prepare(const struct entry *entry, size_t records)
     first(log_bytes, records);
     counts(log_bytes, held);
     memset(asked, 0, sizeof asked);
-    r = limp_write_file(log_bytes, sizeof log_bytes, ARCHIVE, 0, file, sizeof file);
-    file_length = LIMP_BLOCK_BYTES * LIMP_COUNT(r);
+    r = sab_write_file(log_bytes, sizeof log_bytes, ARCHIVE, 0, file, sizeof file);
+    file_length = SAB_BLOCK_BYTES * SAB_COUNT(r);
     if (entry->run == run_take) {
         first(shorter, least(records, FULL - 6));
         counts(shorter, asked);
-        r = limp_hand_out(full, sizeof full, ARCHIVE, 0, asked, sizeof asked, block, sizeof block);
+        r = sab_hand_out(full, sizeof full, ARCHIVE, 0, asked, sizeof asked, block, sizeof block);
     } else if (entry->run == run_act) {
         first(shorter, least(records, FULL - 1));
     }
-    if (LIMP_NUMBER(r) != LIMP_OK)
+    if (SAB_NUMBER(r) != SAB_OK)
         fail("the file's records are refused");
 }
 
@@ -170,7 +170,7 @@ static void read_records(const char *name)
     file_length = fread(file, 1, sizeof file, from);
     fclose(from);
     run_read_file();
-    if (LIMP_NUMBER(result) != LIMP_OK || LIMP_COUNT(result) != FULL)
+    if (SAB_NUMBER(result) != SAB_OK || SAB_COUNT(result) != FULL)
         fail("not a file of 512 records");
     memcpy(full, log_bytes, sizeof full);
 }
@@ -194,7 +194,7 @@ int main(int words, char **word)
         for (j = 0; j < 4; j++) {
             prepare(&ENTRIES[i], sizes[j]);
             measure(&ENTRIES[i]);
-            if (LIMP_NUMBER(result) != LIMP_OK)
+            if (SAB_NUMBER(result) != SAB_OK)
                 fail("a call is refused");
             most = used > most ? used : most;
             printf(used > MARGIN ? " %lu |" : " at most %lu |", (unsigned long)used);

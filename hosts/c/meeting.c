@@ -1,7 +1,7 @@
 /* A meeting of two units that is cut in the middle of a block and goes on later.
  * It ends with equal logs; then the asides are read out. */
 
-#include "limp.h"
+#include "sab.h"
 
 #include <stdio.h>
 #include <stdlib.h>
@@ -10,12 +10,12 @@
 enum { ARCHIVE = 7, UNITS = 2 };
 
 /* What each unit keeps. */
-static uint8_t logs[UNITS][LIMP_LOG_BYTES];
+static uint8_t logs[UNITS][SAB_LOG_BYTES];
 
 static void stop(const char *what, uint32_t result)
 {
-    fprintf(stderr, "%s: refused %u at %u\n", what, (unsigned)LIMP_NUMBER(result),
-            (unsigned)LIMP_PLACE(result));
+    fprintf(stderr, "%s: refused %u at %u\n", what, (unsigned)SAB_NUMBER(result),
+            (unsigned)SAB_PLACE(result));
     exit(1);
 }
 
@@ -30,7 +30,7 @@ static void counts(const uint8_t *log, uint8_t *vector)
     unsigned held[8] = {0};
     size_t at;
     int u;
-    for (at = 0; at < LIMP_LOG_BYTES && get16(log + at + 2) != 0; at += LIMP_RECORD_BYTES)
+    for (at = 0; at < SAB_LOG_BYTES && get16(log + at + 2) != 0; at += SAB_RECORD_BYTES)
         held[log[at]]++;
     for (u = 0; u < 8; u++) {
         vector[2 * u] = (uint8_t)(held[u] & 0xFF);
@@ -41,7 +41,7 @@ static void counts(const uint8_t *log, uint8_t *vector)
 /* A wish with today's date and, where there is one, a label. */
 static void wish_of(uint8_t *wish, uint8_t unit, unsigned operation, const char *label)
 {
-    memset(wish, 0, LIMP_RECORD_BYTES);
+    memset(wish, 0, SAB_RECORD_BYTES);
     wish[0] = unit;
     wish[1] = (uint8_t)operation;
     wish[28] = 2025 & 0xFF;
@@ -53,24 +53,24 @@ static void wish_of(uint8_t *wish, uint8_t unit, unsigned operation, const char 
 
 static void act(uint8_t unit, const uint8_t *wish)
 {
-    uint32_t r = limp_act(logs[unit], LIMP_LOG_BYTES, ARCHIVE, unit, wish, LIMP_RECORD_BYTES);
-    if (LIMP_NUMBER(r) != LIMP_OK)
+    uint32_t r = sab_act(logs[unit], SAB_LOG_BYTES, ARCHIVE, unit, wish, SAB_RECORD_BYTES);
+    if (SAB_NUMBER(r) != SAB_OK)
         stop("act", r);
 }
 
 /* Makes a folder in the root. */
 static void make_folder(uint8_t unit, const char *label)
 {
-    uint8_t wish[LIMP_RECORD_BYTES];
-    wish_of(wish, unit, LIMP_MAKE_FOLDER, label);
+    uint8_t wish[SAB_RECORD_BYTES];
+    wish_of(wish, unit, SAB_MAKE_FOLDER, label);
     act(unit, wish);
 }
 
 /* Makes a trace in the folder 0.1; the mark names the trace's file. */
 static void make_trace(uint8_t unit, const char *label, uint8_t mark)
 {
-    uint8_t wish[LIMP_RECORD_BYTES];
-    wish_of(wish, unit, LIMP_MAKE_TRACE, label);
+    uint8_t wish[SAB_RECORD_BYTES];
+    wish_of(wish, unit, SAB_MAKE_TRACE, label);
     wish[26] = 1;
     memset(wish + 64, mark, 16);
     act(unit, wish);
@@ -79,7 +79,7 @@ static void make_trace(uint8_t unit, const char *label, uint8_t mark)
 /* The link: passes a block on, or only its first bytes. */
 static void carry(uint8_t *to, const uint8_t *block, size_t arriving)
 {
-    memset(to, 0, LIMP_BLOCK_BYTES);
+    memset(to, 0, SAB_BLOCK_BYTES);
     memcpy(to, block, arriving);
 }
 
@@ -87,22 +87,22 @@ static void carry(uint8_t *to, const uint8_t *block, size_t arriving)
  * breaks within block `cut`, if it comes to that. Says whether all was passed. */
 static int pass(uint8_t from, uint8_t to, int cut)
 {
-    uint8_t asked[LIMP_VECTOR_BYTES], block[LIMP_BLOCK_BYTES], arrived[LIMP_BLOCK_BYTES];
+    uint8_t asked[SAB_VECTOR_BYTES], block[SAB_BLOCK_BYTES], arrived[SAB_BLOCK_BYTES];
     uint32_t r;
     int n;
     for (n = 0;; n++) {
         counts(logs[to], asked);
-        r = limp_hand_out(logs[from], LIMP_LOG_BYTES, ARCHIVE, from, asked, LIMP_VECTOR_BYTES,
-                          block, LIMP_BLOCK_BYTES);
-        if (LIMP_NUMBER(r) != LIMP_OK)
+        r = sab_hand_out(logs[from], SAB_LOG_BYTES, ARCHIVE, from, asked, SAB_VECTOR_BYTES,
+                          block, SAB_BLOCK_BYTES);
+        if (SAB_NUMBER(r) != SAB_OK)
             stop("hand out", r);
         if (block[9] == 0)
             return 1;
-        carry(arrived, block, n == cut ? 300 : LIMP_BLOCK_BYTES);
-        r = limp_take(logs[to], LIMP_LOG_BYTES, ARCHIVE, to, arrived, LIMP_BLOCK_BYTES);
+        carry(arrived, block, n == cut ? 300 : SAB_BLOCK_BYTES);
+        r = sab_take(logs[to], SAB_LOG_BYTES, ARCHIVE, to, arrived, SAB_BLOCK_BYTES);
         printf("unit %d to unit %d, %d records: %u\n", from, to, block[9],
-               (unsigned)LIMP_NUMBER(r));
-        if (LIMP_NUMBER(r) != LIMP_OK)
+               (unsigned)SAB_NUMBER(r));
+        if (SAB_NUMBER(r) != SAB_OK)
             return 0;
     }
 }
@@ -111,7 +111,7 @@ static void meet(int cut)
 {
     if (pass(0, 1, cut) && pass(1, 0, -1))
         printf("met: the logs are %s\n",
-               memcmp(logs[0], logs[1], LIMP_LOG_BYTES) == 0 ? "equal" : "not equal");
+               memcmp(logs[0], logs[1], SAB_LOG_BYTES) == 0 ? "equal" : "not equal");
     else
         printf("cut\n");
 }
@@ -124,14 +124,14 @@ static void print_identity(const uint8_t *identity)
 /* Prints the asides of a unit's tree. */
 static void read_asides(uint8_t unit)
 {
-    static uint8_t tree[LIMP_TREE_BYTES];
-    const uint8_t *row = tree + LIMP_TREE_ASIDES;
+    static uint8_t tree[SAB_TREE_BYTES];
+    const uint8_t *row = tree + SAB_TREE_ASIDES;
     unsigned left;
-    uint32_t r = limp_show(logs[unit], LIMP_LOG_BYTES, tree, LIMP_TREE_BYTES);
-    if (LIMP_NUMBER(r) != LIMP_OK)
+    uint32_t r = sab_show(logs[unit], SAB_LOG_BYTES, tree, SAB_TREE_BYTES);
+    if (SAB_NUMBER(r) != SAB_OK)
         stop("show", r);
     printf("unit %d: %u entries, %u asides\n", unit, get16(tree), get16(tree + 2));
-    for (left = get16(tree + 2); left > 0; left--, row += LIMP_ASIDE_BYTES) {
+    for (left = get16(tree + 2); left > 0; left--, row += SAB_ASIDE_BYTES) {
         printf("aside ");
         print_identity(row);
         printf(" reason %d marks ", row[4]);
@@ -139,7 +139,7 @@ static void read_asides(uint8_t unit)
             printf("-");
         else
             print_identity(row + 8);
-        printf(" %s\n", row[5] == LIMP_OPEN ? "open" : "settled");
+        printf(" %s\n", row[5] == SAB_OPEN ? "open" : "settled");
     }
 }
 
@@ -149,7 +149,7 @@ int main(void)
     int i;
     char label[16];
     for (unit = 0; unit < UNITS; unit++)
-        if (limp_start(logs[unit], LIMP_LOG_BYTES, ARCHIVE, unit) != LIMP_OK)
+        if (sab_start(logs[unit], SAB_LOG_BYTES, ARCHIVE, unit) != SAB_OK)
             return 1;
 
     /* A common folder; then both work apart for a while. */
@@ -167,5 +167,5 @@ int main(void)
     meet(-1);
     read_asides(0);
     read_asides(1);
-    return memcmp(logs[0], logs[1], LIMP_LOG_BYTES) != 0;
+    return memcmp(logs[0], logs[1], SAB_LOG_BYTES) != 0;
 }

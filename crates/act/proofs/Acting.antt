@@ -13,20 +13,20 @@ use Rattle.model.specs.Record.{Rec}
 use Rattle.model.specs.Log.{recordsOf, soundLog, vectorOf, logBytes}
 use Rattle.model.specs.Replay.{Tree, judge, replay}
 use Rattle.model.specs.Outcome.{outcome, refusal, stamped, wishFits, reasonOf, actNumber, acted, actOf}
-use Rattle.octets.proofs.Numbers.{eq-or-ne}
-use Rattle.octets.proofs.PutAt.{put-padded}
-use Rattle.blocklaws.proofs.Fields.{length-joined, joined-append}
-use Rattle.order.proofs.Act.{stamped-seen, wish-fits}
-use Rattle.order.proofs.Tests.{vectorOf-getD}
-use Rattle.images.proofs.Logs.{sound-proper, proper-sized, sound-records, sound-bytes, sound-few}
-use Rattle.table.specs.Rows.{treeIn}
-use Rattle.lookup.specs.Roles.{Works}
-use Rattle.lookup.proofs.Working.{works-tree}
-use Rattle.judge.specs.Judged.{verdictOf, Asks}
-use Rattle.replay.proofs.Sound.{formed-asks, count-few}
-use Rattle.answer.proofs.Guards.{log-unsound, guards-pass}
-use Rattle.stamping.specs.Stamp.{stampedBy, fitsAs}
-use Rattle.stamping.proofs.Stamping.{stamped-is, fits-is}
+use Rattle.byte_slice.proofs.Numbers.{eq-or-ne}
+use Rattle.byte_slice.proofs.PutAt.{put-padded}
+use Rattle.block_laws.proofs.Fields.{length-joined, joined-append}
+use Rattle.log_laws.proofs.Act.{stamped-seen, wish-fits}
+use Rattle.log_laws.proofs.Tests.{vectorOf-getD}
+use Rattle.encoding_laws.proofs.Logs.{sound-proper, proper-sized, sound-records, sound-bytes, sound-few}
+use Rattle.tree_table.specs.Rows.{treeIn}
+use Rattle.tree_lookup.specs.Roles.{Works}
+use Rattle.tree_lookup.proofs.Working.{works-tree}
+use Rattle.tree_judge.specs.Judged.{verdictOf, Asks}
+use Rattle.tree_replay.proofs.Sound.{formed-asks, count-few}
+use Rattle.call_answer.proofs.Guards.{log-unsound, guards-pass}
+use Rattle.act_wish.specs.Stamp.{stampedBy, fitsAs}
+use Rattle.act_wish.proofs.Stamping.{stamped-is, fits-is}
 
 -- ---- the reason
 

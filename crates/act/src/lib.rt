@@ -7,11 +7,11 @@ ghost use lib.ListN.{length};
 ghost use Rattle.model.specs.Log.{recordsOf, soundLog, vectorOf};
 ghost use Rattle.model.specs.Replay.{judge as judgeOf, replay as replayOf};
 ghost use Rattle.model.specs.Outcome.{reasonOf, actNumber, acted, outcome, actOf};
-ghost use Rattle.judge.specs.Judged.{Asks};
-use answer::Answer;
-use log::check;
-use stamping::stamp;
-use stamping::wish_fits;
+ghost use Rattle.tree_judge.specs.Judged.{Asks};
+use call_answer::Answer;
+use log_check::check;
+use act_wish::stamp;
+use act_wish::wish_fits;
 use vector::Vector;
 
 // The reason under which a record would stand aside behind the records of a sound log, or 0.
@@ -21,8 +21,8 @@ pub fn reason(log: &[u8], used: usize, rec: &[u8]) -> u8
 {
     let mut table = [0u8; 43012];
     let mut register = [0u16; 9729];
-    let size = replay::replay_log(log, used, &mut table, &mut register);
-    let j = judge::judge(rec, &table, &register, size);
+    let size = tree_replay::replay_log(log, used, &mut table, &mut register);
+    let j = tree_judge::judge(rec, &table, &register, size);
     j.reason
 }
 
@@ -43,7 +43,7 @@ pub fn act_on(log: &mut [u8], used: usize, held: Vector, unit: u8, wish: &[u8]) 
     if n != 0 {
         return n;
     }
-    octets::put(log, 80 * used, &rec);
+    byte_slice::put(log, 80 * used, &rec);
     0
 }
 

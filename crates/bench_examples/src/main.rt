@@ -39,11 +39,11 @@ fn asked(n: u16) -> Vector {
 fn blocks(from: &[u8], to: &mut [u8]) -> u64 {
     for n in 0..100 {
         let mut b = [0u8; 512];
-        handing::hand_out(from, 7, 0, asked(6 * n), &mut b);
+        hand_out::hand_out(from, 7, 0, asked(6 * n), &mut b);
         if b[9] == 0 {
             return n as u64;
         }
-        taking::take(to, 7, 1, &b);
+        take::take(to, 7, 1, &b);
     }
     100
 }
@@ -69,9 +69,9 @@ fn full() {
     let mut log = [0u8; 40960];
     let mut file = [0u8; 44032];
     fill(&mut log, 512);
-    let w = filing::write_file(&log, 7, 0, &mut file);
+    let w = write_file::write_file(&log, 7, 0, &mut file);
     say(b"512 records, blocks: ", w.blocks as u64);
-    say(b"records in the last: ", octets::wide(file[43529]) as u64);
+    say(b"records in the last: ", byte_slice::wide(file[43529]) as u64);
     let more = wish(513);
     let a = act::act(&mut log, 7, 0, &more.bytes);
     say(b"a 513th record: ", a.number as u64);
@@ -83,7 +83,7 @@ fn label(text: &[u8])
 {
     let mut log = [0u8; 40960];
     let mut b = [0u8; 80];
-    octets::put(&mut b, 32, text);
+    byte_slice::put(&mut b, 32, text);
     b[1] = 1;
     b[28] = 233;
     b[29] = 7;

@@ -15,10 +15,10 @@ use Rattle.claims.specs.Whole.{Ran, Meets, CodeClaim, Demand3}
 use Rattle.claims.proofs.Ran.{ran-start, ran-act, ran-hand-out, ran-write-file, ran-take, ran-show}
 use Rattle.start.proofs.start.Met.{met as start-met}
 use Rattle.act.proofs.act.Met.{met as act-met}
-use Rattle.handing.proofs.hand_out.Met.{met as hand-out-met}
-use Rattle.filing.proofs.write_file.Met.{met as write-file-met}
-use Rattle.taking.proofs.take.Met.{met as take-met}
-use Rattle.show.proofs.show_tree.Met.{met as show-tree-met}
+use Rattle.hand_out.proofs.hand_out.Met.{met as hand-out-met}
+use Rattle.write_file.proofs.write_file.Met.{met as write-file-met}
+use Rattle.take.proofs.take.Met.{met as take-met}
+use Rattle.show_tree.proofs.show_tree.Met.{met as show-tree-met}
 
 -- the outcome of a run is the machine's
 ran : (archive : ℕ) (s : Bench) (c : Call) (o : Outcome) → Ran archive s c o → o ≡ done archive s c

@@ -10,14 +10,14 @@ use denote.Ref.{now}
 use Rattle.model.specs.Outcome.{Outcome, outcome}
 use Rattle.act.proofs.act.Kinds as Act
 use Rattle.act.proofs.act.Reads.{Learnt as ActLearnt}
-use Rattle.taking.proofs.take.Kinds as Take
-use Rattle.taking.proofs.take.Reads.{Learnt as TakeLearnt}
-use Rattle.show.proofs.show_tree.Kinds as Show
-use Rattle.show.proofs.show_tree.Reads.{Learnt as ShowLearnt}
-use Rattle.handing.proofs.hand_out.Kinds as Hand
-use Rattle.handing.proofs.hand_out.Reads.{Learnt as HandLearnt}
-use Rattle.filing.proofs.write_file.Kinds as Write
-use Rattle.filing.proofs.write_file.Reads.{Learnt as WriteLearnt}
+use Rattle.take.proofs.take.Kinds as Take
+use Rattle.take.proofs.take.Reads.{Learnt as TakeLearnt}
+use Rattle.show_tree.proofs.show_tree.Kinds as Show
+use Rattle.show_tree.proofs.show_tree.Reads.{Learnt as ShowLearnt}
+use Rattle.hand_out.proofs.hand_out.Kinds as Hand
+use Rattle.hand_out.proofs.hand_out.Reads.{Learnt as HandLearnt}
+use Rattle.write_file.proofs.write_file.Kinds as Write
+use Rattle.write_file.proofs.write_file.Reads.{Learnt as WriteLearnt}
 use Rattle.start.proofs.start.Kinds as Start
 use Rattle.start.proofs.start.Reads.{Learnt as StartLearnt}
 

@@ -12,10 +12,10 @@ use Rattle.machine.specs.Claim.{distinct, Claim}
 use Rattle.claims.specs.Ran.{RanStart, RanAct, RanHandOut, RanWriteFile, RanTake, RanShow}
 use Rattle.start.proofs.start.Statement.{statement as StartMeets}
 use Rattle.act.proofs.act.Statement.{statement as ActMeets}
-use Rattle.handing.proofs.hand_out.Statement.{statement as HandOutMeets}
-use Rattle.filing.proofs.write_file.Statement.{statement as WriteFileMeets}
-use Rattle.taking.proofs.take.Statement.{statement as TakeMeets}
-use Rattle.show.proofs.show_tree.Statement.{statement as ShowMeets}
+use Rattle.hand_out.proofs.hand_out.Statement.{statement as HandOutMeets}
+use Rattle.write_file.proofs.write_file.Statement.{statement as WriteFileMeets}
+use Rattle.take.proofs.take.Statement.{statement as TakeMeets}
+use Rattle.show_tree.proofs.show_tree.Statement.{statement as ShowMeets}
 
 -- a run of a call on a bench: the entry point gets the common archive, its unit's number and its unit's log, and a take a copy of
 -- the block given

@@ -12,9 +12,9 @@ use Rattle.model.specs.Numbers.{badBuffer}
 use Rattle.model.specs.Bytes.{putAt}
 use Rattle.model.specs.File.{readOf}
 use Rattle.model.specs.Listing.{listingOf}
-use Rattle.octets.proofs.Numbers.{and-true}
-use Rattle.replaylaws.proofs.Steps.{cond-elim}
-use Rattle.listinglaws.proofs.Claims.{listing-fits}
+use Rattle.byte_slice.proofs.Numbers.{and-true}
+use Rattle.tree_laws.proofs.Steps.{cond-elim}
+use Rattle.listing_laws.proofs.Claims.{listing-fits}
 use Rattle.listing.specs.Left.{Left, left, lentWell, treeLeft, listedOf}
 
 text-long : (log tree text : List ℕ) → lentWell log tree text ≡ true → length text ≡ 76800

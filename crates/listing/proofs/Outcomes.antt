@@ -16,20 +16,20 @@ use Rattle.model.specs.Table.{tableBytes}
 use Rattle.model.specs.File.{fileLength, fileFault, recordsCounted, fileRecords, ReadBack, notRead, readBack, readOf}
 use Rattle.model.specs.Outcome.{showOf}
 use Rattle.model.specs.Listing.{headLine, seenLine, treeLines, refusedLine, acceptedLines, listingOf}
-use Rattle.octets.proofs.Numbers.{bool-cases}
-use Rattle.order.proofs.Tests.{sound-means}
-use Rattle.images.proofs.Logs.{log-sound, length-logBytes, sound-proper, proper-sized, sound-records, sound-few}
-use Rattle.images.proofs.Calls.{sound-back}
-use Rattle.images.proofs.Reading.{file-records}
-use Rattle.filelaws.proofs.Records.{length-fileRecords}
-use Rattle.filelaws.proofs.Rewritten.{read-accepted}
-use Rattle.listinglaws.proofs.Rows.{entries-counted, asides-counted}
-use Rattle.listinglaws.proofs.Lines.{refused-line-length}
-use Rattle.listinglaws.proofs.Claims.{rows-fit, log-lines-fit}
-use Rattle.text.specs.Written.{Wrote}
-use Rattle.filechecks.specs.Outcome.{readBackOf}
-use Rattle.listinglaws.proofs.Lines.{refused-line-length}
-use Rattle.filechecks.specs.Outcome.{readBackOf}
+use Rattle.byte_slice.proofs.Numbers.{bool-cases}
+use Rattle.log_laws.proofs.Tests.{sound-means}
+use Rattle.encoding_laws.proofs.Logs.{log-sound, length-logBytes, sound-proper, proper-sized, sound-records, sound-few}
+use Rattle.encoding_laws.proofs.Calls.{sound-back}
+use Rattle.encoding_laws.proofs.Reading.{file-records}
+use Rattle.file_laws.proofs.Records.{length-fileRecords}
+use Rattle.file_laws.proofs.Rewritten.{read-accepted}
+use Rattle.listing_laws.proofs.Rows.{entries-counted, asides-counted}
+use Rattle.listing_laws.proofs.Lines.{refused-line-length}
+use Rattle.listing_laws.proofs.Claims.{rows-fit, log-lines-fit}
+use Rattle.line_text.specs.Written.{Wrote}
+use Rattle.read_file_check.specs.Outcome.{readBackOf}
+use Rattle.listing_laws.proofs.Lines.{refused-line-length}
+use Rattle.read_file_check.specs.Outcome.{readBackOf}
 use Rattle.listing.specs.Left.{left, lentWell, treeLeft, listedOf, logLines, Lists}
 
 -- ---- a lent length that is wrong

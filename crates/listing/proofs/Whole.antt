@@ -5,9 +5,9 @@ use native.Mathlib.Omega.{arith}
 use mathlib.Core.List.{List, _++_}
 use lib.ListN.{length}
 use Rattle.model.specs.Listing.{headLine, seenLine, treeLines}
-use Rattle.text.specs.Written.{Wrote}
-use Rattle.text.proofs.Written.{room-first}
-use Rattle.text.proofs.Chains.{second-fits, last-of-three, wrote-three}
+use Rattle.line_text.specs.Written.{Wrote}
+use Rattle.line_text.proofs.Written.{room-first}
+use Rattle.line_text.proofs.Chains.{second-fits, last-of-three, wrote-three}
 
 module _ (archive u n : ℕ) (v t a : List ℕ) (room : length (headLine archive u n ++ (seenLine v ++ treeLines t)) ≤ length a) where
   from-start : 0 + length (headLine archive u n ++ (seenLine v ++ treeLines t)) ≤ length a

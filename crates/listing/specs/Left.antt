@@ -14,7 +14,7 @@ use Rattle.model.specs.Log.{recordsOf}
 use Rattle.model.specs.Replay.{replay}
 use Rattle.model.specs.Table.{tableBytes}
 use Rattle.model.specs.Listing.{headLine, seenLine, treeLines, listingOf}
-use Rattle.text.specs.Written.{Wrote}
+use Rattle.line_text.specs.Written.{Wrote}
 
 -- the number and place of the file's check, the length of the listing; log, tree table and text as they are left
 pub record Left : Type 0 where

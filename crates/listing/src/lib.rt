@@ -7,7 +7,7 @@ ghost use Rattle.model.specs.Bytes.{word};
 ghost use Rattle.model.specs.Log.{recordsOf, soundLog};
 ghost use Rattle.model.specs.Listing.{headLine, seenLine, treeLines, refusedLine};
 ghost use mathlib.Core.Bool.{true};
-ghost use Rattle.text.specs.Written.{Wrote};
+ghost use Rattle.line_text.specs.Written.{Wrote};
 ghost use Rattle.listing.specs.Left.{Lists, left, listedOf};
 use vector::Vector;
 
@@ -17,9 +17,9 @@ fn file_lines(out: &mut [u8], tree: &[u8], archive: u32, unit: u8, records: u16,
         × (length (headLine archive unit records ++ (seenLine (v .counts) ++ treeLines (now tree))) ≤ length (now out)) ⌝ }
     ensures { λ r. ⌜ Wrote (now (out .entry)) (now (out .exit)) 0 r (headLine archive unit records ++ (seenLine (v .counts) ++ treeLines (now (tree .entry)))) ⌝ }
 {
-    let a = heads::head_line(out, 0, archive, unit, records);
-    let b = heads::seen_line(out, a, v);
-    treelines::tree_lines(out, b, tree)
+    let a = line_head::head_line(out, 0, archive, unit, records);
+    let b = line_head::seen_line(out, a, v);
+    line_tree::tree_lines(out, b, tree)
 }
 
 // The lines of a sound log, behind its archive number, unit, record count and vector; the lent table shows its tree.
@@ -35,7 +35,7 @@ fn log_lines(
     requires { ⌜ (length (now text) ≡ 76800) × (length (now log) ≡ 40960) × (soundLog (now log) ≡ true) × (records ≡ length (recordsOf (now log))) × (length (now tree) ≡ 43012) ⌝ }
     ensures { λ r. ⌜ Lists archive unit records (v .counts) (now (log .entry)) (now (tree .exit)) (now (text .entry)) (now (text .exit)) r ⌝ }
 {
-    show::lay_tree(log, records as usize, tree);
+    show_tree::lay_tree(log, records as usize, tree);
     file_lines(text, tree, archive, unit, records, v) as u32
 }
 
@@ -44,7 +44,7 @@ fn refuse(text: &mut [u8], number: u8, place: u8) -> u32
     requires { ⌜ length (now text) ≡ 76800 ⌝ }
     ensures { λ r. ⌜ Wrote (now (text .entry)) (now (text .exit)) 0 r (refusedLine number place) ⌝ }
 {
-    refusals::refused_line(text, 0, number, place) as u32
+    line_refusal::refused_line(text, 0, number, place) as u32
 }
 
 // What listing a file answers: the number and place of the file's check, and the length of the listing.
@@ -80,7 +80,7 @@ pub fn listing(file: &[u8], log: &mut [u8], tree: &mut [u8], text: &mut [u8]) ->
             length: 0,
         };
     }
-    let r = reading::read_file(log, file);
+    let r = read_file::read_file(log, file);
     if r.number != 0 {
         let n = refuse(text, r.number, r.place);
         return Listed {

@@ -9,11 +9,11 @@ use Rattle.model.specs.Record.{Rec}
 use Rattle.model.specs.Log.{vectorOf, logBytes}
 use Rattle.model.specs.Replay.{replay}
 use Rattle.model.specs.Outcome.{showOf}
-use Rattle.order.specs.Members.{Has}
-use Rattle.order.specs.Sound.{Sound}
-use Rattle.order.proofs.Same.{same, counts-sub}
-use Rattle.order.proofs.Tests.{counts-equal, equal-counts}
-use Rattle.images.proofs.Logs.{sound-records, sound-bytes}
+use Rattle.log_laws.specs.Members.{Has}
+use Rattle.log_laws.specs.Sound.{Sound}
+use Rattle.log_laws.proofs.Same.{same, counts-sub}
+use Rattle.log_laws.proofs.Tests.{counts-equal, equal-counts}
+use Rattle.encoding_laws.proofs.Logs.{sound-records, sound-bytes}
 use Rattle.machine.specs.Machine.{Bench, held, heldVector}
 use Rattle.machine.specs.Claim.{distinct, Converged}
 use Rattle.machine.proofs.Reach.{Inv, used-agree}

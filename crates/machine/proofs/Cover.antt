@@ -11,16 +11,16 @@ use lib.ListN.{length}
 use Rattle.model.specs.Record.{Rec, unit, num, seen, wellFormed}
 use Rattle.model.specs.Log.{sumTo, rank, count, insert}
 use Rattle.model.specs.Outcome.{taken, takeOne, takeAll}
-use Rattle.octets.proofs.Numbers.{lt-or-ge, eq-or-ne}
-use Rattle.order.specs.Members.{Has, Sub, Agree}
-use Rattle.order.specs.Sound.{Sound, Joins}
-use Rattle.order.proofs.Formed.{well-unit, well-own}
-use Rattle.order.proofs.Sums.{sumTo-le}
-use Rattle.order.proofs.Counts.{count-cons, count-nil, length-counts, number-held, find-held, formed, unit-of}
-use Rattle.order.proofs.Insert.{insert-sound, has-insert, insert-has, length-insert, count-insert}
-use Rattle.order.proofs.Ids.{none-byId, held-byId}
-use Rattle.order.proofs.Seen.{saw}
-use Rattle.order.proofs.Take.{take-new, take-held, takeAll-nil, takeAll-goes}
+use Rattle.byte_slice.proofs.Numbers.{lt-or-ge, eq-or-ne}
+use Rattle.log_laws.specs.Members.{Has, Sub, Agree}
+use Rattle.log_laws.specs.Sound.{Sound, Joins}
+use Rattle.log_laws.proofs.Formed.{well-unit, well-own}
+use Rattle.log_laws.proofs.Sums.{sumTo-le}
+use Rattle.log_laws.proofs.Counts.{count-cons, count-nil, length-counts, number-held, find-held, formed, unit-of}
+use Rattle.log_laws.proofs.Insert.{insert-sound, has-insert, insert-has, length-insert, count-insert}
+use Rattle.log_laws.proofs.Ids.{none-byId, held-byId}
+use Rattle.log_laws.proofs.Seen.{saw}
+use Rattle.log_laws.proofs.Take.{take-new, take-held, takeAll-nil, takeAll-goes}
 use Rattle.machine.specs.Claim.{holds, firsts}
 use Rattle.machine.proofs.Tests.{Held, holds-cases, has-holds, Rising, firsts-skip, firsts-keep}
 

@@ -19,8 +19,8 @@ use Rattle.model.specs.File as F
 use Rattle.model.specs.Outcome as O
 use Rattle.machine.specs.Machine as M
 use Rattle.machine.specs.Claim as C
-use Rattle.octets.proofs.Numbers.{and-true}
-use Rattle.octets.proofs.Compare.{same-eq}
+use Rattle.byte_slice.proofs.Numbers.{and-true}
+use Rattle.byte_slice.proofs.Compare.{same-eq}
 use Rattle.machine.proofs.Reach.{Inv, inv-bare, inv-play}
 use Rattle.machine.proofs.Quick.{quick, quickPlay, quickOutcomes, quickPassing, quickFlow, play-is, outcomes-is, passing-is, flow-is}
 use Rattle.machine.proofs.Demand.{play-append, demand}

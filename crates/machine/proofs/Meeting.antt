@@ -12,20 +12,20 @@ use lib.Seq.{drop-drop}
 use Rattle.model.specs.Record.{Rec, unit, num}
 use Rattle.model.specs.Log.{sumTo, rank, count, vectorOf, recordsOf, logBytes}
 use Rattle.model.specs.Outcome.{Outcome, outcome, lacking, handBlock, handOf, taken, takeAll, takeOf}
-use Rattle.order.specs.Members.{Has, Sub, Agree}
-use Rattle.order.specs.Sound.{SoundAfter, Sound}
-use Rattle.order.proofs.Formed.{well-unit, well-own}
-use Rattle.order.proofs.Sums.{sumTo-le}
-use Rattle.order.proofs.Members.{has-append, append-has, has-drop}
-use Rattle.order.proofs.Counts.{above-all, formed, number-held}
-use Rattle.order.proofs.Same.{unique}
-use Rattle.order.proofs.Take.{all-from}
-use Rattle.order.proofs.Lacking.{lacking-cons, lacking-nil, has-lacking, lacking-beyond, absent-lacked, union-length}
-use Rattle.order.proofs.Tests.{vectorOf-getD}
-use Rattle.images.specs.Keeps.{Good}
-use Rattle.images.proofs.Logs.{sound-proper, sound-records}
-use Rattle.images.proofs.Calls.{sound-back, log-good, take-good, take-done, guarded-passes}
-use Rattle.images.proofs.Given.{Holds, hand-holds}
+use Rattle.log_laws.specs.Members.{Has, Sub, Agree}
+use Rattle.log_laws.specs.Sound.{SoundAfter, Sound}
+use Rattle.log_laws.proofs.Formed.{well-unit, well-own}
+use Rattle.log_laws.proofs.Sums.{sumTo-le}
+use Rattle.log_laws.proofs.Members.{has-append, append-has, has-drop}
+use Rattle.log_laws.proofs.Counts.{above-all, formed, number-held}
+use Rattle.log_laws.proofs.Same.{unique}
+use Rattle.log_laws.proofs.Take.{all-from}
+use Rattle.log_laws.proofs.Lacking.{lacking-cons, lacking-nil, has-lacking, lacking-beyond, absent-lacked, union-length}
+use Rattle.log_laws.proofs.Tests.{vectorOf-getD}
+use Rattle.encoding_laws.specs.Keeps.{Good}
+use Rattle.encoding_laws.proofs.Logs.{sound-proper, sound-records}
+use Rattle.encoding_laws.proofs.Calls.{sound-back, log-good, take-good, take-done, guarded-passes}
+use Rattle.encoding_laws.proofs.Given.{Holds, hand-holds}
 use Rattle.machine.specs.Claim.{firsts}
 use Rattle.machine.specs.Meeting.{lackedBy, handed, round, meet, EveryMeeting}
 use Rattle.machine.proofs.Tests.{Held, holds-cases, Rising, firsts-skip, firsts-keep}

@@ -14,15 +14,15 @@ use Rattle.model.specs.Record.{Rec}
 use Rattle.model.specs.Log.{sumTo, count, vectorOf, recordsOf, logBytes}
 use Rattle.model.specs.Block.{blockRecords}
 use Rattle.model.specs.Outcome.{Outcome, outcome, lacking, givenFault, takeOf}
-use Rattle.octets.proofs.Numbers.{eq-or-ne, and-true, true-and}
-use Rattle.order.specs.Members.{Has, Sub, Agree}
-use Rattle.order.specs.Sound.{Sound}
-use Rattle.order.proofs.Formed.{well-unit, well-own}
-use Rattle.order.proofs.Members.{All, all-map, all-append, all-at, has-append}
-use Rattle.order.proofs.Counts.{formed}
-use Rattle.order.proofs.Lacking.{absent-lacked, union-length}
-use Rattle.order.proofs.Tests.{counts-cover}
-use Rattle.images.proofs.Calls.{take-good, sound-back, take-done}
+use Rattle.byte_slice.proofs.Numbers.{eq-or-ne, and-true, true-and}
+use Rattle.log_laws.specs.Members.{Has, Sub, Agree}
+use Rattle.log_laws.specs.Sound.{Sound}
+use Rattle.log_laws.proofs.Formed.{well-unit, well-own}
+use Rattle.log_laws.proofs.Members.{All, all-map, all-append, all-at, has-append}
+use Rattle.log_laws.proofs.Counts.{formed}
+use Rattle.log_laws.proofs.Lacking.{absent-lacked, union-length}
+use Rattle.log_laws.proofs.Tests.{counts-cover}
+use Rattle.encoding_laws.proofs.Calls.{take-good, sound-back, take-done}
 use Rattle.machine.specs.Machine.{Call, starts, acts, handsOut, writes, takes, unitOf, Block, Bench, held, heldVector, blockGiven, done, gives, after, next, play}
 use Rattle.machine.specs.Claim.{distinct, passes, passing, flowOf, flow, lacked, holdsAll, firsts, rising, Passed, zeros, Covered}
 use Rattle.machine.proofs.Tests.{Held, holds-cases, holds-some, rising-from, all-from, distinct-agree}

@@ -13,8 +13,8 @@ use Rattle.model.specs.Block.{blockRecords}
 use Rattle.model.specs.Bytes.{padded}
 use Rattle.model.specs.File.{blockCount, fileOf}
 use Rattle.model.specs.Outcome.{Outcome, outcome, guarded, actNumber, acted, actOf, handBlock, handOf, writeOf, takeAll, givenFault, tookAll, tookBlock, takeOf}
-use Rattle.order.proofs.Members.{all-at}
-use Rattle.images.proofs.Calls.{guarded-passes}
+use Rattle.log_laws.proofs.Members.{all-at}
+use Rattle.encoding_laws.proofs.Calls.{guarded-passes}
 use Rattle.machine.specs.Machine.{Call, starts, acts, handsOut, writes, takes, Bench, blockGiven, done, after, next, play, outcomes}
 use Rattle.machine.specs.Claim.{passes, passing, flowOf, flow}
 use Rattle.machine.proofs.Reach.{Given, Inv, inv-next}

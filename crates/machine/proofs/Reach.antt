@@ -15,15 +15,15 @@ use Rattle.model.specs.Log.{recordsOf}
 use Rattle.model.specs.Block.{countIn, recordsFrom, blockRecords}
 use Rattle.model.specs.File.{blockCount, fileOf, blockAt}
 use Rattle.model.specs.Outcome.{Outcome, outcome, stamped, actOf, lacking, handBlock, handOf, writeOf, givenFault}
-use Rattle.octets.proofs.Numbers.{lt-or-ge, eq-or-ne, cond-cases}
-use Rattle.order.specs.Members.{Has, Sub, Agree}
-use Rattle.order.proofs.Members.{All, all-map, all-append, all-at, has-append, append-has, has-take, has-drop}
-use Rattle.order.proofs.Lacking.{has-lacking}
-use Rattle.order.proofs.Take.{all-from}
-use Rattle.images.specs.Keeps.{Good, Keeps}
-use Rattle.images.proofs.Logs.{sound-records, empty-log}
-use Rattle.images.proofs.Calls.{zeros-good, sound-back, start-keeps, act-keeps, hand-keeps, write-keeps, take-keeps, start-cases, act-cases, take-cases}
-use Rattle.images.proofs.Given.{Holds, hand-cases, write-cases}
+use Rattle.byte_slice.proofs.Numbers.{lt-or-ge, eq-or-ne, cond-cases}
+use Rattle.log_laws.specs.Members.{Has, Sub, Agree}
+use Rattle.log_laws.proofs.Members.{All, all-map, all-append, all-at, has-append, append-has, has-take, has-drop}
+use Rattle.log_laws.proofs.Lacking.{has-lacking}
+use Rattle.log_laws.proofs.Take.{all-from}
+use Rattle.encoding_laws.specs.Keeps.{Good, Keeps}
+use Rattle.encoding_laws.proofs.Logs.{sound-records, empty-log}
+use Rattle.encoding_laws.proofs.Calls.{zeros-good, sound-back, start-keeps, act-keeps, hand-keeps, write-keeps, take-keeps, start-cases, act-cases, take-cases}
+use Rattle.encoding_laws.proofs.Given.{Holds, hand-cases, write-cases}
 use Rattle.machine.specs.Machine.{Call, starts, acts, handsOut, writes, takes, unitOf, Block, Bench, bare, held, blockGiven, done, ifAccepted, blocksTo, gives, uses, put, after, next, play}
 use Rattle.machine.specs.Claim.{distinct}
 use Rattle.machine.proofs.Tests.{distinct-agree}

@@ -10,9 +10,9 @@ use mathlib.Core.List.{List, [], _∷_}
 use borrow.Author.Tests.{ltb-true, not-true}
 use Rattle.model.specs.Record.{Rec, unit, num}
 use Rattle.model.specs.Log.{rank, byId}
-use Rattle.octets.proofs.Numbers.{and-true, not-both}
-use Rattle.order.specs.Members.{Has, Agree}
-use Rattle.order.proofs.Ids.{byId-some, byId-none}
+use Rattle.byte_slice.proofs.Numbers.{and-true, not-both}
+use Rattle.log_laws.specs.Members.{Has, Agree}
+use Rattle.log_laws.proofs.Ids.{byId-some, byId-none}
 use Rattle.machine.specs.Claim.{isSome, holds, distinct, holdsAll, firsts, below, rising}
 
 -- ---- a record of an identity is in the list, or none is

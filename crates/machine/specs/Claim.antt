@@ -14,8 +14,8 @@ use Rattle.model.specs.Log.{rank, byId}
 use Rattle.model.specs.Replay.{replay}
 use Rattle.model.specs.Block.{blockRecords}
 use Rattle.model.specs.Outcome.{lacking, showOf}
-use Rattle.order.specs.Members.{Has}
-use Rattle.images.specs.Keeps.{Good}
+use Rattle.log_laws.specs.Members.{Has}
+use Rattle.encoding_laws.specs.Keeps.{Good}
 use Rattle.machine.specs.Machine.{Call, starts, acts, handsOut, writes, takes, unitOf, Bench, bare, held, heldVector, blockGiven, done, next, play}
 
 unfoldable pub isSome : Option Rec → Bool

@@ -8,8 +8,8 @@ use lib.ListN.{length, drop, replicate}
 use Rattle.model.specs.Record.{Rec}
 use Rattle.model.specs.Log.{vectorOf, recordsOf}
 use Rattle.model.specs.Outcome.{Outcome, lacking, handOf, takeOf}
-use Rattle.order.specs.Members.{Agree}
-use Rattle.images.specs.Keeps.{Good}
+use Rattle.log_laws.specs.Members.{Agree}
+use Rattle.encoding_laws.specs.Keeps.{Good}
 
 -- the records of the log la that the log lb lacks
 unfoldable pub lackedBy : List ℕ → List ℕ → List Rec

@@ -32,7 +32,7 @@ fn lists(file: &[u8], expected: &[u8]) -> bool {
     let mut text = [0u8; 76800];
     let listed = listing::listing(file, &mut log, &mut tree, &mut text);
     let n = listed.length as usize;
-    octets::same(&text[0..n], expected)
+    byte_slice::same(&text[0..n], expected)
 }
 
 // The case whose two files the arguments i and j name.

@@ -9,10 +9,10 @@ use lib.ListN.{getD, length}
 use borrow.Author.Tests.{le-leb}
 use Rattle.model.specs.Bytes.{word, part}
 use Rattle.model.specs.Record.{Rec, identity, root, identityAt, objectOf, folderOf, unit, op, num, seen, labelOf, usesObject, usesFolder, usesLabel, usesMark, unused, names, objectFits, folderFits, dateFits, labelFits, markFits, wellFormed}
-use Rattle.octets.proofs.Numbers.{eq-or-ne}
-use Rattle.dates.proofs.Claims.{date-means, real-date}
-use Rattle.labels.proofs.Claims.{label-means, a-label}
-use Rattle.labels.specs.Label.{Label}
+use Rattle.byte_slice.proofs.Numbers.{eq-or-ne}
+use Rattle.record_date.proofs.Claims.{date-means, real-date}
+use Rattle.record_label.proofs.Claims.{label-means, a-label}
+use Rattle.record_label.specs.Label.{Label}
 use Rattle.record.specs.WellFormed.{Zero, Named, Folder, Used, WellFormed}
 use Rattle.record.specs.WellFormed.Used.{make-folder, make-trace, store, remove, rename, settle}
 use Rattle.record.proofs.Fields.{judged, all-judged, zero-is, names-is, head-is, well-head, well-object, well-no-object, well-folder, well-no-folder, well-label, well-no-label, well-no-mark, well-date}

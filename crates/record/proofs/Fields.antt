@@ -10,9 +10,9 @@ use lib.ListN.{getD, length, List·getD-eq-default}
 use borrow.Author.Tests.{leb-true, eqb-true, le-leb, eq-eqb}
 use Rattle.model.specs.Bytes.{word, part}
 use Rattle.model.specs.Record.{Rec, unit, op, num, seen, labelOf, isLabel, usesObject, usesFolder, usesLabel, usesMark, unused, names, headFits, objectFits, folderFits, dateFits, labelFits, markFits, wellFormed}
-use Rattle.octets.proofs.Numbers.{lt-or-ge, and-true, or-true}
-use Rattle.octets.proofs.Parts.{part-length, getD-part}
-use Rattle.octets.proofs.Compare.{blank-getD, zeros-blank}
+use Rattle.byte_slice.proofs.Numbers.{lt-or-ge, and-true, or-true}
+use Rattle.byte_slice.proofs.Parts.{part-length, getD-part}
+use Rattle.byte_slice.proofs.Compare.{blank-getD, zeros-blank}
 use Rattle.record.specs.WellFormed.{Zero, Named}
 
 -- ---- the tests that make up the whole

@@ -8,7 +8,7 @@ use lib.ListN.{getD}
 use Rattle.model.specs.Bytes.{word}
 use Rattle.model.specs.Record.{Rec, unit, num, seen}
 use Rattle.model.specs.Log.{sumTo, rank}
-use Rattle.octets.proofs.Words.{word-bound}
+use Rattle.byte_slice.proofs.Words.{word-bound}
 
 pub sum-next : (r : Rec) (u : ℕ) {a s w : ℕ} → a ≡ sumTo u (seen r) → w ≡ s → s ≡ word r (4 + 2 * u) → a + w ≡ sumTo (u + 1) (seen r)
 unfolding seen

@@ -6,8 +6,8 @@ use mathlib.Core.Logic.{_⊎_}
 use lib.ListN.{getD, length}
 use Rattle.model.specs.Bytes.{word, part}
 use Rattle.model.specs.Record.{Rec, unit, op, num, seen}
-use Rattle.dates.specs.RealDate.{RealDate}
-use Rattle.labels.specs.Label.{Label}
+use Rattle.record_date.specs.RealDate.{RealDate}
+use Rattle.record_label.specs.Label.{Label}
 
 -- n bytes from a place on are zero
 abbrev pub Zero : Rec → ℕ → ℕ → Type 0

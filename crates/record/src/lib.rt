@@ -4,9 +4,9 @@ ghost use Prim.Native.Nat.{_<_};
 ghost use lib.ListN.{length};
 ghost use Rattle.model.specs.Record.{unit, num, seenVector, wellFormed};
 ghost use Rattle.model.specs.Log.{rank};
-use octets::le16;
-use octets::wide32;
-use octets::wider;
+use byte_slice::le16;
+use byte_slice::wide32;
+use byte_slice::wider;
 use vector::Vector;
 
 // ---- the fields
@@ -44,22 +44,22 @@ pub fn well_formed(rec: &[u8]) -> bool
     if rec.len() != 80 {
         return false;
     }
-    if !fits::head_fits(rec) {
+    if !record_fields::head_fits(rec) {
         return false;
     }
-    if !fits::object_fits(rec) {
+    if !record_fields::object_fits(rec) {
         return false;
     }
-    if !fits::folder_fits(rec) {
+    if !record_fields::folder_fits(rec) {
         return false;
     }
-    if !fits::date_fits(rec) {
+    if !record_fields::date_fits(rec) {
         return false;
     }
-    if !fits::label_fits(rec) {
+    if !record_fields::label_fits(rec) {
         return false;
     }
-    fits::mark_fits(rec)
+    record_fields::mark_fits(rec)
 }
 
 // ---- rank

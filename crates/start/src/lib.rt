@@ -2,7 +2,7 @@
 ghost use mathlib.Core.Path.{_≡_};
 ghost use mathlib.Core.List.{[]};
 ghost use Rattle.model.specs.Outcome.{outcome, startOf};
-use answer::Answer;
+use call_answer::Answer;
 
 // The lent log is emptied, whatever stood in it. The archive is not asked.
 pub fn start(log: &mut [u8], archive: u32, unit: u8) -> Answer
@@ -20,7 +20,7 @@ pub fn start(log: &mut [u8], archive: u32, unit: u8) -> Answer
             place: 0,
         };
     }
-    octets::clear(log);
+    byte_slice::clear(log);
     Answer {
         number: 0,
         place: 0,

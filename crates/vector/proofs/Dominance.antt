@@ -12,7 +12,7 @@ use lib.ListN.{getD, length}
 use lib.Seq.{ext-getD}
 use borrow.Author.Tests.{le-leb, leb-true}
 use Rattle.model.specs.Vector.{coversTo, covers}
-use Rattle.octets.proofs.Numbers.{lt-or-ge, and-true, true-and, test-false}
+use Rattle.byte_slice.proofs.Numbers.{lt-or-ge, and-true, true-and, test-false}
 
 -- ---- covering is count by count
 

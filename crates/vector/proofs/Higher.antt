@@ -10,7 +10,7 @@ use lib.Dec.{eqb}
 use lib.ListN.{getD, length, set, drop, length-set, drop-of-length-le}
 use lib.Seq.{drop-cons, getD-set-same, getD-set-other}
 use borrow.Author.Tests.{eq-eqb, ne-eqb, eqb-true}
-use Rattle.octets.proofs.Numbers.{eq-or-ne}
+use Rattle.byte_slice.proofs.Numbers.{eq-or-ne}
 
 -- a count that is raised has room
 pub has-room : (l : List ℕ) (u i : ℕ) → getD l u 0 < 65535 → eqb u i ≡ true → getD l i 0 < 65535

@@ -11,10 +11,10 @@ use lib.ListN.{getD, length, List·getD-append, length-append}
 use lib.Seq.{getD-at, ext-getD}
 use Rattle.model.specs.Bytes.{word, two, part, putAt}
 use Rattle.model.specs.Vector.{countsAt, vectorAt, countBytes, vectorBytes}
-use Rattle.octets.proofs.Numbers.{lt-or-ge}
-use Rattle.octets.proofs.Parts.{part-none, part-split}
-use Rattle.octets.proofs.PutAt.{put-more}
-use Rattle.octets.proofs.Words.{word-bound, word-two, two-word, word-part, word-front, word-behind, word-put-before, word-put-inside, word-put-after}
+use Rattle.byte_slice.proofs.Numbers.{lt-or-ge}
+use Rattle.byte_slice.proofs.Parts.{part-none, part-split}
+use Rattle.byte_slice.proofs.PutAt.{put-more}
+use Rattle.byte_slice.proofs.Words.{word-bound, word-two, two-word, word-part, word-front, word-behind, word-put-before, word-put-inside, word-put-after}
 
 -- ---- the counts that stand at a place
 

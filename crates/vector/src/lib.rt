@@ -5,8 +5,8 @@ ghost use Prim.Native.Nat.{_+_, _≤_, _<_};
 ghost use lib.ListN.{length, getD, set, replicate};
 ghost use Rattle.model.specs.Bytes.{putAt};
 ghost use Rattle.model.specs.Vector.{covers, vectorAt, vectorBytes};
-use octets::le16;
-use octets::put16;
+use byte_slice::le16;
+use byte_slice::put16;
 
 pub struct Vector {
     pub counts: [u16; 8],

@@ -2,7 +2,7 @@
 
 #include "check.h"
 #include "lent.h"
-#include "limp.h"
+#include "sab.h"
 #include "make.h"
 #include "tests.h"
 
@@ -14,71 +14,71 @@ static uint32_t act_on(struct lent log, uint8_t unit, struct lent wish)
     uint32_t r;
     note(log);
     only_read(wish, 1);
-    r = limp_act(log.bytes, LIMP_LOG_BYTES, ARCHIVE, unit, wish.bytes, LIMP_RECORD_BYTES);
+    r = sab_act(log.bytes, SAB_LOG_BYTES, ARCHIVE, unit, wish.bytes, SAB_RECORD_BYTES);
     only_read(wish, 0);
-    CHECK(r == LIMP_OK || kept(log));
+    CHECK(r == SAB_OK || kept(log));
     return r;
 }
 
 /* An accepted act adds the wish, stamped, and nothing else. */
 static void test_accepted(struct lent log, struct lent wish)
 {
-    static uint8_t expected[LIMP_LOG_BYTES];
-    uint8_t *record = expected + 3 * LIMP_RECORD_BYTES;
-    memcpy(expected, log.bytes, LIMP_LOG_BYTES);
-    wish_on(wish.bytes, 1, LIMP_STORE, id_of(0, 2), "");
-    memcpy(record, wish.bytes, LIMP_RECORD_BYTES);
+    static uint8_t expected[SAB_LOG_BYTES];
+    uint8_t *record = expected + 3 * SAB_RECORD_BYTES;
+    memcpy(expected, log.bytes, SAB_LOG_BYTES);
+    wish_on(wish.bytes, 1, SAB_STORE, id_of(0, 2), "");
+    memcpy(record, wish.bytes, SAB_RECORD_BYTES);
     put16(record + 2, 2);
     put16(record + 4, 2);
     put16(record + 6, 1);
-    CHECK(act_on(log, 1, wish) == LIMP_OK);
-    CHECK(memcmp(log.bytes, expected, LIMP_LOG_BYTES) == 0);
+    CHECK(act_on(log, 1, wish) == SAB_OK);
+    CHECK(memcmp(log.bytes, expected, SAB_LOG_BYTES) == 0);
 }
 
 /* The log holds folder 0.1 Bench with trace 0.2 Gain "A"; 1.1 stands aside. */
 static void test_reasons(struct lent log, struct lent wish)
 {
-    wish_make(wish.bytes, 0, LIMP_MAKE_TRACE, id_of(1, 1), "x");
-    CHECK(act_on(log, 0, wish) == LIMP_NO_FOLDER);
-    wish_make(wish.bytes, 0, LIMP_MAKE_FOLDER, id_of(0, 2), "x");
-    CHECK(act_on(log, 0, wish) == LIMP_WRONG_KIND);
-    wish_make(wish.bytes, 0, LIMP_MAKE_FOLDER, id_of(0, 1), "Gain \"A\"");
-    CHECK(act_on(log, 0, wish) == LIMP_LABEL_HELD);
-    wish_on(wish.bytes, 0, LIMP_STORE, id_of(1, 1), "");
-    CHECK(act_on(log, 0, wish) == LIMP_NO_OBJECT);
-    wish_on(wish.bytes, 0, LIMP_STORE, id_of(0, 1), "");
-    CHECK(act_on(log, 0, wish) == LIMP_WRONG_KIND);
-    wish_on(wish.bytes, 0, LIMP_REMOVE, id_of(1, 1), "");
-    CHECK(act_on(log, 0, wish) == LIMP_NO_OBJECT);
-    wish_on(wish.bytes, 0, LIMP_REMOVE, id_of(0, 1), "");
-    CHECK(act_on(log, 0, wish) == LIMP_NOT_EMPTY);
-    wish_on(wish.bytes, 0, LIMP_RENAME, id_of(1, 1), "x");
-    CHECK(act_on(log, 0, wish) == LIMP_NO_OBJECT);
-    wish_on(wish.bytes, 0, LIMP_RENAME, id_of(0, 1), "Bench");
-    CHECK(act_on(log, 0, wish) == LIMP_LABEL_HELD);
-    wish_on(wish.bytes, 0, LIMP_SETTLE, id_of(0, 2), "");
-    CHECK(act_on(log, 0, wish) == LIMP_NOT_ASIDE);
+    wish_make(wish.bytes, 0, SAB_MAKE_TRACE, id_of(1, 1), "x");
+    CHECK(act_on(log, 0, wish) == SAB_NO_FOLDER);
+    wish_make(wish.bytes, 0, SAB_MAKE_FOLDER, id_of(0, 2), "x");
+    CHECK(act_on(log, 0, wish) == SAB_WRONG_KIND);
+    wish_make(wish.bytes, 0, SAB_MAKE_FOLDER, id_of(0, 1), "Gain \"A\"");
+    CHECK(act_on(log, 0, wish) == SAB_LABEL_HELD);
+    wish_on(wish.bytes, 0, SAB_STORE, id_of(1, 1), "");
+    CHECK(act_on(log, 0, wish) == SAB_NO_OBJECT);
+    wish_on(wish.bytes, 0, SAB_STORE, id_of(0, 1), "");
+    CHECK(act_on(log, 0, wish) == SAB_WRONG_KIND);
+    wish_on(wish.bytes, 0, SAB_REMOVE, id_of(1, 1), "");
+    CHECK(act_on(log, 0, wish) == SAB_NO_OBJECT);
+    wish_on(wish.bytes, 0, SAB_REMOVE, id_of(0, 1), "");
+    CHECK(act_on(log, 0, wish) == SAB_NOT_EMPTY);
+    wish_on(wish.bytes, 0, SAB_RENAME, id_of(1, 1), "x");
+    CHECK(act_on(log, 0, wish) == SAB_NO_OBJECT);
+    wish_on(wish.bytes, 0, SAB_RENAME, id_of(0, 1), "Bench");
+    CHECK(act_on(log, 0, wish) == SAB_LABEL_HELD);
+    wish_on(wish.bytes, 0, SAB_SETTLE, id_of(0, 2), "");
+    CHECK(act_on(log, 0, wish) == SAB_NOT_ASIDE);
 }
 
 /* Every operation accepted once: 0.3 to 0.9. */
 static void test_operations(struct lent log, struct lent wish)
 {
-    wish_on(wish.bytes, 0, LIMP_SETTLE, id_of(1, 1), "");
-    CHECK(act_on(log, 0, wish) == LIMP_OK);
-    wish_make(wish.bytes, 0, LIMP_MAKE_FOLDER, id_of(0, 1), "12345678901234567890123456789012");
-    CHECK(act_on(log, 0, wish) == LIMP_OK);
-    wish_make(wish.bytes, 0, LIMP_MAKE_TRACE, id_of(0, 4), "~");
-    CHECK(act_on(log, 0, wish) == LIMP_OK);
-    wish_on(wish.bytes, 0, LIMP_STORE, id_of(0, 5), "");
-    CHECK(act_on(log, 0, wish) == LIMP_OK);
-    wish_on(wish.bytes, 0, LIMP_RENAME, id_of(0, 4), "a b");
-    CHECK(act_on(log, 0, wish) == LIMP_OK);
-    wish_on(wish.bytes, 0, LIMP_REMOVE, id_of(0, 5), "");
-    CHECK(act_on(log, 0, wish) == LIMP_OK);
-    wish_on(wish.bytes, 0, LIMP_REMOVE, id_of(0, 4), "");
-    CHECK(act_on(log, 0, wish) == LIMP_OK);
-    wish_on(wish.bytes, 0, LIMP_REMOVE, id_of(0, 4), "");
-    CHECK(act_on(log, 0, wish) == LIMP_NO_OBJECT);
+    wish_on(wish.bytes, 0, SAB_SETTLE, id_of(1, 1), "");
+    CHECK(act_on(log, 0, wish) == SAB_OK);
+    wish_make(wish.bytes, 0, SAB_MAKE_FOLDER, id_of(0, 1), "12345678901234567890123456789012");
+    CHECK(act_on(log, 0, wish) == SAB_OK);
+    wish_make(wish.bytes, 0, SAB_MAKE_TRACE, id_of(0, 4), "~");
+    CHECK(act_on(log, 0, wish) == SAB_OK);
+    wish_on(wish.bytes, 0, SAB_STORE, id_of(0, 5), "");
+    CHECK(act_on(log, 0, wish) == SAB_OK);
+    wish_on(wish.bytes, 0, SAB_RENAME, id_of(0, 4), "a b");
+    CHECK(act_on(log, 0, wish) == SAB_OK);
+    wish_on(wish.bytes, 0, SAB_REMOVE, id_of(0, 5), "");
+    CHECK(act_on(log, 0, wish) == SAB_OK);
+    wish_on(wish.bytes, 0, SAB_REMOVE, id_of(0, 4), "");
+    CHECK(act_on(log, 0, wish) == SAB_OK);
+    wish_on(wish.bytes, 0, SAB_REMOVE, id_of(0, 4), "");
+    CHECK(act_on(log, 0, wish) == SAB_NO_OBJECT);
     CHECK(held(log.bytes) == 10);
 }
 
@@ -93,54 +93,54 @@ static void test_malformed(struct lent log, struct lent wish)
     };
     size_t i;
     for (i = 0; i < sizeof changes / sizeof changes[0]; i++) {
-        wish_make(wish.bytes, 0, LIMP_MAKE_FOLDER, id_of(0, 0), "F");
+        wish_make(wish.bytes, 0, SAB_MAKE_FOLDER, id_of(0, 0), "F");
         wish.bytes[changes[i][0]] = changes[i][1];
-        CHECK(act_on(log, 0, wish) == LIMP_MALFORMED);
+        CHECK(act_on(log, 0, wish) == SAB_MALFORMED);
     }
     for (i = 0; i < 4; i++) {
         static const uint8_t days[4][4] = {{2025 & 255, 2025 >> 8, 2, 29},
                                            {2100 & 255, 2100 >> 8, 2, 29},
                                            {1989 & 255, 1989 >> 8, 12, 31},
                                            {2025 & 255, 2025 >> 8, 4, 31}};
-        wish_make(wish.bytes, 0, LIMP_MAKE_FOLDER, id_of(0, 0), "F");
+        wish_make(wish.bytes, 0, SAB_MAKE_FOLDER, id_of(0, 0), "F");
         memcpy(wish.bytes + 28, days[i], 4);
-        CHECK(act_on(log, 0, wish) == LIMP_MALFORMED);
+        CHECK(act_on(log, 0, wish) == SAB_MALFORMED);
     }
-    wish_on(wish.bytes, 0, LIMP_REMOVE, id_of(0, 0), "");
-    CHECK(act_on(log, 0, wish) == LIMP_MALFORMED);
-    wish_on(wish.bytes, 0, LIMP_SETTLE, id_of(3, 1), "");
-    CHECK(act_on(log, 0, wish) == LIMP_MALFORMED);
+    wish_on(wish.bytes, 0, SAB_REMOVE, id_of(0, 0), "");
+    CHECK(act_on(log, 0, wish) == SAB_MALFORMED);
+    wish_on(wish.bytes, 0, SAB_SETTLE, id_of(3, 1), "");
+    CHECK(act_on(log, 0, wish) == SAB_MALFORMED);
 }
 
 static void test_order_of_checks(struct lent log, struct lent wish)
 {
     int i;
-    wish_make(wish.bytes, 0, LIMP_MAKE_FOLDER, id_of(0, 0), "F");
+    wish_make(wish.bytes, 0, SAB_MAKE_FOLDER, id_of(0, 0), "F");
     note(log);
     note(wish);
     for (i = 0; i < WRONG_LENGTHS; i++) {
-        size_t no_log = wrong_length(LIMP_LOG_BYTES, i), no_wish = wrong_length(LIMP_RECORD_BYTES, i);
-        CHECK(limp_act(nowhere(), no_log, ARCHIVE, 0, wish.bytes, LIMP_RECORD_BYTES) ==
-              LIMP_BAD_BUFFER);
-        CHECK(limp_act(log.bytes, LIMP_LOG_BYTES, ARCHIVE, 0, nowhere(), no_wish) ==
-              LIMP_BAD_BUFFER);
-        CHECK(limp_act(nowhere(), no_log, ARCHIVE, 9, nowhere(), no_wish) == LIMP_BAD_BUFFER);
+        size_t no_log = wrong_length(SAB_LOG_BYTES, i), no_wish = wrong_length(SAB_RECORD_BYTES, i);
+        CHECK(sab_act(nowhere(), no_log, ARCHIVE, 0, wish.bytes, SAB_RECORD_BYTES) ==
+              SAB_BAD_BUFFER);
+        CHECK(sab_act(log.bytes, SAB_LOG_BYTES, ARCHIVE, 0, nowhere(), no_wish) ==
+              SAB_BAD_BUFFER);
+        CHECK(sab_act(nowhere(), no_log, ARCHIVE, 9, nowhere(), no_wish) == SAB_BAD_BUFFER);
     }
-    CHECK(limp_act(log.bytes, LIMP_LOG_BYTES, ARCHIVE, 8, wish.bytes, LIMP_RECORD_BYTES) ==
-          LIMP_BAD_UNIT);
+    CHECK(sab_act(log.bytes, SAB_LOG_BYTES, ARCHIVE, 8, wish.bytes, SAB_RECORD_BYTES) ==
+          SAB_BAD_UNIT);
     CHECK(kept(log) && kept(wish));
     log.bytes[31] = 32;
     wish.bytes[31] = 32;
-    CHECK(act_on(log, 255, wish) == LIMP_BAD_UNIT);
-    CHECK(act_on(log, 0, wish) == LIMP_UNSOUND_LOG);
+    CHECK(act_on(log, 255, wish) == SAB_BAD_UNIT);
+    CHECK(act_on(log, 0, wish) == SAB_UNSOUND_LOG);
     log.bytes[31] = 3;
-    CHECK(act_on(log, 0, wish) == LIMP_MALFORMED);
+    CHECK(act_on(log, 0, wish) == SAB_MALFORMED);
 }
 
 void test_act(void)
 {
-    static uint8_t apart[LIMP_LOG_BYTES];
-    struct lent log = lend(LIMP_LOG_BYTES), wish = lend(LIMP_RECORD_BYTES);
+    static uint8_t apart[SAB_LOG_BYTES];
+    struct lent log = lend(SAB_LOG_BYTES), wish = lend(SAB_RECORD_BYTES);
     bench_logs(apart, log.bytes);
     test_accepted(log, wish);
     bench_logs(apart, log.bytes);
@@ -149,8 +149,8 @@ void test_act(void)
     test_order_of_checks(log, wish);
     test_operations(log, wish);
     full_log(log.bytes);
-    wish_on(wish.bytes, 0, LIMP_STORE, id_of(1, 1), "");
-    CHECK(act_on(log, 0, wish) == LIMP_FULL_LOG);
-    wish_on(wish.bytes, 0, LIMP_STORE, id_of(0, 0), "");
-    CHECK(act_on(log, 0, wish) == LIMP_MALFORMED);
+    wish_on(wish.bytes, 0, SAB_STORE, id_of(1, 1), "");
+    CHECK(act_on(log, 0, wish) == SAB_FULL_LOG);
+    wish_on(wish.bytes, 0, SAB_STORE, id_of(0, 0), "");
+    CHECK(act_on(log, 0, wish) == SAB_MALFORMED);
 }

@@ -1,7 +1,7 @@
 #include "make.h"
 
 #include "check.h"
-#include "limp.h"
+#include "sab.h"
 
 #include <stdio.h>
 #include <string.h>
@@ -19,14 +19,14 @@ void put16(uint8_t *bytes, unsigned number)
 
 static void wish_of(uint8_t *wish, uint8_t unit, unsigned operation, const char *label)
 {
-    memset(wish, 0, LIMP_RECORD_BYTES);
+    memset(wish, 0, SAB_RECORD_BYTES);
     wish[0] = unit;
     wish[1] = (uint8_t)operation;
     put16(wish + 28, 2025);
     wish[30] = 3;
     wish[31] = 4;
     memcpy(wish + 32, label, strlen(label));
-    if (operation == LIMP_MAKE_TRACE || operation == LIMP_STORE)
+    if (operation == SAB_MAKE_TRACE || operation == SAB_STORE)
         memset(wish + 64, 0x11, 16);
 }
 
@@ -54,19 +54,19 @@ struct id id_of(uint8_t unit, unsigned number)
 
 void act(uint8_t *log, uint8_t unit, const uint8_t *wish)
 {
-    CHECK(limp_act(log, LIMP_LOG_BYTES, ARCHIVE, unit, wish, LIMP_RECORD_BYTES) == LIMP_OK);
+    CHECK(sab_act(log, SAB_LOG_BYTES, ARCHIVE, unit, wish, SAB_RECORD_BYTES) == SAB_OK);
 }
 
 void make(uint8_t *log, uint8_t unit, unsigned operation, struct id folder, const char *label)
 {
-    uint8_t wish[LIMP_RECORD_BYTES];
+    uint8_t wish[SAB_RECORD_BYTES];
     wish_make(wish, unit, operation, folder, label);
     act(log, unit, wish);
 }
 
 void change(uint8_t *log, uint8_t unit, unsigned operation, struct id object, const char *label)
 {
-    uint8_t wish[LIMP_RECORD_BYTES];
+    uint8_t wish[SAB_RECORD_BYTES];
     wish_on(wish, unit, operation, object, label);
     act(log, unit, wish);
 }
@@ -74,7 +74,7 @@ void change(uint8_t *log, uint8_t unit, unsigned operation, struct id object, co
 unsigned held(const uint8_t *log)
 {
     unsigned n = 0;
-    while (n < 512 && get16(log + LIMP_RECORD_BYTES * n + 2) != 0)
+    while (n < 512 && get16(log + SAB_RECORD_BYTES * n + 2) != 0)
         n++;
     return n;
 }
@@ -82,21 +82,21 @@ unsigned held(const uint8_t *log)
 void counts(const uint8_t *log, uint8_t *vector)
 {
     unsigned i;
-    memset(vector, 0, LIMP_VECTOR_BYTES);
+    memset(vector, 0, SAB_VECTOR_BYTES);
     for (i = 0; i < held(log); i++) {
-        uint8_t *count = vector + 2 * log[LIMP_RECORD_BYTES * i];
+        uint8_t *count = vector + 2 * log[SAB_RECORD_BYTES * i];
         put16(count, get16(count) + 1);
     }
 }
 
 void pass(const uint8_t *from, uint8_t giver, uint8_t *to, uint8_t taker)
 {
-    uint8_t asked[LIMP_VECTOR_BYTES], block[LIMP_BLOCK_BYTES];
+    uint8_t asked[SAB_VECTOR_BYTES], block[SAB_BLOCK_BYTES];
     do {
         counts(to, asked);
-        CHECK(limp_hand_out(from, LIMP_LOG_BYTES, ARCHIVE, giver, asked, LIMP_VECTOR_BYTES, block,
-                            LIMP_BLOCK_BYTES) == LIMP_OK);
-        CHECK(limp_take(to, LIMP_LOG_BYTES, ARCHIVE, taker, block, LIMP_BLOCK_BYTES) == LIMP_OK);
+        CHECK(sab_hand_out(from, SAB_LOG_BYTES, ARCHIVE, giver, asked, SAB_VECTOR_BYTES, block,
+                            SAB_BLOCK_BYTES) == SAB_OK);
+        CHECK(sab_take(to, SAB_LOG_BYTES, ARCHIVE, taker, block, SAB_BLOCK_BYTES) == SAB_OK);
     } while (block[9] != 0);
 }
 
@@ -121,20 +121,20 @@ void seal(uint8_t *block)
 
 void bench_logs(uint8_t *apart, uint8_t *all)
 {
-    static uint8_t other[LIMP_LOG_BYTES];
-    uint8_t wish[LIMP_RECORD_BYTES];
-    memset(apart, 0, LIMP_LOG_BYTES);
-    memset(other, 0, LIMP_LOG_BYTES);
-    wish_make(wish, 0, LIMP_MAKE_FOLDER, id_of(0, 0), "Bench");
+    static uint8_t other[SAB_LOG_BYTES];
+    uint8_t wish[SAB_RECORD_BYTES];
+    memset(apart, 0, SAB_LOG_BYTES);
+    memset(other, 0, SAB_LOG_BYTES);
+    wish_make(wish, 0, SAB_MAKE_FOLDER, id_of(0, 0), "Bench");
     wish[31] = 3;
     act(other, 0, wish);
     pass(other, 0, apart, 1);
-    make(other, 0, LIMP_MAKE_TRACE, id_of(0, 1), "Gain \"A\"");
-    wish_make(wish, 1, LIMP_MAKE_TRACE, id_of(0, 1), "Gain \"A\"");
+    make(other, 0, SAB_MAKE_TRACE, id_of(0, 1), "Gain \"A\"");
+    wish_make(wish, 1, SAB_MAKE_TRACE, id_of(0, 1), "Gain \"A\"");
     wish[31] = 5;
     memset(wish + 64, 0x22, 16);
     act(apart, 1, wish);
-    memcpy(all, other, LIMP_LOG_BYTES);
+    memcpy(all, other, SAB_LOG_BYTES);
     pass(apart, 1, all, 0);
 }
 
@@ -142,13 +142,13 @@ void full_log(uint8_t *log)
 {
     char label[16];
     int i;
-    memset(log, 0, LIMP_LOG_BYTES);
-    make(log, 0, LIMP_MAKE_FOLDER, id_of(0, 0), "Bench");
+    memset(log, 0, SAB_LOG_BYTES);
+    make(log, 0, SAB_MAKE_FOLDER, id_of(0, 0), "Bench");
     for (i = 1; i < 512; i++) {
         sprintf(label, "T%d", i);
         if (i % 2 == 1)
-            make(log, (uint8_t)(i % 3), LIMP_MAKE_TRACE, id_of(0, 1), label);
+            make(log, (uint8_t)(i % 3), SAB_MAKE_TRACE, id_of(0, 1), label);
         else
-            change(log, (uint8_t)(i % 3), LIMP_STORE, id_of(1, 1), "");
+            change(log, (uint8_t)(i % 3), SAB_STORE, id_of(1, 1), "");
     }
 }

@@ -2,7 +2,7 @@
 
 #include "check.h"
 #include "lent.h"
-#include "limp.h"
+#include "sab.h"
 #include "make.h"
 #include "tests.h"
 
@@ -29,7 +29,7 @@ static unsigned answer(const unsigned *first, const unsigned *second)
 void test_compare(void)
 {
     static const unsigned edges[6] = {0, 1, 2, 255, 256, 65535};
-    struct lent first = lend(LIMP_VECTOR_BYTES), second = lend_low(LIMP_VECTOR_BYTES);
+    struct lent first = lend(SAB_VECTOR_BYTES), second = lend_low(SAB_VECTOR_BYTES);
     unsigned a[8], b[8];
     int i, u, seed = 1;
     for (i = 0; i < 2000; i++) {
@@ -42,43 +42,43 @@ void test_compare(void)
         put_vector(second.bytes, b);
         only_read(first, 1);
         only_read(second, 1);
-        CHECK(limp_compare(first.bytes, LIMP_VECTOR_BYTES, second.bytes, LIMP_VECTOR_BYTES) ==
+        CHECK(sab_compare(first.bytes, SAB_VECTOR_BYTES, second.bytes, SAB_VECTOR_BYTES) ==
               answer(a, b) << 16);
         only_read(first, 0);
         only_read(second, 0);
     }
-    CHECK(LIMP_COUNT(3u << 16) == LIMP_BOTH_AHEAD);
-    CHECK(LIMP_NUMBER(0x00021405u) == 5 && LIMP_PLACE(0x00021405u) == 20);
+    CHECK(SAB_COUNT(3u << 16) == SAB_BOTH_AHEAD);
+    CHECK(SAB_NUMBER(0x00021405u) == 5 && SAB_PLACE(0x00021405u) == 20);
     for (i = 0; i < WRONG_LENGTHS; i++) {
-        size_t wrong = wrong_length(LIMP_VECTOR_BYTES, i);
-        CHECK(limp_compare(nowhere(), wrong, second.bytes, LIMP_VECTOR_BYTES) == LIMP_BAD_BUFFER);
-        CHECK(limp_compare(first.bytes, LIMP_VECTOR_BYTES, nowhere(), wrong) == LIMP_BAD_BUFFER);
-        CHECK(limp_compare(nowhere(), wrong, nowhere(), wrong) == LIMP_BAD_BUFFER);
+        size_t wrong = wrong_length(SAB_VECTOR_BYTES, i);
+        CHECK(sab_compare(nowhere(), wrong, second.bytes, SAB_VECTOR_BYTES) == SAB_BAD_BUFFER);
+        CHECK(sab_compare(first.bytes, SAB_VECTOR_BYTES, nowhere(), wrong) == SAB_BAD_BUFFER);
+        CHECK(sab_compare(nowhere(), wrong, nowhere(), wrong) == SAB_BAD_BUFFER);
     }
-    CHECK(limp_compare(NULL, 0, NULL, 0) == LIMP_BAD_BUFFER);
+    CHECK(sab_compare(NULL, 0, NULL, 0) == SAB_BAD_BUFFER);
 }
 
 void test_start(void)
 {
-    struct lent log = lend(LIMP_LOG_BYTES);
+    struct lent log = lend(SAB_LOG_BYTES);
     size_t i;
     int unit, zero;
     for (unit = 0; unit < 8; unit++) {
         fill(log);
-        CHECK(limp_start(log.bytes, LIMP_LOG_BYTES, 0xFFFFFFFFu, (uint8_t)unit) == LIMP_OK);
-        for (i = 0, zero = 1; i < LIMP_LOG_BYTES; i++)
+        CHECK(sab_start(log.bytes, SAB_LOG_BYTES, 0xFFFFFFFFu, (uint8_t)unit) == SAB_OK);
+        for (i = 0, zero = 1; i < SAB_LOG_BYTES; i++)
             zero &= log.bytes[i] == 0;
         CHECK(zero);
     }
     fill(log);
     note(log);
     for (unit = 8; unit < 256; unit++)
-        CHECK(limp_start(log.bytes, LIMP_LOG_BYTES, 0, (uint8_t)unit) == LIMP_BAD_UNIT);
+        CHECK(sab_start(log.bytes, SAB_LOG_BYTES, 0, (uint8_t)unit) == SAB_BAD_UNIT);
     for (i = 0; i < WRONG_LENGTHS; i++) {
-        size_t wrong = wrong_length(LIMP_LOG_BYTES, (int)i);
-        CHECK(limp_start(nowhere(), wrong, ARCHIVE, 0) == LIMP_BAD_BUFFER);
-        CHECK(limp_start(nowhere(), wrong, ARCHIVE, 8) == LIMP_BAD_BUFFER);
+        size_t wrong = wrong_length(SAB_LOG_BYTES, (int)i);
+        CHECK(sab_start(nowhere(), wrong, ARCHIVE, 0) == SAB_BAD_BUFFER);
+        CHECK(sab_start(nowhere(), wrong, ARCHIVE, 8) == SAB_BAD_BUFFER);
     }
-    CHECK(limp_start(NULL, 0, ARCHIVE, 0) == LIMP_BAD_BUFFER);
+    CHECK(sab_start(NULL, 0, ARCHIVE, 0) == SAB_BAD_BUFFER);
     CHECK(kept(log));
 }

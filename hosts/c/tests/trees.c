@@ -2,7 +2,7 @@
 
 #include "check.h"
 #include "lent.h"
-#include "limp.h"
+#include "sab.h"
 #include "make.h"
 #include "tests.h"
 
@@ -11,30 +11,30 @@
 /* The tree table of the bench example. */
 static void expect_tree(uint8_t *tree, const uint8_t *log)
 {
-    uint8_t *folder = tree + LIMP_TREE_ENTRIES, *trace = folder + LIMP_ENTRY_BYTES,
-            *aside = tree + LIMP_TREE_ASIDES;
-    memset(tree, 0, LIMP_TREE_BYTES);
+    uint8_t *folder = tree + SAB_TREE_ENTRIES, *trace = folder + SAB_ENTRY_BYTES,
+            *aside = tree + SAB_TREE_ASIDES;
+    memset(tree, 0, SAB_TREE_BYTES);
     put16(tree, 2);
     put16(tree + 2, 1);
-    folder[0] = LIMP_FOLDER;
+    folder[0] = SAB_FOLDER;
     put16(folder + 6, 1);
     put16(folder + 14, 1);
     put16(folder + 18, 1);
     memcpy(folder + 20, log + 28, 4);
     memcpy(folder + 24, "Bench", 5);
-    trace[0] = LIMP_TRACE;
+    trace[0] = SAB_TRACE;
     trace[1] = 1;
     put16(trace + 6, 2);
     put16(trace + 10, 1);
     put16(trace + 14, 2);
     put16(trace + 18, 2);
-    memcpy(trace + 20, log + LIMP_RECORD_BYTES + 28, 4);
+    memcpy(trace + 20, log + SAB_RECORD_BYTES + 28, 4);
     memcpy(trace + 24, "Gain \"A\"", 8);
     memset(trace + 56, 0x11, 16);
     aside[0] = 1;
     put16(aside + 2, 1);
-    aside[4] = LIMP_LABEL_HELD;
-    aside[5] = LIMP_OPEN;
+    aside[4] = SAB_LABEL_HELD;
+    aside[5] = SAB_OPEN;
     put16(aside + 10, 2);
 }
 
@@ -43,44 +43,44 @@ static uint32_t show(struct lent log, struct lent tree)
     uint32_t r;
     only_read(log, 1);
     note(tree);
-    r = limp_show(log.bytes, LIMP_LOG_BYTES, tree.bytes, LIMP_TREE_BYTES);
+    r = sab_show(log.bytes, SAB_LOG_BYTES, tree.bytes, SAB_TREE_BYTES);
     only_read(log, 0);
-    CHECK(r == LIMP_OK || kept(tree));
+    CHECK(r == SAB_OK || kept(tree));
     return r;
 }
 
 void test_show(void)
 {
-    static uint8_t apart[LIMP_LOG_BYTES], expected[LIMP_TREE_BYTES];
-    struct lent log = lend(LIMP_LOG_BYTES), tree = lend(LIMP_TREE_BYTES);
+    static uint8_t apart[SAB_LOG_BYTES], expected[SAB_TREE_BYTES];
+    struct lent log = lend(SAB_LOG_BYTES), tree = lend(SAB_TREE_BYTES);
     int i;
     bench_logs(apart, log.bytes);
     expect_tree(expected, log.bytes);
-    CHECK(show(log, tree) == LIMP_OK);
-    CHECK(memcmp(tree.bytes, expected, LIMP_TREE_BYTES) == 0);
-    change(log.bytes, 0, LIMP_SETTLE, id_of(1, 1), "");
-    expected[LIMP_TREE_ENTRIES + LIMP_ENTRY_BYTES + 1] = 0;
-    expected[LIMP_TREE_ASIDES + 5] = LIMP_SETTLED;
-    CHECK(show(log, tree) == LIMP_OK);
-    CHECK(memcmp(tree.bytes, expected, LIMP_TREE_BYTES) == 0);
+    CHECK(show(log, tree) == SAB_OK);
+    CHECK(memcmp(tree.bytes, expected, SAB_TREE_BYTES) == 0);
+    change(log.bytes, 0, SAB_SETTLE, id_of(1, 1), "");
+    expected[SAB_TREE_ENTRIES + SAB_ENTRY_BYTES + 1] = 0;
+    expected[SAB_TREE_ASIDES + 5] = SAB_SETTLED;
+    CHECK(show(log, tree) == SAB_OK);
+    CHECK(memcmp(tree.bytes, expected, SAB_TREE_BYTES) == 0);
     full_log(log.bytes);
-    CHECK(show(log, tree) == LIMP_OK);
+    CHECK(show(log, tree) == SAB_OK);
     CHECK(get16(tree.bytes) == 257 && get16(tree.bytes + 2) == 0);
-    log.bytes[LIMP_LOG_BYTES - 80 + 28] = 0;
-    log.bytes[LIMP_LOG_BYTES - 80 + 29] = 0;
-    CHECK(show(log, tree) == LIMP_UNSOUND_LOG);
-    memset(log.bytes, 0, LIMP_LOG_BYTES);
+    log.bytes[SAB_LOG_BYTES - 80 + 28] = 0;
+    log.bytes[SAB_LOG_BYTES - 80 + 29] = 0;
+    CHECK(show(log, tree) == SAB_UNSOUND_LOG);
+    memset(log.bytes, 0, SAB_LOG_BYTES);
     fill(tree);
-    memset(expected, 0, LIMP_TREE_BYTES);
-    CHECK(show(log, tree) == LIMP_OK);
-    CHECK(memcmp(tree.bytes, expected, LIMP_TREE_BYTES) == 0);
+    memset(expected, 0, SAB_TREE_BYTES);
+    CHECK(show(log, tree) == SAB_OK);
+    CHECK(memcmp(tree.bytes, expected, SAB_TREE_BYTES) == 0);
     note(log);
     note(tree);
     for (i = 0; i < WRONG_LENGTHS; i++) {
-        size_t no_log = wrong_length(LIMP_LOG_BYTES, i), no_tree = wrong_length(LIMP_TREE_BYTES, i);
-        CHECK(limp_show(nowhere(), no_log, tree.bytes, LIMP_TREE_BYTES) == LIMP_BAD_BUFFER);
-        CHECK(limp_show(log.bytes, LIMP_LOG_BYTES, nowhere(), no_tree) == LIMP_BAD_BUFFER);
-        CHECK(limp_show(nowhere(), no_log, nowhere(), no_tree) == LIMP_BAD_BUFFER);
+        size_t no_log = wrong_length(SAB_LOG_BYTES, i), no_tree = wrong_length(SAB_TREE_BYTES, i);
+        CHECK(sab_show(nowhere(), no_log, tree.bytes, SAB_TREE_BYTES) == SAB_BAD_BUFFER);
+        CHECK(sab_show(log.bytes, SAB_LOG_BYTES, nowhere(), no_tree) == SAB_BAD_BUFFER);
+        CHECK(sab_show(nowhere(), no_log, nowhere(), no_tree) == SAB_BAD_BUFFER);
     }
     CHECK(kept(log) && kept(tree));
 }
@@ -103,9 +103,9 @@ static uint32_t list(struct listing l, size_t file_length)
     note(l.out);
     note(l.length);
     only_read(l.file, 1);
-    r = limp_listing(l.file.bytes + l.file.length - file_length, file_length, l.log.bytes,
-                     LIMP_LOG_BYTES, l.tree.bytes, LIMP_TREE_BYTES, l.out.bytes, LIMP_LISTING_BYTES,
-                     l.length.bytes, LIMP_LENGTH_BYTES);
+    r = sab_listing(l.file.bytes + l.file.length - file_length, file_length, l.log.bytes,
+                     SAB_LOG_BYTES, l.tree.bytes, SAB_TREE_BYTES, l.out.bytes, SAB_LISTING_BYTES,
+                     l.length.bytes, SAB_LENGTH_BYTES);
     only_read(l.file, 0);
     return r;
 }
@@ -116,7 +116,7 @@ static int listed(struct listing l, const char *text)
     size_t length = strlen(text);
     return l.length.bytes[0] == (length & 0xFF) && l.length.bytes[1] == length >> 8 &&
            get16(l.length.bytes + 2) == 0 && memcmp(l.out.bytes, text, length) == 0 &&
-           memcmp(l.out.bytes + length, l.out.was + length, LIMP_LISTING_BYTES - length) == 0;
+           memcmp(l.out.bytes + length, l.out.was + length, SAB_LISTING_BYTES - length) == 0;
 }
 
 static const char BENCH[] =
@@ -132,53 +132,53 @@ static void test_wrong_buffers(struct listing l)
     for (i = 0; i < WRONG_LENGTHS; i++)
         for (wrong = 1; wrong < 16; wrong++) {
             int log = wrong & 1, tree = wrong & 2, out = wrong & 4, length = wrong & 8;
-            CHECK(limp_listing(
+            CHECK(sab_listing(
                       nowhere(), 0, log ? nowhere() : l.log.bytes,
-                      log ? wrong_length(LIMP_LOG_BYTES, i) : LIMP_LOG_BYTES,
+                      log ? wrong_length(SAB_LOG_BYTES, i) : SAB_LOG_BYTES,
                       tree ? nowhere() : l.tree.bytes,
-                      tree ? wrong_length(LIMP_TREE_BYTES, i) : LIMP_TREE_BYTES,
+                      tree ? wrong_length(SAB_TREE_BYTES, i) : SAB_TREE_BYTES,
                       out ? nowhere() : l.out.bytes,
-                      out ? wrong_length(LIMP_LISTING_BYTES, i) : LIMP_LISTING_BYTES,
+                      out ? wrong_length(SAB_LISTING_BYTES, i) : SAB_LISTING_BYTES,
                       length ? nowhere() : l.length.bytes,
-                      length ? wrong_length(LIMP_LENGTH_BYTES, i) : LIMP_LENGTH_BYTES) ==
-                  LIMP_BAD_BUFFER);
+                      length ? wrong_length(SAB_LENGTH_BYTES, i) : SAB_LENGTH_BYTES) ==
+                  SAB_BAD_BUFFER);
             CHECK(kept(l.log) && kept(l.tree) && kept(l.out) && kept(l.length));
         }
 }
 
 void test_listing(void)
 {
-    static uint8_t apart[LIMP_LOG_BYTES], all[LIMP_LOG_BYTES], whole[LIMP_FILE_BYTES],
-        tree[LIMP_TREE_BYTES];
-    static const size_t not_files[4] = {0, 1, 511, LIMP_BLOCK_BYTES + 1};
+    static uint8_t apart[SAB_LOG_BYTES], all[SAB_LOG_BYTES], whole[SAB_FILE_BYTES],
+        tree[SAB_TREE_BYTES];
+    static const size_t not_files[4] = {0, 1, 511, SAB_BLOCK_BYTES + 1};
     struct listing l;
     int i;
-    l.file = lend(2 * LIMP_BLOCK_BYTES);
-    l.log = lend(LIMP_LOG_BYTES);
-    l.tree = lend(LIMP_TREE_BYTES);
-    l.out = lend(LIMP_LISTING_BYTES);
-    l.length = lend(LIMP_LENGTH_BYTES);
+    l.file = lend(2 * SAB_BLOCK_BYTES);
+    l.log = lend(SAB_LOG_BYTES);
+    l.tree = lend(SAB_TREE_BYTES);
+    l.out = lend(SAB_LISTING_BYTES);
+    l.length = lend(SAB_LENGTH_BYTES);
     bench_logs(apart, all);
-    CHECK(limp_write_file(all, LIMP_LOG_BYTES, ARCHIVE, 0, whole, LIMP_FILE_BYTES) == 1u << 16);
-    memcpy(l.file.bytes + LIMP_BLOCK_BYTES, whole, LIMP_BLOCK_BYTES);
-    CHECK(list(l, LIMP_BLOCK_BYTES) == LIMP_OK);
+    CHECK(sab_write_file(all, SAB_LOG_BYTES, ARCHIVE, 0, whole, SAB_FILE_BYTES) == 1u << 16);
+    memcpy(l.file.bytes + SAB_BLOCK_BYTES, whole, SAB_BLOCK_BYTES);
+    CHECK(list(l, SAB_BLOCK_BYTES) == SAB_OK);
     CHECK(listed(l, BENCH));
-    CHECK(memcmp(l.log.bytes, all, LIMP_LOG_BYTES) == 0);
+    CHECK(memcmp(l.log.bytes, all, SAB_LOG_BYTES) == 0);
     expect_tree(tree, all);
-    CHECK(memcmp(l.tree.bytes, tree, LIMP_TREE_BYTES) == 0);
+    CHECK(memcmp(l.tree.bytes, tree, SAB_TREE_BYTES) == 0);
 
-    l.file.bytes[LIMP_BLOCK_BYTES + 30] ^= 1;
-    CHECK(list(l, LIMP_BLOCK_BYTES) == LIMP_BAD_SUM);
+    l.file.bytes[SAB_BLOCK_BYTES + 30] ^= 1;
+    CHECK(list(l, SAB_BLOCK_BYTES) == SAB_BAD_SUM);
     CHECK(listed(l, "refused 4 at 0\n"));
     CHECK(kept(l.log) && kept(l.tree));
-    memcpy(l.file.bytes, whole, LIMP_BLOCK_BYTES);
-    CHECK(list(l, 2 * LIMP_BLOCK_BYTES) == LIMP_BAD_FILE);
+    memcpy(l.file.bytes, whole, SAB_BLOCK_BYTES);
+    CHECK(list(l, 2 * SAB_BLOCK_BYTES) == SAB_BAD_FILE);
     CHECK(listed(l, "refused 20 at 0\n"));
     for (i = 0; i < 4; i++) {
-        list(l, LIMP_BLOCK_BYTES);
-        CHECK(limp_listing(nowhere(), not_files[i], l.log.bytes, LIMP_LOG_BYTES, l.tree.bytes,
-                           LIMP_TREE_BYTES, l.out.bytes, LIMP_LISTING_BYTES, l.length.bytes,
-                           LIMP_LENGTH_BYTES) == LIMP_BAD_LENGTH);
+        list(l, SAB_BLOCK_BYTES);
+        CHECK(sab_listing(nowhere(), not_files[i], l.log.bytes, SAB_LOG_BYTES, l.tree.bytes,
+                           SAB_TREE_BYTES, l.out.bytes, SAB_LISTING_BYTES, l.length.bytes,
+                           SAB_LENGTH_BYTES) == SAB_BAD_LENGTH);
         CHECK(listed(l, "refused 2 at 0\n"));
     }
     note(l.out);

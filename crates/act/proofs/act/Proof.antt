@@ -1,5 +1,5 @@
 use Rattle.model.specs.Outcome.{actOf}
-use Rattle.answer.proofs.Guards.{log-length, buffer-length, unit-above, known-sound, known-used, known-held}
+use Rattle.call_answer.proofs.Guards.{log-length, buffer-length, unit-above, known-sound, known-used, known-held}
 use Rattle.act.proofs.Acting.{act-unsound, act-done}
 use native.Mathlib.Omega.{arith}
 use borrow.Author.Needs.{needs}
@@ -8,7 +8,7 @@ use Rattle.act.proofs.act.Tie as tie
 use Rattle.act.proofs.act.Reads as reads
 use Rattle.act.proofs.act.Lts as lts
 use Rattle.act.proofs.act_on.Reads as act-on-reads
-use Rattle.log.proofs.check.Reads as check-reads
+use Rattle.log_check.proofs.check.Reads as check-reads
 
 -- src/lib.rt:86:9
 returns : tie.Need-returns

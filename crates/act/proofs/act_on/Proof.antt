@@ -5,9 +5,9 @@ use Rattle.act.proofs.act_on.Tie as tie
 use Rattle.act.proofs.act_on.Reads as reads
 use Rattle.act.proofs.act_on.Lts as lts
 use Rattle.act.proofs.reason.Reads as reason-reads
-use Rattle.stamping.proofs.stamp.Reads as stamp-reads
-use Rattle.stamping.proofs.wish_fits.Reads as wish-fits-reads
-use Rattle.octets.proofs.put.Reads as put-reads
+use Rattle.act_wish.proofs.stamp.Reads as stamp-reads
+use Rattle.act_wish.proofs.wish_fits.Reads as wish-fits-reads
+use Rattle.byte_slice.proofs.put.Reads as put-reads
 
 -- src/lib.rt:65:9
 stamp-requires : tie.Need-stamp-requires

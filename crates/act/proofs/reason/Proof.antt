@@ -1,12 +1,12 @@
-use Rattle.lookup.proofs.Working.{works-holds}
+use Rattle.tree_lookup.proofs.Working.{works-holds}
 use Rattle.act.proofs.Acting.{judged-reason}
 use borrow.Author.Needs.{needs}
 use Rattle.act.proofs.reason.Statement.{statement}
 use Rattle.act.proofs.reason.Tie as tie
 use Rattle.act.proofs.reason.Reads as reads
 use Rattle.act.proofs.reason.Lts as lts
-use Rattle.judge.proofs.judge.Reads as judge-reads
-use Rattle.replay.proofs.replay_log.Reads as replay-log-reads
+use Rattle.tree_judge.proofs.judge.Reads as judge-reads
+use Rattle.tree_replay.proofs.replay_log.Reads as replay-log-reads
 
 -- src/lib.rt:55:46
 slice-aggregate-replay-log : tie.Need-slice-aggregate-replay-log

@@ -8,8 +8,8 @@ use Rattle.bench_examples.proofs.blocks.Tie as tie
 use Rattle.bench_examples.proofs.blocks.Reads as reads
 use Rattle.bench_examples.proofs.blocks.Lts as lts
 use Rattle.bench_examples.proofs.asked.Reads as asked-reads
-use Rattle.handing.proofs.hand_out.Reads as hand-out-reads
-use Rattle.taking.proofs.take.Reads as take-reads
+use Rattle.hand_out.proofs.hand_out.Reads as hand-out-reads
+use Rattle.take.proofs.take.Reads as take-reads
 
 abbrev Inv-loop : tie.InvT-loop
 Inv-loop from to₀ n₀ to n = (n ≤ 100) × (length to ≡ length to₀)

@@ -4,9 +4,9 @@ use Rattle.listing.proofs.file_lines.Statement.{statement}
 use Rattle.listing.proofs.file_lines.Tie as tie
 use Rattle.listing.proofs.file_lines.Reads as reads
 use Rattle.listing.proofs.file_lines.Lts as lts
-use Rattle.heads.proofs.head_line.Reads as head-line-reads
-use Rattle.heads.proofs.seen_line.Reads as seen-line-reads
-use Rattle.treelines.proofs.tree_lines.Reads as tree-lines-reads
+use Rattle.line_head.proofs.head_line.Reads as head-line-reads
+use Rattle.line_head.proofs.seen_line.Reads as seen-line-reads
+use Rattle.line_tree.proofs.tree_lines.Reads as tree-lines-reads
 
 -- src/lib.rt:20:9
 head-line-requires : tie.Need-head-line-requires

@@ -6,7 +6,7 @@ use Rattle.listing.proofs.listing.Reads as reads
 use Rattle.listing.proofs.listing.Lts as lts
 use Rattle.listing.proofs.log_lines.Reads as log-lines-reads
 use Rattle.listing.proofs.refuse.Reads as refuse-reads
-use Rattle.reading.proofs.read_file.Reads as read-file-reads
+use Rattle.read_file.proofs.read_file.Reads as read-file-reads
 
 -- src/lib.rt:66:9
 returns : tie.Need-returns

@@ -4,7 +4,7 @@ use Rattle.listing.proofs.refuse.Statement.{statement}
 use Rattle.listing.proofs.refuse.Tie as tie
 use Rattle.listing.proofs.refuse.Reads as reads
 use Rattle.listing.proofs.refuse.Lts as lts
-use Rattle.refusals.proofs.refused_line.Reads as refused-line-reads
+use Rattle.line_refusal.proofs.refused_line.Reads as refused-line-reads
 
 -- src/lib.rt:39:5
 refused-line-requires : tie.Need-refused-line-requires

@@ -6,7 +6,7 @@ use Rattle.readout_cases.proofs.lists.Tie as tie
 use Rattle.readout_cases.proofs.lists.Reads as reads
 use Rattle.readout_cases.proofs.lists.Lts as lts
 use Rattle.listing.proofs.listing.Reads as listing-reads
-use Rattle.octets.proofs.same.Reads as same-reads
+use Rattle.byte_slice.proofs.same.Reads as same-reads
 
 -- src/main.rt:33:41
 slice-aggregate-listing : tie.Need-slice-aggregate-listing

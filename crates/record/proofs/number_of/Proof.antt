@@ -4,7 +4,7 @@ use Rattle.record.proofs.number_of.Statement.{statement}
 use Rattle.record.proofs.number_of.Tie as tie
 use Rattle.record.proofs.number_of.Reads as reads
 use Rattle.record.proofs.number_of.Lts as lts
-use Rattle.octets.proofs.le16.Reads as le16-reads
+use Rattle.byte_slice.proofs.le16.Reads as le16-reads
 
 -- src/lib.rt:28:5
 le16-requires : tie.Need-le16-requires

@@ -9,9 +9,9 @@ use Rattle.record.proofs.rank_of.Statement.{statement}
 use Rattle.record.proofs.rank_of.Tie as tie
 use Rattle.record.proofs.rank_of.Reads as reads
 use Rattle.record.proofs.rank_of.Lts as lts
-use Rattle.octets.proofs.le16.Reads as le16-reads
-use Rattle.octets.proofs.wide32.Reads as wide32-reads
-use Rattle.octets.proofs.wider.Reads as wider-reads
+use Rattle.byte_slice.proofs.le16.Reads as le16-reads
+use Rattle.byte_slice.proofs.wide32.Reads as wide32-reads
+use Rattle.byte_slice.proofs.wider.Reads as wider-reads
 
 abbrev Inv-loop : tie.InvT-loop
 Inv-loop rec sum₀ u₀ sum u = (u ≤ 8) × (sum ≤ 65535 * u) × (sum ≡ sumTo u (seen rec))

@@ -4,12 +4,12 @@ use Rattle.record.proofs.well_formed.Statement.{statement}
 use Rattle.record.proofs.well_formed.Tie as tie
 use Rattle.record.proofs.well_formed.Reads as reads
 use Rattle.record.proofs.well_formed.Lts as lts
-use Rattle.fits.proofs.date_fits.Reads as date-fits-reads
-use Rattle.fits.proofs.folder_fits.Reads as folder-fits-reads
-use Rattle.fits.proofs.head_fits.Reads as head-fits-reads
-use Rattle.fits.proofs.label_fits.Reads as label-fits-reads
-use Rattle.fits.proofs.mark_fits.Reads as mark-fits-reads
-use Rattle.fits.proofs.object_fits.Reads as object-fits-reads
+use Rattle.record_fields.proofs.date_fits.Reads as date-fits-reads
+use Rattle.record_fields.proofs.folder_fits.Reads as folder-fits-reads
+use Rattle.record_fields.proofs.head_fits.Reads as head-fits-reads
+use Rattle.record_fields.proofs.label_fits.Reads as label-fits-reads
+use Rattle.record_fields.proofs.mark_fits.Reads as mark-fits-reads
+use Rattle.record_fields.proofs.object_fits.Reads as object-fits-reads
 
 -- src/lib.rt:146:9
 returns : tie.Need-returns

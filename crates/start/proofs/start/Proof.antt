@@ -3,7 +3,7 @@ use Rattle.start.proofs.start.Statement.{statement}
 use Rattle.start.proofs.start.Tie as tie
 use Rattle.start.proofs.start.Reads as reads
 use Rattle.start.proofs.start.Lts as lts
-use Rattle.octets.proofs.clear.Reads as clear-reads
+use Rattle.byte_slice.proofs.clear.Reads as clear-reads
 use Rattle.start.proofs.Emptied.{log-length, unit-above, emptied}
 
 -- src/lib.rt:12:9

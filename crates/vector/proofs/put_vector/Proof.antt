@@ -3,7 +3,7 @@ use mathlib.Core.Path.{_≡_, refl, sym, _∙_}
 use lib.ListN.{length}
 use Rattle.model.specs.Bytes.{putAt}
 use Rattle.model.specs.Vector.{countBytes, vectorBytes}
-use Rattle.octets.proofs.PutAt.{put-nil}
+use Rattle.byte_slice.proofs.PutAt.{put-nil}
 use Rattle.vector.proofs.InBytes.{vector-more}
 use borrow.Author.Needs.{needs}
 use native.Mathlib.Omega.{arith}
@@ -11,7 +11,7 @@ use Rattle.vector.proofs.put_vector.Statement.{statement}
 use Rattle.vector.proofs.put_vector.Tie as tie
 use Rattle.vector.proofs.put_vector.Reads as reads
 use Rattle.vector.proofs.put_vector.Lts as lts
-use Rattle.octets.proofs.put16.Reads as put16-reads
+use Rattle.byte_slice.proofs.put16.Reads as put16-reads
 
 abbrev Inv-loop : tie.InvT-loop
 Inv-loop dst₀ at v u₀ dst u = (u ≤ 8) × (length dst ≡ length dst₀) × (dst ≡ putAt dst₀ at (countBytes (v .counts) u))

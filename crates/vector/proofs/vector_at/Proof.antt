@@ -4,7 +4,7 @@ use Rattle.vector.proofs.vector_at.Statement.{statement}
 use Rattle.vector.proofs.vector_at.Tie as tie
 use Rattle.vector.proofs.vector_at.Reads as reads
 use Rattle.vector.proofs.vector_at.Lts as lts
-use Rattle.octets.proofs.le16.Reads as le16-reads
+use Rattle.byte_slice.proofs.le16.Reads as le16-reads
 
 le16-requires : tie.Need-le16-requires
 le16-requires c κs = search needs

@@ -153,19 +153,19 @@ mod static_library {
     thread_local! {
         /// Work space of a listing: a log and a tree.
         static WORK: RefCell<(Vec<u8>, Vec<u8>)> =
-            RefCell::new((vec![0; limp::LOG], vec![0; limp::TREE]));
+            RefCell::new((vec![0; sab::LOG], vec![0; sab::TREE]));
     }
 
-    fn refusal(limp::Refusal { number, place }: limp::Refusal) -> Refusal {
+    fn refusal(sab::Refusal { number, place }: sab::Refusal) -> Refusal {
         Refusal { number, place }
     }
 
     impl Library for Static {
-        entry_points!(limp);
+        entry_points!(sab);
 
         fn listing_into(&self, file: &[u8], out: &mut [u8]) -> Option<usize> {
             WORK.with_borrow_mut(|(log, tree)| {
-                let listed = limp::listing(file, log, tree, out).ok()?;
+                let listed = sab::listing(file, log, tree, out).ok()?;
                 Some(listed.length)
             })
         }

@@ -1,0 +1,58 @@
+-- A wish that is stamped, and whether it may be acted on, over plain values.
+-- Assumes nothing.
+use Prim.Native.Nat.{ℕ, _+_, _-_, _<_}
+use native.Mathlib.Numerals.{add-one}
+use native.Mathlib.Omega.{arith}
+use mathlib.Core.Path.{_≡_, sym, _∙_}
+use mathlib.Core.Bool.{Bool, true, false, not}
+use mathlib.Core.List.{List, _++_, append-assoc}
+use lib.ListN.{getD, length, take, drop, replicate, length-append, length-replicate}
+use borrow.Author.Tests.{eq-eqb, ne-eqb, not-true, not-false}
+use Rattle.model.specs.Bytes.{two, blank, part, putAt}
+use Rattle.model.specs.Vector.{vectorBytes}
+use Rattle.model.specs.Record.{Rec, wellFormed}
+use Rattle.model.specs.Log.{count, vectorOf}
+use Rattle.model.specs.Outcome.{stamped, wishFits}
+use Rattle.byte_slice.proofs.PutAt.{put-whole, put-more}
+use Rattle.vector.proofs.InBytes.{vectorBytes-length}
+use Rattle.log_laws.proofs.Tests.{vectorOf-getD}
+use Rattle.act_wish.specs.Stamp.{stampedBy, fitsAs}
+
+-- ---- the three writings
+
+stamp-put : (n : ℕ) (v w : List ℕ) → length w ≡ 80 → putAt (putAt w 2 (two n)) 4 (vectorBytes v) ≡ stampedBy n v w
+unfolding stampedBy putAt
+stamp-put n v w h =
+    let k : 2 + length (two n ++ vectorBytes v) ≡ 20 = omega (arith, length-append (two n) (vectorBytes v), vectorBytes-length v) in
+    put-more w 2 (two n) (vectorBytes v) (omega arith) ∙ rw (k, append-assoc (two n) (vectorBytes v) (drop 20 w))
+
+pub stamp-writes : (n : ℕ) (v w : List ℕ) {a b c : List ℕ} → length w ≡ 80 → a ≡ putAt (replicate 80 0) 0 w → b ≡ putAt a 2 (two n) → c ≡ putAt b 4 (vectorBytes v) → c ≡ stampedBy n v w
+stamp-writes n v w h p q r =
+    let e : putAt (replicate 80 0) 0 w ≡ w = put-whole (replicate 80 0) w (h ∙ sym (length-replicate {A = ℕ} 80 0)) in
+    r ∙ rw (q, p, e) (stamp-put n v w h)
+
+-- ---- by the counts of a log
+
+pub stamped-is : (u : ℕ) (l : List Rec) (w : List ℕ) {v : List ℕ} → u < 8 → v ≡ vectorOf l → stampedBy (getD v u 0 + 1) v w ≡ stamped u l w
+unfolding stampedBy stamped
+stamped-is u l w h e = rw (e, vectorOf-getD l u h, add-one (count u l))
+
+pub fits-is : (u : ℕ) (l : List Rec) (w : List ℕ) {r : Rec} → r ≡ stamped u l w → fitsAs u w r ≡ wishFits u l w
+unfolding fitsAs wishFits
+fits-is u l w e = rw e
+
+-- ---- the ways out of `wish_fits`
+
+module _ (u : ℕ) (w : List ℕ) (r : Rec) where
+  pub other-unit : (getD w 0 0 ≡ u → ⊥) → false ≡ fitsAs u w r
+  unfolding fitsAs
+  other-unit h = rw (ne-eqb (getD w 0 0) u h)
+
+  module _ (a : getD w 0 0 ≡ u) {b : Bool} (e : b ≡ blank (take (20 - 2) (drop 2 w))) where
+    pub not-zero : not b ≡ true → false ≡ fitsAs u w r
+    unfolding fitsAs part
+    not-zero h = rw (eq-eqb (getD w 0 0) u a, ← e, not-true b h)
+
+    pub fits-formed : {f : Bool} → not b ≡ false → f ≡ wellFormed r → f ≡ fitsAs u w r
+    unfolding fitsAs part
+    fits-formed h g = rw (eq-eqb (getD w 0 0) u a, ← e, not-false b h, g)

@@ -1,0 +1,64 @@
+-- A file that is accepted holds sound records, and reading it leaves a sound log; a refused one leaves the log as it was.
+-- Assumes nothing.
+use Prim.Native.Nat.{ℕ, suc, _+_, _≤_}
+use native.Mathlib.Omega.{arith}
+use mathlib.Core.Path.{_≡_, refl}
+use mathlib.Core.Logic.{_⊎_, inl, inr}
+use mathlib.Core.Bool.{true, false}
+use mathlib.Core.List.{List, [], _∷_}
+use lib.Dec.{ltb, eqb}
+use lib.ListN.{length}
+use borrow.Author.Tests.{eqb-true, eqb-false, ltb-true}
+use Rattle.model.specs.Record.{Rec}
+use Rattle.model.specs.Log.{recordFault, soundAfter}
+use Rattle.model.specs.File.{fileLength, Fault, fault, blocksIn, blocksFault, fileRecords, recordsFault, countsFault, orElse, fileFault, notRead, readBack, readOf}
+use Rattle.byte_slice.proofs.Numbers.{bool-cases, true-and}
+use Rattle.log_laws.proofs.Tests.{sound-means}
+use Rattle.encoding_laws.specs.Keeps.{Reads}
+use Rattle.encoding_laws.proofs.Calls.{log-good}
+
+-- records without a fault are sound, and there are at most 512
+pub faultless-records : (l pre : List Rec) (i : ℕ) → i ≤ 512 → recordsFault pre i l .number ≡ 0 → (soundAfter pre l ≡ true) × (i + length l ≤ 512)
+unfolding recordsFault soundAfter fault
+faultless-records [] pre i k e = (refl, omega arith)
+faultless-records (r ∷ l) pre i k e =
+    full (bool-cases (ltb i 512)) (bool-cases (eqb (recordFault pre r) 0)) (λ h d. faultless-records l (r ∷ pre) (suc i) h d)
+  where
+    full : (ltb i 512 ≡ true) ⊎ (ltb i 512 ≡ false) → (eqb (recordFault pre r) 0 ≡ true) ⊎ (eqb (recordFault pre r) 0 ≡ false)
+        → (suc i ≤ 512 → recordsFault (r ∷ pre) (suc i) l .number ≡ 0 → (soundAfter (r ∷ pre) l ≡ true) × (suc i + length l ≤ 512))
+        → (soundAfter pre (r ∷ l) ≡ true) × (i + length (r ∷ l) ≤ 512)
+    full (inl a) (inl b) f =
+        let (x, y) = f (omega (arith, ltb-true i 512 a)) (rw (a, b) at e) in
+        (true-and (eqb (recordFault pre r) 0) (soundAfter (r ∷ pre) l) b x, omega arith)
+    full (inl a) (inr b) f = let z : recordFault pre r ≡ 0 = rw (a, b) at e in absurd (eqb-false (recordFault pre r) 0 b z)
+    full (inr a) b f = let z : _≡_ {A = ℕ} 11 0 = rw a at e in absurd (omega arith)
+
+-- the first of two faults is none if there is none
+no-fault : (a b : Fault) → orElse a b .number ≡ 0 → (a .number ≡ 0) × (b .number ≡ 0)
+unfolding orElse
+no-fault a b e = go (bool-cases (eqb (a .number) 0))
+  where
+    go : (eqb (a .number) 0 ≡ true) ⊎ (eqb (a .number) 0 ≡ false) → (a .number ≡ 0) × (b .number ≡ 0)
+    go (inl h) = (eqb-true (a .number) 0 h, rw h at e)
+    go (inr h) = let z : a .number ≡ 0 = rw h at e in absurd (eqb-false (a .number) 0 h z)
+
+pub file-records : (f : List ℕ) → fileFault f .number ≡ 0 → (soundAfter [] (fileRecords f) ≡ true) × (length (fileRecords f) ≤ 512)
+unfolding fileFault
+file-records f e =
+    let (_, d) = no-fault (blocksFault f 0 (blocksIn f)) (orElse (recordsFault [] 0 (fileRecords f)) (countsFault f)) e in
+    let (c, _) = no-fault (recordsFault [] 0 (fileRecords f)) (countsFault f) d in
+    let (a, b) = faultless-records (fileRecords f) [] 0 (omega arith) c in
+    (a, omega arith)
+
+pub read-keeps : (log f : List ℕ) → Reads log (readOf log f)
+unfolding readOf readBack notRead
+read-keeps log f = go (bool-cases (eqb (length log) 40960)) (bool-cases (fileLength f)) (bool-cases (eqb (fileFault f .number) 0))
+  where
+    go : (eqb (length log) 40960 ≡ true) ⊎ (eqb (length log) 40960 ≡ false) → (fileLength f ≡ true) ⊎ (fileLength f ≡ false)
+        → (eqb (fileFault f .number) 0 ≡ true) ⊎ (eqb (fileFault f .number) 0 ≡ false) → Reads log (readOf log f)
+    go (inl a) (inl b) (inl c) =
+        let (h, k) = file-records f (eqb-true (fileFault f .number) 0 c) in
+        rw (a, b, c) (record { accepted = λ _. log-good (fileRecords f) (sound-means (fileRecords f) h) k; refused = λ z. absurd (z refl) })
+    go (inl a) (inl b) (inr c) = rw (a, b, c) (record { accepted = λ z. absurd (eqb-false (fileFault f .number) 0 c z); refused = λ _. refl })
+    go (inl a) (inr b) c = rw (a, b) (record { accepted = λ z. absurd (omega arith); refused = λ _. refl })
+    go (inr a) b c = rw a (record { accepted = λ z. absurd (omega arith); refused = λ _. refl })

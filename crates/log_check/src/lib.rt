@@ -1,0 +1,156 @@
+// The lent log: its records checked in order.
+ghost use mathlib.Core.Path.{_≡_};
+ghost use mathlib.Core.Bool.{true};
+ghost use Prim.Native.Nat.{_+_, _≤_, _<_};
+ghost use lib.ListN.{length, replicate};
+ghost use Rattle.model.specs.Bytes.{blank};
+ghost use Rattle.model.specs.Log.{vectorOf, recordsOf, soundLog};
+ghost use Rattle.log_check.specs.Places.{offsetOf, laidAt, Laid};
+ghost use Rattle.log_check.specs.InOrder.{ScanGives, CheckGives};
+use log_admit::Before;
+use vector::Vector;
+
+// Where records stand: places of 80 bytes, or six to a block of 512 bytes behind its header.
+pub enum Layout {
+    Log,
+    File,
+}
+
+// The first fault among records, or 0, and where; and without a fault the counts of the records.
+pub struct Scanned {
+    pub number: u8,
+    pub at: usize,
+    pub held: Vector,
+}
+
+// Whether a log is sound; and how many records it has, and of a sound one their counts.
+pub struct Checked {
+    pub sound: bool,
+    pub used: usize,
+    pub held: Vector,
+}
+
+// Where record i stands.
+pub fn offset(layout: Layout, i: usize) -> usize
+    requires { ⌜ i < 65536 ⌝ }
+    ensures { λ r. ⌜ (r ≡ offsetOf layout i) × (r < 8388608) ⌝ }
+{
+    match layout {
+        Layout::Log => 80 * i,
+        Layout::File => 512 * (i / 6) + (28 + 80 * (i % 6)),
+    }
+}
+
+// The first n records are judged one after another, and noted as far as they have no fault.
+pub fn scan(
+    bytes: &[u8],
+    layout: Layout,
+    n: usize,
+    places: &mut [u16],
+    seens: &mut [u16],
+) -> Scanned
+    requires { ⌜ (n ≤ 512) × Laid layout (now bytes) n × (length (now places) ≡ 4096) × (length (now seens) ≡ 4144) ⌝ }
+    ensures { λ r. ⌜ ScanGives (laidAt layout (now (bytes .entry))) n (r .number) (r .at) (r .held .counts) (now (places .exit)) (now (seens .exit)) ⌝ }
+{
+    let none = vector::zero_vector();
+    let mut b = Before {
+        held: none,
+        floor: 0,
+    };
+    let mut i: usize = 0;
+    while i < n {
+        let at = offset(layout, i);
+        let a = log_admit::admit(&bytes[at..at + 80], i, b, places, seens);
+        if a.number != 0 {
+            return Scanned {
+                number: a.number,
+                at: i,
+                held: none,
+            };
+        }
+        let next = a.before;
+        b = next;
+        i += 1;
+    }
+    let held = b.held;
+    Scanned {
+        number: 0,
+        at: 0,
+        held,
+    }
+}
+
+// A place is all zero. No record has a zero for its operation, so that byte mostly tells.
+fn is_free(place: &[u8]) -> bool
+    requires { ⌜ length (now place) ≡ 80 ⌝ }
+    ensures { λ r. ⌜ r ≡ blank (now (place .entry)) ⌝ }
+{
+    if place[1] != 0 {
+        return false;
+    }
+    byte_slice::is_blank(place)
+}
+
+// How many places stand before the first that is all zero.
+pub fn used(log: &[u8]) -> usize
+    requires { ⌜ length (now log) ≡ 40960 ⌝ }
+    ensures { λ r. ⌜ (r ≡ length (recordsOf (now (log .entry)))) × (r ≤ 512) ⌝ }
+{
+    let mut i: usize = 0;
+    while i < 512 {
+        let at = 80 * i;
+        if is_free(&log[at..at + 80]) {
+            return i;
+        }
+        i += 1;
+    }
+    512
+}
+
+// A log is checked, and its records are noted in the tables.
+pub fn check_into(log: &[u8], places: &mut [u16], seens: &mut [u16]) -> Checked
+    requires { ⌜ (length (now log) ≡ 40960) × (length (now places) ≡ 4096) × (length (now seens) ≡ 4144) ⌝ }
+    ensures { λ r. ⌜ CheckGives (now (log .entry)) (r .sound) (r .used) (r .held .counts) (now (places .exit)) (now (seens .exit)) ⌝ }
+{
+    let n = used(log);
+    let s = scan(log, Layout::Log, n, places, seens);
+    let held = s.held;
+    if s.number != 0 {
+        return Checked {
+            sound: false,
+            used: n,
+            held,
+        };
+    }
+    let at = 80 * n;
+    let sound = byte_slice::is_blank(&log[at..40960]);
+    Checked {
+        sound,
+        used: n,
+        held,
+    }
+}
+
+// A table of 4,096 positions, all zero.
+pub fn fresh_places() -> [u16; 4096]
+    ensures { λ r. ⌜ (r ≡ replicate 4096 0) × (length r ≡ 4096) ⌝ }
+{
+    [0u16; 4096]
+}
+
+// A table of 518 rows of 8 counts, all zero.
+pub fn fresh_seens() -> [u16; 4144]
+    ensures { λ r. ⌜ (r ≡ replicate 4144 0) × (length r ≡ 4144) ⌝ }
+{
+    [0u16; 4144]
+}
+
+// A log is checked: sound or not, how many records it has, and the counts of a sound one.
+pub fn check(log: &[u8]) -> Checked
+    requires { ⌜ length (now log) ≡ 40960 ⌝ }
+    ensures { λ r. ⌜ (r .sound ≡ soundLog (now (log .entry))) × (soundLog (now (log .entry)) ≡ true → r .used ≡ length (recordsOf (now (log .entry)))) × (soundLog (now (log .entry)) ≡ true → r .held .counts ≡ vectorOf (recordsOf (now (log .entry)))) ⌝ }
+{
+    let mut places = fresh_places();
+    let mut seens = fresh_seens();
+    check_into(log, &mut places, &mut seens)
+}

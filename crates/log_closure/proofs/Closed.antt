@@ -1,0 +1,93 @@
+-- What the nested loops of `is_closed` are asked, over plain values.
+-- Assumes nothing.
+use Prim.Native.Nat.{ℕ, zero, suc, _+_, _*_, _≤_, _<_}
+use native.Mathlib.Numerals.{add-one}
+use native.Mathlib.Omega.{arith}
+use mathlib.Core.Path.{_≡_, sym, _∙_}
+use mathlib.Core.Logic.{⊎-elim}
+use mathlib.Core.Bool.{Bool, true, false}
+use mathlib.Core.List.{List, [], _∷_}
+use lib.ListN.{getD, length}
+use borrow.Author.Tests.{eq-eqb, ne-eqb, le-leb}
+use Rattle.model.specs.Vector.{covers, coversTo}
+use Rattle.model.specs.Log.{allTo}
+use Rattle.byte_slice.proofs.Numbers.{lt-or-ge, and-wrong}
+use Rattle.byte_slice.proofs.Parts.{part-length, getD-part}
+use Rattle.vector.proofs.Dominance.{less-fails, covers-next, covers-ends}
+use Rattle.vector.proofs.Higher.{eight}
+use Rattle.log_closure.specs.Tables.{positionOf, rowAt, unitClosed, closedBy, Placed}
+
+all-false : (n : ℕ) (p : ℕ → Bool) (u : ℕ) → u < n → p u ≡ false → allTo n p ≡ false
+unfolding allTo
+all-false zero p u h e = absurd (omega arith)
+all-false (suc n) p u h e =
+    ⊎-elim
+    (λ (k : u < n). rw (all-false n p u k e))
+    (λ k. let w : u ≡ n = omega arith in rw (← w, e) (and-wrong (allTo u p)))
+    (lt-or-ge u n)
+
+all-next : (n : ℕ) (p : ℕ → Bool) → allTo n p ≡ true → p n ≡ true → allTo (n + 1) p ≡ true
+unfolding allTo
+all-next n p a b = rw (add-one n, a, b)
+
+module _ (places seens s : List ℕ) where
+  row-at : (p v : ℕ) → v < 8 → getD (rowAt seens p) v 0 ≡ getD seens (8 * p + v) 0
+  unfolding rowAt
+  row-at p v h = getD-part seens (8 * p) 8 v h
+
+  row-length : (p : ℕ) → length seens ≡ 4144 → p < 518 → length (rowAt seens p) ≡ 8
+  unfolding rowAt
+  row-length p n h = part-length seens (8 * p) 8 (omega arith)
+
+  pub row-next : (p v : ℕ) → v < 8 → coversTo s (rowAt seens p) v ≡ true → getD seens (8 * p + v) 0 ≤ getD s v 0 → coversTo s (rowAt seens p) (v + 1) ≡ true
+  row-next p v h e k =
+      let c : getD (rowAt seens p) v 0 ≤ getD s v 0 = rw (row-at p v h) k in
+      sym (covers-next s (rowAt seens p) v true (sym e)) ∙ le-leb (getD (rowAt seens p) v 0) (getD s v 0) c
+
+  -- the counts seen, and the positions of their records, lie in the tables
+  pub few-seen : (u : ℕ) → Placed s places → u < 8 → getD s u 0 ≤ 512
+  few-seen u p h = p .few u h
+
+  pub place-inside : (u p : ℕ) → Placed s places → u < 8 → (getD s u 0 ≡ 0 → ⊥) → p ≡ positionOf places u (getD s u 0) → p < 518
+  place-inside u p k h e q = rw q (k .inside u (getD s u 0) h (omega arith) (omega arith))
+
+  zero-closed : (u : ℕ) → getD s u 0 ≡ 0 → unitClosed places seens s u ≡ true
+  unfolding unitClosed
+  zero-closed u e = rw (eq-eqb (getD s u 0) 0 e)
+
+  unit-is : (u : ℕ) → (getD s u 0 ≡ 0 → ⊥) → (p : ℕ) → p ≡ positionOf places u (getD s u 0) → unitClosed places seens s u ≡ covers s (rowAt seens p)
+  unfolding unitClosed
+  unit-is u e p q = rw (ne-eqb (getD s u 0) 0 e, q)
+
+  -- a unit with no record seen
+  pub none-counted : (u : ℕ) → allTo u (unitClosed places seens s) ≡ true → getD s u 0 ≡ 0 → allTo (u + 1) (unitClosed places seens s) ≡ true
+  none-counted u a e = all-next u (unitClosed places seens s) a (zero-closed u e)
+
+  -- the eight counts of a row, written out
+  pub row-flat : (p : ℕ) → length seens ≡ 4144 → p < 518
+      → getD seens (8 * p) 0 ∷ getD seens (8 * p + 1) 0 ∷ getD seens (8 * p + 2) 0 ∷ getD seens (8 * p + 3) 0 ∷ getD seens (8 * p + 4) 0 ∷ getD seens (8 * p + 5) 0 ∷ getD seens (8 * p + 6) 0 ∷ getD seens (8 * p + 7) 0 ∷ [] ≡ rowAt seens p
+  row-flat p n h =
+      let z : 8 * p + 0 ≡ 8 * p = omega arith in
+      let first : getD (rowAt seens p) 0 0 ≡ getD seens (8 * p) 0 = rw z at (row-at p 0 (omega arith)) in
+      rw (← first, ← row-at p 1 (omega arith), ← row-at p 2 (omega arith), ← row-at p 3 (omega arith), ← row-at p 4 (omega arith), ← row-at p 5 (omega arith), ← row-at p 6 (omega arith), ← row-at p 7 (omega arith))
+      (eight (rowAt seens p) (row-length p n h))
+
+  -- a unit whose last record seen is covered at once
+  pub row-covered : (u p : ℕ) (row : List ℕ) (t : Bool) → allTo u (unitClosed places seens s) ≡ true → (getD s u 0 ≡ 0 → ⊥) → p ≡ positionOf places u (getD s u 0)
+      → row ≡ rowAt seens p → t ≡ covers s row → t ≡ true → allTo (u + 1) (unitClosed places seens s) ≡ true
+  row-covered u p row t a e q r c h = all-next u (unitClosed places seens s) a (unit-is u e p q ∙ ((rw r at (sym c)) ∙ h))
+
+  -- a unit whose last record seen is nowhere above
+  pub none-above : (u p v : ℕ) → allTo u (unitClosed places seens s) ≡ true → (getD s u 0 ≡ 0 → ⊥) → p ≡ positionOf places u (getD s u 0)
+      → v ≤ 8 → 8 ≤ v → coversTo s (rowAt seens p) v ≡ true → allTo (u + 1) (unitClosed places seens s) ≡ true
+  none-above u p v a e q h k w = all-next u (unitClosed places seens s) a (unit-is u e p q ∙ sym (covers-ends s (rowAt seens p) v true h k (sym w)))
+
+  -- a count that breaks closure
+  pub one-above : (u p v : ℕ) → u < 8 → (getD s u 0 ≡ 0 → ⊥) → p ≡ positionOf places u (getD s u 0) → v < 8 → getD s v 0 < getD seens (8 * p + v) 0 → false ≡ closedBy places seens s
+  unfolding closedBy
+  one-above u p v l e q h k =
+      sym (all-false 8 (unitClosed places seens s) u l (unit-is u e p q ∙ less-fails s (rowAt seens p) v h (rw (row-at p v h) k)))
+
+  pub all-closed : (u : ℕ) (t : Bool) → u ≤ 8 → 8 ≤ u → t ≡ true → allTo u (unitClosed places seens s) ≡ true → t ≡ closedBy places seens s
+  unfolding closedBy
+  all-closed u t h k e a = let n : u ≡ 8 = omega arith in e ∙ sym (rw n at a)

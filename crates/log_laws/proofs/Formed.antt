@@ -1,0 +1,45 @@
+-- What a well-formed record has.
+-- Assumes nothing.
+use Prim.Native.Nat.{suc, _-_, _<_}
+use native.Mathlib.Omega.{arith}
+use mathlib.Core.Path.{_≡_}
+use mathlib.Core.Bool.{true, false, _&&_}
+use lib.Dec.{leb, eqb}
+use lib.ListN.{length}
+use borrow.Author.Tests.{eqb-true, leb-true}
+use Rattle.model.specs.Bytes.{word, blank}
+use Rattle.model.specs.Record.{Rec, unit, op, num, seen, headFits, objectFits, folderFits, dateFits, labelFits, markFits, wellFormed}
+use Rattle.byte_slice.proofs.Numbers.{and-true, test-false}
+use Rattle.byte_slice.proofs.Compare.{blank-getD}
+
+pub well-length : (r : Rec) → wellFormed r ≡ true → length r ≡ 80
+unfolding wellFormed
+well-length r e =
+    eqb-true (length r) 80 (and-true (eqb (length r) 80) (headFits r && (objectFits r && (folderFits r && (dateFits r && (labelFits r && markFits r))))) e .0)
+
+well-head : (r : Rec) → wellFormed r ≡ true → headFits r ≡ true
+unfolding wellFormed
+well-head r e =
+    let (a, b) = and-true (eqb (length r) 80) (headFits r && (objectFits r && (folderFits r && (dateFits r && (labelFits r && markFits r))))) e in
+    and-true (headFits r) (objectFits r && (folderFits r && (dateFits r && (labelFits r && markFits r)))) b .0
+
+pub well-unit : (r : Rec) → wellFormed r ≡ true → unit r < 8
+unfolding headFits
+well-unit r e =
+    let (a, b) = and-true (leb (unit r) 7) (leb 1 (op r) && (leb (op r) 6 && (leb 1 (num r) && eqb (seen r (unit r)) (num r - 1)))) (well-head r e) in
+    omega (arith, leb-true (unit r) 7 a)
+
+-- the number is one above what was seen of the own unit
+pub well-own : (r : Rec) → wellFormed r ≡ true → num r ≡ suc (seen r (unit r))
+unfolding headFits
+well-own r e =
+    let (a, b) = and-true (leb (unit r) 7) (leb 1 (op r) && (leb (op r) 6 && (leb 1 (num r) && eqb (seen r (unit r)) (num r - 1)))) (well-head r e) in
+    let (c, d) = and-true (leb 1 (op r)) (leb (op r) 6 && (leb 1 (num r) && eqb (seen r (unit r)) (num r - 1))) b in
+    let (f, g) = and-true (leb (op r) 6) (leb 1 (num r) && eqb (seen r (unit r)) (num r - 1)) d in
+    let (h, i) = and-true (leb 1 (num r)) (eqb (seen r (unit r)) (num r - 1)) g in
+    omega (arith, leb-true 1 (num r) h, eqb-true (seen r (unit r)) (num r - 1) i)
+
+-- a record is not all zeros
+pub well-not-blank : (r : Rec) → wellFormed r ≡ true → blank r ≡ false
+unfolding num word
+well-not-blank r e = test-false (blank r) (λ b. omega (arith, well-own r e, blank-getD r 2 b, blank-getD r 3 b))

@@ -1,0 +1,139 @@
+-- The checks of a file's blocks: one law for each way out, over plain values.
+-- Assumes nothing.
+use Prim.Native.Nat.{ℕ, suc, _+_, _-_, _*_, _/_, _%_, _≤_, _<_}
+use native.Mathlib.Nat.{sub-self}
+use native.Mathlib.Numerals.{add-one}
+use native.Mathlib.Omega.{arith}
+use mathlib.Core.Path.{_≡_, refl, sym, _∙_}
+use mathlib.Core.Logic.{⊎-elim}
+use mathlib.Core.Bool.{Bool, true, false, cond, not}
+use mathlib.Core.List.{List}
+use lib.Dec.{leb, eqb}
+use lib.ListN.{length, take, drop}
+use borrow.Author.Tests.{eq-eqb, ne-eqb, le-leb, lt-leb, lt-ltb, le-ltb, not-true, not-false}
+use Rattle.model.specs.Bytes.{sameBytes, part}
+use Rattle.model.specs.Vector.{compareOf}
+use Rattle.model.specs.Block.{blockFault, archiveIn, senderIn, placeIn, countIn, vectorIn}
+use Rattle.model.specs.File.{fileLength, blocksIn, blockAt, countFits, agrees, fileBlockFault, fault, blocksFault}
+use Rattle.byte_slice.proofs.Numbers.{eq-or-ne}
+use Rattle.byte_slice.proofs.Parts.{part-is}
+use Rattle.byte_slice.proofs.Compare.{eq-same, ne-same}
+use Rattle.vector_compare.proofs.Claims.{identical-equal, equal-identical}
+
+-- ---- the length
+
+module _ (f : List ℕ) where
+  pub ragged : (length f % 512 ≡ 0 → ⊥) → false ≡ fileLength f
+  unfolding fileLength
+  ragged h = rw (ne-eqb (length f % 512) 0 h)
+
+  pub no-block : length f % 512 ≡ 0 → length f / 512 < 1 → false ≡ fileLength f
+  unfolding fileLength
+  no-block a h = rw (eq-eqb (length f % 512) 0 a, lt-leb 1 (length f / 512) h)
+
+  pub some-blocks : length f % 512 ≡ 0 → 1 ≤ length f / 512 → leb (length f / 512) 86 ≡ fileLength f
+  unfolding fileLength
+  some-blocks a h = rw (eq-eqb (length f % 512) 0 a, le-leb 1 (length f / 512) h)
+
+-- ---- the vectors
+
+pub identical-same : (a b : List ℕ) → length a ≡ 8 → length b ≡ 8 → {n : ℕ} → n ≡ compareOf a b → eqb n 0 ≡ sameBytes a b
+identical-same a b p q {n} e =
+    ⊎-elim
+    (λ (h : n ≡ 0). eq-eqb n 0 h ∙ sym (eq-same a b (identical-equal a b p q (sym e ∙ h))))
+    (λ (h : n ≡ 0 → ⊥). ne-eqb n 0 h ∙ sym (ne-same a b (λ g. h (e ∙ equal-identical a b g))))
+    (eq-or-ne n 0)
+
+-- ---- the count
+
+module _ (n k c : ℕ) where
+  pub before-last : k + 1 < n → eqb c 6 ≡ countFits n k c
+  unfolding countFits
+  before-last h = rw (lt-ltb (suc k) n (omega arith))
+
+  pub only-block : n ≤ k + 1 → n ≡ 1 → true ≡ countFits n k c
+  unfolding countFits
+  only-block h e = rw (le-ltb (suc k) n (omega arith), eq-eqb n 1 e)
+
+  pub last-of-more : n ≤ k + 1 → (n ≡ 1 → ⊥) → leb 1 c ≡ countFits n k c
+  unfolding countFits
+  last-of-more h e = rw (le-ltb (suc k) n (omega arith), ne-eqb n 1 e)
+
+-- ---- a block against its place and the first
+
+module _ (n k : ℕ) (first b : List ℕ) {p : ℕ} (ep : p ≡ placeIn b) where
+  pub other-place : (p ≡ k → ⊥) → false ≡ agrees n k first b
+  unfolding agrees
+  other-place h = rw (← ep, ne-eqb p k h)
+
+  module _ {s s₀ : ℕ} (hp : p ≡ k) (es : s ≡ senderIn b) (es₀ : s₀ ≡ senderIn first) where
+    pub other-unit : (s ≡ s₀ → ⊥) → false ≡ agrees n k first b
+    unfolding agrees
+    other-unit h = rw (← ep, eq-eqb p k hp, ← es, ← es₀, ne-eqb s s₀ h)
+
+    module _ {a a₀ : ℕ} (hs : s ≡ s₀) (ea : a ≡ archiveIn b) (ea₀ : a₀ ≡ archiveIn first) where
+      pub other-archive : (a ≡ a₀ → ⊥) → false ≡ agrees n k first b
+      unfolding agrees
+      other-archive h = rw (← ep, eq-eqb p k hp, ← es, ← es₀, eq-eqb s s₀ hs, ← ea, ← ea₀, ne-eqb a a₀ h)
+
+      module _ {v v₀ : List ℕ} {t : Bool} (ha : a ≡ a₀) (ev : v ≡ vectorIn b) (ev₀ : v₀ ≡ vectorIn first) (et : t ≡ sameBytes v v₀) where
+        pub other-vector : not t ≡ true → false ≡ agrees n k first b
+        unfolding agrees
+        other-vector h = rw (← ep, eq-eqb p k hp, ← es, ← es₀, eq-eqb s s₀ hs, ← ea, ← ea₀, eq-eqb a a₀ ha, ← ev, ← ev₀, ← et, not-true t h)
+
+        pub fullness-decides : {c : ℕ} {r : Bool} → not t ≡ false → c ≡ countIn b → r ≡ countFits n k c → r ≡ agrees n k first b
+        unfolding agrees
+        fullness-decides h ec er = er ∙ rw (← ep, eq-eqb p k hp, ← es, ← es₀, eq-eqb s s₀ hs, ← ea, ← ea₀, eq-eqb a a₀ ha, ← ev, ← ev₀, ← et, not-false t h, ← ec)
+
+-- ---- a block of a file
+
+pub blocks-counted : (f : List ℕ) (n : ℕ) → length f ≡ 512 * n → blocksIn f ≡ n
+unfolding blocksIn
+blocks-counted f n whole = rw whole (omega arith)
+
+module _ (f : List ℕ) (n k : ℕ) (whole : length f ≡ 512 * n) where
+  lent : take (512 * k + 512 - 512 * k) (drop (512 * k) f) ≡ blockAt f k
+  unfolding blockAt
+  lent = part-is f (512 * k) 512
+
+  lent-first : take (512 - 0) (drop 0 f) ≡ blockAt f 0
+  unfolding blockAt part
+  lent-first = refl
+
+  module _ {x : ℕ} (ex : x ≡ blockFault (take (512 * k + 512 - 512 * k) (drop (512 * k) f))) where
+    alone : x ≡ blockFault (blockAt f k)
+    alone = rw lent at ex
+
+    pub faulty-alone : (x ≡ 0 → ⊥) → x ≡ fileBlockFault f k
+    unfolding fileBlockFault
+    faulty-alone h = rw (← alone, ne-eqb x 0 h)
+
+    module _ {t : Bool} (z : x ≡ 0) (et : t ≡ agrees n k (take (512 - 0) (drop 0 f)) (take (512 * k + 512 - 512 * k) (drop (512 * k) f))) where
+      beside : t ≡ agrees (blocksIn f) k (blockAt f 0) (blockAt f k)
+      beside = rw (blocks-counted f n whole, ← lent, ← lent-first) et
+
+      pub disagrees : not t ≡ true → 20 ≡ fileBlockFault f k
+      unfolding fileBlockFault
+      disagrees h = rw (← alone, eq-eqb x 0 z, ← beside, not-true t h)
+
+      pub passes : not t ≡ false → 0 ≡ fileBlockFault f k
+      unfolding fileBlockFault
+      passes h = rw (← alone, eq-eqb x 0 z, ← beside, not-false t h)
+
+-- ---- block after block
+
+module _ (f : List ℕ) (n k : ℕ) (inv : blocksFault f k (n - k) ≡ blocksFault f 0 n) where
+  module _ {x : ℕ} (h : k < n) (ex : x ≡ fileBlockFault f k) where
+    step : cond (eqb x 0) (blocksFault f (k + 1) (n - (k + 1))) (fault x k) ≡ blocksFault f 0 n
+    unfolding blocksFault
+    step = let e : n - k ≡ suc (n - (k + 1)) = omega arith in rw (e, ← ex, ← add-one k) at inv
+
+    pub stops : (x ≡ 0 → ⊥) → fault x k ≡ blocksFault f 0 n
+    stops z = rw (ne-eqb x 0 z) at step
+
+    pub goes-on : x ≡ 0 → blocksFault f (k + 1) (n - (k + 1)) ≡ blocksFault f 0 n
+    goes-on z = rw (eq-eqb x 0 z) at step
+
+  pub ends : k ≤ n → n ≤ k → fault 0 0 ≡ blocksFault f 0 n
+  unfolding blocksFault
+  ends h g = let e : k ≡ n = omega arith in rw (e, sub-self) at inv

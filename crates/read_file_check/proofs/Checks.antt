@@ -1,0 +1,118 @@
+-- Every check of a file: one law for each way out, over plain values.
+-- Assumes nothing.
+use Prim.Native.Nat.{ℕ, _-_, _*_, _/_, _%_, _≤_}
+use native.Mathlib.Omega.{arith}
+use mathlib.Core.Path.{_≡_, sym, ap, _∙_}
+use mathlib.Core.Bool.{Bool, true, false, not, _&&_}
+use mathlib.Core.List.{List, []}
+use lib.Dec.{leb, eqb}
+use lib.ListN.{length, take, drop, replicate}
+use borrow.Author.Tests.{eq-eqb, ne-eqb, eqb-true, leb-true, not-true, not-false}
+use Rattle.model.specs.Bytes.{sameBytes, part}
+use Rattle.model.specs.Log.{vectorOf}
+use Rattle.model.specs.Block.{vectorIn}
+use Rattle.model.specs.File.{fileLength, blockAt, Fault, fault, blocksFault, recordsCounted, fileRecords, recordsFault, countsFault, orElse, fileFault, notRead, readBack, readOf}
+use Rattle.byte_slice.proofs.Numbers.{and-true}
+use Rattle.block_laws.proofs.Faults.{header-right, stored-header}
+use Rattle.file_laws.proofs.Rewritten.{blocks-passed, block-passed}
+use Rattle.read_file_blocks.proofs.Agreement.{blocks-counted}
+use Rattle.read_file_check.specs.Outcome.{Judges, readBackOf}
+
+-- ---- the length
+
+module _ (f : List ℕ) {t : Bool} (e : t ≡ fileLength f) (h : not t ≡ false) where
+  tests : (length f % 512 ≡ 0) × (1 ≤ length f / 512) × (length f / 512 ≤ 86)
+  unfolding fileLength
+  tests =
+      let (p, q) = and-true (eqb (length f % 512) 0) (leb 1 (length f / 512) && leb (length f / 512) 86) (sym e ∙ not-false t h) in
+      let (r, s) = and-true (leb 1 (length f / 512)) (leb (length f / 512) 86) q in
+      (eqb-true (length f % 512) 0 p, leb-true 1 (length f / 512) r, leb-true (length f / 512) 86 s)
+
+  pub whole : length f ≡ 512 * (length f / 512)
+  whole = omega (arith, tests .0)
+
+  pub some-block : 1 ≤ length f / 512
+  some-block = tests .1
+
+  pub few-blocks : length f / 512 ≤ 86
+  few-blocks = tests .2
+
+-- ---- blocks, records, vector
+
+module _ (f : List ℕ) (n : ℕ) (whole : length f ≡ 512 * n) where
+  -- blocks without a fault count no more records than they have places
+  pub few-in-blocks : 1 ≤ n → blocksFault f 0 n .number ≡ 0 → recordsCounted f ≤ 6 * n
+  unfolding recordsCounted
+  few-in-blocks some z =
+      let b = blockAt f (n - 1) in
+      let a = block-passed f (n - 1) (blocks-passed f n 0 z (n - 1) (omega arith) (omega arith)) in
+      rw (blocks-counted f n whole) (omega (arith, stored-header b (header-right b (a .good)) .1))
+
+  module _ (bn bp : ℕ) (eb : fault bn bp ≡ blocksFault f 0 n) where
+    pub few-counted : 1 ≤ n → bn ≡ 0 → recordsCounted f ≤ 6 * n
+    unfolding fault
+    few-counted some z = few-in-blocks some (sym (ap (λ (x : Fault). x .number) eb) ∙ z)
+
+    blocks-first : fileFault f ≡ orElse (fault bn bp) (orElse (recordsFault [] 0 (fileRecords f)) (countsFault f))
+    unfolding fileFault
+    blocks-first = rw (blocks-counted f n whole, ← eb)
+
+    pub block-refused : (bn ≡ 0 → ⊥) → fault bn bp ≡ fileFault f
+    unfolding orElse fault
+    block-refused h = sym (blocks-first ∙ rw (ne-eqb bn 0 h))
+
+    module _ (rn rp : ℕ) (held : List ℕ) (z : bn ≡ 0) (j : Judges f rn rp held) where
+      records-next : fileFault f ≡ orElse (fault rn rp) (countsFault f)
+      unfolding orElse fault
+      records-next = blocks-first ∙ rw (z, ← j .first)
+
+      pub record-refused : (rn ≡ 0 → ⊥) → fault rn rp ≡ fileFault f
+      unfolding orElse fault
+      record-refused h = sym (records-next ∙ rw (ne-eqb rn 0 h))
+
+      module _ {v : List ℕ} {t : Bool} (y : rn ≡ 0) (ev : v ≡ vectorIn (take (512 - 0) (drop 0 f))) (et : t ≡ sameBytes v held) where
+        compared : t ≡ sameBytes (vectorIn (blockAt f 0)) (vectorOf (fileRecords f))
+        unfolding blockAt part
+        compared = rw (← j .counts y, ← ev) et
+
+        vector-last : fileFault f ≡ countsFault f
+        unfolding orElse fault
+        vector-last = records-next ∙ rw y
+
+        pub vector-differs : not t ≡ true → fault 20 (n - 1) ≡ fileFault f
+        unfolding countsFault
+        vector-differs h = sym (vector-last ∙ rw (← compared, not-true t h, blocks-counted f n whole))
+
+        pub nothing-refused : not t ≡ false → fault 0 0 ≡ fileFault f
+        unfolding countsFault
+        nothing-refused h = sym (vector-last ∙ rw (← compared, not-false t h))
+
+-- ---- what reading answers
+
+module _ (log f : List ℕ) where
+  module _ {n p a u k : ℕ} {v : List ℕ} (ea : a ≡ 0) (eu : u ≡ 0) (ek : k ≡ 0) (ev : v ≡ replicate 8 0) where
+    refused-is : readBackOf n p a u k v log ≡ notRead log n p
+    unfolding notRead
+    refused-is = rw (ea, eu, ek, ev)
+
+    pub log-length : n ≡ 1 → p ≡ 0 → (length log ≡ 40960 → ⊥) → readBackOf n p a u k v log ≡ readOf log f
+    unfolding readOf
+    log-length en ep h = refused-is ∙ rw (en, ep, ne-eqb (length log) 40960 h)
+
+    module _ {t : Bool} (l : length log ≡ 40960) (et : t ≡ fileLength f) where
+      pub file-length : n ≡ 2 → p ≡ 0 → not t ≡ true → readBackOf n p a u k v log ≡ readOf log f
+      unfolding readOf
+      file-length en ep h = refused-is ∙ rw (en, ep, eq-eqb (length log) 40960 l, ← et, not-true t h)
+
+      pub file-refused : (m q : ℕ) → n ≡ m → p ≡ q → not t ≡ false → fault m q ≡ fileFault f → (m ≡ 0 → ⊥) → readBackOf n p a u k v log ≡ readOf log f
+      unfolding readOf fault
+      file-refused m q en ep h e z = refused-is ∙ rw (en, ep, eq-eqb (length log) 40960 l, ← et, not-false t h, ← e, ne-eqb m 0 z)
+
+  pub file-read : {n p a u k : ℕ} {v o : List ℕ} {t : Bool} (m q : ℕ) → length log ≡ 40960 → t ≡ fileLength f → not t ≡ false → fault m q ≡ fileFault f → m ≡ 0
+      → readBackOf n p a u k v o ≡ readBack f → readBackOf n p a u k v o ≡ readOf log f
+  unfolding readOf fault
+  file-read {t = t} m q l et h e z r = r ∙ rw (eq-eqb (length log) 40960 l, ← et, not-false t h, ← e, z)
+
+  pub faultless : (m q : ℕ) → fault m q ≡ fileFault f → m ≡ 0 → fileFault f .number ≡ 0
+  unfolding fault
+  faultless m q e z = sym (ap (λ (x : Fault). x .number) e) ∙ z

@@ -1,0 +1,49 @@
+use Rattle.sab.proofs.Calls.{asks-wrong, hands}
+use borrow.Author.Needs.{needs}
+use Rattle.sab.proofs.sab_hand_out.Statement.{statement}
+use Rattle.sab.proofs.sab_hand_out.Tie as tie
+use Rattle.sab.proofs.sab_hand_out.Reads as reads
+use Rattle.sab.proofs.sab_hand_out.Lts as lts
+use Rattle.hand_out.proofs.hand_out.Reads as hand-out-reads
+use Rattle.sab_words.proofs.pack.Reads as pack-reads
+use Rattle.vector.proofs.vector_at.Reads as vector-at-reads
+
+-- src/lib.rt:66:9
+pack-requires : tie.Need-pack-requires
+pack-requires c κs = search needs
+
+-- src/lib.rt:66:9
+returns : tie.Need-returns
+returns c = search (asks-wrong)
+
+-- src/lib.rt:68:9
+vector-at-requires : tie.Need-vector-at-requires
+vector-at-requires c κs = search needs
+
+-- src/lib.rt:69:9
+hand-out-requires : tie.Need-hand-out-requires
+hand-out-requires c κs = search needs
+
+-- src/lib.rt:70:5
+pack-requires-2 : tie.Need-pack-requires-2
+pack-requires-2 c κs = search needs
+
+-- src/lib.rt:55:1
+same-length : tie.Need-same-length
+same-length c = search needs
+
+-- src/lib.rt:55:1
+returns-2 : tie.Need-returns-2
+returns-2 c = search (hands)
+
+pub sab-hand-out-spec : {M : Type 1} → statement M
+sab-hand-out-spec =
+    tie.close
+    (tie.spec
+    pack-requires
+    returns
+    vector-at-requires
+    hand-out-requires
+    pack-requires-2
+    same-length
+    returns-2)

@@ -1,0 +1,33 @@
+use Rattle.sab.proofs.Calls.{tells-blocks}
+use borrow.Author.Needs.{needs}
+use Rattle.sab.proofs.sab_write_file.Statement.{statement}
+use Rattle.sab.proofs.sab_write_file.Tie as tie
+use Rattle.sab.proofs.sab_write_file.Reads as reads
+use Rattle.sab.proofs.sab_write_file.Lts as lts
+use Rattle.write_file.proofs.write_file.Reads as write-file-reads
+use Rattle.sab_words.proofs.pack.Reads as pack-reads
+use Rattle.byte_slice.proofs.wide.Reads as wide-reads
+
+-- src/lib.rt:87:9
+write-file-requires : tie.Need-write-file-requires
+write-file-requires c κs = search needs
+
+-- src/lib.rt:88:29
+wide-requires : tie.Need-wide-requires
+wide-requires c κs = search needs
+
+-- src/lib.rt:88:5
+pack-requires : tie.Need-pack-requires
+pack-requires c κs = search needs
+
+-- src/lib.rt:83:1
+same-length : tie.Need-same-length
+same-length c = search needs
+
+-- src/lib.rt:83:1
+returns : tie.Need-returns
+returns c = search (tells-blocks)
+
+pub sab-write-file-spec : {M : Type 1} → statement M
+sab-write-file-spec =
+    tie.close (tie.spec write-file-requires wide-requires pack-requires same-length returns)

@@ -1,0 +1,86 @@
+-- The ways out of taking a block, over plain values.
+-- Assumes nothing.
+use Prim.Native.Nat.{ℕ, zero, suc, _≤_}
+use native.Mathlib.Omega.{arith}
+use mathlib.Core.Path.{_≡_, refl, sym, _∙_}
+use mathlib.Core.Logic.{⊎-elim}
+use mathlib.Core.Bool.{Bool, true, false, not}
+use mathlib.Core.List.{List, []}
+use lib.ListN.{length}
+use borrow.Author.Tests.{eq-eqb, ne-eqb}
+use Rattle.model.specs.Log.{recordsOf, soundLog, logBytes}
+use Rattle.model.specs.Block.{countIn, blockFault, recordAt, recordsFrom, blockRecords}
+use Rattle.model.specs.Outcome.{Outcome, outcome, taken, takeAll, givenFault, tookAll, tookBlock, takeOf}
+use Rattle.byte_slice.proofs.Numbers.{eq-or-ne}
+use Rattle.block_laws.proofs.Faults.{header-right, stored-header}
+use Rattle.call_answer.proofs.Guards.{guards-pass, known-sound}
+use Rattle.encoding_laws.proofs.Logs.{sound-records, sound-bytes, sound-few}
+use Rattle.log_closure.specs.Tables.{Indexed}
+use Rattle.log_check.specs.declared.Layout.the-variants.{Log}
+use Rattle.log_check.specs.Places.{laidAt}
+use Rattle.log_check.specs.InOrder.{CheckGives}
+use Rattle.take_beside.specs.Judging.{afterTo, JudgeGives}
+use Rattle.take_store.specs.Stored.{Stored}
+
+-- ---- a block without a fault
+
+module _ (archive : ℕ) (b : List ℕ) (f : ℕ) (e : f ≡ givenFault archive b) where
+  pub block-bad : (log : List ℕ) → (f ≡ 0 → ⊥) → outcome f 0 log [] 0 ≡ tookBlock log b (givenFault archive b)
+  unfolding tookBlock
+  block-bad log h = rw (← e) (go f h)
+    where
+      go : (n : ℕ) → (n ≡ 0 → ⊥) → outcome n 0 log [] 0 ≡ tookBlock log b n
+      go zero h = absurd (h refl)
+      go (suc n) h = refl
+
+  module _ (z : f ≡ 0) where
+    no-fault : givenFault archive b ≡ 0
+    no-fault = sym e ∙ z
+
+    both : (length b ≡ 512) × (blockFault b ≡ 0)
+    unfolding givenFault
+    both =
+        ⊎-elim
+        (λ (n : length b ≡ 512).
+        ⊎-elim
+        (λ (g : blockFault b ≡ 0). (n, g))
+        (λ (g : blockFault b ≡ 0 → ⊥). absurd (g (rw (eq-eqb (length b) 512 n, ne-eqb (blockFault b) 0 g) at no-fault)))
+        (eq-or-ne (blockFault b) 0))
+        (λ (n : length b ≡ 512 → ⊥). absurd (let q : _≡_ {A = ℕ} 2 0 = rw (ne-eqb (length b) 512 n) at no-fault in omega arith))
+        (eq-or-ne (length b) 512)
+
+    pub given-long : length b ≡ 512
+    given-long = both .0
+
+    pub given-few : (n : ℕ) → n ≡ countIn b → n ≤ 6
+    given-few n q = rw q (stored-header b (header-right b (both .1)) .1)
+
+    module _ (log : List ℕ) (n k : ℕ) (j : JudgeGives (recordsOf log) b n k) where
+      pub block-refused : (k ≡ 0 → ⊥) → outcome k 0 log [] 0 ≡ tookBlock log b (givenFault archive b)
+      unfolding tookBlock tookAll
+      block-refused h = rw (no-fault, j .refuses h)
+
+      pub block-taken : k ≡ 0 → (m : List ℕ) → m ≡ logBytes (afterTo (recordsOf log) (recordAt b) n) → outcome 0 0 m [] 0 ≡ tookBlock log b (givenFault archive b)
+      unfolding tookBlock tookAll
+      block-taken h m q = rw (no-fault, j .accepts h, q)
+
+pub block-passed : (log b : List ℕ) (n k : ℕ) → JudgeGives (recordsOf log) b n k → n ≡ countIn b → k ≡ 0 → takeAll (recordsOf log) (recordsFrom b 0 n) ≡ taken (afterTo (recordsOf log) (recordAt b) n)
+unfolding blockRecords
+block-passed log b n k j q h = rw (← q) at (j .accepts h)
+
+-- a sound log is stored
+pub log-stored : (log : List ℕ) (used : ℕ) (held places seens : List ℕ) → length log ≡ 40960 → soundLog log ≡ true → used ≡ length (recordsOf log)
+    → Indexed (laidAt Log log) used (recordsOf log) held places seens → Stored (recordsOf log) log used held
+log-stored log used held places seens n s u i =
+    record { bytes = sym (sound-bytes log n s); sound = sound-records log s; few = sound-few log; used-is = u; counts = i .counts }
+
+-- ---- a log that was checked
+
+pub took : (archive u : ℕ) (log b : List ℕ) {s : Bool} → length log ≡ 40960 → u ≤ 7 → s ≡ soundLog log → not s ≡ false
+    → (o : Outcome) → o ≡ tookBlock log b (givenFault archive b) → o ≡ takeOf archive u log b
+unfolding takeOf
+took archive u log b n h c g o q = q ∙ guards-pass u log [] [] 0 (tookBlock log b (givenFault archive b)) n refl h c g
+
+pub checked-indexed : (log : List ℕ) {s : Bool} {used : ℕ} {held places seens : List ℕ} → CheckGives log s used held places seens → not s ≡ false
+    → Indexed (laidAt Log log) used (recordsOf log) held places seens
+checked-indexed log c g = c .holds (known-sound log (c .sound-is) g)

@@ -1,0 +1,69 @@
+// Taking a block: wholly, or not at all.
+ghost use mathlib.Core.Path.{_≡_};
+ghost use mathlib.Core.Bool.{true};
+ghost use mathlib.Core.List.{[]};
+ghost use lib.ListN.{length};
+ghost use Rattle.model.specs.Log.{recordsOf, soundLog};
+ghost use Rattle.model.specs.Outcome.{outcome, givenFault, tookBlock, takeOf};
+ghost use Rattle.log_closure.specs.Tables.{Indexed};
+ghost use Rattle.log_check.specs.declared.Layout.the-variants.{Log};
+ghost use Rattle.log_check.specs.Places.{laidAt};
+use call_answer::Answer;
+use take_store::Stock;
+use vector::Vector;
+
+// A block is taken into a sound log, or refused: 2 to 6, then each record 7, and 10 if held, else 8, 9, 11.
+pub fn take_block(
+    log: &mut [u8],
+    archive: u32,
+    b: &[u8],
+    used: usize,
+    held: Vector,
+    places: &mut [u16],
+    seens: &mut [u16],
+) -> u8
+    requires { ⌜ (length (now log) ≡ 40960) × (soundLog (now log) ≡ true) × (used ≡ length (recordsOf (now log))) × (length (now places) ≡ 4096) × (length (now seens) ≡ 4144) × Indexed (laidAt Log (now log)) used (recordsOf (now log)) (held .counts) (now places) (now seens) ⌝ }
+    ensures { λ r. ⌜ outcome r 0 (now (log .exit)) [] 0 ≡ tookBlock (now (log .entry)) (now (b .entry)) (givenFault archive (now (b .entry))) ⌝ }
+{
+    let f = take_beside::given_fault(archive, b);
+    if f != 0 {
+        return f;
+    }
+    let n = block_read::count_in(b) as usize;
+    let k = take_judge::judge_block(b, n, log, held, used, places, seens);
+    if k != 0 {
+        return k;
+    }
+    take_store::store(log, b, n, Stock { used, held });
+    0
+}
+
+// A block is taken into the log. Checked in this order: 1, 21, 19, 2 to 6, then each record 7, and 10 if held, else 8, 9, 11.
+pub fn take(log: &mut [u8], archive: u32, unit: u8, b: &[u8]) -> Answer
+    ensures { λ r. ⌜ outcome (r .number) (r .place) (now (log .exit)) [] 0 ≡ takeOf archive unit (now (log .entry)) (now (b .entry)) ⌝ }
+{
+    if log.len() != 40960 {
+        return Answer {
+            number: 1,
+            place: 0,
+        };
+    }
+    if 7 < unit {
+        return Answer {
+            number: 21,
+            place: 0,
+        };
+    }
+    let mut places = log_check::fresh_places();
+    let mut seens = log_check::fresh_seens();
+    let c = log_check::check_into(log, &mut places, &mut seens);
+    if !c.sound {
+        return Answer {
+            number: 19,
+            place: 0,
+        };
+    }
+    let held = c.held;
+    let number = take_block(log, archive, b, c.used, held, &mut places, &mut seens);
+    Answer { number, place: 0 }
+}

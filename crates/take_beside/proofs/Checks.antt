@@ -1,0 +1,139 @@
+-- The ways out of the single checks of a block and its records, over plain values.
+-- Assumes nothing.
+use Prim.Native.Nat.{ℕ, suc, _+_, _-_, _*_, _≤_, _<_}
+use native.Mathlib.Omega.{arith}
+use mathlib.Core.Path.{_≡_, refl, sym, _∙_}
+use mathlib.Core.Bool.{Bool, true, false, cond, not}
+use mathlib.Core.List.{List}
+use lib.Dec.{ltb, eqb}
+use lib.ListN.{getD, length, take, drop, set}
+use borrow.Author.Tests.{lt-ltb, le-ltb, ltb-true, le-leb, lt-leb, eq-eqb, ne-eqb, eqb-true, eqb-false, not-true, not-false}
+use Rattle.model.specs.Bytes.{sameBytes, putAt}
+use Rattle.model.specs.Record.{Rec, unit, num, seenVector, wellFormed}
+use Rattle.model.specs.Block.{archiveIn, blockFault, recordAt}
+use Rattle.model.specs.Outcome.{givenFault}
+use Rattle.byte_slice.proofs.Parts.{part-is}
+use Rattle.log_laws.proofs.Formed.{well-unit, well-own}
+use Rattle.log_closure.specs.Tables.{slotOf, positionOf, joinFault, Placed}
+use Rattle.log_admit.proofs.Faults.{formed, join-next}
+use Rattle.log_check.specs.Places.{offsetOf, laidAt}
+use Rattle.take_beside.specs.Judging.{Counted, heldAt, Step, step, heldBy, newBy, newStep, takeBy}
+
+-- ---- the block given
+
+module _ (archive : ℕ) (b : List ℕ) where
+  pub given-length : (length b ≡ 512 → ⊥) → 2 ≡ givenFault archive b
+  unfolding givenFault
+  given-length h = rw (ne-eqb (length b) 512 h)
+
+  module _ (n : length b ≡ 512) (f : ℕ) (e : f ≡ blockFault b) where
+    pub given-bad : (f ≡ 0 → ⊥) → f ≡ givenFault archive b
+    unfolding givenFault
+    given-bad h = rw (eq-eqb (length b) 512 n, ← e, ne-eqb f 0 h)
+
+    module _ (z : f ≡ 0) (a : ℕ) (q : a ≡ archiveIn b) where
+      pub given-other : (a ≡ archive → ⊥) → 6 ≡ givenFault archive b
+      unfolding givenFault
+      given-other h = rw (eq-eqb (length b) 512 n, ← e, eq-eqb f 0 z, ← q, ne-eqb a archive h)
+
+      pub given-good : a ≡ archive → 0 ≡ givenFault archive b
+      unfolding givenFault
+      given-good h = rw (eq-eqb (length b) 512 n, ← e, eq-eqb f 0 z, ← q, eq-eqb a archive h)
+
+-- ---- the record at a position
+
+module _ (log b rec : List ℕ) (p : ℕ) (t : Bool) where
+  pub held-in-log : p < 512 → t ≡ sameBytes (take (80 * p + 80 - 80 * p) (drop (80 * p) log)) rec → t ≡ sameBytes (heldAt log b p) rec
+  unfolding heldAt laidAt offsetOf
+  held-in-log h e = rw (lt-ltb p 512 h) (rw (part-is log (80 * p) 80) at e)
+
+  pub held-in-block : 512 ≤ p → t ≡ sameBytes (take (28 + 80 * (p - 512) + 80 - (28 + 80 * (p - 512))) (drop (28 + 80 * (p - 512)) b)) rec → t ≡ sameBytes (heldAt log b p) rec
+  unfolding heldAt recordAt
+  held-in-block h e = rw (le-ltb p 512 h) (rw (part-is b (28 + 80 * (p - 512)) 80) at e)
+
+-- ---- a new record
+
+module _ (r : Rec) (held : List ℕ) (used : ℕ) (places seens : List ℕ) (n : ℕ) (e : n ≡ joinFault held places seens r) where
+  pub new-barred : (n ≡ 0 → ⊥) → n ≡ newBy held used places seens r
+  unfolding newBy
+  new-barred h = rw (← e, ne-eqb n 0 h)
+
+  module _ (z : n ≡ 0) where
+    pub new-full : 512 ≤ used → 11 ≡ newBy held used places seens r
+    unfolding newBy
+    new-full k = rw (← e, eq-eqb n 0 z, le-ltb used 512 k)
+
+    pub new-none : used < 512 → 0 ≡ newBy held used places seens r
+    unfolding newBy
+    new-none k = rw (← e, eq-eqb n 0 z, lt-ltb used 512 k)
+
+-- ---- a new record is refused or held
+
+module _ (r : Rec) (held : List ℕ) (used : ℕ) (places seens : List ℕ) (n : ℕ) (e : n ≡ newBy held used places seens r) where
+  pub new-refuses : (p : ℕ) → (n ≡ 0 → ⊥) → step n held used places seens ≡ newStep r p held used places seens
+  unfolding newStep
+  new-refuses p h = rw (← e, ne-eqb n 0 h)
+
+  module _ (z : n ≡ 0) where
+    -- it is its unit's next, and there is room
+    pub new-free : (num r ≡ suc (getD held (unit r) 0)) × (used < 512)
+    unfolding newBy
+    new-free = go (eqb (joinFault held places seens r) 0) (ltb used 512) refl refl (sym e ∙ z)
+      where
+        go : (a b : Bool) → eqb (joinFault held places seens r) 0 ≡ a → ltb used 512 ≡ b → _≡_ {A = ℕ} (cond a (cond b 0 11) (joinFault held places seens r)) 0 → (num r ≡ suc (getD held (unit r) 0)) × (used < 512)
+        go true true p q x = (join-next r held places seens (eqb-true (joinFault held places seens r) 0 p), ltb-true used 512 q)
+        go true false p q x = absurd (omega arith)
+        go false b p q x = absurd (eqb-false (joinFault held places seens r) 0 p x)
+
+    module _ (c : ℕ) (b : c ≡ num r) where
+      pub new-least : 1 ≤ c
+      new-least = omega (arith, new-free .0)
+
+      pub new-most : wellFormed r ≡ true → Counted held used → c ≤ 512
+      new-most w k = omega (arith, new-free .0, new-free .1, k .within (unit r) (well-unit r w))
+
+    pub new-spare : wellFormed r ≡ true → Counted held used → (u : ℕ) → u ≡ unit r → getD held u 0 < 65535
+    new-spare w k u a = omega (arith, new-free .1, k .within u (rw a (well-unit r w)))
+
+    pub new-notes : (p u c : ℕ) (s held′ places′ seens′ : List ℕ) → u ≡ unit r → c ≡ num r → s ≡ seenVector r
+        → held′ ≡ set held u (getD held u 0 + 1) → places′ ≡ set places (slotOf u c) p → seens′ ≡ putAt seens (8 * p) s
+        → step 0 held′ (used + 1) places′ seens′ ≡ newStep r p held used places seens
+    unfolding newStep
+    new-notes p u c s held′ places′ seens′ a b f g h i = rw (← e, z, g, h, i, a, b, f)
+
+-- ---- a record of a block
+
+module _ (at : ℕ → Rec) (r : Rec) (p : ℕ) (held : List ℕ) (used : ℕ) (places seens : List ℕ) (w : Bool) (e : w ≡ wellFormed r) where
+  pub take-malformed : not w ≡ true → step 7 held used places seens ≡ takeBy at r p held used places seens
+  unfolding takeBy
+  take-malformed g = rw (← e, not-true w g)
+
+  module _ (g : not w ≡ false) (u c : ℕ) (a : u ≡ unit r) (b : c ≡ num r) where
+    pub unit-judged : u < 8
+    unit-judged = rw a (well-unit r (formed r w e g))
+
+    pub take-unheld : getD held u 0 < c → (o : Step) → o ≡ newStep r p held used places seens → o ≡ takeBy at r p held used places seens
+    unfolding takeBy
+    take-unheld h o f = f ∙ rw (← e, not-false w g, ← a, ← b, lt-leb c (getD held u 0) h)
+
+    module _ (h : c ≤ getD held u 0) where
+      pub held-least : 1 ≤ c
+      held-least = omega (arith, well-own r (formed r w e g))
+
+      pub held-most : Placed held places → c ≤ 512
+      held-most k = omega (arith, k .few u unit-judged)
+
+      module _ (q : ℕ) (i : q ≡ positionOf places u c) where
+        pub held-inside : Placed held places → q < 518
+        held-inside k = rw i (k .inside u c unit-judged held-least h)
+
+        module _ (t : Bool) (f : t ≡ sameBytes (at q) r) where
+          held-number : takeBy at r p held used places seens ≡ step (cond t 0 10) held used places seens
+          unfolding takeBy heldBy
+          held-number = rw (← e, not-false w g, ← a, ← b, le-leb c (getD held u 0) h, ← i, ← f)
+
+          pub take-held : t ≡ true → step 0 held used places seens ≡ takeBy at r p held used places seens
+          take-held z = sym (rw z at held-number)
+
+          pub take-differs : t ≡ false → step 10 held used places seens ≡ takeBy at r p held used places seens
+          take-differs z = sym (rw z at held-number)

@@ -1,0 +1,66 @@
+use Rattle.log_admit.proofs.Faults.{unit-small}
+use Rattle.take_beside.proofs.Checks.{new-refuses, new-least, new-most, new-spare, new-notes}
+use borrow.Author.Needs.{needs}
+use Rattle.take_beside.proofs.take_new.Statement.{statement}
+use Rattle.take_beside.proofs.take_new.Tie as tie
+
+seen-vector-requires : tie.Need-seen-vector-requires
+seen-vector-requires c κs = search needs
+
+new-fault-requires : tie.Need-new-fault-requires
+new-fault-requires c κs = search needs
+
+same-length : tie.Need-same-length
+same-length c = search needs
+
+same-length-2 : tie.Need-same-length-2
+same-length-2 c = search needs
+
+returns : tie.Need-returns
+returns c = search (new-refuses)
+
+unit-of-requires : tie.Need-unit-of-requires
+unit-of-requires c κs = search needs
+
+cast-u : tie.Need-cast-u
+cast-u c = search needs
+
+number-of-requires : tie.Need-number-of-requires
+number-of-requires c κs = search needs
+
+note-requires : tie.Need-note-requires
+note-requires c κs = (search (unit-small), search (new-least), search (new-most), search needs, search needs, search needs)
+
+bump-requires : tie.Need-bump-requires
+bump-requires c κs = (search (unit-small), search (new-spare))
+
+add-t23 : tie.Need-add-t23
+add-t23 c = search needs
+
+same-length-3 : tie.Need-same-length-3
+same-length-3 c = search needs
+
+same-length-4 : tie.Need-same-length-4
+same-length-4 c = search needs
+
+returns-2 : tie.Need-returns-2
+returns-2 c = search (new-notes)
+
+pub take-new-spec : {M : Type 1} → statement M
+take-new-spec =
+    tie.close
+    (tie.spec
+    seen-vector-requires
+    new-fault-requires
+    same-length
+    same-length-2
+    returns
+    unit-of-requires
+    cast-u
+    number-of-requires
+    note-requires
+    bump-requires
+    add-t23
+    same-length-3
+    same-length-4
+    returns-2)

@@ -1,0 +1,76 @@
+-- The records of a block judged one after another beside those held, by the tables and by the list.
+-- Assumes nothing.
+use Prim.Native.Nat.{ℕ, zero, suc, _+_, _-_, _*_, _≤_, _<_}
+use mathlib.Core.Path.{_≡_}
+use mathlib.Core.Bool.{cond}
+use mathlib.Core.List.{List}
+use lib.Dec.{ltb, leb, eqb}
+use lib.ListN.{getD, set}
+use Rattle.model.specs.Numbers.{malformed, otherBytes, fullLog}
+use Rattle.model.specs.Bytes.{sameBytes, putAt}
+use Rattle.model.specs.Record.{Rec, unit, num, seenVector, wellFormed}
+use Rattle.model.specs.Block.{recordAt, blockRecords}
+use Rattle.model.specs.Outcome.{refused, taken, takeOne, takeAll}
+use Rattle.log_closure.specs.Tables.{slotOf, positionOf, joinFault}
+use Rattle.log_check.specs.declared.Layout.the-variants.{Log}
+use Rattle.log_check.specs.Places.{laidAt}
+
+-- ---- by the tables
+
+-- the record at a position: below 512 that of the log, from there on that of the block
+unfoldable pub heldAt : List ℕ → List ℕ → ℕ → Rec
+heldAt log block p = cond (ltb p 512) (laidAt Log log p) (recordAt block (p - 512))
+
+-- what a record of a block comes to: its number, and what is held then
+pub record Step : Type 0 where
+  pub number : ℕ
+  pub held : List ℕ
+  pub used : ℕ
+  pub places : List ℕ
+  pub seens : List ℕ
+
+abbrev pub step : ℕ → List ℕ → ℕ → List ℕ → List ℕ → Step
+step n held used places seens = record { number = n; held = held; used = used; places = places; seens = seens }
+
+-- no unit has more records than there are
+pub record Counted (held : List ℕ) (used : ℕ) : Type 0 where
+  pub within : (u : ℕ) → u < 8 → getD held u 0 ≤ used
+
+-- 10 of a record whose identity is held, or 0
+unfoldable pub heldBy : (ℕ → Rec) → List ℕ → Rec → ℕ
+heldBy at places r = cond (sameBytes (at (positionOf places (unit r) (num r))) r) 0 otherBytes
+
+-- the first of 8, 9 and 11 that holds of a record whose identity is not held, or 0
+unfoldable pub newBy : List ℕ → ℕ → List ℕ → List ℕ → Rec → ℕ
+newBy held used places seens r =
+    cond (eqb (joinFault held places seens r) 0) (cond (ltb used 512) 0 fullLog) (joinFault held places seens r)
+
+-- a new record is refused, or held at the position p
+unfoldable pub newStep : Rec → ℕ → List ℕ → ℕ → List ℕ → List ℕ → Step
+newStep r p held used places seens =
+    cond (eqb (newBy held used places seens r) 0)
+    (step 0 (set held (unit r) (getD held (unit r) 0 + 1)) (used + 1) (set places (slotOf (unit r) (num r)) p) (putAt seens (8 * p) (seenVector r)))
+    (step (newBy held used places seens r) held used places seens)
+
+-- 7, then 10 if held, else 8, 9, 11
+unfoldable pub takeBy : (ℕ → Rec) → Rec → ℕ → List ℕ → ℕ → List ℕ → List ℕ → Step
+takeBy at r p held used places seens =
+    cond (wellFormed r)
+    (cond (leb (num r) (getD held (unit r) 0)) (step (heldBy at places r) held used places seens) (newStep r p held used places seens))
+    (step malformed held used places seens)
+
+-- ---- by the list
+
+-- the records held after a record; those held before if it is refused
+unfoldable pub after : List Rec → Rec → List Rec
+after l r = elim (takeOne l r) [ refused n ↦ l | taken m ↦ m ]
+
+-- the records held after the first n records of a block
+unfoldable pub afterTo : List Rec → (ℕ → Rec) → ℕ → List Rec
+afterTo l at zero = l
+afterTo l at (suc n) = after (afterTo l at n) (at n)
+
+-- what judging a block gives: the number of its refusal, or 0 if it is taken
+pub record JudgeGives (l : List Rec) (block : List ℕ) (count number : ℕ) : Type 0 where
+  pub refuses : (number ≡ 0 → ⊥) → takeAll l (blockRecords block) ≡ refused number
+  pub accepts : number ≡ 0 → takeAll l (blockRecords block) ≡ taken (afterTo l (recordAt block) count)

@@ -1,0 +1,85 @@
+// The records of a block judged one after another beside those held. Nothing is written but the tables.
+ghost use mathlib.Core.Path.{_≡_};
+ghost use Prim.Native.Nat.{_+_, _≤_, _<_};
+ghost use lib.ListN.{length};
+ghost use Rattle.model.specs.Log.{recordsOf};
+ghost use Rattle.model.specs.Block.{countIn};
+ghost use Rattle.log_closure.specs.Tables.{Placed, Indexed};
+ghost use Rattle.log_check.specs.declared.Layout.the-variants.{Log};
+ghost use Rattle.log_check.specs.Places.{laidAt};
+ghost use Rattle.take_beside.specs.Judging.{Counted, heldAt, step, takeBy, JudgeGives};
+use take_beside::Judged;
+use take_beside::same_held;
+use take_beside::take_new;
+use vector::Vector;
+
+// One record of a block: 7, then 10 if its identity is held, else 8, 9, 11. A new one is held at the position p.
+pub fn take_record(
+    rec: &[u8],
+    p: usize,
+    held: Vector,
+    used: usize,
+    log: &[u8],
+    b: &[u8],
+    places: &mut [u16],
+    seens: &mut [u16],
+) -> Judged
+    requires { ⌜ (length (now rec) ≡ 80) × (p < 518) × (used ≤ 512) × (length (now log) ≡ 40960) × (length (now b) ≡ 512) × (length (now places) ≡ 4096) × (length (now seens) ≡ 4144) × Placed (held .counts) (now places) × Counted (held .counts) used ⌝ }
+    ensures { λ r. ⌜ step (r .number) (r .held .counts) (r .used) (now (places .exit)) (now (seens .exit)) ≡ takeBy (heldAt (now (log .entry)) (now (b .entry))) (now (rec .entry)) p (held .counts) used (now (places .entry)) (now (seens .entry)) ⌝ }
+{
+    if !record::well_formed(rec) {
+        return Judged {
+            number: 7,
+            held,
+            used,
+        };
+    }
+    let u = record::unit_of(rec) as usize;
+    let c = record::number_of(rec);
+    if held.counts[u] < c {
+        return take_new(rec, p, held, used, places, seens);
+    }
+    let q = log_closure::position(places, u, c);
+    if same_held(rec, q, log, b) {
+        return Judged {
+            number: 0,
+            held,
+            used,
+        };
+    }
+    Judged {
+        number: 10,
+        held,
+        used,
+    }
+}
+
+// The n records of a block, one after another: the number of the first that is refused, or 0. Earlier ones count as held.
+pub fn judge_block(
+    b: &[u8],
+    n: usize,
+    log: &[u8],
+    v: Vector,
+    m: usize,
+    places: &mut [u16],
+    seens: &mut [u16],
+) -> u8
+    requires { ⌜ (length (now b) ≡ 512) × (n ≡ countIn (now b)) × (n ≤ 6) × (length (now log) ≡ 40960) × (m ≡ length (recordsOf (now log))) × (length (now places) ≡ 4096) × (length (now seens) ≡ 4144) × Indexed (laidAt Log (now log)) m (recordsOf (now log)) (v .counts) (now places) (now seens) ⌝ }
+    ensures { λ r. ⌜ JudgeGives (recordsOf (now (log .entry))) (now (b .entry)) n r ⌝ }
+{
+    let mut held = v;
+    let mut used = m;
+    let mut j: usize = 0;
+    while j < n {
+        let at = 28 + 80 * j;
+        let t = take_record(&b[at..at + 80], 512 + j, held, used, log, b, places, seens);
+        if t.number != 0 {
+            return t.number;
+        }
+        let next = t.held;
+        held = next;
+        used = t.used;
+        j += 1;
+    }
+    0
+}

@@ -1,0 +1,258 @@
+-- What the functions that change a row are asked, over plain values.
+-- Assumes nothing.
+use Prim.Native.Nat.{ℕ, suc, _+_, _-_, _*_, _≤_, _<_}
+use native.Mathlib.Nat.{zero-add, sub-zero}
+use native.Mathlib.Omega.{arith}
+use mathlib.Core.Path.{_≡_, refl, sym, ap, _∙_}
+use mathlib.Core.Bool.{Bool, true, false, cond, _&&_}
+use mathlib.Core.Option.{none, some}
+use mathlib.Core.List.{List, [], _∷_}
+use lib.Dec.{eqb}
+use lib.ListN.{getD, length, set, take, drop}
+use borrow.Author.Tests.{eq-eqb, eqb-true}
+use borrow.Rule.Slice.PartMut.{putMid}
+use Rattle.model.specs.Bytes.{part}
+use Rattle.model.specs.Record.{Rec, objectOf, labelOf}
+use Rattle.model.specs.Replay.{Entry, isPresent, isIn, entryOf, changed, settled, stored, renamed, removed}
+use Rattle.model.specs.Table.{entryRow, asideRow}
+use Rattle.byte_slice.proofs.Numbers.{and-true}
+use Rattle.byte_slice.proofs.Parts.{part-is}
+use Rattle.byte_slice.proofs.PutAt.{mid-put}
+use Rattle.tree_table.specs.Rows.{entryIn, entriesFrom, asidesFrom, treeIn, rowIn, storedRow, renamedRow, InRange, Proper}
+use Rattle.tree_table.proofs.Rows.{row-length, aside-row-length}
+use Rattle.tree_table.proofs.Fields.{settledOne, store-entry, rename-entry, remove-entry, settle-aside, stored-proper, renamed-proper, removed-proper}
+use Rattle.tree_lookup.specs.Roles.{rowFrom, noteOf, Works, Holds}
+use Rattle.hash_chains.specs.Chains.{nodesIn, Chains}
+use Rattle.tree_maps.specs.Keys.{slotOf, relabelled, left, Keyed}
+use Rattle.tree_maps.proofs.Counts.{children-some, present-in}
+use Rattle.tree_maps.proofs.Keeping.{keyed-same, keyed-relabelled, keyed-left, relabelled-role, relabelled-long, relabelled-nodes, left-role, left-long, left-nodes}
+use Rattle.tree_lookup.proofs.Places.{row-lone, change-at, note-at, not-settled}
+use Rattle.tree_lookup.proofs.Working.{blankEntry, blankAside, proper-at, row-none, row-some, works-long, works-row, role-note, role-no-note}
+use Rattle.tree_amend.specs.Effects.{withEntries, withAsides, Takes}
+use Rattle.tree_amend.proofs.Changes.{works-part, works-part-aside, works-change, works-settle}
+
+-- ---- an entry that is found, and its row
+
+some-entry : (k : ℕ) (l : List Entry) (e : Entry) → entryOf k l ≡ some e → (e .made ≡ k) × (isPresent e ≡ true)
+unfolding entryOf
+some-entry k [] e h = absurd (let z : _≡_ {A = ℕ} 0 1 = cc in omega arith)
+some-entry k (x ∷ l) e h = go (eqb (x .made) k && isPresent x) refl h (some-entry k l e)
+  where
+    go : (t : Bool) → (eqb (x .made) k && isPresent x) ≡ t → cond t (some x) (entryOf k l) ≡ some e
+        → (entryOf k l ≡ some e → (e .made ≡ k) × (isPresent e ≡ true)) → (e .made ≡ k) × (isPresent e ≡ true)
+    go true p q rest =
+        let (a, c) = and-true (eqb (x .made) k) (isPresent x) p in
+        let i : x ≡ e = cc in
+        (rw (← i) (eqb-true (x .made) k a), rw (← i) c)
+    go false p q rest = rest q
+
+no-entry-no-change : (f : Entry → Entry) (k : ℕ) (l : List Entry) → entryOf k l ≡ none → changed f k l ≡ l
+unfolding entryOf changed
+no-entry-no-change f k [] h = refl
+no-entry-no-change f k (x ∷ l) h = go (eqb (x .made) k && isPresent x) h (no-entry-no-change f k l)
+  where
+    go : (t : Bool) → cond t (some x) (entryOf k l) ≡ none → (entryOf k l ≡ none → changed f k l ≡ l) → cond t (f x ∷ l) (x ∷ changed f k l) ≡ x ∷ l
+    go true q rest = absurd (let z : _≡_ {A = ℕ} 0 1 = cc in omega arith)
+    go false q rest = ap (λ (y : List Entry). x ∷ y) (rest q)
+
+-- a change of entries, and what it does to their rows
+pub record Writes (f : Entry → Entry) (g : List ℕ → List ℕ) : Type 0 where
+  pub row : (e : Entry) → Proper e → g (entryRow 0 e) ≡ entryRow 0 (f e)
+  pub made : (e : Entry) → f e .made ≡ e .made
+  pub fit : (e : Entry) → Proper e → Proper (f e)
+
+module _ (b register : List ℕ) (n m : ℕ) (w : Holds b register n m) (k row : ℕ) (o : rowIn b n row ≡ entryOf k (entriesFrom b 0 n)) where
+  -- an absent object leaves all as it is
+  pub nothing-changed : (f : Entry → Entry) → n ≤ row → Works b register n m (withEntries (treeIn b n m) (changed f k (entriesFrom b 0 n)))
+  unfolding withEntries treeIn
+  nothing-changed f h = rw (no-entry-no-change f k (entriesFrom b 0 n) (sym o ∙ row-none b n row h)) w
+
+  -- the entry that is found
+  here-is : row < n → getD (entriesFrom b 0 n) row blankEntry ≡ entryIn b (4 + 72 * row)
+  unfolding treeIn
+  here-is h = works-row b register n m (treeIn b n m) w row blankEntry h
+
+  here-some : row < n → (getD (entriesFrom b 0 n) row blankEntry .made ≡ k) × (isPresent (getD (entriesFrom b 0 n) row blankEntry) ≡ true)
+  here-some h = rw (here-is h) (some-entry k (entriesFrom b 0 n) (entryIn b (4 + 72 * row)) (sym o ∙ row-some b n row h))
+
+  here-low : row < n → row < length (entriesFrom b 0 n)
+  unfolding treeIn
+  here-low h = let rows = w .rows in omega arith
+
+  pub row-changed : (f : Entry → Entry) (g : List ℕ → List ℕ) → Writes f g → row < n → (l : List ℕ)
+      → length l ≡ length register → ((s : ℕ) → s < 4096 → getD l s 0 ≡ getD register s 0)
+      → Keyed l n (set (entriesFrom b 0 n) row (f (getD (entriesFrom b 0 n) row blankEntry))) → (ys : List ℕ)
+      → ys ≡ g (take (4 + 72 * row + 72 - (4 + 72 * row)) (drop (4 + 72 * row) b))
+      → Works (putMid (4 + 72 * row) (4 + 72 * row + 72 - (4 + 72 * row)) b ys) l n m (withEntries (treeIn b n m) (changed f k (entriesFrom b 0 n)))
+  unfolding treeIn
+  row-changed f g c h l long low key ys y =
+      let t = treeIn b n m in
+      let es = entriesFrom b 0 n in
+      let e = getD es row blankEntry in
+      let (p1, q1) = here-some h in
+      let a = row-lone k 0 es row blankEntry (w .lone) (here-low h) p1 in
+      let a1 : rowFrom k 0 es ≡ suc row = rw (zero-add row) at a in
+      let x : changed f k es ≡ set es row (f e) = change-at f k es row blankEntry (w .lone) a1 ∙ rw q1 in
+      let r = proper-at es row blankEntry (here-low h) (w .proper) in
+      let s : part b (4 + 72 * row) 72 ≡ entryRow 0 e = works-part b register n m t w row h in
+      let z : ys ≡ entryRow 0 (f e) = y ∙ rw (part-is b (4 + 72 * row) 72, s) (c .row e r) in
+      let v = works-change b register n m t w row (f e) l h (c .made e) (c .fit e r) long low key in
+      rw (mid-put (4 + 72 * row) 72 b ys (ap (λ (l : List ℕ). length l) z ∙ row-length 0 (f e) (c .fit e r)), z, x) v
+
+  -- the register is asked to let the entry leave its folder
+  pub leave-counts : row < n → (f : ℕ) → f ≡ entryIn b (4 + 72 * row) .inside → InRange f → 1 ≤ getD register (4096 + slotOf f) 0
+  unfolding treeIn
+  leave-counts h f q r =
+      let es = entriesFrom b 0 n in
+      let e = getD es row blankEntry in
+      let at : e .inside ≡ f = ap (λ (x : Entry). x .inside) (here-is h) ∙ sym q in
+      let i : isIn f e ≡ true = present-in f e (here-some h .1) ∙ eq-eqb (e .inside) f at in
+      let c = children-some f es row blankEntry (here-low h) i in
+      omega (arith, w .keyed .counted f r)
+
+module _ (r : Rec) (long : length r ≡ 80) where
+  pub stored-writes : Writes (stored r) (λ x. storedRow x r)
+  unfolding stored
+  stored-writes = record { row = λ e p. store-entry r long 0 e p; made = λ e. refl; fit = λ e p. stored-proper r long e p }
+
+  pub renamed-writes : Writes (renamed r) (λ x. renamedRow x r)
+  unfolding renamed
+  renamed-writes = record { row = λ e p. rename-entry r long 0 e p; made = λ e. refl; fit = λ e p. renamed-proper r long e p }
+
+pub removed-writes : Writes removed (λ x. set x 0 0)
+unfolding removed
+removed-writes = record { row = λ e p. remove-entry 0 e; made = λ e. refl; fit = λ e p. removed-proper e p }
+
+-- ---- a settle
+
+module _ (b register : List ℕ) (n m : ℕ) (w : Holds b register n m) (k : ℕ) (u : InRange k) (role : ℕ) (e : role ≡ getD register (slotOf k) 0) where
+  none-settled : role ≤ 512 → Works b register n m (withAsides (treeIn b n m) (settled k (asidesFrom b 0 m)))
+  unfolding withAsides treeIn noteOf
+  none-settled h = rw (not-settled k 0 (asidesFrom b 0 m) (role-no-note b register n m (treeIn b n m) w k u role e h)) w
+
+  pub note-inside : 512 < role → role - 513 < m
+  unfolding treeIn noteOf
+  note-inside h =
+      let a = note-at k 0 (asidesFrom b 0 m) (role - 513) blankAside (role-note b register n m (treeIn b n m) w k u role e h) in
+      let notes = w .notes in
+      omega (arith, a .inside)
+
+  one-settled : 512 < role → (ys : List ℕ)
+      → ys ≡ set (take (36868 + 12 * (role - 513) + 12 - (36868 + 12 * (role - 513))) (drop (36868 + 12 * (role - 513)) b)) 5 2
+      → Works
+      (putMid (36868 + 12 * (role - 513)) (36868 + 12 * (role - 513) + 12 - (36868 + 12 * (role - 513))) b ys)
+      register
+      n
+      m
+      (withAsides (treeIn b n m) (settled k (asidesFrom b 0 m)))
+  unfolding treeIn noteOf
+  one-settled h ys y =
+      let t = treeIn b n m in
+      let l = asidesFrom b 0 m in
+      let i = role - 513 in
+      let x = settledOne (getD l i blankAside) in
+      let a = note-at k 0 l i blankAside (role-note b register n m t w k u role e h) in
+      let a1 : settled k l ≡ set l i x = rw sub-zero at (a .settles) in
+      let s : part b (36868 + 12 * i) 12 ≡ asideRow (getD l i blankAside) = works-part-aside b register n m t w i (note-inside h) in
+      let z : ys ≡ asideRow x = y ∙ rw (part-is b (36868 + 12 * i) 12, s) (settle-aside (getD l i blankAside)) in
+      let v = works-settle b register n m t w i (note-inside h) in
+      rw (mid-put (36868 + 12 * i) 12 b ys (ap (λ (q : List ℕ). length q) z ∙ aside-row-length x), z, a1) v
+
+  module _ (r : Rec) (g : k ≡ objectOf r) where
+    pub nothing-settled : role ≤ 512 → Works b register n m (withAsides (treeIn b n m) (settled (objectOf r) (asidesFrom b 0 m)))
+    nothing-settled h = rw (← g) (none-settled h)
+
+    pub aside-settled : 512 < role → (ys : List ℕ)
+        → ys ≡ set (take (36868 + 12 * (role - 513) + 12 - (36868 + 12 * (role - 513))) (drop (36868 + 12 * (role - 513)) b)) 5 2
+        → Works
+        (putMid (36868 + 12 * (role - 513)) (36868 + 12 * (role - 513) + 12 - (36868 + 12 * (role - 513))) b ys)
+        register
+        n
+        m
+        (withAsides (treeIn b n m) (settled (objectOf r) (asidesFrom b 0 m)))
+    aside-settled h ys y = rw (← g) (one-settled h ys y)
+
+-- ---- store, rename and remove
+
+module _ (b register : List ℕ) (n m : ℕ) (w : Holds b register n m) (r : Rec) (h : Takes (treeIn b n m) r) (k row : ℕ) (p : k ≡ objectOf r) (o : rowIn b n row ≡ entryOf k (entriesFrom b 0 n)) where
+  pub unchanged : (f : Entry → Entry) → n ≤ row → Works b register n m (withEntries (treeIn b n m) (changed f (objectOf r) (entriesFrom b 0 n)))
+  unchanged f g = rw (← p) (nothing-changed b register n m w k row o f g)
+
+  pub store-done : row < n → (ys : List ℕ) → ys ≡ storedRow (take (4 + 72 * row + 72 - (4 + 72 * row)) (drop (4 + 72 * row) b)) r
+      → Works
+      (putMid (4 + 72 * row) (4 + 72 * row + 72 - (4 + 72 * row)) b ys)
+      register
+      n
+      m
+      (withEntries (treeIn b n m) (changed (stored r) (objectOf r) (entriesFrom b 0 n)))
+  unfolding stored isPresent treeIn
+  store-done g ys y =
+      let es = entriesFrom b 0 n in
+      let e = getD es row blankEntry in
+      let key = keyed-same register n es (w .keyed) row (stored r e) blankEntry (here-low b register n m w k row o g) g refl refl refl in
+      rw (← p) (row-changed b register n m w k row o (stored r) (λ x. storedRow x r) (stored-writes r (h .asks .long)) g register refl (λ s _. refl) key ys y)
+
+  module _ (f : ℕ) (old l : List ℕ) where
+    pub rename-done : row < n → nodesIn register < 512 → f ≡ entryIn b (4 + 72 * row) .inside → l ≡ relabelled register f old (labelOf r) row
+        → (ys : List ℕ) → ys ≡ renamedRow (take (4 + 72 * row + 72 - (4 + 72 * row)) (drop (4 + 72 * row) b)) r
+        → Works
+        (putMid (4 + 72 * row) (4 + 72 * row + 72 - (4 + 72 * row)) b ys)
+        l
+        n
+        m
+        (withEntries (treeIn b n m) (changed (renamed r) (objectOf r) (entriesFrom b 0 n)))
+    unfolding renamed isPresent treeIn
+    rename-done g nodes q x ys y =
+        let es = entriesFrom b 0 n in
+        let e = getD es row blankEntry in
+        let i : f ≡ e .inside = q ∙ ap (λ (z : Entry). z .inside) (sym (here-is b register n m w k row o g)) in
+        let x1 : l ≡ relabelled register (e .inside) old (labelOf r) row = rw i at x in
+        let key = keyed-relabelled register n es (w .keyed) row (renamed r e) blankEntry old (here-low b register n m w k row o g) g refl refl nodes in
+        rw (← p, x1)
+        (row-changed b register n m w k row o (renamed r) (λ x. renamedRow x r) (renamed-writes r (h .asks .long)) g
+        (relabelled register (e .inside) old (labelOf r) row)
+        (relabelled-long register (e .inside) (labelOf r) row old)
+        (relabelled-role register (e .inside) (labelOf r) row old)
+        key ys y)
+
+    pub rename-nodes : nodesIn register < 512 → l ≡ relabelled register f old (labelOf r) row → nodesIn l ≤ nodesIn register + 1
+    rename-nodes nodes x = omega (arith, ap nodesIn x, relabelled-nodes register f (labelOf r) row old (w .keyed .chains) nodes)
+
+    pub remove-done : row < n → f ≡ entryIn b (4 + 72 * row) .inside → l ≡ left register f old row
+        → (ys : List ℕ) → ys ≡ set (take (4 + 72 * row + 72 - (4 + 72 * row)) (drop (4 + 72 * row) b)) 0 0
+        → Works
+        (putMid (4 + 72 * row) (4 + 72 * row + 72 - (4 + 72 * row)) b ys)
+        l
+        n
+        m
+        (withEntries (treeIn b n m) (changed removed (objectOf r) (entriesFrom b 0 n)))
+    unfolding removed isPresent treeIn
+    remove-done g q x ys y =
+        let es = entriesFrom b 0 n in
+        let e = getD es row blankEntry in
+        let i : f ≡ e .inside = q ∙ ap (λ (z : Entry). z .inside) (sym (here-is b register n m w k row o g)) in
+        let key = keyed-left register n es (w .keyed) row (removed e) blankEntry f old (here-low b register n m w k row o g) (here-some b register n m w k row o g .1) refl i in
+        rw (← p, x)
+        (row-changed b register n m w k row o removed (λ x. set x 0 0) removed-writes g (left register f old row) (left-long register f old row) (left-role register f old row) key ys y)
+
+    pub remove-nodes : l ≡ left register f old row → nodesIn l ≤ nodesIn register + 1
+    remove-nodes x = omega (arith, ap nodesIn x, left-nodes register f old row (w .keyed .chains))
+
+-- ---- rows lie within the table
+
+module _ (b register : List ℕ) (n m : ℕ) (w : Holds b register n m) where
+  pub row-end : (row : ℕ) → row < n → 4 + 72 * row + 72 ≤ length b
+  row-end row h =
+      let f = w .rows-fit in
+      omega (arith, works-long b register n m (treeIn b n m) w)
+
+  pub label-end : (row : ℕ) → row < n → 4 + 72 * row + 56 ≤ length b
+  label-end row h = omega (arith, row-end row h)
+
+  pub works-chains : Chains register
+  works-chains = w .keyed .chains
+
+  pub note-end : (k : ℕ) → InRange k → (role : ℕ) → role ≡ getD register (slotOf k) 0 → 512 < role → 36868 + 12 * (role - 513) + 12 ≤ length b
+  note-end k u role e h =
+      let f = w .notes-fit in
+      omega (arith, works-long b register n m (treeIn b n m) w, note-inside b register n m w k u role e h)

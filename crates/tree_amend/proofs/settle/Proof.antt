@@ -1,0 +1,62 @@
+use Rattle.tree_judge.proofs.Reasons.{object-range}
+use Rattle.tree_amend.proofs.Amending.{nothing-settled, aside-settled, note-end}
+use borrow.Author.Needs.{needs}
+use Rattle.tree_amend.proofs.settle.Statement.{statement}
+use Rattle.tree_amend.proofs.settle.Tie as tie
+
+object-of-requires : tie.Need-object-of-requires
+object-of-requires c κs = search needs
+
+role-of-requires : tie.Need-role-of-requires
+role-of-requires c κs = (search (object-range), search)
+
+returns : tie.Need-returns
+returns c = search (nothing-settled, object-range)
+
+sub-at : tie.Need-sub-at
+sub-at c = search needs
+
+mul-at : tie.Need-mul-at
+mul-at c = search needs
+
+add-at : tie.Need-add-at
+add-at c = search needs
+
+add-settle-row : tie.Need-add-settle-row
+add-settle-row c = search needs
+
+sub-settle-row : tie.Need-sub-settle-row
+sub-settle-row c = search needs
+
+part-settle-row-start : tie.Need-part-settle-row-start
+part-settle-row-start c = search needs
+
+part-settle-row-end : tie.Need-part-settle-row-end
+part-settle-row-end c = search (note-end, object-range)
+
+settle-row-requires : tie.Need-settle-row-requires
+settle-row-requires c κs = search needs
+
+same-length : tie.Need-same-length
+same-length c = search needs
+
+returns-2 : tie.Need-returns-2
+returns-2 c = search (aside-settled, object-range)
+
+pub settle-spec : {M : Type 1} → statement M
+settle-spec =
+    tie.close
+    (tie.spec
+    object-of-requires
+    role-of-requires
+    returns
+    sub-at
+    mul-at
+    add-at
+    add-settle-row
+    sub-settle-row
+    part-settle-row-start
+    part-settle-row-end
+    settle-row-requires
+    same-length
+    returns-2)

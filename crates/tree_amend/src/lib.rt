@@ -1,0 +1,92 @@
+// What a record changes of an entry or an aside that stands in a table of rows, and in the register beside it.
+ghost use mathlib.Core.Path.{_≡_};
+ghost use Prim.Native.Nat.{_+_, _≤_, _<_};
+ghost use lib.ListN.{length, getD, set};
+ghost use Rattle.model.specs.Record.{objectOf};
+ghost use Rattle.model.specs.Replay.{stored, renamed, removed, changed, settled};
+ghost use Rattle.tree_table.specs.Rows.{entriesFrom, asidesFrom, treeIn};
+ghost use Rattle.hash_chains.specs.Chains.{nodesIn};
+ghost use Rattle.tree_lookup.specs.Roles.{Works, Holds};
+ghost use Rattle.tree_amend.specs.Effects.{withEntries, withAsides, Takes};
+use tree_table::Size;
+
+// A store: contents record, date and mark of the object's row.
+pub fn store(rec: &[u8], table: &mut [u8], register: &[u16], size: Size)
+    requires { ⌜ Takes (treeIn (now table) (size .entries) (size .asides)) (now rec) × Holds (now table) (now register) (size .entries) (size .asides) × (2 < getD (now rec) 1 0) ⌝ }
+    ensures { λ _. ⌜ Works (now (table .exit)) (now (register .entry)) (size .entries) (size .asides) (withEntries (treeIn (now (table .entry)) (size .entries) (size .asides)) (changed (stored (now (rec .entry))) (objectOf (now (rec .entry))) (entriesFrom (now (table .entry)) 0 (size .entries)))) ⌝ }
+{
+    let row = tree_lookup::entry_of(table, register, size, tree_table::object_of(rec));
+    if size.entries <= row {
+        return;
+    }
+    let at = 4 + 72 * row;
+    tree_table::store_row(&mut table[at..at + 72], rec);
+}
+
+// A rename: label record and label of the object's row.
+pub fn rename(rec: &[u8], table: &mut [u8], register: &mut [u16], size: Size)
+    requires { ⌜ Takes (treeIn (now table) (size .entries) (size .asides)) (now rec) × Holds (now table) (now register) (size .entries) (size .asides) × (nodesIn (now register) < 512) × (2 < getD (now rec) 1 0) ⌝ }
+    ensures { λ _. ⌜ Works (now (table .exit)) (now (register .exit)) (size .entries) (size .asides) (withEntries (treeIn (now (table .entry)) (size .entries) (size .asides)) (changed (renamed (now (rec .entry))) (objectOf (now (rec .entry))) (entriesFrom (now (table .entry)) 0 (size .entries)))) × (nodesIn (now (register .exit)) ≤ nodesIn (now (register .entry)) + 1) ⌝ }
+{
+    let row = tree_lookup::entry_of(table, register, size, tree_table::object_of(rec));
+    if size.entries <= row {
+        return;
+    }
+    let at = 4 + 72 * row;
+    tree_maps::relabel(
+        register,
+        tree_table::inside_at(table, row),
+        &table[at + 24..at + 56],
+        &rec[32..64],
+        row,
+    );
+    tree_table::rename_row(&mut table[at..at + 72], rec);
+}
+
+// A row of a removed entry: kind 0.
+fn remove_row(row: &mut [u8])
+    requires { ⌜ length (now row) ≡ 72 ⌝ }
+    ensures { λ _. ⌜ now (row .exit) ≡ set (now (row .entry)) 0 0 ⌝ }
+{
+    row[0] = 0;
+}
+
+// A remove: the object's row stays, with kind 0.
+pub fn remove(rec: &[u8], table: &mut [u8], register: &mut [u16], size: Size)
+    requires { ⌜ Takes (treeIn (now table) (size .entries) (size .asides)) (now rec) × Holds (now table) (now register) (size .entries) (size .asides) × (2 < getD (now rec) 1 0) ⌝ }
+    ensures { λ _. ⌜ Works (now (table .exit)) (now (register .exit)) (size .entries) (size .asides) (withEntries (treeIn (now (table .entry)) (size .entries) (size .asides)) (changed removed (objectOf (now (rec .entry))) (entriesFrom (now (table .entry)) 0 (size .entries)))) × (nodesIn (now (register .exit)) ≤ nodesIn (now (register .entry)) + 1) ⌝ }
+{
+    let row = tree_lookup::entry_of(table, register, size, tree_table::object_of(rec));
+    if size.entries <= row {
+        return;
+    }
+    let at = 4 + 72 * row;
+    tree_maps::leave(
+        register,
+        tree_table::inside_at(table, row),
+        &table[at + 24..at + 56],
+        row,
+    );
+    remove_row(&mut table[at..at + 72]);
+}
+
+// A row of a settled aside: state 2.
+fn settle_row(row: &mut [u8])
+    requires { ⌜ length (now row) ≡ 12 ⌝ }
+    ensures { λ _. ⌜ now (row .exit) ≡ set (now (row .entry)) 5 2 ⌝ }
+{
+    row[5] = 2;
+}
+
+// A settle: the aside that the object names is no longer open.
+pub fn settle(rec: &[u8], table: &mut [u8], register: &[u16], size: Size)
+    requires { ⌜ Takes (treeIn (now table) (size .entries) (size .asides)) (now rec) × Holds (now table) (now register) (size .entries) (size .asides) × (2 < getD (now rec) 1 0) ⌝ }
+    ensures { λ _. ⌜ Works (now (table .exit)) (now (register .entry)) (size .entries) (size .asides) (withAsides (treeIn (now (table .entry)) (size .entries) (size .asides)) (settled (objectOf (now (rec .entry))) (asidesFrom (now (table .entry)) 0 (size .asides)))) ⌝ }
+{
+    let role = tree_lookup::role_of(register, tree_table::object_of(rec));
+    if role <= 512 {
+        return;
+    }
+    let at = 36868 + 12 * (role - 513);
+    settle_row(&mut table[at..at + 12]);
+}

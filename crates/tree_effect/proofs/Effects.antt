@@ -1,0 +1,144 @@
+-- What the functions that add a row or do what an operation says are asked, over plain values.
+-- Assumes nothing.
+use Prim.Native.Nat.{ℕ, _+_, _-_, _*_, _≤_, _<_}
+use native.Mathlib.Omega.{arith}
+use mathlib.Core.Path.{_≡_, ap, _∙_}
+use mathlib.Core.Logic.{_⊎_, ⊎-elim}
+use mathlib.Core.Bool.{true}
+use mathlib.Core.List.{List, [], _∷_, _++_}
+use lib.ListN.{getD, length, set, take, drop}
+use borrow.Author.Tests.{ne-eqb, lt-leb, le-leb}
+use borrow.Rule.Slice.PartMut.{putMid}
+use Rattle.model.specs.Bytes.{part}
+use Rattle.model.specs.Record.{Rec, op, selfOf, objectOf, folderOf, labelOf}
+use Rattle.model.specs.Replay.{Tree, isPresent, changed, settled, newEntry, stored, renamed, removed, effect}
+use Rattle.model.specs.Table.{entryRow, asideRow}
+use Rattle.byte_slice.proofs.Parts.{part-is, part-length}
+use Rattle.byte_slice.proofs.PutAt.{mid-put}
+use Rattle.tree_table.specs.Rows.{entriesFrom, asidesFrom, treeIn, newAside, newRow, InRange}
+use Rattle.tree_table.proofs.Rows.{row-length, aside-row-length}
+use Rattle.tree_table.proofs.Fields.{new-row, new-proper}
+use Rattle.tree_lookup.specs.Roles.{Works, Holds}
+use Rattle.hash_chains.specs.Chains.{nodesIn, Chains}
+use Rattle.tree_maps.specs.Keys.{slotOf, entered, Keyed}
+use Rattle.tree_maps.proofs.Counts.{children-few}
+use Rattle.tree_maps.proofs.Keeping.{keyed-role, role-nodes, entered-nodes}
+use Rattle.tree_lookup.proofs.Working.{works-long}
+use Rattle.tree_amend.specs.Effects.{withEntries, withAsides, Takes}
+use Rattle.tree_effect.proofs.Additions.{works-make, works-aside}
+
+-- ---- numbers that fit
+
+pub own-low : (t : Tree) (r : Rec) → Takes t r → selfOf r < 524288
+own-low t r h = let q = h .own .high in omega arith
+
+pub who-low : (t : Tree) (r : Rec) (k : ℕ) → Takes t r → k ≡ selfOf r → k < 524288
+who-low t r k h e = let q = h .own .high in omega arith
+
+pub folder-low : (t : Tree) (r : Rec) → Takes t r → getD r 1 0 ≤ 2 → folderOf r < 524288
+unfolding op
+folder-low t r h g =
+    ⊎-elim (λ (q : folderOf r ≡ 0). omega arith) (λ (q : InRange (folderOf r)). let z = q .high in omega arith) (h .asks .folder g)
+
+pub marked-low : (k : ℕ) → (k ≡ 0) ⊎ InRange k → k < 524288
+marked-low k h = ⊎-elim (λ (q : k ≡ 0). omega arith) (λ (q : InRange k). let z = q .high in omega arith) h
+
+-- ---- a row more
+
+new-present : (r : Rec) → 1 ≤ op r → isPresent (newEntry r) ≡ true
+unfolding isPresent newEntry
+new-present r h = rw (ne-eqb (op r) 0 (λ z. omega arith))
+
+-- a role is written, and the register is asked to enter an entry
+module _ (b register : List ℕ) (n m : ℕ) (w : Holds b register n m) (s v : ℕ) (low : s < 4096) (l : List ℕ) (g : l ≡ set register s v) where
+  role-keyed : Keyed l n (entriesFrom b 0 n)
+  unfolding treeIn
+  role-keyed = rw g (keyed-role register n (entriesFrom b 0 n) (w .keyed) s v low)
+
+  pub enter-chains : Chains l
+  enter-chains = role-keyed .chains
+
+  pub enter-nodes : nodesIn register < 512 → nodesIn l < 512
+  enter-nodes room = rw (g, role-nodes register s v low) room
+
+  pub enter-count : n < 512 → (f : ℕ) → InRange f → getD l (4096 + slotOf f) 0 < 512
+  unfolding treeIn
+  enter-count room f u =
+      let rows = w .rows in
+      omega (arith, role-keyed .counted f u, children-few f (entriesFrom b 0 n))
+
+  pub role-kept : nodesIn l ≤ nodesIn register + 1
+  role-kept = omega (arith, ap nodesIn g, role-nodes register s v low)
+
+  pub made-nodes : nodesIn register < 512 → (f : ℕ) (t : List ℕ) (row : ℕ) (l' : List ℕ) → l' ≡ entered l f t row → nodesIn l' ≤ nodesIn register + 1
+  made-nodes room f t row l' x =
+      omega (arith, ap nodesIn x, entered-nodes l f t row enter-chains (enter-nodes room), ap nodesIn g, role-nodes register s v low)
+
+module _ (b register : List ℕ) (n m : ℕ) (w : Holds b register n m) (r : Rec) (h : Takes (treeIn b n m) r) (me s : ℕ) (q : me ≡ selfOf r) (p : s ≡ slotOf me) where
+  pub entry-added : n < 512 → nodesIn register < 512 → (l l' : List ℕ) → l ≡ set register s (n + 1) → (f : ℕ) → f ≡ folderOf r → l' ≡ entered l f (labelOf r) n
+      → (ys : List ℕ) → ys ≡ newRow (take (4 + 72 * n + 72 - (4 + 72 * n)) (drop (4 + 72 * n) b)) r
+      → Works
+      (putMid (4 + 72 * n) (4 + 72 * n + 72 - (4 + 72 * n)) b ys)
+      l'
+      (n + 1)
+      m
+      (withEntries (treeIn b n m) (entriesFrom b 0 n ++ (newEntry r ∷ [])))
+  unfolding treeIn newEntry
+  entry-added room nodes l l' g f fo g' ys y =
+      let t = treeIn b n m in
+      let long = h .asks .long in
+      let bl = works-long b register n m t w in
+      let fit = new-proper r long (h .own) in
+      let c : length (part b (4 + 72 * n) 72) ≡ 72 = part-length b (4 + 72 * n) 72 (omega arith) in
+      let z : ys ≡ entryRow 0 (newEntry r) = y ∙ rw (part-is b (4 + 72 * n) 72) (new-row r long (part b (4 + 72 * n) 72) c) in
+      let v = works-make b register n m t w (newEntry r) room nodes fit (new-present r (h .asks .known)) (h .fresh) in
+      rw (mid-put (4 + 72 * n) 72 b ys (ap (λ (l : List ℕ). length l) z ∙ row-length 0 (newEntry r) fit), z, g', g, fo, p, q) v
+
+  pub aside-added : m < 512 → (reason marked : ℕ) → (marked ≡ 0) ⊎ InRange marked → (l : List ℕ) → l ≡ set register s (513 + m) → (ys : List ℕ) → ys ≡ asideRow (newAside me reason marked)
+      → Works
+      (putMid (36868 + 12 * m) (36868 + 12 * m + 12 - (36868 + 12 * m)) b ys)
+      l
+      n
+      (m + 1)
+      (withAsides (treeIn b n m) (asidesFrom b 0 m ++ (newAside (selfOf r) reason marked ∷ [])))
+  unfolding treeIn newAside
+  aside-added room reason marked fit l g ys y =
+      let t = treeIn b n m in
+      let a = newAside (selfOf r) reason marked in
+      let z : ys ≡ asideRow a = y ∙ rw q in
+      let v = works-aside b register n m t w a room (h .own) (h .fresh) fit in
+      rw (mid-put (36868 + 12 * m) 12 b ys (ap (λ (l : List ℕ). length l) z ∙ aside-row-length a), z, g, p, q) v
+
+-- ---- rows lie within the table
+
+module _ (b register : List ℕ) (n m : ℕ) (w : Holds b register n m) where
+  pub next-row-end : n < 512 → 4 + 72 * n + 72 ≤ length b
+  next-row-end h = omega (arith, works-long b register n m (treeIn b n m) w)
+
+  pub next-note-end : m < 512 → 36868 + 12 * m + 12 ≤ length b
+  next-note-end h = omega (arith, works-long b register n m (treeIn b n m) w)
+
+-- ---- any operation
+
+module _ (b b' register register' : List ℕ) (n m n' m' : ℕ) (r : Rec) where
+  pub effect-make : getD r 1 0 ≤ 2 → Works b' register' n' m' (withEntries (treeIn b n m) (entriesFrom b 0 n ++ (newEntry r ∷ []))) → Works b' register' n' m' (effect r (treeIn b n m))
+  unfolding effect op withEntries treeIn
+  effect-make h v = rw (le-leb (getD r 1 0) 2 h) v
+
+  pub effect-store : getD r 1 0 ≡ 3 → Works b' register' n' m' (withEntries (treeIn b n m) (changed (stored r) (objectOf r) (entriesFrom b 0 n))) → Works b' register' n' m' (effect r (treeIn b n m))
+  unfolding effect op withEntries treeIn
+  effect-store h v = rw h v
+
+  pub effect-remove : getD r 1 0 ≡ 4 → Works b' register' n' m' (withEntries (treeIn b n m) (changed removed (objectOf r) (entriesFrom b 0 n))) → Works b' register' n' m' (effect r (treeIn b n m))
+  unfolding effect op withEntries treeIn
+  effect-remove h v = rw h v
+
+  pub effect-rename : getD r 1 0 ≡ 5 → Works b' register' n' m' (withEntries (treeIn b n m) (changed (renamed r) (objectOf r) (entriesFrom b 0 n))) → Works b' register' n' m' (effect r (treeIn b n m))
+  unfolding effect op withEntries treeIn
+  effect-rename h v = rw h v
+
+  pub effect-settle : 2 < getD r 1 0 → (getD r 1 0 ≡ 3 → ⊥) → (getD r 1 0 ≡ 4 → ⊥) → (getD r 1 0 ≡ 5 → ⊥)
+      → Works b' register' n' m' (withAsides (treeIn b n m) (settled (objectOf r) (asidesFrom b 0 m))) → Works b' register' n' m' (effect r (treeIn b n m))
+  unfolding effect op withAsides treeIn
+  effect-settle h h3 h4 h5 v =
+      rw (lt-leb (getD r 1 0) 2 h, ne-eqb (getD r 1 0) 3 h3, ne-eqb (getD r 1 0) 4 h4, ne-eqb (getD r 1 0) 5 h5) v

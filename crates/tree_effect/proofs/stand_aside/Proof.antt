@@ -1,0 +1,69 @@
+use Rattle.tree_effect.proofs.Effects.{aside-added, role-kept, next-note-end, who-low, marked-low}
+use borrow.Author.Needs.{needs}
+use Rattle.tree_effect.proofs.stand_aside.Statement.{statement}
+use Rattle.tree_effect.proofs.stand_aside.Tie as tie
+
+self-of-requires : tie.Need-self-of-requires
+self-of-requires c κs = search needs
+
+mul-at : tie.Need-mul-at
+mul-at c = search needs
+
+add-at : tie.Need-add-at
+add-at c = search needs
+
+add-fill-aside : tie.Need-add-fill-aside
+add-fill-aside c = search needs
+
+sub-fill-aside : tie.Need-sub-fill-aside
+sub-fill-aside c = search needs
+
+part-fill-aside-start : tie.Need-part-fill-aside-start
+part-fill-aside-start c = search needs
+
+part-fill-aside-end : tie.Need-part-fill-aside-end
+part-fill-aside-end c = search (next-note-end)
+
+fill-aside-requires : tie.Need-fill-aside-requires
+fill-aside-requires c κs = (search needs, search (who-low), search (marked-low))
+
+slot-requires : tie.Need-slot-requires
+slot-requires c κs = search needs
+
+add-put : tie.Need-add-put
+add-put c = search needs
+
+put-requires : tie.Need-put-requires
+put-requires c κs = search needs
+
+add-t10 : tie.Need-add-t10
+add-t10 c = search needs
+
+same-length : tie.Need-same-length
+same-length c = search needs
+
+same-length-2 : tie.Need-same-length-2
+same-length-2 c = search needs
+
+returns : tie.Need-returns
+returns c = (search (aside-added), search (role-kept))
+
+pub stand-aside-spec : {M : Type 1} → statement M
+stand-aside-spec =
+    tie.close
+    (tie.spec
+    self-of-requires
+    mul-at
+    add-at
+    add-fill-aside
+    sub-fill-aside
+    part-fill-aside-start
+    part-fill-aside-end
+    fill-aside-requires
+    slot-requires
+    add-put
+    put-requires
+    add-t10
+    same-length
+    same-length-2
+    returns)

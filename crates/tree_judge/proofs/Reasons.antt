@@ -1,0 +1,192 @@
+-- Each way out of a judgement: the tests on the way, and the reason and mark that they lead to.
+-- Assumes nothing.
+use Prim.Native.Nat.{ℕ, _+_, _-_, _*_, _≤_, _<_}
+use mathlib.Core.Path.{_≡_, refl, sym, _∙_}
+use mathlib.Core.Logic.{⊎-elim}
+use mathlib.Core.Bool.{Bool, true, false, cond, not, _&&_, _||_}
+use mathlib.Core.Option.{Option}
+use mathlib.Core.List.{List}
+use lib.Dec.{ltb, eqb}
+use lib.ListN.{getD}
+use borrow.Author.Tests.{eq-eqb, ne-eqb, lt-ltb, le-ltb, le-leb, lt-leb, ltb-true, ltb-false}
+use Rattle.model.specs.Record.{Rec, op, objectOf, folderOf, labelOf}
+use Rattle.model.specs.Replay.{Entry, Verdict, fits, aside, entryOf, holderOf, hasEntries, standsAside, unseen, freeLabel, judgeMakeIn, judgeMake, judgeStore, judgeRemove, judgeRename, judgeSettle, judge}
+use Rattle.tree_table.specs.Rows.{entryIn, entriesFrom, asidesFrom, rowIn, treeIn, InRange}
+use Rattle.tree_lookup.specs.Roles.{noteOf, Holds}
+use Rattle.tree_maps.specs.Keys.{slotOf}
+use Rattle.tree_lookup.proofs.Places.{stands, stands-not}
+use Rattle.tree_maps.proofs.Counts.{has-children}
+use Rattle.tree_lookup.proofs.Working.{works-range, row-none, row-some, role-note, role-no-note}
+use Rattle.tree_judge.specs.Judged.{verdictOf, fullBy, Asks}
+
+-- ---- a label
+
+module _ (b : List ℕ) (n row : ℕ) (o : Option Entry) (e : rowIn b n row ≡ o) where
+  pub label-held : row < n → (k : ℕ) → k ≡ entryIn b (4 + 72 * row) .made → verdictOf 15 k ≡ freeLabel o
+  unfolding verdictOf freeLabel
+  label-held h k q = rw (← e, row-some b n row h, q)
+
+  pub label-free : n ≤ row → verdictOf 0 0 ≡ freeLabel o
+  unfolding verdictOf freeLabel
+  label-free h = rw (← e, row-none b n row h)
+
+-- ---- make
+
+pub make-range : (r : Rec) (k : ℕ) → Asks r → getD r 1 0 ≤ 2 → k ≡ folderOf r → (k ≡ 0 → ⊥) → InRange k
+unfolding op
+make-range r k a h e z =
+    ⊎-elim (λ (q : folderOf r ≡ 0). absurd (z (e ∙ q))) (λ (q : InRange (folderOf r)). rw e q) (a .folder h)
+
+module _ (r : Rec) (es : List Entry) (f : ℕ) (e : f ≡ folderOf r) where
+  pub make-root : (v : Verdict) → f ≡ 0 → v ≡ freeLabel (holderOf f (labelOf r) es) → v ≡ judgeMake r es
+  unfolding judgeMake
+  make-root v z h = rw (eq-eqb (folderOf r) 0 (sym e ∙ z)) (rw z at h)
+
+  make-in : (f ≡ 0 → ⊥) → judgeMake r es ≡ judgeMakeIn r es (entryOf (folderOf r) es)
+  unfolding judgeMake
+  make-in z = rw (ne-eqb (folderOf r) 0 (λ (q : folderOf r ≡ 0). z (e ∙ q)))
+
+  module _ (b : List ℕ) (n row : ℕ) (z : f ≡ 0 → ⊥) (o : rowIn b n row ≡ entryOf f es) where
+    pub make-absent : n ≤ row → verdictOf 13 0 ≡ judgeMake r es
+    unfolding verdictOf judgeMakeIn
+    make-absent h = rw (make-in z, ← e, ← o, row-none b n row h)
+
+    pub make-trace : row < n → (x k : ℕ) → x ≡ entryIn b (4 + 72 * row) .kind → (x ≡ 1 → ⊥) → k ≡ entryIn b (4 + 72 * row) .made → verdictOf 14 k ≡ judgeMake r es
+    unfolding verdictOf judgeMakeIn
+    make-trace h x k p q s =
+        rw (make-in z, ← e, ← o, row-some b n row h, ne-eqb (entryIn b (4 + 72 * row) .kind) 1 (λ (y : entryIn b (4 + 72 * row) .kind ≡ 1). q (p ∙ y)), s)
+
+    pub make-folder : row < n → (x : ℕ) (v : Verdict) → x ≡ entryIn b (4 + 72 * row) .kind → x ≡ 1 → v ≡ freeLabel (holderOf f (labelOf r) es) → v ≡ judgeMake r es
+    unfolding judgeMakeIn
+    make-folder h x v p q s =
+        rw (make-in z, ← e, ← o, row-some b n row h, eq-eqb (entryIn b (4 + 72 * row) .kind) 1 (sym p ∙ q)) (rw e at s)
+
+-- ---- store, remove and rename of the entry in a row
+
+module _ (r : Rec) (b : List ℕ) (n row : ℕ) where
+  pub store-absent : n ≤ row → verdictOf 12 0 ≡ judgeStore r (rowIn b n row)
+  unfolding verdictOf judgeStore
+  store-absent h = rw (row-none b n row h)
+
+  pub store-folder : row < n → (x k : ℕ) → k ≡ entryIn b (4 + 72 * row) .made → x ≡ entryIn b (4 + 72 * row) .kind → x ≡ 1 → verdictOf 14 k ≡ judgeStore r (rowIn b n row)
+  unfolding verdictOf judgeStore
+  store-folder h x k s p q = rw (row-some b n row h, eq-eqb (entryIn b (4 + 72 * row) .kind) 1 (sym p ∙ q), s)
+
+  module _ (h : row < n) (x k y : ℕ) (s : k ≡ entryIn b (4 + 72 * row) .made) (p : x ≡ entryIn b (4 + 72 * row) .kind) (q : x ≡ 1 → ⊥) (c : y ≡ entryIn b (4 + 72 * row) .contents) (t : Bool) (u : t ≡ unseen r y) where
+    pub store-unseen : t ≡ true → verdictOf 17 k ≡ judgeStore r (rowIn b n row)
+    unfolding verdictOf judgeStore
+    store-unseen g =
+        rw (row-some b n row h, ne-eqb (entryIn b (4 + 72 * row) .kind) 1 (λ (z : entryIn b (4 + 72 * row) .kind ≡ 1). q (p ∙ z)), ← c, ← u, g, s)
+
+    pub store-fits : t ≡ false → verdictOf 0 0 ≡ judgeStore r (rowIn b n row)
+    unfolding verdictOf judgeStore
+    store-fits g =
+        rw (row-some b n row h, ne-eqb (entryIn b (4 + 72 * row) .kind) 1 (λ (z : entryIn b (4 + 72 * row) .kind ≡ 1). q (p ∙ z)), ← c, ← u, g)
+
+  pub remove-absent : (es : List Entry) → n ≤ row → verdictOf 12 0 ≡ judgeRemove r es (rowIn b n row)
+  unfolding verdictOf judgeRemove
+  remove-absent es h = rw (row-none b n row h)
+
+  module _ (l : List ℕ) (m : ℕ) (w : Holds b l n m) (h : row < n) (k : ℕ) (s : k ≡ entryIn b (4 + 72 * row) .made) (t : Bool) (g : t ≡ fullBy l (entryIn b (4 + 72 * row))) where
+    full-means : t ≡ (eqb (entryIn b (4 + 72 * row) .kind) 1 && hasEntries (entryIn b (4 + 72 * row) .made) (entriesFrom b 0 n))
+    unfolding fullBy treeIn
+    full-means =
+        let e = entryIn b (4 + 72 * row) .made in
+        let c = w .keyed .counted e (works-range b l n m (treeIn b n m) w row h) in
+        rw (has-children e (entriesFrom b 0 n), ← c) g
+
+    pub remove-full : t ≡ true → verdictOf 16 k ≡ judgeRemove r (entriesFrom b 0 n) (rowIn b n row)
+    unfolding verdictOf judgeRemove
+    remove-full q = rw (row-some b n row h, ← full-means, q, s)
+
+    module _ (q : t ≡ false) (c : Bool) (v : c ≡ (unseen r (entryIn b (4 + 72 * row) .contents) || unseen r (entryIn b (4 + 72 * row) .naming))) where
+      pub remove-unseen : c ≡ true → verdictOf 17 k ≡ judgeRemove r (entriesFrom b 0 n) (rowIn b n row)
+      unfolding verdictOf judgeRemove
+      remove-unseen x = rw (row-some b n row h, ← full-means, q, ← v, x, s)
+
+      pub remove-fits : c ≡ false → verdictOf 0 0 ≡ judgeRemove r (entriesFrom b 0 n) (rowIn b n row)
+      unfolding verdictOf judgeRemove
+      remove-fits x = rw (row-some b n row h, ← full-means, q, ← v, x)
+
+  module _ (es : List Entry) where
+    pub rename-absent : n ≤ row → verdictOf 12 0 ≡ judgeRename r es (rowIn b n row)
+    unfolding verdictOf judgeRename
+    rename-absent h = rw (row-none b n row h)
+
+    module _ (h : row < n) (y : ℕ) (c : y ≡ entryIn b (4 + 72 * row) .naming) (t : Bool) (u : t ≡ unseen r y) where
+      pub rename-unseen : (k : ℕ) → k ≡ entryIn b (4 + 72 * row) .made → t ≡ true → verdictOf 17 k ≡ judgeRename r es (rowIn b n row)
+      unfolding verdictOf judgeRename
+      rename-unseen k s g = rw (row-some b n row h, ← c, ← u, g, s)
+
+      pub rename-label : (f : ℕ) (v : Verdict) → f ≡ entryIn b (4 + 72 * row) .inside → t ≡ false → v ≡ freeLabel (holderOf f (labelOf r) es) → v ≡ judgeRename r es (rowIn b n row)
+      unfolding judgeRename
+      rename-label f v s g q = rw (row-some b n row h, ← c, ← u, g, ← s) q
+
+module _ (e : Entry) (l : List ℕ) where
+  pub full-no : (x : ℕ) → x ≡ e .kind → (x ≡ 1 → ⊥) → false ≡ fullBy l e
+  unfolding fullBy
+  full-no x p q = rw (ne-eqb (e .kind) 1 (λ (z : e .kind ≡ 1). q (p ∙ z)))
+
+  pub full-if : (x k c : ℕ) → x ≡ e .kind → x ≡ 1 → k ≡ e .made → c ≡ getD l (4096 + slotOf k) 0 → not (eqb c 0) ≡ fullBy l e
+  unfolding fullBy
+  full-if x k c p q s u = rw (eq-eqb (e .kind) 1 (sym p ∙ q), ← s, u)
+
+module _ (e : Entry) (r : Rec) (x : ℕ) (t : Bool) (p : x ≡ e .contents) (u : t ≡ unseen r x) where
+  pub contents-unseen : t ≡ true → true ≡ (unseen r (e .contents) || unseen r (e .naming))
+  contents-unseen g = rw (← p, ← u, g)
+
+  pub label-unseen : t ≡ false → (y : ℕ) (s : Bool) → y ≡ e .naming → s ≡ unseen r y → s ≡ (unseen r (e .contents) || unseen r (e .naming))
+  label-unseen g y s q v = rw (← p, ← u, g, ← q) v
+
+-- ---- settle
+
+module _ (role x : ℕ) (e : role ≡ x) where
+  pub settle-stands : 512 < role → verdictOf 0 0 ≡ cond (ltb 512 x) fits (aside 18 0)
+  unfolding verdictOf
+  settle-stands h = rw (lt-ltb 512 x (rw e at h))
+
+  pub settle-not : role ≤ 512 → verdictOf 18 0 ≡ cond (ltb 512 x) fits (aside 18 0)
+  unfolding verdictOf
+  settle-not h = rw (le-ltb 512 x (rw e at h))
+
+stands-role : (b register : List ℕ) (n m : ℕ) → Holds b register n m → (k : ℕ) → InRange k → standsAside k (asidesFrom b 0 m) ≡ ltb 512 (getD register (slotOf k) 0)
+unfolding noteOf treeIn
+stands-role b register n m w k u = go (ltb 512 role) refl
+  where
+    role : ℕ
+    role = getD register (slotOf k) 0
+
+    go : (t : Bool) → ltb 512 role ≡ t → standsAside k (asidesFrom b 0 m) ≡ t
+    go true e = stands k 0 (asidesFrom b 0 m) (role - 513) (role-note b register n m (treeIn b n m) w k u role refl (ltb-true 512 role e))
+    go false e = stands-not k 0 (asidesFrom b 0 m) (role-no-note b register n m (treeIn b n m) w k u role refl (ltb-false 512 role e))
+
+-- ---- any operation
+
+pub object-range : (r : Rec) (k : ℕ) → Asks r → 2 < getD r 1 0 → k ≡ objectOf r → InRange k
+unfolding op
+object-range r k a h e = rw e (a .object h)
+
+module _ (r : Rec) (b : List ℕ) (n m : ℕ) (v : Verdict) where
+  pub judged-make : getD r 1 0 ≤ 2 → v ≡ judgeMake r (entriesFrom b 0 n) → v ≡ judge r (treeIn b n m)
+  unfolding judge op treeIn
+  judged-make h e = rw (le-leb (getD r 1 0) 2 h) e
+
+  module _ (k row : ℕ) (p : k ≡ objectOf r) (o : rowIn b n row ≡ entryOf k (entriesFrom b 0 n)) where
+    pub judged-store : getD r 1 0 ≡ 3 → v ≡ judgeStore r (rowIn b n row) → v ≡ judge r (treeIn b n m)
+    unfolding judge op treeIn
+    judged-store h e = rw (h, ← p, ← o) e
+
+    pub judged-remove : getD r 1 0 ≡ 4 → v ≡ judgeRemove r (entriesFrom b 0 n) (rowIn b n row) → v ≡ judge r (treeIn b n m)
+    unfolding judge op treeIn
+    judged-remove h e = rw (h, ← p, ← o) e
+
+    pub judged-rename : getD r 1 0 ≡ 5 → v ≡ judgeRename r (entriesFrom b 0 n) (rowIn b n row) → v ≡ judge r (treeIn b n m)
+    unfolding judge op treeIn
+    judged-rename h e = rw (h, ← p, ← o) e
+
+  pub judged-settle : (register : List ℕ) (k : ℕ) → Holds b register n m → InRange k → k ≡ objectOf r
+      → 2 < getD r 1 0 → (getD r 1 0 ≡ 3 → ⊥) → (getD r 1 0 ≡ 4 → ⊥) → (getD r 1 0 ≡ 5 → ⊥)
+      → v ≡ cond (ltb 512 (getD register (slotOf k) 0)) fits (aside 18 0) → v ≡ judge r (treeIn b n m)
+  unfolding judge op treeIn judgeSettle
+  judged-settle register k w u p h h3 h4 h5 e =
+      rw (lt-leb (getD r 1 0) 2 h, ne-eqb (getD r 1 0) 3 h3, ne-eqb (getD r 1 0) 4 h4, ne-eqb (getD r 1 0) 5 h5, ← p, stands-role b register n m w k u) e

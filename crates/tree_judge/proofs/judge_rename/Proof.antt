@@ -1,0 +1,43 @@
+use Rattle.tree_lookup.proofs.Working.{works-long}
+use Rattle.tree_judge.proofs.Reasons.{rename-absent, rename-unseen, rename-label}
+use native.Mathlib.Omega.{arith}
+use borrow.Author.Needs.{needs}
+use Rattle.tree_judge.proofs.judge_rename.Statement.{statement}
+use Rattle.tree_judge.proofs.judge_rename.Tie as tie
+
+returns : tie.Need-returns
+returns c = search (rename-absent)
+
+made-at-requires : tie.Need-made-at-requires
+made-at-requires c κs = (search (works-long), omega arith)
+
+inside-at-requires : tie.Need-inside-at-requires
+inside-at-requires c κs = (search (works-long), omega arith)
+
+naming-at-requires : tie.Need-naming-at-requires
+naming-at-requires c κs = (search (works-long), omega arith)
+
+is-unseen-requires : tie.Need-is-unseen-requires
+is-unseen-requires c κs = search needs
+
+returns-2 : tie.Need-returns-2
+returns-2 c = search (rename-unseen)
+
+free-label-requires : tie.Need-free-label-requires
+free-label-requires c κs = search needs
+
+returns-3 : tie.Need-returns-3
+returns-3 c = search (rename-label)
+
+pub judge-rename-spec : {M : Type 1} → statement M
+judge-rename-spec =
+    tie.close
+    (tie.spec
+    returns
+    made-at-requires
+    inside-at-requires
+    naming-at-requires
+    is-unseen-requires
+    returns-2
+    free-label-requires
+    returns-3)

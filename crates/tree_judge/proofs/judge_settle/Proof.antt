@@ -1,0 +1,16 @@
+use Rattle.tree_judge.proofs.Reasons.{settle-stands, settle-not}
+use borrow.Author.Needs.{needs}
+use Rattle.tree_judge.proofs.judge_settle.Statement.{statement}
+use Rattle.tree_judge.proofs.judge_settle.Tie as tie
+
+role-of-requires : tie.Need-role-of-requires
+role-of-requires c κs = search needs
+
+returns : tie.Need-returns
+returns c = search (settle-stands)
+
+returns-2 : tie.Need-returns-2
+returns-2 c = search (settle-not)
+
+pub judge-settle-spec : {M : Type 1} → statement M
+judge-settle-spec = tie.close (tie.spec role-of-requires returns returns-2)

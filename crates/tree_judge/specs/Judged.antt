@@ -1,0 +1,28 @@
+-- What a judgement in numbers means, and what is asked of a record that is judged.
+-- Assumes nothing.
+use Prim.Native.Nat.{ℕ, _+_, _≤_, _<_}
+use mathlib.Core.Path.{_≡_}
+use mathlib.Core.Logic.{_⊎_}
+use mathlib.Core.Bool.{Bool, cond, not, _&&_}
+use mathlib.Core.List.{List}
+use lib.Dec.{eqb}
+use lib.ListN.{getD, length}
+use Rattle.model.specs.Record.{Rec, op, objectOf, folderOf}
+use Rattle.model.specs.Replay.{Entry, Verdict, fits, aside}
+use Rattle.tree_table.specs.Rows.{InRange}
+use Rattle.tree_maps.specs.Keys.{slotOf}
+
+-- a reason and the entry that it marks; reason 0 fits
+unfoldable pub verdictOf : ℕ → ℕ → Verdict
+verdictOf n k = cond (eqb n 0) fits (aside n k)
+
+-- the entry is a folder that has entries, by the number that a register has for it
+unfoldable pub fullBy : List ℕ → Entry → Bool
+fullBy l e = eqb (e .kind) 1 && not (eqb (getD l (4096 + slotOf (e .made)) 0) 0)
+
+-- a record of 80 bytes of a known operation that names identities in range: a make the root or a folder, any other an object
+pub record Asks (r : Rec) : Type 0 where
+  pub long : length r ≡ 80
+  pub known : 1 ≤ op r
+  pub folder : op r ≤ 2 → (folderOf r ≡ 0) ⊎ InRange (folderOf r)
+  pub object : 2 < op r → InRange (objectOf r)

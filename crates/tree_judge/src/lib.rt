@@ -1,0 +1,222 @@
+// A record is judged: it fits, or stands aside under the first reason that holds.
+ghost use mathlib.Core.Path.{_≡_};
+ghost use mathlib.Core.Bool.{cond, _||_};
+ghost use Prim.Native.Nat.{_+_, _*_, _≤_, _<_};
+ghost use lib.Dec.{ltb};
+ghost use lib.ListN.{length, getD};
+ghost use Rattle.model.specs.Record.{labelOf};
+ghost use Rattle.model.specs.Replay.{fits, aside, unseen, holderOf, freeLabel, judgeMake, judgeStore, judgeRemove, judgeRename, judge as judgeOf};
+ghost use Rattle.tree_table.specs.Rows.{entryIn, entriesFrom, rowIn, treeIn, InRange};
+ghost use Rattle.tree_lookup.specs.Roles.{Holds};
+ghost use Rattle.tree_maps.specs.Keys.{slotOf};
+ghost use Rattle.tree_judge.specs.Judged.{verdictOf, fullBy, Asks};
+use tree_table::Size;
+
+// The reason under which a record stands aside, or 0, and the entry that it marks, or 0.
+pub struct Judged {
+    pub reason: u8,
+    pub marked: u32,
+}
+
+// The record k is above the count of its unit that a record has seen.
+pub fn is_unseen(rec: &[u8], k: u32) -> bool
+    requires { ⌜ length (now rec) ≡ 80 ⌝ }
+    ensures { λ r. ⌜ r ≡ unseen (now (rec .entry)) k ⌝ }
+{
+    byte_slice::wider(byte_slice::le16(rec, 4 + 2 * ((k % 8) as usize))) < k / 8
+}
+
+// A label in a folder: free, or 15 marks its holder.
+pub fn free_label(rec: &[u8], table: &[u8], register: &[u16], size: Size, f: u32) -> Judged
+    requires { ⌜ (length (now rec) ≡ 80) × Holds (now table) (now register) (size .entries) (size .asides) ⌝ }
+    ensures { λ r. ⌜ verdictOf (r .reason) (r .marked) ≡ freeLabel (holderOf f (labelOf (now (rec .entry))) (entriesFrom (now (table .entry)) 0 (size .entries))) ⌝ }
+{
+    let row = tree_lookup::holder(table, register, size, f, &rec[32..64]);
+    if row < size.entries {
+        return Judged {
+            reason: 15,
+            marked: tree_table::made_at(table, row),
+        };
+    }
+    Judged {
+        reason: 0,
+        marked: 0,
+    }
+}
+
+// A make: 13 for an absent folder, 14 for a trace as folder, 15 for a label that is held.
+pub fn judge_make(rec: &[u8], table: &[u8], register: &[u16], size: Size) -> Judged
+    requires { ⌜ Asks (now rec) × (getD (now rec) 1 0 ≤ 2) × Holds (now table) (now register) (size .entries) (size .asides) ⌝ }
+    ensures { λ r. ⌜ verdictOf (r .reason) (r .marked) ≡ judgeMake (now (rec .entry)) (entriesFrom (now (table .entry)) 0 (size .entries)) ⌝ }
+{
+    let f = tree_table::folder_of(rec);
+    if f == 0 {
+        let j = free_label(rec, table, register, size, f);
+        return Judged {
+            reason: j.reason,
+            marked: j.marked,
+        };
+    }
+    let row = tree_lookup::entry_of(table, register, size, f);
+    if size.entries <= row {
+        return Judged {
+            reason: 13,
+            marked: 0,
+        };
+    }
+    if tree_table::kind_at(table, row) != 1 {
+        return Judged {
+            reason: 14,
+            marked: tree_table::made_at(table, row),
+        };
+    }
+    let j = free_label(rec, table, register, size, f);
+    Judged {
+        reason: j.reason,
+        marked: j.marked,
+    }
+}
+
+// A store on the entry in a row: 12 for no entry, 14 for a folder, 17 for unseen contents.
+pub fn judge_store(rec: &[u8], table: &[u8], n: usize, row: usize) -> Judged
+    requires { ⌜ (length (now rec) ≡ 80) × (length (now table) ≡ 43012) × (n ≤ 512) ⌝ }
+    ensures { λ r. ⌜ verdictOf (r .reason) (r .marked) ≡ judgeStore (now (rec .entry)) (rowIn (now (table .entry)) n row) ⌝ }
+{
+    if n <= row {
+        return Judged {
+            reason: 12,
+            marked: 0,
+        };
+    }
+    let made = tree_table::made_at(table, row);
+    if tree_table::kind_at(table, row) == 1 {
+        return Judged {
+            reason: 14,
+            marked: made,
+        };
+    }
+    if is_unseen(rec, tree_table::contents_at(table, row)) {
+        return Judged {
+            reason: 17,
+            marked: made,
+        };
+    }
+    Judged {
+        reason: 0,
+        marked: 0,
+    }
+}
+
+// The entry in a row is a folder that has entries, by the register.
+pub fn is_full(table: &[u8], register: &[u16], row: usize) -> bool
+    requires { ⌜ (length (now table) ≡ 43012) × (length (now register) ≡ 9729) × (row < 512) × InRange (entryIn (now table) (4 + 72 * row) .made) ⌝ }
+    ensures { λ r. ⌜ r ≡ fullBy (now (register .entry)) (entryIn (now (table .entry)) (4 + 72 * row)) ⌝ }
+{
+    if tree_table::kind_at(table, row) != 1 {
+        return false;
+    }
+    tree_maps::children(register, tree_table::made_at(table, row)) != 0
+}
+
+// The last contents or label record of the entry in a row is unseen.
+pub fn is_changed(rec: &[u8], table: &[u8], row: usize) -> bool
+    requires { ⌜ (length (now rec) ≡ 80) × (length (now table) ≡ 43012) × (row < 512) ⌝ }
+    ensures { λ r. ⌜ r ≡ (unseen (now (rec .entry)) (entryIn (now (table .entry)) (4 + 72 * row) .contents) || unseen (now (rec .entry)) (entryIn (now (table .entry)) (4 + 72 * row) .naming)) ⌝ }
+{
+    if is_unseen(rec, tree_table::contents_at(table, row)) {
+        return true;
+    }
+    is_unseen(rec, tree_table::naming_at(table, row))
+}
+
+// A remove of the entry in a row: 12 for no entry, 16 for a folder with entries, 17 for unseen contents or label.
+pub fn judge_remove(rec: &[u8], table: &[u8], register: &[u16], size: Size, row: usize) -> Judged
+    requires { ⌜ (length (now rec) ≡ 80) × Holds (now table) (now register) (size .entries) (size .asides) ⌝ }
+    ensures { λ r. ⌜ verdictOf (r .reason) (r .marked) ≡ judgeRemove (now (rec .entry)) (entriesFrom (now (table .entry)) 0 (size .entries)) (rowIn (now (table .entry)) (size .entries) row) ⌝ }
+{
+    if size.entries <= row {
+        return Judged {
+            reason: 12,
+            marked: 0,
+        };
+    }
+    let made = tree_table::made_at(table, row);
+    if is_full(table, register, row) {
+        return Judged {
+            reason: 16,
+            marked: made,
+        };
+    }
+    if is_changed(rec, table, row) {
+        return Judged {
+            reason: 17,
+            marked: made,
+        };
+    }
+    Judged {
+        reason: 0,
+        marked: 0,
+    }
+}
+
+// A rename of the entry in a row: 12 for no entry, 17 for an unseen label, 15 for a label that is held.
+pub fn judge_rename(rec: &[u8], table: &[u8], register: &[u16], size: Size, row: usize) -> Judged
+    requires { ⌜ (length (now rec) ≡ 80) × Holds (now table) (now register) (size .entries) (size .asides) ⌝ }
+    ensures { λ r. ⌜ verdictOf (r .reason) (r .marked) ≡ judgeRename (now (rec .entry)) (entriesFrom (now (table .entry)) 0 (size .entries)) (rowIn (now (table .entry)) (size .entries) row) ⌝ }
+{
+    if size.entries <= row {
+        return Judged {
+            reason: 12,
+            marked: 0,
+        };
+    }
+    let made = tree_table::made_at(table, row);
+    let inside = tree_table::inside_at(table, row);
+    if is_unseen(rec, tree_table::naming_at(table, row)) {
+        return Judged {
+            reason: 17,
+            marked: made,
+        };
+    }
+    let j = free_label(rec, table, register, size, inside);
+    Judged {
+        reason: j.reason,
+        marked: j.marked,
+    }
+}
+
+// A settle of the record k: 18 if it does not stand aside.
+pub fn judge_settle(register: &[u16], k: u32) -> Judged
+    requires { ⌜ InRange k × (length (now register) ≡ 9729) ⌝ }
+    ensures { λ r. ⌜ verdictOf (r .reason) (r .marked) ≡ cond (ltb 512 (getD (now (register .entry)) (slotOf k) 0)) fits (aside 18 0) ⌝ }
+{
+    if 512 < tree_lookup::role_of(register, k) {
+        return Judged {
+            reason: 0,
+            marked: 0,
+        };
+    }
+    Judged {
+        reason: 18,
+        marked: 0,
+    }
+}
+
+// A record of any operation.
+pub fn judge(rec: &[u8], table: &[u8], register: &[u16], size: Size) -> Judged
+    requires { ⌜ Asks (now rec) × Holds (now table) (now register) (size .entries) (size .asides) ⌝ }
+    ensures { λ r. ⌜ verdictOf (r .reason) (r .marked) ≡ judgeOf (now (rec .entry)) (treeIn (now (table .entry)) (size .entries) (size .asides)) ⌝ }
+{
+    let op = rec[1];
+    if op <= 2 {
+        return judge_make(rec, table, register, size);
+    }
+    let k = tree_table::object_of(rec);
+    let row = tree_lookup::entry_of(table, register, size, k);
+    match op {
+        3 => judge_store(rec, table, size.entries, row),
+        4 => judge_remove(rec, table, register, size, row),
+        5 => judge_rename(rec, table, register, size, row),
+        _ => judge_settle(register, k),
+    }
+}

@@ -1,0 +1,160 @@
+-- Claims P2, P3, P4 and A1: the replay, what decides nothing, and acts.
+-- Assumes nothing.
+use Prim.Native.Nat.{ℕ, _≤_, _<_}
+use mathlib.Core.Path.{_≡_, refl, sym, ap, _∙_}
+use mathlib.Core.Logic.{_⊎_, inl, inr, ⊎-elim, _↔_}
+use mathlib.Core.Bool.{true, false, not}
+use mathlib.Core.Option.{some}
+use mathlib.Core.List.{List, [], _∷_, _++_}
+use native.Mathlib.Omega.{arith}
+use lib.ListN.{length}
+use Rattle.model.specs.Record.{Rec, op, selfOf, objectOf}
+use Rattle.model.specs.Log.{soundAfter}
+use Rattle.model.specs.Replay.{Entry, Aside, Tree, Verdict, fits, aside, isPresent, entryOf, judge, standsAside, holderOf, isDisputed, step, emptyTree, replay}
+use Rattle.model.specs.Table.{tableBytes}
+use Rattle.model.specs.Outcome.{stamped, wishFits, actNumber, taken, takeAll}
+use Rattle.log_laws.specs.Members.{Has as Member}
+use Rattle.log_laws.proofs.Formed.{well-length}
+use Rattle.log_laws.proofs.Counts.{formed}
+use Rattle.log_laws.proofs.Take.{all-from}
+use Rattle.log_laws.proofs.Tests.{sound-means, means-sound}
+use Rattle.log_laws.proofs.Claims.{order-fixed}
+use Rattle.tree_laws.specs.Replayed.{Has, Distinct, selves, makers, whos, standings, standAside, makesFit, openOf, settledIn, SameButDates, undatedTree, hideDates}
+use Rattle.tree_laws.proofs.Verdicts.{Under, OneOf, Reason, reason-range, judge-make, judge-store, judge-remove, judge-rename, judge-settle, make-reasons, store-reasons, remove-reasons, rename-reasons, settle-reasons}
+use Rattle.tree_laws.proofs.Steps.{standings-replay, makers-replay}
+use Rattle.tree_laws.proofs.Identities as Identities
+use Rattle.tree_laws.proofs.Labels as Labels
+use Rattle.tree_laws.proofs.Dates.{dates-replay}
+use Rattle.tree_laws.proofs.Tables.{table-hidden, filled-replay, entries-few}
+use Rattle.tree_laws.proofs.Arrival.{takeAll-append}
+use Rattle.tree_laws.proofs.Settling as Settling
+use Rattle.tree_laws.proofs.Acting as Acting
+
+-- ---- P2: each record acts or stands aside under one reason
+
+-- a record fits, or stands aside under one of the reasons 12 to 18
+pub fits-or-stands-aside : (r : Rec) (t : Tree) → (judge r t ≡ fits) ⊎ ((n : ℕ) × (k : ℕ) × (judge r t ≡ aside n k) × (12 ≤ n) × (n ≤ 18))
+fits-or-stands-aside r t = go (judge r t) refl (reason-range r t)
+  where
+    go : (v : Verdict) → judge r t ≡ v → Under Reason v → (judge r t ≡ fits) ⊎ ((n : ℕ) × (k : ℕ) × (judge r t ≡ aside n k) × (12 ≤ n) × (n ≤ 18))
+    go fits e h = inl e
+    go (aside n k) e h = inr (n, k, e, h .0, h .1)
+
+-- the reasons of each operation
+pub reasons-by-operation : (r : Rec) (t : Tree)
+    → (op r ≤ 2 → Under (OneOf 13 14 15) (judge r t))
+    × (op r ≡ 3 → Under (OneOf 12 14 17) (judge r t))
+    × (op r ≡ 4 → Under (OneOf 12 16 17) (judge r t))
+    × (op r ≡ 5 → Under (OneOf 12 17 15) (judge r t))
+    × (5 < op r → Under (λ n. n ≡ 18) (judge r t))
+reasons-by-operation r t = (
+  λ o. rw (judge-make r t o) (make-reasons r (t .entries)),
+  λ o. rw (judge-store r t o) (store-reasons r (entryOf (objectOf r) (t .entries))),
+  λ o. rw (judge-remove r t o) (remove-reasons r (t .entries) (entryOf (objectOf r) (t .entries))),
+  λ o. rw (judge-rename r t o) (rename-reasons r (t .entries) (entryOf (objectOf r) (t .entries))),
+  λ o. rw (judge-settle r t o) (settle-reasons r (t .asides)),
+)
+
+-- the asides are the records that did not fit, by rank, each with its reason and mark, also when the marked entry is gone
+pub asides-are-those-not-fitting : (l : List Rec) → standings (replay l .asides) ≡ standAside emptyTree l
+unfolding replay emptyTree standings
+asides-are-those-not-fitting l = standings-replay emptyTree l
+
+-- the entries, removed ones too, are the makes that fitted, by rank
+pub entries-are-makes-that-fitted : (l : List Rec) → makers (replay l .entries) ≡ makesFit emptyTree l
+unfolding replay emptyTree makers
+entries-are-makes-that-fitted l = makers-replay emptyTree l
+
+-- of a sound log's records none stands aside twice, none makes two entries, and none does both
+pub no-record-twice : (l : List Rec) → soundAfter [] l ≡ true
+    → Distinct (whos (replay l .asides))
+    × Distinct (makers (replay l .entries))
+    × ((k : ℕ) → Has k (whos (replay l .asides)) → Has k (makers (replay l .entries)) → ⊥)
+no-record-twice l s =
+    let d : Distinct (selves l) = Acting.sound-distinct l (sound-means l s) in
+    (Identities.asides-distinct l d, Identities.makers-distinct l d, Identities.asides-no-makers l d)
+
+-- two present entries of one folder and label are one
+pub one-holder-of-a-label : (l : List Rec) (e x : Entry) → Has e (replay l .entries) → Has x (replay l .entries)
+    → isPresent e ≡ true → isPresent x ≡ true → x .inside ≡ e .inside → x .label ≡ e .label → e ≡ x
+unfolding replay emptyTree
+one-holder-of-a-label l e x i j p q f t = Labels.one-label (replay l .entries) (Labels.apart-replay emptyTree l tt) e x i j (p, q, f, t)
+
+-- so a look-up by folder and label finds it
+pub holder-is-found : (l : List Rec) (e : Entry) → Has e (replay l .entries) → isPresent e ≡ true → holderOf (e .inside) (e .label) (replay l .entries) ≡ some e
+unfolding replay emptyTree
+holder-is-found l = Labels.the-holder (replay l .entries) (Labels.apart-replay emptyTree l tt)
+
+-- ---- P3: dates and the order of arrival decide nothing
+
+-- records that differ only in dates leave trees that differ only in dates
+pub dates-decide-nothing : (l m : List Rec) → SameButDates l m → undatedTree (replay l) ≡ undatedTree (replay m)
+unfolding replay
+dates-decide-nothing l m d = dates-replay l m emptyTree emptyTree d refl
+
+-- and the tables of such logs differ only in the bytes of dates
+pub tables-differ-only-in-dates : (l m : List Rec) → soundAfter [] l ≡ true → soundAfter [] m ≡ true → length l ≤ 512 → length m ≤ 512 → SameButDates l m
+    → hideDates (tableBytes (replay l)) ≡ hideDates (tableBytes (replay m))
+unfolding replay emptyTree
+tables-differ-only-in-dates l m s t p q d = hidden l s p ∙ ap tableBytes (dates-decide-nothing l m d) ∙ sym (hidden m t q)
+  where
+    hidden : (l : List Rec) → soundAfter [] l ≡ true → length l ≤ 512 → hideDates (tableBytes (replay l)) ≡ tableBytes (undatedTree (replay l))
+    hidden l s p =
+        table-hidden (replay l)
+        (filled-replay emptyTree l (λ r i. well-length r (formed [] l r (sound-means l s) i)) tt)
+        (omega (arith, entries-few l))
+
+-- blocks taken one after another are their records taken one after another
+pub blocks-end-to-end : (l rs qs m : List Rec) → takeAll l rs ≡ taken m → takeAll l (rs ++ qs) ≡ takeAll m qs
+blocks-end-to-end = takeAll-append
+
+-- two logs that took in the same records, in whatever order and blocks, are the same, and so show the same
+pub arrival-decides-nothing : (b c rs qs m p : List Rec) → soundAfter [] b ≡ true → soundAfter [] c ≡ true → takeAll b rs ≡ taken m → takeAll c qs ≡ taken p
+    → ((s : Rec) → (Member s b ⊎ Member s rs) ↔ (Member s c ⊎ Member s qs)) → m ≡ p
+arrival-decides-nothing b c rs qs m p x y e f h =
+    let v = all-from rs b m (sound-means b x) e in
+    let w = all-from qs c p (sound-means c y) f in
+    order-fixed m p (means-sound m (v .sound)) (means-sound p (w .sound))
+    (λ s. (
+      λ i. ⊎-elim (λ j. w .kept s j) (λ j. w .got s j) (h s .0 (v .from s i)),
+      λ i. ⊎-elim (λ j. v .kept s j) (λ j. v .got s j) (h s .1 (w .from s i)),
+    ))
+
+-- ---- P4: open, settled, disputed
+
+-- a record that stands aside is open until a settle naming it fits, and settled from then on
+pub open-until-settled : (before : List Rec) (r : Rec) (after : List Rec) (n k : ℕ)
+    → soundAfter [] (before ++ (r ∷ after)) ≡ true
+    → judge r (replay before) ≡ aside n k
+    → openOf (selfOf r) (replay (before ++ (r ∷ after)) .asides) ≡ not (settledIn (selfOf r) (step (replay before) r) after)
+open-until-settled before r after n k s = Settling.open-until-settled before r after n k (Acting.sound-distinct (before ++ (r ∷ after)) (sound-means (before ++ (r ∷ after)) s))
+
+-- a second settle fits and changes nothing
+pub second-settle-changes-nothing : (r : Rec) (t : Tree) → 5 < op r → standsAside (objectOf r) (t .asides) ≡ true → openOf (objectOf r) (t .asides) ≡ false
+    → (judge r t ≡ fits) × (step t r ≡ t)
+second-settle-changes-nothing = Settling.second-settle
+
+-- a record that stands aside, and so a settle that does, can be settled
+pub settle-of-an-aside : (t : Tree) (r s : Rec) (n k : ℕ) → judge r t ≡ aside n k → 5 < op s → objectOf s ≡ selfOf r
+    → (judge s (step t r) ≡ fits) × (openOf (selfOf r) (step (step t r) s .asides) ≡ false)
+settle-of-an-aside = Settling.settle-aside
+
+-- a record that fitted, and so a settle that did, cannot
+pub settle-of-a-fitted-record : (t : Tree) (r s : Rec) → judge r t ≡ fits → standsAside (selfOf r) (t .asides) ≡ false → 5 < op s → objectOf s ≡ selfOf r
+    → judge s (step t r) ≡ aside 18 0
+settle-of-a-fitted-record = Settling.settle-fitted
+
+-- an entry is disputed exactly while an open aside marks it
+pub disputed-while-open : (k : ℕ) (l : List Aside) → (isDisputed k l ≡ true) ↔ ((a : Aside) × Has a l × (a .isOpen ≡ true) × (a .marked ≡ k))
+disputed-while-open = Settling.disputed-open
+
+-- ---- A1: acting
+
+-- an act is accepted exactly when its wish is well formed, a place is free and its record fits
+pub accepted-exactly : (u : ℕ) (l : List Rec) (w : List ℕ)
+    → (actNumber u l w ≡ 0) ↔ ((wishFits u l w ≡ true) × (length l < 512) × (judge (stamped u l w) (replay l) ≡ fits))
+accepted-exactly = Acting.act-accepted
+
+-- its refusal is never 17
+pub never-17 : (u : ℕ) (l : List Rec) (w : List ℕ) → length w ≡ 80 → soundAfter [] l ≡ true → actNumber u l w ≡ 17 → ⊥
+never-17 u l w n s = Acting.act-answers-never-17 u l w n (sound-means l s)

@@ -1,0 +1,250 @@
+-- The tables of logs that differ only in dates differ only in the bytes of dates.
+-- Assumes nothing.
+use Prim.Native.Nat.{ℕ, zero, suc, _+_, _-_, _*_, _%_, _≤_, _<_}
+use mathlib.Core.Path.{_≡_, refl, sym, ap, _∙_}
+use mathlib.Core.Bool.{Bool, true, false, cond, not, _&&_}
+use mathlib.Core.Logic.{inl, inr}
+use mathlib.Core.List.{List, [], _∷_, _++_}
+use native.Mathlib.Omega.{arith}
+use lib.Dec.{leb, eqb}
+use lib.ListN.{length, replicate, length-append}
+use borrow.Author.Tests.{le-leb, lt-leb, lt-ltb, le-ltb}
+use Rattle.byte_slice.proofs.Parts.{part-length}
+use Rattle.byte_slice.proofs.PutAt.{length-padded}
+use Rattle.model.specs.Bytes.{two, padded}
+use Rattle.model.specs.Record.{Rec, op, selfOf, objectOf, labelOf, markOf, dateBytes}
+use Rattle.model.specs.Replay.{Entry, Aside, Tree, Verdict, fits, aside, judge, isPresent, newEntry, stored, renamed, removed, changed, step, emptyTree, replayFrom, replay, presentOnes, isDisputed}
+use Rattle.model.specs.Table.{identityBytes, entryRow, entryRows, asideRows, tableBytes}
+use Rattle.log_laws.specs.Members.{Has as Member}
+use Rattle.log_laws.proofs.Members.{All, all-append}
+use Rattle.tree_laws.specs.Replayed.{makers, making, makesFit, undated, undatedAll, undatedTree, isDatePlace, hideFrom, hideDates}
+use Rattle.tree_laws.proofs.Steps.{cond-elim, effect-elim, step-elim, makers-replay}
+
+-- ---- hiding
+
+hide-append : (i : ℕ) (a b : List ℕ) → hideFrom i (a ++ b) ≡ hideFrom i a ++ hideFrom (i + length a) b
+unfolding hideFrom
+hide-append i [] b = let e : i + 0 ≡ i = omega arith in rw e
+hide-append i (x ∷ a) b =
+    let e : i + suc (length a) ≡ suc i + length a = omega arith in
+    rw e (ap (λ (y : List ℕ). cond (isDatePlace i) 0 x ∷ y) (hide-append (suc i) a b))
+
+-- bytes that are no dates stay
+hide-keeps : (i : ℕ) (a : List ℕ) → ((j : ℕ) → j < length a → isDatePlace (i + j) ≡ false) → hideFrom i a ≡ a
+unfolding hideFrom
+hide-keeps i [] h = refl
+hide-keeps i (x ∷ a) h =
+    let z : i + 0 ≡ i = omega arith in
+    let e : isDatePlace i ≡ false = rw z at (h 0 (omega arith)) in
+    rw e (ap (λ (y : List ℕ). x ∷ y) (hide-keeps (suc i) a (λ j k.
+    let s : i + suc j ≡ suc i + j = omega arith in
+    rw s at (h (suc j) (omega arith)))))
+
+-- zeros stay
+hide-zeros : (i n : ℕ) → hideFrom i (replicate n 0) ≡ replicate n 0
+unfolding hideFrom
+hide-zeros i zero = refl
+hide-zeros i (suc n) = λ k. zero-both (isDatePlace i) k ∷ hide-zeros (suc i) n k
+  where
+    zero-both : (b : Bool) → _≡_ {A = ℕ} (cond b 0 0) 0
+    zero-both true = refl
+    zero-both false = refl
+
+-- dates go
+hide-date : (i : ℕ) (a : List ℕ) → ((j : ℕ) → j < length a → isDatePlace (i + j) ≡ true) → hideFrom i a ≡ replicate (length a) 0
+unfolding hideFrom
+hide-date i [] h = refl
+hide-date i (x ∷ a) h =
+    let z : i + 0 ≡ i = omega arith in
+    let e : isDatePlace i ≡ true = rw z at (h 0 (omega arith)) in
+    rw e (ap (λ (y : List ℕ). 0 ∷ y) (hide-date (suc i) a (λ j k.
+    let s : i + suc j ≡ suc i + j = omega arith in
+    rw s at (h (suc j) (omega arith)))))
+
+-- ---- rows
+
+in-row : (n c : ℕ) → n < 512 → c < 72 → isDatePlace (4 + 72 * n + c) ≡ (leb 20 c && leb c 23)
+unfolding isDatePlace
+in-row n c h k =
+    let e : (4 + 72 * n + c - 4) % 72 ≡ c = omega arith in
+    rw (le-leb 4 (4 + 72 * n + c) (omega arith), lt-ltb (4 + 72 * n + c) 36868 (omega arith), e)
+
+-- the date, label and mark have their lengths
+abbrev pub Filled : Entry → Type 0
+Filled e = (length (e .date) ≡ 4) × (length (e .label) ≡ 32) × (length (e .mark) ≡ 16)
+
+module _ (n : ℕ) (h : n < 512) where
+  before-date : (j : ℕ) → j < 20 → isDatePlace (4 + 72 * n + j) ≡ false
+  before-date j k = in-row n j h (omega arith) ∙ rw (lt-leb 20 j k)
+
+  at-date : (j : ℕ) → j < 4 → isDatePlace (4 + 72 * n + 20 + j) ≡ true
+  at-date j k =
+      let e : 4 + 72 * n + 20 + j ≡ 4 + 72 * n + (20 + j) = omega arith in
+      ap isDatePlace e ∙ in-row n (20 + j) h (omega arith) ∙ rw (le-leb 20 (20 + j) (omega arith), le-leb (20 + j) 23 (omega arith))
+
+  behind-date : (j : ℕ) → j < 48 → isDatePlace (4 + 72 * n + 20 + 4 + j) ≡ false
+  behind-date j k =
+      let e : 4 + 72 * n + 20 + 4 + j ≡ 4 + 72 * n + (24 + j) = omega arith in
+      ap isDatePlace e ∙ in-row n (24 + j) h (omega arith) ∙ rw (le-leb 20 (24 + j) (omega arith), lt-leb (24 + j) 23 (omega arith))
+
+  row-length : (d : ℕ) (e : Entry) → Filled e → length (entryRow d e) ≡ 72
+  unfolding entryRow identityBytes
+  row-length d e (p, q, m) = omega (arith, length-append (e .date) (e .label ++ e .mark), length-append (e .label) (e .mark))
+
+  row-hidden : (d : ℕ) (e : Entry) → Filled e → hideFrom (4 + 72 * n) (entryRow d e) ≡ entryRow d (undated e)
+  unfolding entryRow identityBytes undated
+  row-hidden d e (p, q, m) =
+      let i : ℕ = 4 + 72 * n in
+      let f : List ℕ = (e .kind ∷ d ∷ 0 ∷ 0 ∷ []) ++ (identityBytes (e .made) ++ (identityBytes (e .inside) ++ (identityBytes (e .contents) ++ identityBytes (e .naming)))) in
+      let t : List ℕ = e .label ++ e .mark in
+      let w : length t ≡ 48 = omega (arith, length-append (e .label) (e .mark)) in
+      let a : hideFrom (i + 20) (e .date) ≡ replicate 4 0 = hide-date (i + 20) (e .date) (λ j k. at-date j (omega arith)) ∙ rw p in
+      let b : hideFrom (i + 20 + length (e .date)) t ≡ t = rw p (hide-keeps (i + 20 + 4) t (λ j k. behind-date j (omega arith))) in
+      hide-append i f (e .date ++ t)
+      ∙ (λ k. hide-keeps i f before-date k ++ hide-append (i + 20) (e .date) t k)
+      ∙ (λ k. f ++ (a k ++ b k))
+
+rows-hidden : (s : List Aside) (es : List Entry) (n : ℕ) → n + length es ≤ 512 → All Filled es → hideFrom (4 + 72 * n) (entryRows s es) ≡ entryRows s (undatedAll es)
+unfolding entryRows undatedAll undated hideFrom
+rows-hidden s [] n h a = refl
+rows-hidden s (e ∷ es) n h a =
+    let d : ℕ = cond (isDisputed (e .made) s) 1 0 in
+    let w : 4 + 72 * n + length (entryRow d e) ≡ 4 + 72 * suc n = omega (arith, row-length n (omega arith) d e (a .0)) in
+    hide-append (4 + 72 * n) (entryRow d e) (entryRows s es)
+    ∙ (λ k. row-hidden n (omega arith) d e (a .0) k ++ hideFrom (w k) (entryRows s es))
+    ∙ ap (λ (x : List ℕ). entryRow d (undated e) ++ x) (rows-hidden s es (suc n) (omega arith) (a .1))
+
+length-rows : (s : List Aside) (es : List Entry) → length es ≤ 512 → All Filled es → length (entryRows s es) ≡ 72 * length es
+unfolding entryRows
+length-rows s [] h a = refl
+length-rows s (e ∷ es) h a =
+    let d : ℕ = cond (isDisputed (e .made) s) 1 0 in
+    omega (arith, length-append (entryRow d e) (entryRows s es), row-length 0 (omega arith) d e (a .0), length-rows s es (omega arith) (a .1))
+
+-- ---- the whole table
+
+length-undated : (es : List Entry) → length (undatedAll es) ≡ length es
+unfolding undatedAll
+length-undated [] = refl
+length-undated (e ∷ es) = ap suc (length-undated es)
+
+filled-undated : (es : List Entry) → All Filled es → All Filled (undatedAll es)
+unfolding undatedAll undated
+filled-undated [] a = tt
+filled-undated (e ∷ es) a = ((refl, a .0 .1, a .0 .2), filled-undated es (a .1))
+
+present-undated : (es : List Entry) → presentOnes (undatedAll es) ≡ undatedAll (presentOnes es)
+unfolding presentOnes undatedAll undated isPresent
+present-undated [] = refl
+present-undated (e ∷ es) = go (not (eqb (e .kind) 0)) (present-undated es)
+  where
+    go : (b : Bool) → presentOnes (undatedAll es) ≡ undatedAll (presentOnes es)
+        → cond b (undated e ∷ presentOnes (undatedAll es)) (presentOnes (undatedAll es)) ≡ undatedAll (cond b (e ∷ presentOnes es) (presentOnes es))
+    go true q = ap (λ (x : List Entry). undated e ∷ x) q
+    go false q = q
+
+present-filled : (es : List Entry) → All Filled es → All Filled (presentOnes es)
+unfolding presentOnes
+present-filled [] a = tt
+present-filled (e ∷ es) a =
+    cond-elim (All Filled) (isPresent e) (e ∷ presentOnes es) (presentOnes es)
+    (λ _. (a .0, present-filled es (a .1)))
+    (λ _. present-filled es (a .1))
+
+module _ (s : List Aside) (es : List Entry) (h : length es ≤ 512) (a : All Filled es) where
+  entries-hidden : hideFrom 4 (padded 36864 (entryRows s es)) ≡ padded 36864 (entryRows s (undatedAll es))
+  unfolding padded
+  entries-hidden =
+      let R : List ℕ = entryRows s es in
+      let e : length R ≡ length (entryRows s (undatedAll es)) =
+      omega (arith, length-rows s es h a, length-undated es, length-rows s (undatedAll es) (omega (arith, length-undated es)) (filled-undated es a)) in
+      hide-append 4 R (replicate (36864 - length R) 0)
+      ∙ (λ k. rows-hidden s es 0 (omega arith) a k ++ hide-zeros (4 + length R) (36864 - length R) k)
+      ∙ ap (λ (n : ℕ). entryRows s (undatedAll es) ++ replicate (36864 - n) 0) e
+
+  length-entries : length (padded 36864 (entryRows s es)) ≡ 36864
+  length-entries = length-padded 36864 (entryRows s es) (omega (arith, length-rows s es h a))
+
+behind-rows : (b : List ℕ) → hideFrom 36868 b ≡ b
+unfolding isDatePlace
+behind-rows b = hide-keeps 36868 b (λ j k. rw (le-leb 4 (36868 + j) (omega arith), le-ltb (36868 + j) 36868 (omega arith)))
+
+pub table-hidden : (t : Tree) → All Filled (t .entries) → length (presentOnes (t .entries)) ≤ 512 → hideDates (tableBytes t) ≡ tableBytes (undatedTree t)
+unfolding hideDates tableBytes undatedTree hideFrom isDatePlace
+table-hidden t a h =
+    let s : List Aside = t .asides in
+    let ps : List Entry = presentOnes (t .entries) in
+    let b : All Filled ps = present-filled (t .entries) a in
+    let P : List ℕ = padded 36864 (entryRows s ps) in
+    let A : List ℕ = padded 6144 (asideRows s) in
+    let u : undatedAll ps ≡ presentOnes (undatedAll (t .entries)) = sym (present-undated (t .entries)) in
+    let m : length ps ≡ length (presentOnes (undatedAll (t .entries))) = sym (length-undated ps) ∙ ap (λ (x : List Entry). length x) u in
+    let w : 4 + length P ≡ 36868 = omega (arith, length-entries s ps h b) in
+    let q : hideFrom 4 (P ++ A) ≡ padded 36864 (entryRows s (presentOnes (undatedAll (t .entries)))) ++ A =
+    hide-append 4 P A
+    ∙ (λ k. entries-hidden s ps h b k ++ hideFrom (w k) A)
+    ∙ (λ k. padded 36864 (entryRows s (u k)) ++ behind-rows A k) in
+    λ k. two (m k) ++ (two (length s) ++ q k)
+
+-- ---- the entries of a log
+
+filled-changed : (g : Entry → Entry) → ((e : Entry) → Filled e → Filled (g e)) → (k : ℕ) (es : List Entry) → All Filled es → All Filled (changed g k es)
+unfolding changed
+filled-changed g h k [] a = tt
+filled-changed g h k (e ∷ es) a =
+    cond-elim (All Filled) (eqb (e .made) k && isPresent e) (g e ∷ es) (e ∷ changed g k es)
+    (λ _. (h e (a .0), a .1))
+    (λ _. (a .0, filled-changed g h k es (a .1)))
+
+filled-step : (t : Tree) (r : Rec) → length r ≡ 80 → All Filled (t .entries) → All Filled (step t r .entries)
+unfolding newEntry stored renamed removed dateBytes labelOf markOf
+filled-step t r n a =
+    let P : Tree → Type 0 = λ (x : Tree). All Filled (x .entries) in
+    let d : length (dateBytes r) ≡ 4 = part-length r 28 4 (omega arith) in
+    let l : length (labelOf r) ≡ 32 = part-length r 32 32 (omega arith) in
+    let m : length (markOf r) ≡ 16 = part-length r 64 16 (omega arith) in
+    step-elim P t r
+    (λ _. effect-elim P r t
+    (λ _. all-append Filled (t .entries) (newEntry r ∷ []) a ((d, l, m), tt))
+    (λ _. filled-changed (stored r) (λ e f. (d, f .1, m)) (objectOf r) (t .entries) a)
+    (λ _. filled-changed removed (λ e f. f) (objectOf r) (t .entries) a)
+    (λ _. filled-changed (renamed r) (λ e f. (f .0, l, f .2)) (objectOf r) (t .entries) a)
+    (λ _. a))
+    (λ x k _. a)
+
+pub filled-replay : (t : Tree) (l : List Rec) → ((r : Rec) → Member r l → length r ≡ 80) → All Filled (t .entries) → All Filled (replayFrom t l .entries)
+unfolding replayFrom
+filled-replay t [] h a = a
+filled-replay t (r ∷ l) h a = filled-replay (step t r) l (λ s i. h s (inr i)) (filled-step t r (h r (inl refl)) a)
+
+-- ---- at most one entry for a record
+
+present-few : (es : List Entry) → length (presentOnes es) ≤ length es
+unfolding presentOnes
+present-few [] = omega arith
+present-few (e ∷ es) =
+    cond-elim (λ (x : List Entry). length x ≤ suc (length es)) (isPresent e) (e ∷ presentOnes es) (presentOnes es)
+    (λ _. omega (arith, present-few es))
+    (λ _. omega (arith, present-few es))
+
+length-makers : (es : List Entry) → length (makers es) ≡ length es
+unfolding makers
+length-makers [] = refl
+length-makers (e ∷ es) = ap suc (length-makers es)
+
+making-few : (v : Verdict) (r : Rec) → length (making v r) ≤ 1
+unfolding making
+making-few fits r = cond-elim (λ (x : List ℕ). length x ≤ 1) (leb (op r) 2) (selfOf r ∷ []) [] (λ _. omega arith) (λ _. omega arith)
+making-few (aside n k) r = omega arith
+
+makes-few : (t : Tree) (l : List Rec) → length (makesFit t l) ≤ length l
+unfolding makesFit
+makes-few t [] = omega arith
+makes-few t (r ∷ l) = omega (arith, length-append (making (judge r t) r) (makesFit (step t r) l), making-few (judge r t) r, makes-few (step t r) l)
+
+pub entries-few : (l : List Rec) → length (presentOnes (replay l .entries)) ≤ length l
+unfolding replay emptyTree makers
+entries-few l =
+    let es : List Entry = replayFrom emptyTree l .entries in
+    let q : length (makers es) ≡ length (makesFit emptyTree l) = ap (λ (x : List ℕ). length x) (makers-replay emptyTree l) in
+    omega (arith, present-few es, length-makers es, makes-few emptyTree l)

@@ -1,0 +1,54 @@
+use Rattle.tree_lookup.proofs.Labels.{Seeking, seek-starts, seek-row, seek-goes, seek-ends}
+use Rattle.tree_lookup.proofs.Working.{works-long}
+use borrow.Author.Needs.{needs}
+use Rattle.tree_lookup.proofs.holder.Statement.{statement}
+use Rattle.tree_lookup.proofs.holder.Tie as tie
+
+abbrev Inv-loop : tie.InvT-loop
+Inv-loop table register f label h best₀ q₀ best q = Seeking table register best₀ f label best q
+
+abbrev μ-loop : tie.MeasureT-loop
+μ-loop table register f label h best₀ q₀ best q = q
+
+hash-requires : tie.Need-hash-requires Inv-loop μ-loop
+hash-requires c κs = search needs
+
+first-of-requires : tie.Need-first-of-requires Inv-loop μ-loop
+first-of-requires c κs = search needs
+
+loop-holds : tie.Need-loop-holds Inv-loop μ-loop
+loop-holds c = search (seek-starts)
+
+row-at-requires : tie.Need-row-at-requires Inv-loop μ-loop
+row-at-requires c κs = search needs
+
+earlier-requires : tie.Need-earlier-requires Inv-loop μ-loop
+earlier-requires c κs = (search (works-long), search (seek-row))
+
+node-behind-requires : tie.Need-node-behind-requires Inv-loop μ-loop
+node-behind-requires c κs = search needs
+
+loop-less : tie.Need-loop-less Inv-loop μ-loop
+loop-less c = search needs
+
+loop-again : tie.Need-loop-again Inv-loop μ-loop
+loop-again c = search (seek-goes)
+
+returns : tie.Need-returns Inv-loop μ-loop
+returns c = search (seek-ends)
+
+pub holder-spec : {M : Type 1} → statement M
+holder-spec =
+    tie.close
+    (tie.spec
+    Inv-loop
+    μ-loop
+    hash-requires
+    first-of-requires
+    loop-holds
+    row-at-requires
+    earlier-requires
+    node-behind-requires
+    loop-less
+    loop-again
+    returns)

@@ -1,0 +1,89 @@
+// Looking up in a table of rows: an entry by its identity, the holder of a label in a folder.
+ghost use mathlib.Core.Path.{_≡_};
+ghost use Prim.Native.Nat.{_+_, _*_, _<_};
+ghost use lib.ListN.{length, getD};
+ghost use Rattle.model.specs.Replay.{entryOf, isIn, holderOf};
+ghost use Rattle.tree_table.specs.Rows.{entryIn, entriesFrom, rowIn, InRange};
+ghost use Rattle.tree_maps.specs.Keys.{slotOf};
+ghost use Rattle.tree_lookup.specs.Roles.{holdsAt, earlierOf, Holds};
+use tree_table::Size;
+
+// The role of an identity.
+pub fn role_of(register: &[u16], k: u32) -> usize
+    requires { ⌜ InRange k × (length (now register) ≡ 9729) ⌝ }
+    ensures { λ r. ⌜ (r ≡ getD (now (register .entry)) (slotOf k) 0) × (r < 65536) ⌝ }
+{
+    let at = tree_maps::slot(k);
+    hash_chains::number_at(register, at)
+}
+
+// The row of the entry k, or the number of rows if it is absent.
+pub fn entry_of(table: &[u8], register: &[u16], size: Size, k: u32) -> usize
+    requires { ⌜ Holds (now table) (now register) (size .entries) (size .asides) × InRange k ⌝ }
+    ensures { λ r. ⌜ rowIn (now (table .entry)) (size .entries) r ≡ entryOf k (entriesFrom (now (table .entry)) 0 (size .entries)) ⌝ }
+{
+    let role = role_of(register, k);
+    if role == 0 {
+        return size.entries;
+    }
+    if size.entries < role {
+        return size.entries;
+    }
+    if tree_table::kind_at(table, role - 1) == 0 {
+        return size.entries;
+    }
+    role - 1
+}
+
+// The entry in row i is present and in the folder f.
+pub fn is_in(table: &[u8], i: usize, f: u32) -> bool
+    requires { ⌜ (length (now table) ≡ 43012) × (i < 512) ⌝ }
+    ensures { λ r. ⌜ r ≡ isIn f (entryIn (now (table .entry)) (4 + 72 * i)) ⌝ }
+{
+    if tree_table::kind_at(table, i) == 0 {
+        return false;
+    }
+    tree_table::inside_at(table, i) == f
+}
+
+// The entry in row i holds a label in the folder f.
+pub fn holds_label(table: &[u8], i: usize, f: u32, label: &[u8]) -> bool
+    requires { ⌜ (length (now table) ≡ 43012) × (i < 512) ⌝ }
+    ensures { λ r. ⌜ r ≡ holdsAt (now (table .entry)) f (now (label .entry)) i ⌝ }
+{
+    if !is_in(table, i, f) {
+        return false;
+    }
+    let at = 4 + 72 * i + 24;
+    byte_slice::same(&table[at..at + 32], label)
+}
+
+// Of two rows the first, if it stands before the other and its entry holds a label in the folder f; otherwise the other.
+pub fn earlier(table: &[u8], row: usize, best: usize, f: u32, label: &[u8]) -> usize
+    requires { ⌜ (length (now table) ≡ 43012) × (row < 512) ⌝ }
+    ensures { λ r. ⌜ r ≡ earlierOf (now (table .entry)) f (now (label .entry)) row best ⌝ }
+{
+    if best <= row {
+        return best;
+    }
+    if holds_label(table, row, f, label) {
+        return row;
+    }
+    best
+}
+
+// The row of the holder of a label in the folder f, or the number of rows if the label is free.
+pub fn holder(table: &[u8], register: &[u16], size: Size, f: u32, label: &[u8]) -> usize
+    requires { ⌜ Holds (now table) (now register) (size .entries) (size .asides) × (length (now label) ≡ 32) ⌝ }
+    ensures { λ r. ⌜ rowIn (now (table .entry)) (size .entries) r ≡ holderOf f (now (label .entry)) (entriesFrom (now (table .entry)) 0 (size .entries)) ⌝ }
+{
+    let h = tree_maps::hash(f, label);
+    let mut best = size.entries;
+    let mut q = hash_chains::first_of(register, h);
+    while 0 < q {
+        let row = hash_chains::row_at(register, q);
+        best = earlier(table, row, best, f, label);
+        q = hash_chains::node_behind(register, q);
+    }
+    best
+}

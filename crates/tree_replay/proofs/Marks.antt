@@ -1,0 +1,104 @@
+-- A reason marks an entry of the tree, or none.
+-- Assumes nothing.
+use Prim.Native.Nat.{ℕ}
+use mathlib.Core.Path.{_≡_, refl, sym, subst}
+use mathlib.Core.Logic.{_⊎_, inl, inr}
+use mathlib.Core.Bool.{Bool, cond, _&&_, _||_}
+use mathlib.Core.Option.{Option, none, some}
+use mathlib.Core.List.{List, [], _∷_}
+use lib.Dec.{leb, eqb}
+use borrow.Author.Tests.{ne-eqb}
+use Rattle.model.specs.Record.{Rec, op, objectOf, folderOf, labelOf}
+use Rattle.model.specs.Replay.{Entry, Tree, Verdict, fits, aside, isPresent, isIn, sameLabel, entryOf, holderOf, hasEntries, standsAside, unseen, freeLabel, judgeMakeIn, judgeMake, judgeStore, judgeRemove, judgeRename, judgeSettle, judge}
+use Rattle.tree_laws.proofs.Steps.{cond-elim}
+use Rattle.tree_table.specs.Rows.{InRange, Proper, AllProper}
+use Rattle.tree_judge.specs.Judged.{verdictOf}
+
+-- a mark in range, or none
+abbrev pub MarkFits : Verdict → Type 0
+MarkFits fits = Unit {0}
+MarkFits (aside n k) = (k ≡ 0) ⊎ InRange k
+
+abbrev Found : Option Entry → Type 0
+Found none = Unit {0}
+Found (some e) = Proper e
+
+entry-found : (k : ℕ) (l : List Entry) → AllProper l → Found (entryOf k l)
+unfolding entryOf
+entry-found k [] p = tt
+entry-found k (e ∷ l) p =
+    cond-elim (λ (o : Option Entry). Found o) (eqb (e .made) k && isPresent e) (some e) (entryOf k l) (λ _. p .0) (λ _. entry-found k l (p .1))
+
+holder-found : (f : ℕ) (t : List ℕ) (l : List Entry) → AllProper l → Found (holderOf f t l)
+unfolding holderOf
+holder-found f t [] p = tt
+holder-found f t (e ∷ l) p =
+    cond-elim (λ (o : Option Entry). Found o) (isIn f e && sameLabel (e .label) t) (some e) (holderOf f t l) (λ _. p .0) (λ _. holder-found f t l (p .1))
+
+free-mark : (o : Option Entry) → Found o → MarkFits (freeLabel o)
+unfolding freeLabel
+free-mark none h = tt
+free-mark (some e) h = inr (h .range)
+
+mark-if : (b : Bool) (x y : Verdict) → MarkFits x → MarkFits y → MarkFits (cond b x y)
+mark-if b x y p q = cond-elim (λ (v : Verdict). MarkFits v) b x y (λ _. p) (λ _. q)
+
+make-in-mark : (r : Rec) (es : List Entry) (o : Option Entry) → AllProper es → Found o → MarkFits (judgeMakeIn r es o)
+unfolding judgeMakeIn
+make-in-mark r es none p h = inl refl
+make-in-mark r es (some f) p h =
+    mark-if (eqb (f .kind) 1) (freeLabel (holderOf (folderOf r) (labelOf r) es)) (aside 14 (f .made))
+    (free-mark (holderOf (folderOf r) (labelOf r) es) (holder-found (folderOf r) (labelOf r) es p)) (inr (h .range))
+
+make-mark : (r : Rec) (es : List Entry) → AllProper es → MarkFits (judgeMake r es)
+unfolding judgeMake
+make-mark r es p =
+    mark-if (eqb (folderOf r) 0) (freeLabel (holderOf 0 (labelOf r) es)) (judgeMakeIn r es (entryOf (folderOf r) es))
+    (free-mark (holderOf 0 (labelOf r) es) (holder-found 0 (labelOf r) es p)) (make-in-mark r es (entryOf (folderOf r) es) p (entry-found (folderOf r) es p))
+
+store-mark : (r : Rec) (o : Option Entry) → Found o → MarkFits (judgeStore r o)
+unfolding judgeStore
+store-mark r none h = inl refl
+store-mark r (some e) h =
+    mark-if (eqb (e .kind) 1) (aside 14 (e .made)) (cond (unseen r (e .contents)) (aside 17 (e .made)) fits) (inr (h .range))
+    (mark-if (unseen r (e .contents)) (aside 17 (e .made)) fits (inr (h .range)) tt)
+
+remove-mark : (r : Rec) (es : List Entry) (o : Option Entry) → Found o → MarkFits (judgeRemove r es o)
+unfolding judgeRemove
+remove-mark r es none h = inl refl
+remove-mark r es (some e) h =
+    let late = unseen r (e .contents) || unseen r (e .naming) in
+    mark-if (eqb (e .kind) 1 && hasEntries (e .made) es) (aside 16 (e .made)) (cond late (aside 17 (e .made)) fits) (inr (h .range))
+    (mark-if late (aside 17 (e .made)) fits (inr (h .range)) tt)
+
+rename-mark : (r : Rec) (es : List Entry) (o : Option Entry) → AllProper es → Found o → MarkFits (judgeRename r es o)
+unfolding judgeRename
+rename-mark r es none p h = inl refl
+rename-mark r es (some e) p h =
+    mark-if (unseen r (e .naming)) (aside 17 (e .made)) (freeLabel (holderOf (e .inside) (labelOf r) es)) (inr (h .range))
+    (free-mark (holderOf (e .inside) (labelOf r) es) (holder-found (e .inside) (labelOf r) es p))
+
+settle-mark : (r : Rec) (t : Tree) → MarkFits (judgeSettle r (t .asides))
+unfolding judgeSettle
+settle-mark r t = mark-if (standsAside (objectOf r) (t .asides)) fits (aside 18 0) tt (inl refl)
+
+pub judge-mark : (r : Rec) (t : Tree) → AllProper (t .entries) → MarkFits (judge r t)
+unfolding judge
+judge-mark r t p =
+    let es = t .entries in
+    let o = entryOf (objectOf r) es in
+    let q = entry-found (objectOf r) es p in
+    let v4 = judgeSettle r (t .asides) in
+    let v3 = cond (eqb (op r) 5) (judgeRename r es o) v4 in
+    let v2 = cond (eqb (op r) 4) (judgeRemove r es o) v3 in
+    let v1 = cond (eqb (op r) 3) (judgeStore r o) v2 in
+    mark-if (leb (op r) 2) (judgeMake r es) v1 (make-mark r es p)
+    (mark-if (eqb (op r) 3) (judgeStore r o) v2 (store-mark r o q)
+    (mark-if (eqb (op r) 4) (judgeRemove r es o) v3 (remove-mark r es o q)
+    (mark-if (eqb (op r) 5) (judgeRename r es o) v4 (rename-mark r es o p q) (settle-mark r t))))
+
+pub marked-fits : (r : Rec) (t : Tree) (n k : ℕ) → AllProper (t .entries) → verdictOf n k ≡ judge r t → (n ≡ 0 → ⊥) → (k ≡ 0) ⊎ InRange k
+unfolding verdictOf
+marked-fits r t n k p e h =
+    let q : aside n k ≡ judge r t = rw (ne-eqb n 0 h) at e in
+    subst (λ (v : Verdict). MarkFits v) (sym q) (judge-mark r t p)

@@ -1,0 +1,79 @@
+use Rattle.tree_replay.proofs.Playing.{turn-entries, turn-asides, turn-holds, turn-takes, turn-goes, turn-inside, play-ends, play-starts}
+use Prim.Native.Nat.{_+_, _≤_, _-_}
+use mathlib.Core.Path.{_≡_, refl}
+use lib.ListN.{length}
+use Rattle.model.specs.Replay.{replayFrom}
+use Rattle.tree_table.specs.Rows.{treeIn}
+use Rattle.hash_chains.specs.Chains.{nodesIn}
+use Rattle.tree_lookup.specs.Roles.{Works}
+use Rattle.log_check.specs.Places.{laidAt}
+use Rattle.log_check.specs.InOrder.{listed}
+use borrow.Author.Needs.{needs}
+use native.Mathlib.Omega.{arith}
+use Rattle.tree_replay.proofs.replay.Statement.{statement}
+use Rattle.tree_replay.proofs.replay.Tie as tie
+
+abbrev Inv-loop : tie.InvT-loop
+Inv-loop bytes layout n table₀ register₀ size₀ i₀ table register size i = (i ≤ n) × (length table ≡ length table₀) × (length register ≡ length register₀) × (nodesIn register ≤ nodesIn register₀ + i) × Works table register (size .entries) (size .asides) (replayFrom (treeIn table₀ (size₀ .entries) (size₀ .asides)) (listed (laidAt layout bytes) 0 i))
+
+abbrev μ-loop : tie.MeasureT-loop
+μ-loop bytes layout n table₀ register₀ size₀ i₀ table register size i = n - i
+
+loop-holds : tie.Need-loop-holds Inv-loop μ-loop
+loop-holds c = (omega arith, refl, refl, omega arith, search (play-starts))
+
+offset-requires : tie.Need-offset-requires Inv-loop μ-loop
+offset-requires c κs = omega arith
+
+add-step : tie.Need-add-step Inv-loop μ-loop
+add-step c = omega arith
+
+sub-step : tie.Need-sub-step Inv-loop μ-loop
+sub-step c = search needs
+
+part-step-start : tie.Need-part-step-start Inv-loop μ-loop
+part-step-start c = search needs
+
+part-step-end : tie.Need-part-step-end Inv-loop μ-loop
+part-step-end c = search (turn-inside)
+
+step-requires : tie.Need-step-requires Inv-loop μ-loop
+step-requires c κs = (search (turn-takes), search (turn-holds), search (turn-entries), search (turn-asides), omega arith)
+
+add-i : tie.Need-add-i Inv-loop μ-loop
+add-i c = search needs
+
+loop-less : tie.Need-loop-less Inv-loop μ-loop
+loop-less c = search needs
+
+loop-again : tie.Need-loop-again Inv-loop μ-loop
+loop-again c = (omega arith, search needs, search needs, omega arith, search (turn-goes))
+
+same-length : tie.Need-same-length Inv-loop μ-loop
+same-length c = search needs
+
+same-length-2 : tie.Need-same-length-2 Inv-loop μ-loop
+same-length-2 c = search needs
+
+returns : tie.Need-returns Inv-loop μ-loop
+returns c = search (play-ends)
+
+pub replay-spec : {M : Type 1} → statement M
+replay-spec =
+    tie.close
+    (tie.spec
+    Inv-loop
+    μ-loop
+    loop-holds
+    offset-requires
+    add-step
+    sub-step
+    part-step-start
+    part-step-end
+    step-requires
+    add-i
+    loop-less
+    loop-again
+    same-length
+    same-length-2
+    returns)

@@ -1,0 +1,26 @@
+use Rattle.log_check.proofs.Sound.{log-laid}
+use Rattle.tree_replay.proofs.Sound.{start-holds, start-nodes, few-records, log-room, log-playable, log-replayed}
+use borrow.Author.Needs.{needs}
+use Rattle.tree_replay.proofs.replay_log.Statement.{statement}
+use Rattle.tree_replay.proofs.replay_log.Tie as tie
+
+replay-requires : tie.Need-replay-requires
+replay-requires c κs = (search (log-laid), search (log-playable), search (start-holds), search (log-room), search (log-room), search (start-nodes, few-records))
+
+same-length : tie.Need-same-length
+same-length c = search needs
+
+same-length-2 : tie.Need-same-length-2
+same-length-2 c = search needs
+
+returns : tie.Need-returns
+returns c = search (log-replayed)
+
+pub replay-log-spec : {M : Type 1} → statement M
+replay-log-spec =
+    tie.close
+    (tie.spec
+    replay-requires
+    same-length
+    same-length-2
+    returns)

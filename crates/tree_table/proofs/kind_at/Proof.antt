@@ -1,0 +1,21 @@
+use mathlib.Core.Path.{refl}
+use Rattle.tree_table.specs.Rows.{entryIn}
+use borrow.Author.Needs.{needs}
+use Rattle.tree_table.proofs.kind_at.Statement.{statement}
+use Rattle.tree_table.proofs.kind_at.Tie as tie
+
+mul-result : tie.Need-mul-result
+mul-result c = search needs
+
+add-result : tie.Need-add-result
+add-result c = search needs
+
+shared-slice-read-result : tie.Need-shared-slice-read-result
+shared-slice-read-result c = search needs
+
+returns : tie.Need-returns
+unfolding entryIn
+returns c = refl
+
+pub kind-at-spec : {M : Type 1} → statement M
+kind-at-spec = tie.close (tie.spec mul-result add-result shared-slice-read-result returns)

@@ -1,0 +1,81 @@
+-- Claim V2: the comparison follows Kumar's version vectors.
+-- Assumes nothing.
+use Prim.Native.Nat.{ℕ, zero, suc, _+_, _≤_, _<_}
+use native.Mathlib.Omega.{arith}
+use mathlib.Core.Path.{_≡_, refl, sym, _∙_}
+use mathlib.Core.Logic.{⊎-elim}
+use mathlib.Core.Bool.{true, false}
+use mathlib.Core.List.{List, [], _∷_}
+use lib.ListN.{getD, length}
+use Rattle.model.specs.Vector.{covers, compareOf}
+use Rattle.byte_slice.proofs.Numbers.{bool-cases, test-false, not-both}
+use Rattle.vector.proofs.Dominance.{covers-at, all-covers, covers-refl, covers-trans, covers-antisym, covers-same}
+use Rattle.vector_compare.specs.Raised.{raised}
+use Rattle.vector_compare.proofs.Answers.{answer-is, said-0, said-1, said-2, said-3}
+
+-- ---- exchanged arguments exchange 1 and 2, and keep 0 and 3
+
+module _ (a b : List ℕ) where
+  pub identical-exchanged : compareOf a b ≡ 0 → compareOf b a ≡ 0
+  identical-exchanged e = let (p, q) = said-0 a b e in answer-is b a true true q p
+
+  pub first-exchanged : compareOf a b ≡ 1 → compareOf b a ≡ 2
+  first-exchanged e = let (p, q) = said-1 a b e in answer-is b a false true q p
+
+  pub second-exchanged : compareOf a b ≡ 2 → compareOf b a ≡ 1
+  second-exchanged e = let (p, q) = said-2 a b e in answer-is b a true false q p
+
+  pub ahead-exchanged : compareOf a b ≡ 3 → compareOf b a ≡ 3
+  ahead-exchanged e = let (p, q) = said-3 a b e in answer-is b a false false q p
+
+-- ---- 0 exactly for equal vectors
+
+pub identical-equal : (a b : List ℕ) → length a ≡ 8 → length b ≡ 8 → compareOf a b ≡ 0 → a ≡ b
+identical-equal a b m n e = let (p, q) = said-0 a b e in covers-antisym a b m n p q
+
+pub equal-identical : (a b : List ℕ) → a ≡ b → compareOf a b ≡ 0
+equal-identical a b e = rw e (answer-is b b true true (covers-refl b) (covers-refl b))
+
+-- ---- 1 exactly if every count is at least the other's and the vectors differ
+
+pub dominates-means : (a b : List ℕ) → compareOf a b ≡ 1 → ((u : ℕ) → u < 8 → getD b u 0 ≤ getD a u 0) × (a ≡ b → ⊥)
+dominates-means a b e =
+    let (p, q) = said-1 a b e in
+    (covers-at a b p, λ (f : a ≡ b). not-both (covers b a) (rw f (covers-refl b)) q)
+
+pub dominates-if : (a b : List ℕ) → length a ≡ 8 → length b ≡ 8 → ((u : ℕ) → u < 8 → getD b u 0 ≤ getD a u 0) → (a ≡ b → ⊥) → compareOf a b ≡ 1
+dominates-if a b m n h k =
+    let p = all-covers a b h in
+    answer-is a b true false p (test-false (covers b a) (λ q. k (covers-antisym a b m n p q)))
+
+-- ---- dominance is transitive
+
+pub dominance-transitive : (a b c : List ℕ) → compareOf a b ≡ 1 → compareOf b c ≡ 1 → compareOf a c ≡ 1
+dominance-transitive a b c e f =
+    let (p, q) = said-1 a b e in
+    let (r, s) = said-1 b c f in
+    answer-is a c true false (covers-trans a b c p r) (test-false (covers c a) (λ t. not-both (covers c b) (covers-trans c a b t p) s))
+
+-- ---- vectors that start at 1 answer as those that start at 0
+
+getD-raised : (v : List ℕ) (u : ℕ) → u < length v → getD (raised v) u 0 ≡ getD v u 0 + 1
+unfolding raised
+getD-raised [] u h = absurd (omega arith)
+getD-raised (x ∷ v) zero h = refl
+getD-raised (x ∷ v) (suc u) h = getD-raised v u (omega arith)
+
+covers-raised : (a b : List ℕ) → length a ≡ 8 → length b ≡ 8 → covers (raised a) (raised b) ≡ covers a b
+covers-raised a b m n = ⊎-elim holds fails (bool-cases (covers a b))
+  where
+    holds : covers a b ≡ true → covers (raised a) (raised b) ≡ covers a b
+    holds e = covers-same a b (raised a) (raised b) (λ u h k. omega (arith, getD-raised a u (omega arith), getD-raised b u (omega arith))) e ∙ sym e
+
+    fails : covers a b ≡ false → covers (raised a) (raised b) ≡ covers a b
+    fails e =
+        test-false (covers (raised a) (raised b))
+        (λ t. not-both (covers a b) (covers-same (raised a) (raised b) a b (λ u h k. omega (arith, getD-raised a u (omega arith), getD-raised b u (omega arith))) t) e)
+        ∙ sym e
+
+pub start-irrelevant : (a b : List ℕ) → length a ≡ 8 → length b ≡ 8 → compareOf (raised a) (raised b) ≡ compareOf a b
+unfolding compareOf
+start-irrelevant a b m n = rw (covers-raised a b m n, covers-raised b a n m)

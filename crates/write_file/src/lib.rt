@@ -1,0 +1,96 @@
+// Writing a file: the whole log in blocks of six records, and zeros behind them.
+ghost use mathlib.Core.Path.{_≡_};
+ghost use mathlib.Core.Bool.{true};
+ghost use Prim.Native.Nat.{_*_, _-_, _<_, _≤_};
+ghost use lib.ListN.{length, replicate};
+ghost use Rattle.model.specs.Bytes.{padded, putAt};
+ghost use Rattle.model.specs.Log.{recordsOf, soundLog, vectorOf};
+ghost use Rattle.model.specs.File.{blockCount, fileOf};
+ghost use Rattle.model.specs.Outcome.{outcome, writeOf};
+use write_file_blocks::block_count;
+use write_file_blocks::file_block;
+use write_file_blocks::write_at;
+use log_check::check;
+use byte_slice::clear;
+use vector::Vector;
+
+// What writing a file answers: the number, 0 for success, and the count of blocks.
+pub struct Written {
+    pub number: u8,
+    pub place: u8,
+    pub blocks: u8,
+}
+
+// Zeros are written behind the first n blocks.
+fn clear_behind(file: &mut [u8], n: usize)
+    requires { ⌜ (length (now file) ≡ 44032) × (n ≤ 86) ⌝ }
+    ensures { λ _. ⌜ now (file .exit) ≡ putAt (now (file .entry)) (512 * n) (replicate (44032 - 512 * n) 0) ⌝ }
+{
+    let at = 512 * n;
+    clear(&mut file[at..44032]);
+}
+
+// Block after block is written, then zeros; the count of blocks is returned.
+fn write_blocks(
+    log: &[u8],
+    used: usize,
+    held: Vector,
+    archive: u32,
+    unit: u8,
+    file: &mut [u8],
+) -> u8
+    requires { ⌜ (length (now log) ≡ 40960) × (soundLog (now log) ≡ true) × (used ≡ length (recordsOf (now log))) × (held .counts ≡ vectorOf (recordsOf (now log))) × (length (now file) ≡ 44032) ⌝ }
+    ensures counted { λ r. ⌜ r ≡ blockCount (length (recordsOf (now (log .entry)))) ⌝ }
+    ensures written { λ _. ⌜ now (file .exit) ≡ padded 44032 (fileOf archive unit (recordsOf (now (log .entry)))) ⌝ }
+{
+    let n = block_count(used);
+    let mut k: usize = 0;
+    while k < n {
+        let b = file_block(log, used, held, archive, unit, k);
+        write_at(file, k, b);
+        k += 1;
+    }
+    clear_behind(file, n);
+    n as u8
+}
+
+// The whole log is written into the lent file, six records a block, with zeros behind the last. The log is only read.
+pub fn write_file(log: &[u8], archive: u32, unit: u8, file: &mut [u8]) -> Written
+    ensures { λ r. ⌜ outcome (r .number) (r .place) (now (log .entry)) (now (file .exit)) (r .blocks) ≡ writeOf archive unit (now (log .entry)) (now (file .entry)) ⌝ }
+{
+    if log.len() != 40960 {
+        return Written {
+            number: 1,
+            place: 0,
+            blocks: 0,
+        };
+    }
+    if file.len() != 44032 {
+        return Written {
+            number: 1,
+            place: 0,
+            blocks: 0,
+        };
+    }
+    if 7 < unit {
+        return Written {
+            number: 21,
+            place: 0,
+            blocks: 0,
+        };
+    }
+    let c = check(log);
+    if !c.sound {
+        return Written {
+            number: 19,
+            place: 0,
+            blocks: 0,
+        };
+    }
+    let n = write_blocks(log, c.used, c.held, archive, unit, file);
+    Written {
+        number: 0,
+        place: 0,
+        blocks: n,
+    }
+}

@@ -1,0 +1,77 @@
+//! The static library's functions as its header declares them.
+//!
+//! A result's low byte is the number, its next byte the place, its upper 16
+//! bits the count where a call returns one. `include/sab.h` is the manual.
+
+unsafe extern "C" {
+    pub fn sab_start(log: *mut u8, log_len: usize, archive: u32, unit: u8) -> u32;
+
+    pub fn sab_act(
+        log: *mut u8,
+        log_len: usize,
+        archive: u32,
+        unit: u8,
+        wish: *const u8,
+        wish_len: usize,
+    ) -> u32;
+
+    pub fn sab_hand_out(
+        log: *const u8,
+        log_len: usize,
+        archive: u32,
+        unit: u8,
+        asked: *const u8,
+        asked_len: usize,
+        block: *mut u8,
+        block_len: usize,
+    ) -> u32;
+
+    pub fn sab_take(
+        log: *mut u8,
+        log_len: usize,
+        archive: u32,
+        unit: u8,
+        block: *const u8,
+        block_len: usize,
+    ) -> u32;
+
+    pub fn sab_write_file(
+        log: *const u8,
+        log_len: usize,
+        archive: u32,
+        unit: u8,
+        file: *mut u8,
+        file_len: usize,
+    ) -> u32;
+
+    pub fn sab_read_file(
+        log: *mut u8,
+        log_len: usize,
+        file: *const u8,
+        file_len: usize,
+        head: *mut u8,
+        head_len: usize,
+    ) -> u32;
+
+    pub fn sab_show(log: *const u8, log_len: usize, tree: *mut u8, tree_len: usize) -> u32;
+
+    pub fn sab_compare(
+        first: *const u8,
+        first_len: usize,
+        second: *const u8,
+        second_len: usize,
+    ) -> u32;
+
+    pub fn sab_listing(
+        file: *const u8,
+        file_len: usize,
+        log: *mut u8,
+        log_len: usize,
+        tree: *mut u8,
+        tree_len: usize,
+        out: *mut u8,
+        out_len: usize,
+        length: *mut u8,
+        length_len: usize,
+    ) -> u32;
+}

@@ -1,0 +1,294 @@
+//! The safe wrapper against the static library: every call, every buffer of
+//! another length, and bytes kept by refusals.
+
+use sab::{BLOCK, FILE, Head, LISTING, LOG, Listed, Refusal, TREE, WISH};
+use workload::{Mix, log_of, vector_of};
+
+const ARCHIVE: u32 = 0xfedc_ba98;
+
+fn refused<T>(number: u8) -> Result<T, Refusal> {
+    Err(Refusal { number, place: 0 })
+}
+
+/// Bytes that a call must leave.
+fn pattern(length: usize) -> Vec<u8> {
+    (0..length).map(|i| (17 + 31 * i) as u8).collect()
+}
+
+/// Lengths that are wrong for a buffer of a stated length.
+fn wrong(stated: usize) -> [Vec<u8>; 4] {
+    [0, stated - 1, stated + 1, 2 * stated].map(pattern)
+}
+
+fn make_folder(unit: u8, label: &str) -> [u8; WISH] {
+    let mut wish = [0; WISH];
+    wish[..2].copy_from_slice(&[unit, 1]);
+    wish[28..32].copy_from_slice(&[0xe9, 7, 3, 3]);
+    wish[32..32 + label.len()].copy_from_slice(label.as_bytes());
+    wish
+}
+
+fn a_log() -> Vec<u8> {
+    log_of(40, 4, 5, &Mix::CONFLICTS, 3)
+}
+
+fn file_of(log: &[u8]) -> Vec<u8> {
+    let mut file = vec![0; FILE];
+    let blocks = sab::write_file(log, ARCHIVE, 5, &mut file).unwrap();
+    file.truncate(BLOCK * blocks as usize);
+    file
+}
+
+#[test]
+fn starting() {
+    let mut log = pattern(LOG);
+    assert_eq!(sab::start(&mut log, ARCHIVE, 8), refused(21));
+    assert_eq!(log, pattern(LOG));
+    assert_eq!(sab::start(&mut log, ARCHIVE, 7), Ok(()));
+    assert_eq!(log, vec![0; LOG]);
+    for mut log in wrong(LOG) {
+        let before = log.clone();
+        assert_eq!(sab::start(&mut log, ARCHIVE, 0), refused(1));
+        assert_eq!(log, before);
+    }
+}
+
+#[test]
+fn acting() {
+    let mut log = vec![0; LOG];
+    let wish = make_folder(3, "Bench");
+    assert_eq!(sab::act(&mut log, ARCHIVE, 3, &wish), Ok(()));
+    let mut record = wish;
+    record[2] = 1;
+    assert_eq!(log[..WISH], record);
+    assert!(log[WISH..].iter().all(|byte| *byte == 0));
+    let before = log.clone();
+    assert_eq!(sab::act(&mut log, ARCHIVE, 3, &wish), refused(15));
+    assert_eq!(sab::act(&mut log, ARCHIVE, 4, &wish), refused(7));
+    assert_eq!(sab::act(&mut log, ARCHIVE, 200, &wish), refused(21));
+    for wish in wrong(WISH) {
+        assert_eq!(sab::act(&mut log, ARCHIVE, 3, &wish), refused(1));
+    }
+    assert_eq!(log, before);
+    for mut log in wrong(LOG) {
+        let before = log.clone();
+        assert_eq!(sab::act(&mut log, ARCHIVE, 3, &wish), refused(1));
+        assert_eq!(log, before);
+    }
+    log[1] = 0;
+    assert_eq!(sab::act(&mut log, ARCHIVE, 3, &wish), refused(19));
+}
+
+#[test]
+fn passing_blocks() {
+    let given = a_log();
+    let mut log = vec![0; LOG];
+    let mut block = pattern(BLOCK);
+    loop {
+        let asked = vector_of(&log);
+        assert_eq!(
+            sab::hand_out(&given, ARCHIVE, 1, &asked, &mut block),
+            Ok(())
+        );
+        assert_eq!(sab::take(&mut log, ARCHIVE, 2, &block), Ok(()));
+        if block[9] == 0 {
+            break;
+        }
+    }
+    assert_eq!(log, given);
+    assert_eq!(sab::take(&mut log, ARCHIVE + 1, 2, &block), refused(6));
+    assert_eq!(sab::take(&mut log, ARCHIVE, 8, &block), refused(21));
+    block[100] ^= 1;
+    assert_eq!(sab::take(&mut log, ARCHIVE, 2, &block), refused(4));
+    for block in wrong(BLOCK) {
+        assert_eq!(sab::take(&mut log, ARCHIVE, 2, &block), refused(2));
+    }
+    assert_eq!(log, given);
+    for mut block in wrong(BLOCK) {
+        let before = block.clone();
+        assert_eq!(
+            sab::hand_out(&log, ARCHIVE, 1, &[0; 8], &mut block),
+            refused(1)
+        );
+        assert_eq!(block, before);
+    }
+    for mut log in wrong(LOG) {
+        let (before, mut block) = (log.clone(), pattern(BLOCK));
+        assert_eq!(
+            sab::hand_out(&log, ARCHIVE, 1, &[0; 8], &mut block),
+            refused(1)
+        );
+        assert_eq!(sab::take(&mut log, ARCHIVE, 1, &block), refused(1));
+        assert!(log == before && block == pattern(BLOCK));
+    }
+}
+
+/// Every order of a list.
+fn orders<T: Copy>(list: &[T]) -> Vec<Vec<T>> {
+    let Some((first, rest)) = list.split_first() else {
+        return vec![Vec::new()];
+    };
+    let mut all = Vec::new();
+    for order in orders(rest) {
+        for place in 0..=order.len() {
+            let mut more = order.clone();
+            more.insert(place, *first);
+            all.push(more);
+        }
+    }
+    all
+}
+
+/// Six units that know nothing of each other: a block may have their records in
+/// any order, and any of them may be held already.
+#[test]
+fn records_in_any_order() {
+    let records: [[u8; WISH]; 6] = std::array::from_fn(|unit| {
+        let mut log = vec![0; LOG];
+        let wish = make_folder(unit as u8, "Bench");
+        sab::act(&mut log, ARCHIVE, unit as u8, &wish).unwrap();
+        log[..WISH].try_into().unwrap()
+    });
+    let log_with = |held: &dyn Fn(usize) -> bool| {
+        let held: Vec<_> = (0..6).filter(|i| held(*i)).map(|i| records[i]).collect();
+        let mut log = held.concat();
+        log.resize(LOG, 0);
+        log
+    };
+    let all = log_with(&|_| true);
+    let mut block = [0; BLOCK];
+    sab::hand_out(&all, ARCHIVE, 0, &[0; 8], &mut block).unwrap();
+    for order in orders(&records) {
+        block[28..508].copy_from_slice(&order.concat());
+        let (first, second) = plain::sums(&block);
+        block[508..510].copy_from_slice(&first.to_le_bytes());
+        block[510..].copy_from_slice(&second.to_le_bytes());
+        for held in 0..64 {
+            let mut log = log_with(&|i| held >> i & 1 == 1);
+            assert_eq!(sab::take(&mut log, ARCHIVE, 7, &block), Ok(()));
+            assert!(log == all);
+        }
+    }
+}
+
+#[test]
+fn files() {
+    let log = a_log();
+    let mut file = file_of(&log);
+    assert_eq!(file.len(), 7 * BLOCK);
+    let mut read = pattern(LOG);
+    let head = Head {
+        archive: ARCHIVE,
+        unit: 5,
+        records: 40,
+        vector: vector_of(&log),
+    };
+    assert_eq!(sab::read_file(&mut read, &file), Ok(head));
+    assert_eq!(read, log);
+    let mut kept = pattern(LOG);
+    file[3 * BLOCK + 60] ^= 4;
+    let bad_sum = Err(Refusal {
+        number: 4,
+        place: 3,
+    });
+    assert_eq!(sab::read_file(&mut kept, &file), bad_sum);
+    for length in [0, 1, 511, 513, FILE + BLOCK] {
+        assert_eq!(sab::read_file(&mut kept, &pattern(length)), refused(2));
+    }
+    assert_eq!(kept, pattern(LOG));
+    for mut other in wrong(LOG) {
+        let (before, mut lent) = (other.clone(), pattern(FILE));
+        assert_eq!(sab::read_file(&mut other, &file), refused(1));
+        assert_eq!(sab::write_file(&other, ARCHIVE, 5, &mut lent), refused(1));
+        assert!(other == before && lent == pattern(FILE));
+    }
+    for mut lent in wrong(FILE) {
+        let before = lent.clone();
+        assert_eq!(sab::write_file(&log, ARCHIVE, 5, &mut lent), refused(1));
+        assert_eq!(lent, before);
+    }
+    assert_eq!(
+        sab::write_file(&log, ARCHIVE, 8, &mut pattern(FILE)),
+        refused(21)
+    );
+}
+
+#[test]
+fn trees() {
+    let log = a_log();
+    let mut tree = pattern(TREE);
+    assert_eq!(sab::show(&log, &mut tree), Ok(()));
+    for mut lent in wrong(TREE) {
+        let before = lent.clone();
+        assert_eq!(sab::show(&log, &mut lent), refused(1));
+        assert_eq!(lent, before);
+    }
+    for log in wrong(LOG) {
+        let mut lent = pattern(TREE);
+        assert_eq!(sab::show(&log, &mut lent), refused(1));
+        assert_eq!(lent, pattern(TREE));
+    }
+
+    let (mut work, mut shown, mut out) = (pattern(LOG), pattern(TREE), pattern(LISTING));
+    let file = file_of(&log);
+    let listed = sab::listing(&file, &mut work, &mut shown, &mut out).unwrap();
+    assert_eq!(listed.refused, None);
+    assert!(work == log && shown == tree);
+    let text = String::from_utf8(out[..listed.length].to_vec()).unwrap();
+    assert!(text.starts_with(&format!("archive {ARCHIVE} unit 5 records 40\nseen ")));
+    let rows = u16::from_le_bytes([tree[0], tree[1]]) + u16::from_le_bytes([tree[2], tree[3]]);
+    assert_eq!(text.lines().count(), 2 + rows as usize);
+    assert_eq!(out[listed.length..], pattern(LISTING)[listed.length..]);
+}
+
+#[test]
+fn listings_of_refused_files() {
+    let mut file = file_of(&a_log());
+    file[2 * BLOCK] = b'T';
+    let (mut log, mut tree, mut out) = (pattern(LOG), pattern(TREE), pattern(LISTING));
+    let expected = Listed {
+        length: 15,
+        refused: Some(Refusal {
+            number: 3,
+            place: 2,
+        }),
+    };
+    assert_eq!(
+        sab::listing(&file, &mut log, &mut tree, &mut out),
+        Ok(expected)
+    );
+    assert_eq!(&out[..15], b"refused 3 at 2\n");
+    let nothing = sab::listing(&[], &mut log, &mut tree, &mut out).unwrap();
+    assert_eq!(nothing.refused.map(|refusal| refusal.number), Some(2));
+    assert_eq!(&out[..nothing.length], b"refused 2 at 0\n");
+    assert!(log == pattern(LOG) && tree == pattern(TREE));
+    let before = out.clone();
+    for mut log in wrong(LOG) {
+        assert_eq!(
+            sab::listing(&file, &mut log, &mut tree, &mut out),
+            refused(1)
+        );
+    }
+    for mut tree in wrong(TREE) {
+        assert_eq!(
+            sab::listing(&file, &mut log, &mut tree, &mut out),
+            refused(1)
+        );
+    }
+    for mut out in wrong(LISTING) {
+        assert_eq!(
+            sab::listing(&file, &mut log, &mut tree, &mut out),
+            refused(1)
+        );
+    }
+    assert!(log == pattern(LOG) && tree == pattern(TREE) && out == before);
+}
+
+#[test]
+fn comparing() {
+    let [low, high] = [[1, 2, 3, 4, 5, 6, 7, 8], [1, 2, 3, 4, 5, 6, 7, 65_535]];
+    assert_eq!(sab::compare(&low, &low), 0);
+    assert_eq!(sab::compare(&high, &low), 1);
+    assert_eq!(sab::compare(&low, &high), 2);
+    assert_eq!(sab::compare(&[9, 0, 0, 0, 0, 0, 0, 0], &high), 3);
+}

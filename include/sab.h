@@ -1,0 +1,394 @@
+/* sab.h: the record folder that bench analysers share, in memory that the
+ * caller lends.
+ *
+ * Up to eight analysers, units 0 to 7, keep one archive of folders and traces.
+ * Every change is a record of 80 bytes. A unit's records and those it got from
+ * others lie in its log, 40,960 bytes of the caller's. Units meet in twos and
+ * pass blocks of 512 bytes. The tree of folders and traces is computed from the
+ * records alone, so units that hold the same records show the same tree. A
+ * record that does not fit the tree stands aside, with a reason, at every unit
+ * alike.
+ *
+ * The functions are proved: every call returns, stays within the lent buffers
+ * and does what is said here. docs/FORMAT.md describes records, blocks, files
+ * and the replay; this page describes the calls.
+ *
+ *
+ * CAVEATS
+ *
+ * What the caller owes:
+ *
+ * - A pointer given with the length that is stated for it points to that many
+ *   bytes, which nothing else reads or writes during the call.
+ * - Buffers of one call do not overlap. A call does not notice if they do.
+ * - Storage and links. The library keeps nothing between calls: no heap, no
+ *   static data. The log is what the last call left in the lent bytes. To keep
+ *   it over a power cut, store it (or the file of it) after a call has returned.
+ *   A cut inside a call may leave the lent log half written, so do not lend the
+ *   only copy: a log in memory that outlives the power is copied first. (Every
+ *   call checks the log it is lent, and a torn one will mostly be refused with
+ *   19; do not count on it.)
+ * - One unit number for one analyser, and its own log for each call. A number
+ *   is not a name tag that can be passed on: two analysers with one number make
+ *   different records under one identity, which others refuse (10, 8 or 9).
+ * - Starting only a new unit. sab_start empties a log without asking. If a
+ *   unit that has made records is started, it must get its own records back, by
+ *   sab_read_file or sab_take, before it acts, or it uses numbers twice.
+ *
+ * What the library does not do:
+ *
+ * - The sums of a block find every changed single byte and nearly all other
+ *   damage, not all: two changed bytes can cancel. They are no protection
+ *   against a person who wants to deceive.
+ * - The archive number is compared by sab_take and nowhere else. The log does
+ *   not hold it.
+ * - A log holds 512 records and does not get smaller. A full one refuses new
+ *   records (11).
+ * - A record that fitted when it was made may stand aside after a meeting, and
+ *   the other way round. Show the tree again after every accepted take.
+ * - Dates are shown and order nothing.
+ *
+ * Calls may run at the same time on different buffers. Bytes need no alignment.
+ * The stack that each call needs stands in docs/PERFORMANCE.md.
+ *
+ * `rt staticlib sab` writes the archive, for x86-64 Linux. To link it:
+ *
+ *     cc -Iinclude yours.c target/staticlib/libsab.a
+ *
+ *
+ * RESULTS
+ *
+ * Every function returns one 32-bit word:
+ *
+ *     SAB_NUMBER(r)   0 for success, else the number of the refusal, below
+ *     SAB_PLACE(r)    the block at fault, counted from 0; 0 for a call with one
+ *                      block, and without meaning for a number that has none
+ *     SAB_COUNT(r)    what a successful call counted: the blocks written
+ *                      (sab_write_file), the records read (sab_read_file), the
+ *                      answer of sab_compare; else 0
+ *
+ * A refused call leaves every byte of every lent buffer as it was.
+ * (sab_listing, whose output tells of the refusal, says what it leaves.)
+ *
+ * Each function checks in the order in which its numbers stand, and returns the
+ * first that holds. A buffer that has not the stated length is refused with 1,
+ * or with 2 if it is a block or a file given for reading; its bytes are neither
+ * read nor written, so with a wrong length, also 0, the pointer may be anything.
+ *
+ *
+ * A MEETING
+ *
+ * Unit `me` wants what unit `you` has. Every buffer is the caller's.
+ *
+ *     uint8_t asked[SAB_VECTOR_BYTES], block[SAB_BLOCK_BYTES];
+ *     uint32_t r;
+ *     do {
+ *         counts(my_log, asked);                         what I hold
+ *         ...send asked to you...
+ *         r = sab_hand_out(your_log, SAB_LOG_BYTES, archive, you,
+ *                           asked, SAB_VECTOR_BYTES, block, SAB_BLOCK_BYTES);
+ *         ...send block to me; it may arrive damaged or not at all...
+ *         r = sab_take(my_log, SAB_LOG_BYTES, archive, me,
+ *                       block, SAB_BLOCK_BYTES);
+ *         if (SAB_NUMBER(r) != SAB_OK) ask again, or stop: nothing was taken
+ *         ...store my_log...
+ *     } while (block[9] != 0);
+ *
+ * Byte 9 of a block is its count of records; 0 says that nothing is lacking.
+ * Then the two change places. A meeting may break off anywhere: what was taken
+ * stays, and the next meeting goes on from there, with the same end. counts()
+ * is the caller's: of each unit, how many records the log holds (byte 0 of a
+ * record is its unit, and the first record that is all zero ends the log);
+ * bytes 12 to 27 of any block that a unit hands out are the same vector.
+ * hosts/c/meeting.c is a whole meeting that compiles.
+ */
+
+#ifndef SAB_H
+#define SAB_H
+
+#include <stddef.h>
+#include <stdint.h>
+
+#ifdef __cplusplus
+extern "C" {
+#endif
+
+/* ---- Lengths in bytes ---- */
+
+#define SAB_RECORD_BYTES 80      /* a record, and a wish */
+#define SAB_LOG_BYTES 40960      /* a log: 512 places of 80 */
+#define SAB_BLOCK_BYTES 512      /* a block: up to six records */
+#define SAB_FILE_BYTES 44032     /* lent for writing a file: 86 blocks */
+#define SAB_TREE_BYTES 43012     /* the tree table */
+#define SAB_VECTOR_BYTES 16      /* a vector: eight 16-bit counts, unit 0 first */
+#define SAB_HEAD_BYTES 24        /* what a file says of itself */
+#define SAB_LISTING_BYTES 76800  /* lent for a listing; none is longer */
+#define SAB_LENGTH_BYTES 4       /* the length of a listing */
+
+/* All numbers of more than one byte, in every buffer, are little-endian. */
+
+/* ---- Results ---- */
+
+#define SAB_NUMBER(r) ((uint32_t)(r) & 0xFFu)
+#define SAB_PLACE(r) (((uint32_t)(r) >> 8) & 0xFFu)
+#define SAB_COUNT(r) ((uint32_t)(r) >> 16)
+
+/* ---- Numbers of refusals; P: with the place of the block at fault ---- */
+
+#define SAB_OK 0u
+#define SAB_BAD_BUFFER 1u     /*   a lent buffer is not of the stated length */
+#define SAB_BAD_LENGTH 2u     /* P a block is not 512 bytes, or a file is not 1
+                                    to 86 blocks; the place is 0 */
+#define SAB_BAD_LETTERS 3u    /* P a block does not begin with SAB1 */
+#define SAB_BAD_SUM 4u        /* P a sum of a block differs: damaged */
+#define SAB_BAD_HEADER 5u     /* P a header's unit is above 7 or its count above
+                                    6, or an unused record place is not zero */
+#define SAB_OTHER_ARCHIVE 6u  /* P the block is of another archive */
+#define SAB_MALFORMED 7u      /* P a record or a wish is not well formed */
+#define SAB_NOT_NEXT 8u       /* P a record's number is not its unit's next, or
+                                    it has seen records that are not held: others
+                                    have to be taken first */
+#define SAB_NOT_CLOSED 9u     /* P what a record has seen is not closed: it has
+                                    seen a record, but not all that one saw */
+#define SAB_OTHER_BYTES 10u   /* P a record is held already, with other bytes: a
+                                    number was used twice */
+#define SAB_FULL_LOG 11u      /* P a 513th record */
+#define SAB_NO_OBJECT 12u     /*   the object is not in the tree */
+#define SAB_NO_FOLDER 13u     /*   the folder is not in the tree */
+#define SAB_WRONG_KIND 14u    /*   a trace used as a folder, or a store on a
+                                    folder */
+#define SAB_LABEL_HELD 15u    /*   an entry of that folder has the label */
+#define SAB_NOT_EMPTY 16u     /*   a folder to remove has entries */
+#define SAB_UNSEEN_CHANGE 17u /*   only a reason for standing aside: the object
+                                    was changed by a record that its maker had
+                                    not seen. No call returns it */
+#define SAB_NOT_ASIDE 18u     /*   a record to settle does not stand aside */
+#define SAB_UNSOUND_LOG 19u   /*   the lent log is not sound: torn, or no log */
+#define SAB_BAD_FILE 20u      /* P a file's blocks disagree, its ranks do not
+                                    rise, or its vector is not its counts */
+#define SAB_BAD_UNIT 21u      /*   the call's own unit is above 7 */
+
+/* ---- Operations of a record, byte 1 ---- */
+
+#define SAB_MAKE_FOLDER 1u /* folder, label */
+#define SAB_MAKE_TRACE 2u  /* folder, label, mark */
+#define SAB_STORE 3u       /* object, mark */
+#define SAB_REMOVE 4u      /* object */
+#define SAB_RENAME 5u      /* object, label */
+#define SAB_SETTLE 6u      /* object: the record that stands aside */
+
+/* ---- Calls ---- */
+
+/* Compares two vectors, of any counts.
+ *
+ * first, second   16 bytes each; only read
+ *
+ * Returns 0, and SAB_COUNT is
+ *   0 identical,
+ *   1 the first dominates: every count at least the second's, not identical,
+ *   2 the second dominates,
+ *   3 both are ahead: each has records that the other lacks.
+ * Returns 1 if a vector is not of 16 bytes.
+ */
+#define SAB_IDENTICAL 0u
+#define SAB_FIRST_AHEAD 1u
+#define SAB_SECOND_AHEAD 2u
+#define SAB_BOTH_AHEAD 3u
+
+uint32_t sab_compare(const uint8_t *first, size_t first_len,
+                      const uint8_t *second, size_t second_len);
+
+/* Starts a unit: makes its log all zeros, whatever it held. See the caveat.
+ *
+ * log       40,960 bytes; on 0 every byte is zero
+ * archive   any number; decides nothing here
+ * unit      the own unit
+ *
+ * Returns 0; 1 log not of 40,960 bytes; 21 unit above 7.
+ */
+uint32_t sab_start(uint8_t *log, size_t log_len, uint32_t archive,
+                    uint8_t unit);
+
+/* Makes a record of the own unit, if it fits the tree.
+ *
+ * log       40,960 bytes; on 0 the record stands behind those held, with the
+ *           unit's next number and the held vector as what it has seen; the
+ *           other bytes are as they were
+ * archive   any number; decides nothing here
+ * unit      the own unit
+ * wish      80 bytes, only read: a record whose unit is the own unit and whose
+ *           number (bytes 2 and 3) and seen (bytes 4 to 19) are zero:
+ *             0 unit; 1 operation; 2-19 zero;
+ *             20 object's unit, 21 zero, 22-23 object's number;
+ *             24 folder's unit, 25 zero, 26-27 folder's number; the root is all
+ *                zero;
+ *             28-29 year 1990 to 2199, 30 month, 31 day: a real date, in every
+ *                operation;
+ *             32-63 label: 1 to 32 bytes of hexadecimal 20 to 7E, no space first
+ *                or last, then zeros;
+ *             64-79 mark of the trace file, any bytes;
+ *           fields that the operation does not use are zero
+ *
+ * Returns 0;
+ *    1 log not of 40,960 or wish not of 80 bytes;
+ *   21 unit above 7;
+ *   19 log not sound;
+ *    7 wish of another unit, with number or seen, or malformed; an identity that
+ *      this unit has not seen is malformed too;
+ *   11 the log is full;
+ *   12 store, remove, rename: the object is not in the tree;
+ *   13 make: the folder is not in the tree;
+ *   14 make: the folder is a trace; store: the object is a folder;
+ *   15 make, rename: an entry of the folder has the label; to rename an entry to
+ *      the label it has is 15 too;
+ *   16 remove: the folder has entries;
+ *   18 settle: the object is no record that stands aside.
+ */
+uint32_t sab_act(uint8_t *log, size_t log_len, uint32_t archive, uint8_t unit,
+                  const uint8_t *wish, size_t wish_len);
+
+/* Hands out one block: the first six or fewer records, in rank order, that the
+ * asked vector lacks.
+ *
+ * log       40,960 bytes, only read
+ * archive   goes into the block
+ * unit      the own unit; goes into the block
+ * asked     16 bytes, only read: the vector of the unit that asks; any counts
+ * block     512 bytes; on 0 every byte is written. Its count, byte 9, is 0 if
+ *           nothing is lacking; its vector, bytes 12 to 27, is that of this log
+ *
+ * For k records lacking, k above 0, k divided by 6 and rounded up hand-outs and
+ * takes pass all.
+ *
+ * Returns 0; 1 log, asked or block not of its length; 21 unit above 7; 19 log
+ * not sound.
+ */
+uint32_t sab_hand_out(const uint8_t *log, size_t log_len, uint32_t archive,
+                       uint8_t unit, const uint8_t *asked, size_t asked_len,
+                       uint8_t *block, size_t block_len);
+
+/* Takes a block wholly or not at all: its new records are laid into the log by
+ * rank. Records that are held already must be equal and change nothing, so a
+ * block may come twice. The block's place and vector are not judged.
+ *
+ * log       40,960 bytes; on 0 it holds the records held before and the block's
+ * archive   the archive that the block must have
+ * unit      the own unit
+ * block     512 bytes, only read
+ *
+ * Returns 0;
+ *    1 log not of 40,960 bytes;
+ *   21 unit above 7;
+ *   19 log not sound;
+ *    2 block not of 512 bytes; 3 letters; 4 a sum; 5 header; 6 archive;
+ *   then for its records one by one
+ *    7 malformed;
+ *   10 held with other bytes (earlier records of the block count as held);
+ *    8 not next, or has seen what is not held;
+ *    9 seen not closed;
+ *   11 a 513th record.
+ * The place is 0.
+ */
+uint32_t sab_take(uint8_t *log, size_t log_len, uint32_t archive, uint8_t unit,
+                   const uint8_t *block, size_t block_len);
+
+/* Writes the whole log as a file.
+ *
+ * log       40,960 bytes, only read
+ * archive   goes into the file
+ * unit      the own unit; goes into the file
+ * file      44,032 bytes; on 0 every byte is written: SAB_COUNT blocks of 512,
+ *           which are the file, then zeros, which are not part of it
+ *
+ * Returns 0, and SAB_COUNT is the count of blocks, 1 to 86; 1 log or file not of
+ * its length; 21 unit above 7; 19 log not sound.
+ */
+uint32_t sab_write_file(const uint8_t *log, size_t log_len, uint32_t archive,
+                         uint8_t unit, uint8_t *file, size_t file_len);
+
+/* Reads a file, of any archive, into a lent log.
+ *
+ * log    40,960 bytes, whose old bytes are not judged; on 0 it holds the file's
+ *        records
+ * file   1 to 86 blocks, 512 to 44,032 bytes, only read
+ * head   24 bytes; on 0 what the file says of itself:
+ *          0-3 archive; 4 unit; 5 zero; 6-7 count of records; 8-23 vector
+ *
+ * Returns 0, and SAB_COUNT is the count of records, 0 to 512;
+ *    1 log or head not of its length;
+ *    2 file not of 1 to 86 whole blocks;
+ *   then block by block 3 letters, 4 a sum, 5 header, 20 place, unit, archive or
+ *   vector unlike the first block's, or a short block that is not the last;
+ *   then record by record 11 a 513th, 7 malformed, 20 rank not above the record
+ *   before, 8 not next or has seen what does not stand before, 9 not closed;
+ *   last 20, at the last block, a vector that is not the record counts.
+ * The place says which block.
+ */
+uint32_t sab_read_file(uint8_t *log, size_t log_len, const uint8_t *file,
+                        size_t file_len, uint8_t *head, size_t head_len);
+
+/* Shows the tree of a log: the replay of its records in rank order.
+ *
+ * log    40,960 bytes, only read
+ * tree   43,012 bytes; on 0 every byte is written:
+ *
+ *   0-1  how many entries; 2-3  how many asides; together at most 512
+ *   4 + 72 i       entry i, by rank of the record that made it
+ *       0      kind: 1 folder, 2 trace
+ *       1      1 if disputed (an open aside marks it), else 0
+ *       2-3    zero
+ *       4-7    identity
+ *       8-11   its folder; the root is all zero
+ *       12-15  the last contents record: the make or the last store that fitted
+ *       16-19  the last label record: the make or the last rename that fitted
+ *       20-23  date of the last contents record: year (2), month, day
+ *       24-55  label, then zeros
+ *       56-71  mark of the last contents record; of a folder zeros
+ *   36868 + 12 j   aside j, by rank
+ *       0-3    identity
+ *       4      reason: 12 to 18
+ *       5      1 open, 2 settled
+ *       6-7    zero
+ *       8-11   the marked entry, even if removed since; all zero for none
+ *   An identity is four bytes: unit, zero, number (2). Rows not used are zero.
+ *
+ * Returns 0; 1 log or tree not of its length; 19 log not sound.
+ */
+#define SAB_TREE_ENTRIES 4     /* where the rows of entries begin */
+#define SAB_TREE_ASIDES 36868  /* where the rows of asides begin */
+#define SAB_ENTRY_BYTES 72     /* a row of an entry */
+#define SAB_ASIDE_BYTES 12     /* a row of an aside */
+#define SAB_FOLDER 1u          /* kinds of entries */
+#define SAB_TRACE 2u
+#define SAB_OPEN 1u            /* states of asides */
+#define SAB_SETTLED 2u
+
+uint32_t sab_show(const uint8_t *log, size_t log_len, uint8_t *tree,
+                   size_t tree_len);
+
+/* Lists a file as text, in the form that docs/FORMAT.md gives: archive, unit and
+ * count of records; the vector; a line for each entry; a line for each aside. A
+ * refused file gives one line, `refused N at P`.
+ *
+ * file     the file's bytes, only read
+ * log      40,960 bytes, work space; on 0 it holds the file's records
+ * tree     43,012 bytes, work space; on 0 it is the tree of that log
+ * out      76,800 bytes; on every number but 1 the listing stands at its
+ *          beginning, and the bytes behind it are as they were
+ * length   4 bytes; on every number but 1 the length of the listing
+ *
+ * Returns 0; 1 log, tree, out or length not of its length, and all is as it was;
+ * else the number and place with which sab_read_file refuses the file (2 to 5,
+ * 7 to 9, 11, 20), the line of refusal is the listing, and log and tree are as
+ * they were.
+ */
+uint32_t sab_listing(const uint8_t *file, size_t file_len, uint8_t *log,
+                      size_t log_len, uint8_t *tree, size_t tree_len,
+                      uint8_t *out, size_t out_len, uint8_t *length,
+                      size_t length_len);
+
+#ifdef __cplusplus
+}
+#endif
+
+#endif
