@@ -52,6 +52,14 @@ impl Asking {
         Ok(Asking { asked })
     }
 
+    /// Begins to ask for every record: what is held is compared with all that the
+    /// other holds, in at most 86 blocks. For when a meeting was refused with 10,
+    /// or when meetings were not careful before.
+    pub fn thorough() -> Asking {
+        let asked = Vector::default();
+        Asking { asked }
+    }
+
     /// The vector to send next.
     pub fn vector(&self) -> Vector {
         self.asked
@@ -66,6 +74,16 @@ impl Asking {
             self.asked.raise(identity);
         }
         Ok(!block.is_empty())
+    }
+
+    /// Takes block after block of a log at hand, until nothing is lacking or a
+    /// take refuses. What was taken before a refusal stays.
+    pub fn pass(self, from: &Log, to: &mut Log) -> Pass {
+        let mut pass = Pass::default();
+        let before = to.records().len();
+        pass.refusal = pass_all(self, from, to, &mut pass).err();
+        pass.records = (to.records().len() - before) as u32;
+        pass
     }
 }
 
@@ -82,18 +100,18 @@ pub struct Pass {
     pub twice: Option<Identity>,
 }
 
-/// Passes all that one log lacks of another, carefully. What was taken before a
-/// refusal stays.
+/// Passes all that one log lacks of another, carefully.
 pub fn pass(from: &Log, to: &mut Log) -> Pass {
-    let mut pass = Pass::default();
-    let before = to.records().len();
-    pass.refusal = pass_all(from, to, &mut pass).err();
-    pass.records = (to.records().len() - before) as u32;
-    pass
+    match Asking::careful(to) {
+        Ok(asking) => asking.pass(from, to),
+        Err(refusal) => Pass {
+            refusal: Some(refusal),
+            ..Pass::default()
+        },
+    }
 }
 
-fn pass_all(from: &Log, to: &mut Log, pass: &mut Pass) -> Answer<()> {
-    let mut asking = Asking::careful(to)?;
+fn pass_all(mut asking: Asking, from: &Log, to: &mut Log, pass: &mut Pass) -> Answer<()> {
     loop {
         let block = from.hand_out(&asking.vector())?;
         let more = asking.take(to, block).inspect_err(|refusal| {

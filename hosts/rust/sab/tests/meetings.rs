@@ -2,8 +2,8 @@
 //! number that was used twice.
 
 use sab::{
-    Asking, Block, Comparison, Date, Identity, Log, Mark, Refusal, Unit, Vector, Wish, meet, pass,
-    raw,
+    Asking, Block, Comparison, Date, Identity, Log, Mark, Pass, Refusal, Unit, Vector, Wish, meet,
+    pass, raw,
 };
 use workload::{Chance, Mix, Units};
 
@@ -174,6 +174,33 @@ fn number_used_twice_more_or_less_often() {
         let twice = Identity::new(Unit::ALL[0], acts.min(5));
         assert_eq!(pass.twice, twice);
     }
+}
+
+/// The last record that both hold is the same, an earlier one is not: asking for
+/// every record notices it.
+#[test]
+fn number_used_twice_further_back() {
+    let logs = [1, 2].map(|mark| {
+        let mut log = start(0);
+        let gain = trace(&mut log, "Gain", mark);
+        log.act(&Wish::remove(gain, DATE)).unwrap();
+        log
+    });
+    let [one, mut other] = logs;
+    assert_ne!(one, other);
+    assert_eq!(
+        pass(&one, &mut other),
+        Pass {
+            blocks: 1,
+            ..Pass::default()
+        }
+    );
+    let pass = Asking::thorough().pass(&one, &mut other);
+    assert_eq!(pass.refusal, Some(Refusal::new(10)));
+    assert_eq!(pass.twice, Identity::new(Unit::ALL[0], 1));
+    let mut same = one.clone();
+    traces(&mut same, 20);
+    assert_eq!(Asking::thorough().pass(&same, &mut one.clone()).blocks, 4);
 }
 
 /// Blocks that are lost, damaged, doubled and late.
