@@ -1,3 +1,4 @@
+pub mod Fitting
 pub mod Marks
 pub mod Stepping
 pub mod Playing
