@@ -76,7 +76,7 @@ returns-2 c =
     let e = d .before .before .before .before .before .before in
     let o = e .before .before in
     let s = o .before .before .before .before .before .before .before in (
-      remove-done _ _ _ _ (s .pre .1) _ (s .pre .0) _ _ (o .before .object-of .ensures) (o .entry-of .ensures) _ _ _ (e .if1 .left) (d .before .before .before .inside-at .ensures) (d .leave .ensures) _ (a .remove-row .ensures),
+      remove-done _ _ _ _ (s .pre .1) _ (s .pre .0) _ _ (o .before .object-of .ensures) (o .entry-of .ensures .1) _ _ _ (e .if1 .left) (d .before .before .before .inside-at .ensures) (d .leave .ensures) _ (a .remove-row .ensures),
       search (remove-nodes),
     )
 

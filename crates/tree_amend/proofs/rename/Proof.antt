@@ -88,7 +88,7 @@ returns-2 c =
     let e = d .before .before .before .before .before .before .before in
     let o = e .before .before in
     let s = o .before .before .before .before .before .before .before in (
-      rename-done _ _ _ _ (s .pre .1) _ (s .pre .0) _ _ (o .before .object-of .ensures) (o .entry-of .ensures) _ _ _ (e .if1 .left) (s .pre .2) (d .before .before .before .before .inside-at .ensures) (d .relabel .ensures) _ (a .rename-row .ensures),
+      rename-done _ _ _ _ (s .pre .1) _ (s .pre .0) _ _ (o .before .object-of .ensures) (o .entry-of .ensures .1) _ _ _ (e .if1 .left) (s .pre .2) (d .before .before .before .before .inside-at .ensures) (d .relabel .ensures) _ (a .rename-row .ensures),
       search (rename-nodes),
     )
 
