@@ -1,7 +1,7 @@
 -- Demand 3 of the code, proved.
 -- Assumes nothing.
 use Prim.Native.Nat.{ℕ}
-use mathlib.Core.Path.{_≡_, refl, sym, ap, subst, _∙_}
+use mathlib.Core.Path.{_≡_, sym, ap, subst, _∙_}
 use mathlib.Core.Bool.{true}
 use mathlib.Core.List.{List, _++_}
 use lib.ListN.{length}
@@ -11,14 +11,14 @@ use Rattle.model.specs.Replay.{replay}
 use Rattle.model.specs.Table.{tableBytes}
 use Rattle.model.specs.Outcome.{Outcome, outcome, showOf}
 use Rattle.encoding_laws.specs.Keeps.{Good}
-use Rattle.machine.specs.Machine.{Call, starts, acts, handsOut, writes, takes, Bench, bare, held, heldVector, blockGiven, done, play, outcomes}
+use Rattle.machine.specs.Machine.{Call, starts, acts, handsOut, writes, takes, Bench, bare, held, heldVector, blockGiven, done, play}
 use Rattle.machine.specs.Runs.{Runs}
 use Rattle.machine.specs.Claim.{distinct, Claim}
 use Rattle.machine.proofs.Runs.{runs-are, runs-of}
 use Rattle.machine.proofs.Reach.{inv-bare, inv-play}
 use Rattle.machine.proofs.Demand.{demand}
 use Rattle.claims.specs.Ran.{RanShow}
-use Rattle.claims.specs.Whole.{Ran, Meets, Shown, CodeClaim, Demand3}
+use Rattle.claims.specs.Whole.{Ran, Shown, CodeClaim, Demand3}
 use Rattle.claims.proofs.Ran.{ran-start, ran-act, ran-hand-out, ran-write-file, ran-take, ran-show}
 use Rattle.claims.proofs.Exist.{start-runs, act-runs, hand-out-runs, write-file-runs, take-runs, show-runs}
 use Rattle.start.proofs.start.Met.{met as start-met}

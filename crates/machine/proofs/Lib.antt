@@ -6,5 +6,7 @@ pub mod Passing
 pub mod Demand
 pub mod Runs
 pub mod Meeting
+pub mod Careful
+pub mod Twice
 pub mod Quick
 pub mod Example
