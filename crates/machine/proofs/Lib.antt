@@ -8,5 +8,6 @@ pub mod Runs
 pub mod Meeting
 pub mod Careful
 pub mod Twice
+pub mod Full
 pub mod Quick
 pub mod Example
