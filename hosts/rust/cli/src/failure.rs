@@ -1,0 +1,135 @@
+//! Why a command could not do what it was asked.
+
+use crate::args::Usage;
+use crate::files::Trouble;
+use crate::json::Object;
+use crate::numbers::{self, Case};
+use crate::out::{Ink, Out, Status, shown};
+use sab::Refusal;
+use std::path::{Path, PathBuf};
+
+/// Why a command could not do what it was asked.
+#[derive(Debug)]
+pub enum Failure {
+    /// The command line is wrong.
+    Usage(Usage),
+    /// The system refused.
+    Trouble(Trouble),
+    /// The library refused.
+    Refused(Refused),
+}
+
+/// What a command answers.
+pub type Outcome<T> = Result<T, Failure>;
+
+/// A refusal of the library, with the file that it is about.
+#[derive(Debug)]
+pub struct Refused {
+    /// The file.
+    pub file: PathBuf,
+    /// Number and place.
+    pub refusal: Refusal,
+    /// The bytes behind it, if they were found.
+    pub detail: Option<String>,
+    /// Where it was met.
+    pub case: Case,
+}
+
+impl Refused {
+    /// The refusal as the reading program prints it, the cause, and the bytes.
+    pub fn words(&self) -> String {
+        let Refusal { number, place } = self.refusal;
+        let cause = numbers::cause(number);
+        let detail = self.detail.as_ref().map(|detail| format!(" ({detail})"));
+        format!(
+            "refused {number} at {place}: {cause}{}",
+            detail.unwrap_or_default()
+        )
+    }
+
+    /// What to do about it.
+    pub fn advice(&self) -> Option<&'static str> {
+        numbers::advice(self.refusal.number, self.case)
+    }
+
+    /// Says it: on standard error, or as an object.
+    pub fn tell(&self, out: &mut Out) {
+        if out.json {
+            out.object(|| self.object());
+            return;
+        }
+        let words = out.ink(Ink::Alarm, self.words());
+        out.complain(Some(&self.file), words, self.advice());
+    }
+
+    fn object(&self) -> Object {
+        Object::new("refusal")
+            .text("file", shown(&self.file))
+            .number("number", self.refusal.number)
+            .number("place", self.refusal.place)
+            .text("words", self.words())
+            .maybe("todo", self.advice())
+    }
+}
+
+impl From<Usage> for Failure {
+    fn from(usage: Usage) -> Failure {
+        Failure::Usage(usage)
+    }
+}
+
+impl From<Trouble> for Failure {
+    fn from(trouble: Trouble) -> Failure {
+        Failure::Trouble(trouble)
+    }
+}
+
+impl From<Refused> for Failure {
+    fn from(refused: Refused) -> Failure {
+        Failure::Refused(refused)
+    }
+}
+
+/// A refusal that is no fault of any file: it has a name to be told under.
+pub fn of_library(file: &Path, case: Case) -> impl Fn(Refusal) -> Failure {
+    move |refusal| {
+        Failure::Refused(Refused {
+            file: file.to_path_buf(),
+            refusal,
+            detail: None,
+            case,
+        })
+    }
+}
+
+/// A command line that is wrong, in words.
+pub fn usage(words: impl Into<String>) -> Failure {
+    Failure::Usage(Usage(words.into()))
+}
+
+impl Failure {
+    /// Says it, and what the run comes to.
+    pub fn tell(&self, command: &str, out: &mut Out) -> Status {
+        match self {
+            Failure::Usage(Usage(words)) => {
+                let advice = format!("sab help {command} tells how it is used");
+                out.complain(None, format_args!("{command}: {words}"), Some(&advice));
+                Status::Usage
+            }
+            Failure::Trouble(trouble) => {
+                out.object(|| {
+                    Object::new("trouble")
+                        .text("file", shown(&trouble.file))
+                        .text("words", &trouble.words)
+                        .maybe("todo", trouble.advice)
+                });
+                out.complain(Some(&trouble.file), &trouble.words, trouble.advice);
+                Status::System
+            }
+            Failure::Refused(refused) => {
+                refused.tell(out);
+                Status::Refused
+            }
+        }
+    }
+}

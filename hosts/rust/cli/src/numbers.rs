@@ -1,0 +1,334 @@
+//! What each number of the refusal table means and what to do about it.
+//!
+//! The words of every message, of `sab explain` and of docs/FIELD-CARD.md come
+//! from this one table.
+
+/// Where a number was met; what to do can depend on it.
+#[derive(Clone, Copy, Debug, PartialEq, Eq)]
+pub enum Case {
+    /// A file was read.
+    File,
+    /// A block was taken.
+    Taking,
+    /// A record was wished for.
+    Act,
+}
+
+/// What to do about a number.
+pub enum Advice {
+    /// The same wherever it was met.
+    Always(&'static str),
+    /// For a file, for a block that is taken, for an act. None where the number
+    /// cannot come.
+    By {
+        /// A file was read.
+        file: Option<&'static str>,
+        /// A block was taken.
+        taking: Option<&'static str>,
+        /// A record was wished for.
+        act: Option<&'static str>,
+    },
+}
+
+/// A row of the table.
+pub struct Row {
+    /// The number.
+    pub number: u8,
+    /// What was found.
+    pub cause: &'static str,
+    /// Whose fault it is.
+    pub fault: &'static str,
+    /// What to do next.
+    pub advice: Advice,
+}
+
+use Advice::{Always, By};
+
+/// The table.
+pub const ROWS: &[Row] = &[
+    Row {
+        number: 1,
+        cause: "lent memory is not of its stated length",
+        fault: "the calling program",
+        advice: Always("no card is wrong: report it to who built the program"),
+    },
+    Row {
+        number: 2,
+        cause: "a block is not 512 bytes; a file is not 1 to 86 whole blocks",
+        fault: "card",
+        advice: Always(
+            "the copy was cut short, is empty or has something behind it: copy the card again; if it stays, \
+             `sab salvage` takes the good blocks out of it",
+        ),
+    },
+    Row {
+        number: 3,
+        cause: "a block does not begin with SAB1",
+        fault: "card",
+        advice: Always(
+            "not an archive file, or a sector is lost: copy again, then try another unit's card; `sab salvage` \
+             takes the good blocks out of a damaged one",
+        ),
+    },
+    Row {
+        number: 4,
+        cause: "a sum differs: some byte of the block changed",
+        fault: "card",
+        advice: Always(
+            "copy again; if it stays, the card is worn: take another unit's card, since every unit holds the \
+             records it has heard of; `sab salvage` takes the good blocks out of a damaged one",
+        ),
+    },
+    Row {
+        number: 5,
+        cause: "header: unit above 7, count above 6, or bytes in an unused place; the sums are right",
+        fault: "peer",
+        advice: Always(
+            "the writer was no unit of this archive, or was faulty: name the card's unit to the workshop",
+        ),
+    },
+    Row {
+        number: 6,
+        cause: "another archive",
+        fault: "peer",
+        advice: Always("two vans of different archives met: nothing was taken, part them"),
+    },
+    Row {
+        number: 7,
+        cause: "a record is malformed (a file), or a wish is (an act)",
+        fault: "peer; for an act, wish",
+        advice: By {
+            file: Some("the writer was faulty: name the card's unit to the workshop"),
+            taking: Some("the sender was faulty: do not go on with it, name its unit to the workshop"),
+            act: Some("the label, date or named entry is not allowed; ask again with others"),
+        },
+    },
+    Row {
+        number: 8,
+        cause: "a number is not its unit's next, or the record saw what is not held",
+        fault: "peer",
+        advice: By {
+            file: Some("the writer was faulty: name the card's unit to the workshop"),
+            taking: Some(
+                "take the earlier blocks first, a later meeting does that by itself; if it stays, a unit used \
+                 its numbers twice",
+            ),
+            act: None,
+        },
+    },
+    Row {
+        number: 9,
+        cause: "what the record saw does not hold together",
+        fault: "peer",
+        advice: By {
+            file: Some("the records were not made by a sound unit: name the card's unit to the workshop"),
+            taking: Some(
+                "take the earlier blocks first; if it stays, the records were not made by a sound unit",
+            ),
+            act: None,
+        },
+    },
+    Row {
+        number: 10,
+        cause: "a held record came with other bytes",
+        fault: "peer, or own log",
+        advice: Always(
+            "a unit used its numbers twice, after its log was lost: that unit must take its old records from a \
+             peer before it makes new ones; until then do not meet it",
+        ),
+    },
+    Row {
+        number: 11,
+        cause: "a 513th record",
+        fault: "own log (full); in a file, peer",
+        advice: By {
+            file: Some("the writer was faulty: name the card's unit to the workshop"),
+            taking: Some("no record can be added to this archive: begin a new one"),
+            act: Some("no record can be added to this archive: begin a new one"),
+        },
+    },
+    Row {
+        number: 12,
+        cause: "the entry to change is not there",
+        fault: "wish",
+        advice: Always("look at the tree again: someone removed it, or the make stands aside"),
+    },
+    Row {
+        number: 13,
+        cause: "the folder is not there",
+        fault: "wish",
+        advice: Always(
+            "look at the tree again: someone removed it, or its make stands aside; choose another folder",
+        ),
+    },
+    Row {
+        number: 14,
+        cause: "a trace was used as a folder, or a folder was stored to",
+        fault: "wish",
+        advice: Always("choose a folder, or a trace"),
+    },
+    Row {
+        number: 15,
+        cause: "the label is already in that folder",
+        fault: "wish",
+        advice: Always("choose another label"),
+    },
+    Row {
+        number: 16,
+        cause: "the folder to remove still has entries",
+        fault: "wish",
+        advice: Always("remove or leave its entries first"),
+    },
+    Row {
+        number: 17,
+        cause: "never refuses a call: a reason for standing aside, the maker had not seen the last change",
+        fault: "(two people)",
+        advice: Always("read both records, decide, act again, then settle the aside"),
+    },
+    Row {
+        number: 18,
+        cause: "the record to settle does not stand aside",
+        fault: "wish",
+        advice: Always("look at the asides again: it may act by now"),
+    },
+    Row {
+        number: 19,
+        cause: "the lent log is not sound",
+        fault: "own log",
+        advice: Always(
+            "the unit's memory is damaged: keep a copy, start anew and take all from a peer or from a card's file",
+        ),
+    },
+    Row {
+        number: 20,
+        cause: "a file's blocks do not belong together, or its ranks do not rise, or its vector is not its counts",
+        fault: "card or peer",
+        advice: Always(
+            "blocks of two files were mixed or one is missing: copy again; if it stays, `sab salvage`, and name \
+             the card's unit to the workshop",
+        ),
+    },
+    Row {
+        number: 21,
+        cause: "the unit's own number is above 7",
+        fault: "the calling program",
+        advice: Always("set the unit to 0 to 7"),
+    },
+];
+
+/// The row of a number.
+pub fn row(number: u8) -> Option<&'static Row> {
+    ROWS.iter().find(|row| row.number == number)
+}
+
+/// What was found, in words.
+pub fn cause(number: u8) -> &'static str {
+    row(number).map_or("a number that this program does not know", |row| row.cause)
+}
+
+/// What to do about a number that was met there.
+pub fn advice(number: u8, case: Case) -> Option<&'static str> {
+    match &row(number)?.advice {
+        Always(words) => Some(words),
+        By { file, taking, act } => match case {
+            Case::File => *file,
+            Case::Taking => *taking,
+            Case::Act => *act,
+        },
+    }
+}
+
+impl Row {
+    /// What to do, for each case where that differs.
+    pub fn all_advice(&self) -> String {
+        let By { file, taking, act } = &self.advice else {
+            return match self.advice {
+                Always(words) => words.to_string(),
+                By { .. } => String::new(),
+            };
+        };
+        let mut cases: Vec<(Vec<&str>, &str)> = Vec::new();
+        for (name, words) in [("file", file), ("block", taking), ("act", act)] {
+            let Some(words) = words else { continue };
+            match cases.iter_mut().find(|(_, known)| known == words) {
+                Some((names, _)) => names.push(name),
+                None => cases.push((vec![name], words)),
+            }
+        }
+        let mut text = String::new();
+        for (names, words) in cases {
+            if !text.is_empty() {
+                text += ". ";
+            }
+            text += &capital(&names.join(" or "));
+            text += ": ";
+            text += words;
+        }
+        text
+    }
+}
+
+fn capital(word: &str) -> String {
+    let mut letters = word.chars();
+    match letters.next() {
+        Some(first) => first.to_uppercase().collect::<String>() + letters.as_str(),
+        None => String::new(),
+    }
+}
+
+const CARD_HEAD: &str = "\
+# Field card: what a refusal means at the bench
+
+`readout` prints the archive, or one line `refused N at P`: N is the number below, P the block of 512 bytes, counted from 0, in which
+the fault was found (the file's byte 512 × P is its first). `sab check` says the same in words, with the bytes, and `sab explain N`
+prints a row of this card. The checks go in a fixed order and the first fault is told, so mend one and read again. The library gives
+the same numbers to its callers; a refusal never changes a byte.
+
+";
+
+const CARD_TAIL: &str = "
+In `readout` only 2, 3, 4, 5, 7, 8, 9, 11 and 20 can come. Reasons 12 to 18 also stand behind `reason` in an aside's line: there they
+say why a record gave way, and the line names the entry it collides with. `open` waits for a person; `settled` was dealt with.
+`sab asides` tells of each who made it, what and when, and what to do.
+
+A damaged card, as an example (one byte of examples/bench.sab was changed):
+
+    target/bin/readout < examples/damaged.sab
+
+    refused 4 at 0
+";
+
+/// The whole of docs/FIELD-CARD.md.
+pub fn field_card() -> String {
+    let mut card = String::from(CARD_HEAD);
+    card += "| No. | Cause | Whose fault | What to do next |\n|---|---|---|---|\n";
+    for row in ROWS {
+        card += &format!(
+            "| {} | {} | {} | {} |\n",
+            row.number,
+            row.cause,
+            row.fault,
+            row.all_advice()
+        );
+    }
+    card + CARD_TAIL
+}
+
+#[cfg(test)]
+mod tests {
+    use super::*;
+
+    #[test]
+    fn every_number_once_and_in_order() {
+        let numbers: Vec<u8> = ROWS.iter().map(|row| row.number).collect();
+        assert_eq!(numbers, (1..=21).collect::<Vec<u8>>());
+    }
+
+    #[test]
+    fn advice_by_case() {
+        assert_eq!(advice(8, Case::Act), None);
+        assert!(advice(8, Case::Taking).is_some());
+        assert_eq!(advice(4, Case::File), advice(4, Case::Taking));
+        assert!(row(11).unwrap().all_advice().contains("Block or act: no record"));
+    }
+}
