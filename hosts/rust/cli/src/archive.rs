@@ -32,12 +32,8 @@ pub struct Archive {
 /// The library's answer to a file's bytes, with what was wrong with them.
 pub fn judge(name: &Path, bytes: &[u8], length: Option<u64>) -> Outcome<Log> {
     Log::read_file(bytes).map_err(|refusal| {
-        Failure::Refused(Refused {
-            file: name.to_path_buf(),
-            refusal,
-            detail: why::of_file(bytes, length, refusal),
-            case: Case::File,
-        })
+        let detail = why::of_file(bytes, length, refusal);
+        Failure::Refused(Refused::new(name, refusal, Case::File, detail))
     })
 }
 

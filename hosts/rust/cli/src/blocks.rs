@@ -35,10 +35,9 @@ pub fn identities(block: &Block) -> impl Iterator<Item = Identity> {
 
 /// Identities in words: so many, and which.
 pub fn listed(identities: &[Identity]) -> String {
-    let names: Vec<String> = identities.iter().map(Identity::to_string).collect();
-    match names.len() {
+    match identities.len() {
         0 => "no records".to_string(),
-        count => format!("{}: {}", counted(count, "record"), names.join(" ")),
+        count => format!("{}: {}", counted(count, "record"), in_runs(identities)),
     }
 }
 

@@ -33,23 +33,53 @@ pub struct Refused {
     pub detail: Option<String>,
     /// Where it was met.
     pub case: Case,
+    /// What to do, where the table's words do not say it.
+    pub todo: Option<String>,
+}
+
+/// The words of a refusal without a place: number, cause and the bytes.
+pub fn refusal_words(refusal: Refusal, case: Case, detail: Option<&str>) -> String {
+    let Refusal { number, .. } = refusal;
+    with_detail(
+        format!("refused {number}: {}", numbers::cause(number, case)),
+        detail,
+    )
+}
+
+fn with_detail(words: String, detail: Option<&str>) -> String {
+    match detail {
+        Some(detail) => format!("{words} ({detail})"),
+        None => words,
+    }
 }
 
 impl Refused {
+    /// A refusal of a file, or of what was asked of it.
+    pub fn new(file: &Path, refusal: Refusal, case: Case, detail: Option<String>) -> Refused {
+        Refused {
+            file: file.to_path_buf(),
+            refusal,
+            detail,
+            case,
+            todo: None,
+        }
+    }
+
     /// The refusal as the reading program prints it, the cause, and the bytes.
     pub fn words(&self) -> String {
         let Refusal { number, place } = self.refusal;
-        let cause = numbers::cause(number);
-        let detail = self.detail.as_ref().map(|detail| format!(" ({detail})"));
-        format!(
-            "refused {number} at {place}: {cause}{}",
-            detail.unwrap_or_default()
+        let cause = numbers::cause(number, self.case);
+        with_detail(
+            format!("refused {number} at {place}: {cause}"),
+            self.detail.as_deref(),
         )
     }
 
     /// What to do about it.
-    pub fn advice(&self) -> Option<&'static str> {
-        numbers::advice(self.refusal.number, self.case)
+    pub fn advice(&self) -> Option<&str> {
+        self.todo
+            .as_deref()
+            .or(numbers::advice(self.refusal.number, self.case))
     }
 
     /// Says it: on standard error, or as an object.
@@ -92,14 +122,7 @@ impl From<Refused> for Failure {
 
 /// A refusal that is no fault of any file: it has a name to be told under.
 pub fn of_library(file: &Path, case: Case) -> impl Fn(Refusal) -> Failure {
-    move |refusal| {
-        Failure::Refused(Refused {
-            file: file.to_path_buf(),
-            refusal,
-            detail: None,
-            case,
-        })
-    }
+    move |refusal| Failure::Refused(Refused::new(file, refusal, case, None))
 }
 
 /// A command line that is wrong, in words.

@@ -200,11 +200,12 @@ fn put_aside(body: &mut String, story: &Story, aside: Aside) {
     let class = if aside.is_open() { "" } else { " class=\"s\"" };
     let _ = write!(
         body,
-        "<article id=\"a{0}\"{class}>\n<h3>{0} <span class=\"tag\">{1}</span> <small class=\"soft\">reason {2}</small></h3>\n<p>{3}</p>\n",
+        "<article id=\"a{0}\"{class}>\n<h3>{0} <span class=\"tag\">{1}</span> <small class=\"soft\">reason {2}</small></h3>\n<p>{3};<br>{4}</p>\n",
         aside.identity(),
         state(aside),
         aside.reason(),
-        escaped(&told.words)
+        escaped(&told.did),
+        escaped(&told.because)
     );
     if aside.is_open() {
         let _ = write!(

@@ -45,6 +45,14 @@ impl Object {
         self.raw(key, number)
     }
 
+    /// A field with a number, or null.
+    pub fn maybe_number(self, key: &str, number: Option<impl Into<u64>>) -> Object {
+        match number {
+            Some(number) => self.number(key, number),
+            None => self.raw(key, "null"),
+        }
+    }
+
     /// A field that is true or false.
     pub fn truth(self, key: &str, truth: bool) -> Object {
         self.raw(key, truth)

@@ -13,10 +13,10 @@ use std::path::Path;
 
 /// A block that was taken.
 pub struct Given {
-    /// Its records.
-    pub records: Vec<Identity>,
-    /// How many of them were new.
-    pub new: usize,
+    /// Its records that were new.
+    pub new: Vec<Identity>,
+    /// Its records that were held already, and are equal.
+    pub held: Vec<Identity>,
 }
 
 /// How a passing ended.
@@ -39,12 +39,10 @@ pub struct Passed {
 
 /// Takes a block; what it brought.
 pub fn take(log: &mut Log, block: &Block, how: impl FnOnce(&mut Log) -> Answer<()>) -> Answer<Given> {
-    let before = log.records().len();
+    let (held, new) =
+        blocks::identities(block).partition(|identity| log.record(*identity).is_some());
     how(log)?;
-    Ok(Given {
-        records: blocks::identities(block).collect(),
-        new: log.records().len() - before,
-    })
+    Ok(Given { new, held })
 }
 
 /// Passes what one log lacks of another, asking carefully: the last record of
@@ -78,7 +76,7 @@ fn pass_all(from: &Log, to: &mut Log, room: &mut usize, blocks: &mut Vec<Given>)
         }
         match take(to, &block, |log| asking.take(log, block).map(drop)) {
             Ok(given) => {
-                *room -= usize::from(given.new > 0).min(*room);
+                *room -= usize::from(!given.new.is_empty()).min(*room);
                 blocks.push(given);
             }
             Err(refusal) => {
@@ -127,12 +125,8 @@ pub fn deny_twice(name: &Path, from: &Log, to: &Log) -> Result<(), Refused> {
         return Ok(());
     }
     let refusal = refusal_of_twice(from, to).unwrap_or(Refusal::new(10));
-    Err(Refused {
-        file: name.to_path_buf(),
-        refusal,
-        detail: Some(twice_words(&twice)),
-        case: Case::Taking,
-    })
+    let detail = Some(twice_words(&twice));
+    Err(Refused::new(name, refusal, Case::Taking, detail))
 }
 
 /// Which records were made twice.
@@ -153,50 +147,49 @@ pub fn deny_other_archive(name: &Path, from: &Log, to: &Log) -> Result<(), Refus
             _ => Ok(()),
         }
     };
-    try_it().map_err(|refusal| Refused {
-        file: name.to_path_buf(),
-        refusal,
-        detail: Some(format!(
-            "archive {} and archive {}",
-            to.archive(),
-            from.archive()
-        )),
-        case: Case::Taking,
+    try_it().map_err(|refusal| {
+        let detail = format!("archive {} and archive {}", to.archive(), from.archive());
+        Refused::new(name, refusal, Case::Taking, Some(detail))
     })
 }
 
 /// Says which blocks were passed from one file to another.
 pub fn tell_blocks(out: &mut Out, from: &str, to: &str, passed: &Passed) {
-    let mut new = 0;
     for (at, given) in passed.blocks.iter().enumerate() {
         out.object(|| {
             Object::new("block")
                 .text("from", from)
                 .text("to", to)
                 .number("number", at as u64 + 1)
-                .texts("records", &given.records)
-                .number("new", given.new as u64)
+                .texts("records", &given.new)
+                .texts("held", &given.held)
         });
         out.line(format_args!(
             "{from} -> {to}  block {}: {}",
             at + 1,
             given_words(given)
         ));
-        new += given.new;
     }
-    if new == 0 && matches!(passed.end, End::Whole) {
+    if passed.blocks.is_empty() && matches!(passed.end, End::Whole) {
         out.line(format_args!("{from} -> {to}  nothing lacking"));
     }
 }
 
 /// What a block brought.
 pub fn given_words(given: &Given) -> String {
-    let held = given.records.len() - given.new;
-    let all = blocks::listed(&given.records);
-    match (given.new, held) {
-        (_, 0) => all,
-        (0, _) => format!("{all}; held already, compared and equal"),
-        _ => format!("{all}; {held} of them held already, compared and equal"),
+    let new = format!(
+        "{}: {}",
+        counted(given.new.len(), "new record"),
+        blocks::in_runs(&given.new)
+    );
+    let held = match given.held.len() {
+        1 => "1 held already is equal".to_string(),
+        some => format!("{some} held already are equal"),
+    };
+    match (given.new.len(), given.held.len()) {
+        (_, 0) => new,
+        (0, _) => format!("nothing new, {held}"),
+        _ => format!("{new}; {held}"),
     }
 }
 
@@ -274,7 +267,7 @@ impl Change {
             for identity in identities {
                 let Some(record) = story.record(*identity) else { continue };
                 let words = match story.aside(*identity) {
-                    Some(aside) => format!("reason {}, {}", aside.reason(), story.told(aside).words),
+                    Some(aside) => format!("reason {}, {}", aside.reason(), story.told(aside).words()),
                     None => story.sentence(record),
                 };
                 out.line(format_args!("{file}: {what}: {identity}: {words}"));

@@ -14,8 +14,8 @@ pub enum Case {
     Act,
 }
 
-/// What to do about a number.
-pub enum Advice {
+/// Words about a number.
+pub enum Words {
     /// The same wherever it was met.
     Always(&'static str),
     /// For a file, for a block that is taken, for an act. None where the number
@@ -35,26 +35,26 @@ pub struct Row {
     /// The number.
     pub number: u8,
     /// What was found.
-    pub cause: &'static str,
+    pub cause: Words,
     /// Whose fault it is.
     pub fault: &'static str,
     /// What to do next.
-    pub advice: Advice,
+    pub advice: Words,
 }
 
-use Advice::{Always, By};
+use Words::{Always, By};
 
 /// The table.
 pub const ROWS: &[Row] = &[
     Row {
         number: 1,
-        cause: "lent memory is not of its stated length",
+        cause: Always("lent memory is not of its stated length"),
         fault: "the calling program",
         advice: Always("no card is wrong: report it to who built the program"),
     },
     Row {
         number: 2,
-        cause: "a block is not 512 bytes; a file is not 1 to 86 whole blocks",
+        cause: Always("a block is not 512 bytes; a file is not 1 to 86 whole blocks"),
         fault: "card",
         advice: Always(
             "the copy was cut short, is empty or has something behind it: copy the card again; if it stays, \
@@ -63,7 +63,7 @@ pub const ROWS: &[Row] = &[
     },
     Row {
         number: 3,
-        cause: "a block does not begin with SAB1",
+        cause: Always("a block does not begin with SAB1"),
         fault: "card",
         advice: Always(
             "not an archive file, or a sector is lost: copy again, then try another unit's card; `sab salvage` \
@@ -72,7 +72,7 @@ pub const ROWS: &[Row] = &[
     },
     Row {
         number: 4,
-        cause: "a sum differs: some byte of the block changed",
+        cause: Always("a sum differs: some byte of the block changed"),
         fault: "card",
         advice: Always(
             "copy again; if it stays, the card is worn: take another unit's card, since every unit holds the \
@@ -81,7 +81,7 @@ pub const ROWS: &[Row] = &[
     },
     Row {
         number: 5,
-        cause: "header: unit above 7, count above 6, or bytes in an unused place; the sums are right",
+        cause: Always("header: unit above 7, count above 6, or bytes in an unused place; the sums are right"),
         fault: "peer",
         advice: Always(
             "the writer was no unit of this archive, or was faulty: name the card's unit to the workshop",
@@ -89,13 +89,17 @@ pub const ROWS: &[Row] = &[
     },
     Row {
         number: 6,
-        cause: "another archive",
+        cause: Always("another archive"),
         fault: "peer",
         advice: Always("two vans of different archives met: nothing was taken, part them"),
     },
     Row {
         number: 7,
-        cause: "a record is malformed (a file), or a wish is (an act)",
+        cause: By {
+            file: Some("a record is malformed"),
+            taking: Some("a record is malformed"),
+            act: Some("the wish is malformed"),
+        },
         fault: "peer; for an act, wish",
         advice: By {
             file: Some("the writer was faulty: name the card's unit to the workshop"),
@@ -105,7 +109,7 @@ pub const ROWS: &[Row] = &[
     },
     Row {
         number: 8,
-        cause: "a number is not its unit's next, or the record saw what is not held",
+        cause: Always("a number is not its unit's next, or the record saw what is not held"),
         fault: "peer",
         advice: By {
             file: Some("the writer was faulty: name the card's unit to the workshop"),
@@ -118,7 +122,7 @@ pub const ROWS: &[Row] = &[
     },
     Row {
         number: 9,
-        cause: "what the record saw does not hold together",
+        cause: Always("what the record saw does not hold together"),
         fault: "peer",
         advice: By {
             file: Some("the records were not made by a sound unit: name the card's unit to the workshop"),
@@ -130,7 +134,7 @@ pub const ROWS: &[Row] = &[
     },
     Row {
         number: 10,
-        cause: "a held record came with other bytes",
+        cause: Always("a held record came with other bytes"),
         fault: "peer, or own log",
         advice: Always(
             "a unit used its numbers twice, after its log was lost: that unit must take its old records from a \
@@ -139,7 +143,7 @@ pub const ROWS: &[Row] = &[
     },
     Row {
         number: 11,
-        cause: "a 513th record",
+        cause: Always("a 513th record"),
         fault: "own log (full); in a file, peer",
         advice: By {
             file: Some("the writer was faulty: name the card's unit to the workshop"),
@@ -149,13 +153,13 @@ pub const ROWS: &[Row] = &[
     },
     Row {
         number: 12,
-        cause: "the entry to change is not there",
+        cause: Always("the entry to change is not there"),
         fault: "wish",
         advice: Always("look at the tree again: someone removed it, or the make stands aside"),
     },
     Row {
         number: 13,
-        cause: "the folder is not there",
+        cause: Always("the folder is not there"),
         fault: "wish",
         advice: Always(
             "look at the tree again: someone removed it, or its make stands aside; choose another folder",
@@ -163,37 +167,37 @@ pub const ROWS: &[Row] = &[
     },
     Row {
         number: 14,
-        cause: "a trace was used as a folder, or a folder was stored to",
+        cause: Always("a trace was used as a folder, or a folder was stored to"),
         fault: "wish",
         advice: Always("choose a folder, or a trace"),
     },
     Row {
         number: 15,
-        cause: "the label is already in that folder",
+        cause: Always("the label is already in that folder"),
         fault: "wish",
         advice: Always("choose another label"),
     },
     Row {
         number: 16,
-        cause: "the folder to remove still has entries",
+        cause: Always("the folder to remove still has entries"),
         fault: "wish",
         advice: Always("remove or leave its entries first"),
     },
     Row {
         number: 17,
-        cause: "never refuses a call: a reason for standing aside, the maker had not seen the last change",
+        cause: Always("never refuses a call: a reason for standing aside, the maker had not seen the last change"),
         fault: "(two people)",
         advice: Always("read both records, decide, act again, then settle the aside"),
     },
     Row {
         number: 18,
-        cause: "the record to settle does not stand aside",
+        cause: Always("the record to settle does not stand aside"),
         fault: "wish",
         advice: Always("look at the asides again: it may act by now"),
     },
     Row {
         number: 19,
-        cause: "the lent log is not sound",
+        cause: Always("the lent log is not sound"),
         fault: "own log",
         advice: Always(
             "the unit's memory is damaged: keep a copy, start anew and take all from a peer or from a card's file",
@@ -201,7 +205,7 @@ pub const ROWS: &[Row] = &[
     },
     Row {
         number: 20,
-        cause: "a file's blocks do not belong together, or its ranks do not rise, or its vector is not its counts",
+        cause: Always("a file's blocks do not belong together, or its ranks do not rise, or its vector is not its counts"),
         fault: "card or peer",
         advice: Always(
             "blocks of two files were mixed or one is missing: copy again; if it stays, `sab salvage`, and name \
@@ -210,7 +214,7 @@ pub const ROWS: &[Row] = &[
     },
     Row {
         number: 21,
-        cause: "the unit's own number is above 7",
+        cause: Always("the unit's own number is above 7"),
         fault: "the calling program",
         advice: Always("set the unit to 0 to 7"),
     },
@@ -222,49 +226,55 @@ pub fn row(number: u8) -> Option<&'static Row> {
 }
 
 /// What was found, in words.
-pub fn cause(number: u8) -> &'static str {
-    row(number).map_or("a number that this program does not know", |row| row.cause)
+pub fn cause(number: u8, case: Case) -> &'static str {
+    row(number)
+        .and_then(|row| row.cause.of(case))
+        .unwrap_or("a number that is not in the table")
 }
 
 /// What to do about a number that was met there.
 pub fn advice(number: u8, case: Case) -> Option<&'static str> {
-    match &row(number)?.advice {
-        Always(words) => Some(words),
-        By { file, taking, act } => match case {
-            Case::File => *file,
-            Case::Taking => *taking,
-            Case::Act => *act,
-        },
-    }
+    row(number)?.advice.of(case)
 }
 
-impl Row {
-    /// What to do, for each case where that differs.
-    pub fn all_advice(&self) -> String {
-        let By { file, taking, act } = &self.advice else {
-            return match self.advice {
-                Always(words) => words.to_string(),
-                By { .. } => String::new(),
-            };
-        };
-        let mut cases: Vec<(Vec<&str>, &str)> = Vec::new();
-        for (name, words) in [("file", file), ("block", taking), ("act", act)] {
-            let Some(words) = words else { continue };
-            match cases.iter_mut().find(|(_, known)| known == words) {
+impl Words {
+    /// The words for a case.
+    pub fn of(&self, case: Case) -> Option<&'static str> {
+        match self {
+            Always(words) => Some(words),
+            By { file, taking, act } => match case {
+                Case::File => *file,
+                Case::Taking => *taking,
+                Case::Act => *act,
+            },
+        }
+    }
+
+    /// The words for all cases: first those of a file, then what differs.
+    pub fn all(&self) -> String {
+        let cases = [
+            ("file", Case::File),
+            ("block", Case::Taking),
+            ("act", Case::Act),
+        ];
+        let mut all: Vec<(Vec<&str>, &str)> = Vec::new();
+        for (name, case) in cases {
+            let Some(words) = self.of(case) else { continue };
+            match all.iter_mut().find(|(_, known)| *known == words) {
                 Some((names, _)) => names.push(name),
-                None => cases.push((vec![name], words)),
+                None => all.push((vec![name], words)),
             }
         }
-        let mut text = String::new();
-        for (names, words) in cases {
-            if !text.is_empty() {
-                text += ". ";
+        match all.as_slice() {
+            [(_, words)] => words.to_string(),
+            _ => {
+                let texts: Vec<String> = all
+                    .iter()
+                    .map(|(names, words)| format!("{}: {words}", capital(&names.join(" or "))))
+                    .collect();
+                texts.join(". ")
             }
-            text += &capital(&names.join(" or "));
-            text += ": ";
-            text += words;
         }
-        text
     }
 }
 
@@ -306,9 +316,9 @@ pub fn field_card() -> String {
         card += &format!(
             "| {} | {} | {} | {} |\n",
             row.number,
-            row.cause,
+            row.cause.all(),
             row.fault,
-            row.all_advice()
+            row.advice.all()
         );
     }
     card + CARD_TAIL
@@ -329,6 +339,6 @@ mod tests {
         assert_eq!(advice(8, Case::Act), None);
         assert!(advice(8, Case::Taking).is_some());
         assert_eq!(advice(4, Case::File), advice(4, Case::Taking));
-        assert!(row(11).unwrap().all_advice().contains("Block or act: no record"));
+        assert!(row(11).unwrap().advice.all().contains("Block or act: no record"));
     }
 }

@@ -41,12 +41,21 @@ pub enum Stake {
 
 /// An aside in words.
 pub struct Told {
-    /// Who did what and when, and why it gave way.
-    pub words: String,
+    /// Who did what and when.
+    pub did: String,
+    /// Why it gave way.
+    pub because: String,
     /// What to do about it; of a settled one, who settled it.
     pub todo: String,
     /// What it costs to leave it.
     pub stake: Stake,
+}
+
+impl Told {
+    /// Who did what and when, and why it gave way.
+    pub fn words(&self) -> String {
+        format!("{}; {}", self.did, self.because)
+    }
 }
 
 impl Stake {
@@ -273,7 +282,7 @@ impl<'a> Story<'a> {
             14 if record.operation().has_folder() => format!("{marked} is a trace, not a folder"),
             14 => format!("{marked} is a folder, not a trace"),
             15 if aside.marks() == record.object() => "it had this label already".to_string(),
-            15 => format!("that folder had an entry of this label: {marked}"),
+            15 => format!("that folder had an entry of this label: {marked}{}", self.from(aside)),
             16 => "it had entries".to_string(),
             17 => match self.unseen_change(record) {
                 Some((change, what)) => format!(
@@ -286,6 +295,14 @@ impl<'a> Story<'a> {
             reason => format!("reason {reason}"),
         };
         (words, None)
+    }
+
+    /// Who made the entry that an aside marks, or last stored to it, and when.
+    fn from(&self, aside: Aside) -> String {
+        let entry = aside.marks().and_then(|marked| self.entry(marked));
+        let last = entry.and_then(|entry| self.record(entry.last_contents()));
+        last.map(|last| format!(" of unit {}, {}", last.unit(), last.date()))
+            .unwrap_or_default()
     }
 
     /// Who settled an aside.
@@ -332,7 +349,8 @@ impl<'a> Story<'a> {
         let identity = aside.identity();
         let Some(record) = self.record(identity) else {
             return Told {
-                words: format!("reason {}", aside.reason()),
+                did: format!("record {identity}"),
+                because: format!("reason {}", aside.reason()),
                 todo: format!("then settle {identity}"),
                 stake: Stake::Nothing,
             };
@@ -353,7 +371,8 @@ impl<'a> Story<'a> {
             }
         };
         Told {
-            words: format!("{}; {because}", self.sentence(record)),
+            did: self.sentence(record),
+            because,
             todo,
             stake,
         }
@@ -374,7 +393,7 @@ impl<'a> Story<'a> {
             .maybe("label", record.and_then(Record::label))
             .maybe("mark", record.and_then(Record::mark))
             .text("stake", told.stake.word())
-            .text("words", told.words)
+            .text("words", told.words())
             .text("todo", told.todo)
     }
 

@@ -22,17 +22,17 @@ pub fn of_file(bytes: &[u8], length: Option<u64>, refusal: Refusal) -> Option<St
         }
         20 => disagreement(bytes, place),
         7 | 8 | 9 | 11 => {
-            let (at, before, record) = records(bytes).find_map(|(at, before, record)| {
-                let fault = record_text(record, &before, refusal.number);
-                let here = at / BLOCK == place && fault.is_some();
-                here.then_some((at, before, record))
-            })?;
-            let fault = record_text(record, &before, refusal.number)?;
-            Some(format!(
-                "record {} in bytes {at} to {}: {fault}",
-                identity(record),
-                at + WISH - 1
-            ))
+            let all = records(bytes);
+            let before: Vec<&Bytes> = all.iter().map(|(_, record)| *record).collect();
+            let mut here = all.iter().enumerate().filter(|(_, (at, _))| at / BLOCK == place);
+            here.find_map(|(i, (at, record))| {
+                let fault = record_text(record, &before[..i], refusal.number)?;
+                Some(format!(
+                    "record {} in bytes {at} to {}: {fault}",
+                    identity(record),
+                    at + WISH - 1
+                ))
+            })
         }
         _ => None,
     }
@@ -187,24 +187,17 @@ fn in_block(block: &[u8]) -> &[Bytes] {
     &records[..usize::from(block[9]).min(records.len())]
 }
 
-/// The records of a file with their offsets, each with those before it.
-fn records(bytes: &[u8]) -> impl Iterator<Item = (usize, Vec<&Bytes>, &Bytes)> {
+/// The records of a file, with their offsets.
+fn records(bytes: &[u8]) -> Vec<(usize, &Bytes)> {
     let (blocks, _) = bytes.as_chunks::<BLOCK>();
-    let all: Vec<(usize, &Bytes)> = blocks
-        .iter()
-        .enumerate()
-        .flat_map(|(place, block)| {
-            let offset = move |i| BLOCK * place + 28 + WISH * i;
-            in_block(block)
-                .iter()
-                .enumerate()
-                .map(move |(i, record)| (offset(i), record))
-        })
-        .collect();
-    (0..all.len()).map(move |i| {
-        let before = all[..i].iter().map(|(_, record)| *record).collect();
-        (all[i].0, before, all[i].1)
-    })
+    let of_block = |(place, block)| {
+        let records: &[Bytes] = in_block(block);
+        let begin = BLOCK * place + 28;
+        let records = records.iter().enumerate();
+        records.map(move |(i, record)| (begin + WISH * i, record))
+    };
+    let blocks = blocks.iter().map(|block| block.as_slice());
+    blocks.enumerate().flat_map(of_block).collect()
 }
 
 fn identity(record: &Bytes) -> String {
@@ -415,8 +408,10 @@ fn disagreement(bytes: &[u8], place: usize) -> Option<String> {
 }
 
 fn rank_fault(bytes: &[u8], place: usize) -> Option<String> {
-    records(bytes).find_map(|(at, before, record)| {
-        let last = before.last()?;
+    records(bytes).windows(2).find_map(|pair| {
+        let [(_, last), (at, record)] = pair else {
+            return None;
+        };
         let falls = at / BLOCK == place && rank(record) <= rank(last);
         falls.then(|| {
             format!(
@@ -429,7 +424,7 @@ fn rank_fault(bytes: &[u8], place: usize) -> Option<String> {
 }
 
 fn count_fault(bytes: &[u8], first: &[u8; BLOCK]) -> Option<String> {
-    let all: Vec<&Bytes> = records(bytes).map(|(_, _, record)| record).collect();
+    let all: Vec<&Bytes> = records(bytes).iter().map(|(_, record)| *record).collect();
     (0..8).find_map(|unit| {
         let (says, has) = (number16(&first[12 + 2 * unit..]), count_of(&all, unit));
         (usize::from(says) != has).then(|| {

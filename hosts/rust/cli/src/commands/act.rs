@@ -3,12 +3,12 @@
 use super::{Command, Session};
 use crate::archive::{Archive, Own};
 use crate::args::{Opt, Read, Usage, as_text, flag, nearest, parsed, value};
-use crate::failure::{Failure, Outcome, Refused, of_library, usage};
+use crate::failure::{Outcome, Refused, of_library, usage};
 use crate::numbers::Case;
 use crate::out::{Status, shown};
 use crate::records::Story;
 use crate::why;
-use sab::{Answer, Date, Identity, Log, Mark, Refusal, Unit, Wish, raw};
+use sab::{Answer, Date, Identity, Log, Mark, Unit, Wish, raw};
 use std::ffi::OsString;
 use std::path::PathBuf;
 
@@ -111,17 +111,13 @@ pub fn make(
     Ok(Status::Yes)
 }
 
+const OTHER_UNIT: &str = "a unit acts on its own file alone, where its only home is; \
+                          to use these records here, sab pass them to the file of your own unit";
+
 /// The log with the wished record, if the library makes it.
 fn act(archive: &Archive, unit: Unit, wish: Answer<Wish>) -> Outcome<Log> {
     let log = &archive.log;
-    let refused = |refusal: Refusal, detail: Option<String>| {
-        Failure::Refused(Refused {
-            file: archive.name.clone(),
-            refusal,
-            detail,
-            case: Case::Act,
-        })
-    };
+    let refused = |refusal, detail| Refused::new(&archive.name, refusal, Case::Act, detail);
     let wish = wish.map_err(|refusal| {
         let detail = "the label is longer than 32 bytes".to_string();
         refused(refusal, Some(detail))
@@ -130,14 +126,15 @@ fn act(archive: &Archive, unit: Unit, wish: Answer<Wish>) -> Outcome<Log> {
     let wish = wish.to_bytes(unit);
     let header = u32::from(log.unit().number());
     raw::act(&mut bytes, log.archive(), header, &wish).map_err(|refusal| {
-        let detail = match unit == log.unit() {
-            true => why::of_wish(&wish, &archive.vector),
-            false => Some(format!(
-                "the file is of unit {}, this machine is unit {unit}",
-                log.unit()
-            )),
-        };
-        refused(refusal, detail.filter(|_| refusal.number == 7))
+        if unit != log.unit() {
+            let detail = format!("the file is of unit {}, not of unit {unit}", log.unit());
+            return Refused {
+                todo: Some(OTHER_UNIT.to_string()),
+                ..refused(refusal, Some(detail))
+            };
+        }
+        let detail = why::of_wish(&wish, &archive.vector).filter(|_| refusal.number == 7);
+        refused(refusal, detail)
     })?;
     Log::from_bytes(log.archive(), log.unit(), &bytes)
         .map_err(of_library(&archive.name, Case::Act))

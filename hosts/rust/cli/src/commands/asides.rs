@@ -57,7 +57,8 @@ fn run(session: &mut Session) -> Outcome<Status> {
         session
             .out
             .line(format_args!("{identity}  {state}  reason {}", aside.reason()));
-        session.out.line(format_args!("{indent}{}", told.words));
+        session.out.line(format_args!("{indent}{};", told.did));
+        session.out.line(format_args!("{indent}{}", told.because));
         if aside.is_open() {
             session
                 .out

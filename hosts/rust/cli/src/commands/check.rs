@@ -4,10 +4,10 @@ use super::{Command, Session};
 use crate::archive::{Archive, LIMIT, judge};
 use crate::args::flag;
 use crate::blocks::{judge_alone, summary, identities};
-use crate::failure::Outcome;
+use crate::failure::{Outcome, refusal_words};
 use crate::files::{self, is_standard, left_over};
 use crate::json::Object;
-use crate::numbers::cause;
+use crate::numbers::Case;
 use crate::out::{Ink, Status, shown};
 use crate::why;
 use sab::raw::BLOCK;
@@ -89,13 +89,7 @@ fn tell_blocks(session: &mut Session, name: &Path, bytes: &[u8]) {
             Ok(block) => format!("whole: {}", summary(block)),
             Err(refusal) => {
                 let detail = why::of_block(block, &Log::start(0, Unit::ALL[0]), *refusal);
-                let detail = detail.map(|detail| format!(" ({detail})"));
-                let words = format!(
-                    "refused {}: {}{}",
-                    refusal.number,
-                    cause(refusal.number),
-                    detail.unwrap_or_default()
-                );
+                let words = refusal_words(*refusal, Case::File, detail.as_deref());
                 session.out.ink(Ink::Alarm, words)
             }
         };

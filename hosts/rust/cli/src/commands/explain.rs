@@ -63,20 +63,20 @@ fn tell(session: &mut Session, row: &Row) {
     session.out.object(|| {
         Object::new("number")
             .number("number", row.number)
-            .text("cause", row.cause)
+            .text("cause", row.cause.all())
             .text("fault", row.fault)
-            .text("todo", row.all_advice())
+            .text("todo", row.advice.all())
             .maybe("aside", of_aside(row.number))
     });
     let indent = " ".repeat(row.number.to_string().len() + 2);
-    let cause = session.out.ink(Ink::Strong, row.cause);
+    let cause = session.out.ink(Ink::Strong, row.cause.all());
     session.out.line(format_args!("{}: {cause}", row.number));
     session
         .out
         .line(format_args!("{indent}whose fault: {}", row.fault));
     session
         .out
-        .line(format_args!("{indent}what to do: {}", row.all_advice()));
+        .line(format_args!("{indent}what to do: {}", row.advice.all()));
     if let Some(aside) = of_aside(row.number) {
         session.out.line(format_args!(
             "{indent}of an aside: {aside}; sab asides tells what to do"

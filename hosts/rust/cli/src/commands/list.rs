@@ -69,12 +69,11 @@ fn text(session: &mut Session, name: &Path) -> Outcome<Status> {
     session.out.bytes(&out[..listed.length.min(out.len())]);
     match listed.refused {
         None => Ok(Status::Yes),
-        Some(refusal) => Err(Failure::Refused(Refused {
-            file: name.to_path_buf(),
-            refusal,
-            detail: why::of_file(&read.bytes, read.length, refusal),
-            case: Case::File,
-        })),
+        Some(refusal) => {
+            let detail = why::of_file(&read.bytes, read.length, refusal);
+            let refused = Refused::new(name, refusal, Case::File, detail);
+            Err(Failure::Refused(refused))
+        }
     }
 }
 

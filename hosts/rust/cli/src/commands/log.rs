@@ -128,7 +128,7 @@ fn one(session: &mut Session, story: &Story, record: Record) {
     line("stands", standing(story, record));
     if let Some(aside) = story.aside(record.identity()) {
         let told = story.told(aside);
-        line("why", told.words);
+        line("why", told.because);
         line("stake", told.stake.words());
         line("to do", told.todo);
     }
@@ -147,6 +147,6 @@ fn object(story: &Story, record: Record) -> Object {
         .maybe("label", record.label())
         .maybe("mark", record.mark())
         .truth("acts", aside.is_none())
-        .maybe("reason", aside.map(|aside| aside.reason()))
+        .maybe_number("reason", aside.map(|aside| aside.reason()))
         .text("words", story.sentence(record))
 }

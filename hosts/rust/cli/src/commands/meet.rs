@@ -127,12 +127,7 @@ pub fn ended(session: &mut Session, to: &Path, passed: &Passed) -> Outcome<Statu
             Ok(Status::No)
         }
         End::Stopped(refusal, detail) => {
-            let refused = Refused {
-                file: to.to_path_buf(),
-                refusal: *refusal,
-                detail: detail.clone(),
-                case: Case::Taking,
-            };
+            let refused = Refused::new(to, *refusal, Case::Taking, detail.clone());
             if refusal.number != 11 {
                 return Err(Failure::Refused(refused));
             }

@@ -108,12 +108,8 @@ fn row_for(session: &Session, from: &Archive, other: &PathBuf) -> Outcome<(Vec<B
     loop {
         let block = from.log.hand_out(&asking.vector()).map_err(&refused)?;
         let more = asking.take(&mut copy, block).map_err(|refusal| {
-            Failure::Refused(Refused {
-                file: other.clone(),
-                refusal,
-                detail: why::of_block(block.as_ref(), &copy, refusal),
-                case: Case::Taking,
-            })
+            let detail = why::of_block(block.as_ref(), &copy, refusal);
+            Failure::Refused(Refused::new(other, refusal, Case::Taking, detail))
         })?;
         if !more {
             let lacked = copy.records().len() - to.log.records().len();

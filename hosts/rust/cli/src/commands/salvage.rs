@@ -4,10 +4,10 @@ use super::{Command, Session};
 use crate::archive::{self, ROOM};
 use crate::args::{flag, value};
 use crate::blocks::{in_runs, identities, judge_alone, summary};
-use crate::failure::{Outcome, of_library, usage};
+use crate::failure::{Outcome, of_library, refusal_words, usage};
 use crate::files;
 use crate::json::Object;
-use crate::numbers::{Case, cause};
+use crate::numbers::Case;
 use crate::out::{Ink, Out, Status, shown};
 use crate::why::{self, counted, grouped};
 use sab::raw::BLOCK;
@@ -279,23 +279,17 @@ fn state_words(piece: &Piece, missing: &BTreeSet<Identity>, each: bool) -> (Stri
             (words, Some(Ink::Alarm))
         }
         State::Not(refusal, detail) => (
-            format!("whole, {}", refusal_words(*refusal, detail)),
+            format!(
+                "whole, {}",
+                refusal_words(*refusal, Case::Taking, detail.as_deref())
+            ),
             Some(Ink::Alarm),
         ),
         State::Damaged(refusal, detail) => {
-            (refusal_words(*refusal, detail), Some(Ink::Alarm))
+            let words = refusal_words(*refusal, Case::File, detail.as_deref());
+            (words, Some(Ink::Alarm))
         }
     }
-}
-
-fn refusal_words(refusal: Refusal, detail: &Option<String>) -> String {
-    let detail = detail.as_ref().map(|detail| format!(" ({detail})"));
-    format!(
-        "refused {}: {}{}",
-        refusal.number,
-        cause(refusal.number),
-        detail.unwrap_or_default()
-    )
 }
 
 /// Which missing records a block waits for: those that its first has seen.

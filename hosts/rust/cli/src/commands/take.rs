@@ -74,12 +74,9 @@ fn row(session: &mut Session, log: &mut Log, name: &Path) -> Outcome<Status> {
     if let Err(refusal) = Log::read_file(&read.bytes)
         && refusal.number == 2
     {
-        return Err(Failure::Refused(Refused {
-            file: name.to_path_buf(),
-            refusal,
-            detail: why::of_file(&read.bytes, read.length, refusal),
-            case: Case::File,
-        }));
+        let detail = why::of_file(&read.bytes, read.length, refusal);
+        let refused = Refused::new(name, refusal, Case::File, detail);
+        return Err(Failure::Refused(refused));
     }
     let all = read.bytes.len() / BLOCK;
     let mut stop = None;
@@ -115,15 +112,11 @@ fn row(session: &mut Session, log: &mut Log, name: &Path) -> Outcome<Status> {
         return Ok(Status::Yes);
     };
     let place = format!("block {} of the row", taken + 1);
-    let refused = Refused {
-        file: name.to_path_buf(),
-        refusal,
-        detail: Some(match detail {
-            Some(detail) => format!("{place}: {detail}"),
-            None => place,
-        }),
-        case: Case::Taking,
+    let detail = match detail {
+        Some(detail) => format!("{place}: {detail}"),
+        None => place,
     };
+    let refused = Refused::new(name, refusal, Case::Taking, Some(detail));
     if refusal.number == 10 {
         return Err(Failure::Refused(refused));
     }
