@@ -44,7 +44,7 @@ static void run_act(void)
 static void run_hand_out(void)
 {
     result = sab_hand_out(log_bytes, sizeof log_bytes, ARCHIVE, 0, asked, sizeof asked, block,
-                           sizeof block);
+                          sizeof block);
 }
 
 static void run_take(void)
@@ -70,7 +70,7 @@ static void run_show(void)
 static void run_listing(void)
 {
     result = sab_listing(file, file_length, log_bytes, sizeof log_bytes, tree, sizeof tree,
-                          listing, sizeof listing, length, sizeof length);
+                         listing, sizeof listing, length, sizeof length);
 }
 
 struct entry {

@@ -22,18 +22,25 @@
  *   bytes, which nothing else reads or writes during the call.
  * - Buffers of one call do not overlap. A call does not notice if they do.
  * - Storage and links. The library keeps nothing between calls: no heap, no
- *   static data. The log is what the last call left in the lent bytes. To keep
- *   it over a power cut, store it (or the file of it) after a call has returned.
- *   A cut inside a call may leave the lent log half written, so do not lend the
- *   only copy: a log in memory that outlives the power is copied first. (Every
- *   call checks the log it is lent, and a torn one will mostly be refused with
- *   19; do not count on it.)
- * - One unit number for one analyser, and its own log for each call. A number
- *   is not a name tag that can be passed on: two analysers with one number make
- *   different records under one identity, which others refuse (10, 8 or 9).
+ *   static data. The log is what the last call left in the lent bytes. STORAGE,
+ *   below, says how to keep it.
+ * - One unit number for one analyser. A number is not a name tag that can be
+ *   passed on, and a laptop that reads a unit's card does not act under that
+ *   unit's number: it takes a number of its own, or only reads.
  * - Starting only a new unit. sab_start empties a log without asking. If a
  *   unit that has made records is started, it must get its own records back, by
- *   sab_read_file or sab_take, before it acts, or it uses numbers twice.
+ *   sab_read_file or sab_take, before it acts.
+ *
+ * If one of the last two is broken, a number is used twice: two different
+ * records have one identity. No call notices that by itself. A vector counts
+ * records and does not compare them, so units that ask each other only for what
+ * their vectors lack pass the rest without a word, and mostly end with equal
+ * vectors and different trees. In trials with three units (docs/RELIABILITY.md)
+ * such meetings never noticed it after one act, in 0 to 2.4 % of the trials
+ * after up to three acts and in 0 to 17.7 % after up to ten. A careful meeting,
+ * below, compares the last record of each unit that both hold, and noticed it in
+ * 99.5 to 100 % of the same trials: a take answers 10. Let every meeting be a
+ * careful one.
  *
  * What the library does not do:
  *
@@ -61,11 +68,12 @@
  * Every function returns one 32-bit word:
  *
  *     SAB_NUMBER(r)   0 for success, else the number of the refusal, below
- *     SAB_PLACE(r)    the block at fault, counted from 0; 0 for a call with one
- *                      block, and without meaning for a number that has none
+ *     SAB_PLACE(r)    the block at fault, counted from 0. The numbers 2 to 11 and
+ *                     20 have a place; only sab_read_file and sab_listing give
+ *                     another than 0. For the other numbers it says nothing
  *     SAB_COUNT(r)    what a successful call counted: the blocks written
- *                      (sab_write_file), the records read (sab_read_file), the
- *                      answer of sab_compare; else 0
+ *                     (sab_write_file), the records read (sab_read_file) or held
+ *                     (sab_vector), the answer of sab_compare; else 0
  *
  * A refused call leaves every byte of every lent buffer as it was.
  * (sab_listing, whose output tells of the refusal, says what it leaves.)
@@ -76,31 +84,84 @@
  * read nor written, so with a wrong length, also 0, the pointer may be anything.
  *
  *
+ * RANK
+ *
+ * Records are replayed by rank, and stand in a log, in a file and in a block
+ * that was handed out by rank. A record ranks by the sum of its eight seen
+ * counts, and of two with the same sum the one with the lower unit ranks first.
+ * So a record ranks after all that it has seen, a unit's new record ranks last
+ * in its log, and no two records of a log rank the same. Dates, and the order in
+ * which records arrived, have no part in it.
+ *
+ *
  * A MEETING
  *
  * Unit `me` wants what unit `you` has. Every buffer is the caller's.
  *
  *     uint8_t asked[SAB_VECTOR_BYTES], block[SAB_BLOCK_BYTES];
  *     uint32_t r;
+ *     r = sab_vector(my_log, SAB_LOG_BYTES, asked, SAB_VECTOR_BYTES);
+ *     lower(asked);                       each count above 0, by one: careful
  *     do {
- *         counts(my_log, asked);                         what I hold
  *         ...send asked to you...
  *         r = sab_hand_out(your_log, SAB_LOG_BYTES, archive, you,
- *                           asked, SAB_VECTOR_BYTES, block, SAB_BLOCK_BYTES);
+ *                          asked, SAB_VECTOR_BYTES, block, SAB_BLOCK_BYTES);
  *         ...send block to me; it may arrive damaged or not at all...
  *         r = sab_take(my_log, SAB_LOG_BYTES, archive, me,
- *                       block, SAB_BLOCK_BYTES);
- *         if (SAB_NUMBER(r) != SAB_OK) ask again, or stop: nothing was taken
+ *                      block, SAB_BLOCK_BYTES);
+ *         if (SAB_NUMBER(r) != SAB_OK) nothing was taken: ask again or end
+ *         advance(asked, block);          by the records that came
  *         ...store my_log...
  *     } while (block[9] != 0);
  *
  * Byte 9 of a block is its count of records; 0 says that nothing is lacking.
  * Then the two change places. A meeting may break off anywhere: what was taken
- * stays, and the next meeting goes on from there, with the same end. counts()
- * is the caller's: of each unit, how many records the log holds (byte 0 of a
- * record is its unit, and the first record that is all zero ends the log);
- * bytes 12 to 27 of any block that a unit hands out are the same vector.
- * hosts/c/meeting.c is a whole meeting that compiles.
+ * stays, and the next meeting goes on from there, with the same end.
+ *
+ * lower() and advance() are the caller's. The lowered counts make the last record
+ * of each unit that both hold come again, so that the take compares it; these
+ * are at most eight records more. They come among the others by rank, in any of
+ * the blocks. So the next question is not what is held now, which would leave
+ * them out, nor the lowered counts again, which would bring the same block, but
+ * the counts raised by what came: each record of the block whose number (bytes 2
+ * and 3 of the record) is one above the count of its unit (byte 0) raises that
+ * count by one. Record i of a block begins at its byte 28 + 80 i; a block that
+ * was taken has no unit above 7. hosts/c/meeting.c is a whole meeting that
+ * compiles, with both. A vector of zeros in place of the lowered one compares
+ * all that both hold, in at most 86 blocks.
+ *
+ * What a take's number means for the meeting:
+ *
+ *     2 3 4     damaged on its way: ask again, with the same vector
+ *     5 7       you do not keep to the format: end for good
+ *     6         you are of another archive: end for good
+ *     10        a number was used twice: end for good, and meet no one, until
+ *               a person has found out whose (docs/FIELD-CARD.md)
+ *     8 9       of a block that I asked for so: as 10, or as 5. Of another, that
+ *               came late or from elsewhere: ask again
+ *     11        my log is full: I cannot take more; you may still ask me
+ *     19 21 1   my log, or my program, is at fault
+ *
+ *
+ * STORAGE
+ *
+ * Store the file that sab_write_file writes, rather than the bytes of the log:
+ * a file has sums, its archive and its unit, and sab_read_file tells if it is
+ * whole. The log has none of these; a date or a mark that changed in it is not
+ * noticed. (A log that is stored all the same is handed to the next call as it
+ * was; a torn one is mostly refused with 19, but not always.)
+ *
+ * - Never write over the only copy. Write a second file, read it back with
+ *   sab_read_file, and only then give up the first. After a power cut, read both
+ *   and go on with the one whose vector is ahead.
+ * - Store after an accepted act, before anything is handed out. Otherwise a cut
+ *   may take back a record that a peer already has, and the unit uses its number
+ *   again. After a take it may be stored later: what is lost comes again.
+ * - Do not lend the only copy of a log to a call, where memory outlives the
+ *   power: a cut inside a call may leave the lent log half written.
+ * - sab_read_file takes files of every archive and unit. Compare the archive
+ *   and the unit in the head with your own before the log is used as your own:
+ *   an act on another unit's log uses that unit's numbers twice.
  */
 
 #ifndef SAB_H
@@ -112,6 +173,13 @@
 #ifdef __cplusplus
 extern "C" {
 #endif
+
+/* ---- The version of this header and of its calls ---- */
+
+#define SAB_VERSION_MAJOR 1
+#define SAB_VERSION_MINOR 0
+#define SAB_VERSION_PATCH 0
+#define SAB_VERSION "1.0.0"
 
 /* ---- Lengths in bytes ---- */
 
@@ -138,34 +206,34 @@ extern "C" {
 #define SAB_OK 0u
 #define SAB_BAD_BUFFER 1u     /*   a lent buffer is not of the stated length */
 #define SAB_BAD_LENGTH 2u     /* P a block is not 512 bytes, or a file is not 1
-                                    to 86 blocks; the place is 0 */
+                                   to 86 blocks; the place is 0 */
 #define SAB_BAD_LETTERS 3u    /* P a block does not begin with SAB1 */
 #define SAB_BAD_SUM 4u        /* P a sum of a block differs: damaged */
 #define SAB_BAD_HEADER 5u     /* P a header's unit is above 7 or its count above
-                                    6, or an unused record place is not zero */
+                                   6, or an unused record place is not zero */
 #define SAB_OTHER_ARCHIVE 6u  /* P the block is of another archive */
 #define SAB_MALFORMED 7u      /* P a record or a wish is not well formed */
 #define SAB_NOT_NEXT 8u       /* P a record's number is not its unit's next, or
-                                    it has seen records that are not held: others
-                                    have to be taken first */
+                                   it has seen records that are not held: others
+                                   have to be taken first */
 #define SAB_NOT_CLOSED 9u     /* P what a record has seen is not closed: it has
-                                    seen a record, but not all that one saw */
+                                   seen a record, but not all that one saw */
 #define SAB_OTHER_BYTES 10u   /* P a record is held already, with other bytes: a
-                                    number was used twice */
+                                   number was used twice */
 #define SAB_FULL_LOG 11u      /* P a 513th record */
 #define SAB_NO_OBJECT 12u     /*   the object is not in the tree */
 #define SAB_NO_FOLDER 13u     /*   the folder is not in the tree */
 #define SAB_WRONG_KIND 14u    /*   a trace used as a folder, or a store on a
-                                    folder */
+                                   folder */
 #define SAB_LABEL_HELD 15u    /*   an entry of that folder has the label */
 #define SAB_NOT_EMPTY 16u     /*   a folder to remove has entries */
 #define SAB_UNSEEN_CHANGE 17u /*   only a reason for standing aside: the object
-                                    was changed by a record that its maker had
-                                    not seen. No call returns it */
+                                   was changed by a record that its maker had
+                                   not seen. No call returns it */
 #define SAB_NOT_ASIDE 18u     /*   a record to settle does not stand aside */
 #define SAB_UNSOUND_LOG 19u   /*   the lent log is not sound: torn, or no log */
 #define SAB_BAD_FILE 20u      /* P a file's blocks disagree, its ranks do not
-                                    rise, or its vector is not its counts */
+                                   rise, or its vector is not its counts */
 #define SAB_BAD_UNIT 21u      /*   the call's own unit is above 7 */
 
 /* ---- Operations of a record, byte 1 ---- */
@@ -177,7 +245,11 @@ extern "C" {
 #define SAB_RENAME 5u      /* object, label */
 #define SAB_SETTLE 6u      /* object: the record that stands aside */
 
-/* ---- Calls ---- */
+/* ---- Calls ----
+ *
+ * The own unit is given as 32 bits. Every number above 7 is refused with 21, so
+ * a wider number is not to be cut before the call.
+ */
 
 /* Compares two vectors, of any counts.
  *
@@ -196,7 +268,18 @@ extern "C" {
 #define SAB_BOTH_AHEAD 3u
 
 uint32_t sab_compare(const uint8_t *first, size_t first_len,
-                      const uint8_t *second, size_t second_len);
+                     const uint8_t *second, size_t second_len);
+
+/* Gives the vector of a log: how many records of each unit it holds.
+ *
+ * log      40,960 bytes, only read
+ * vector   16 bytes; on 0 every byte is written: eight counts, unit 0 first
+ *
+ * Returns 0, and SAB_COUNT is how many records the log holds, 0 to 512; 1 log or
+ * vector not of its length; 19 log not sound.
+ */
+uint32_t sab_vector(const uint8_t *log, size_t log_len, uint8_t *vector,
+                    size_t vector_len);
 
 /* Starts a unit: makes its log all zeros, whatever it held. See the caveat.
  *
@@ -207,7 +290,7 @@ uint32_t sab_compare(const uint8_t *first, size_t first_len,
  * Returns 0; 1 log not of 40,960 bytes; 21 unit above 7.
  */
 uint32_t sab_start(uint8_t *log, size_t log_len, uint32_t archive,
-                    uint8_t unit);
+                   uint32_t unit);
 
 /* Makes a record of the own unit, if it fits the tree.
  *
@@ -244,8 +327,8 @@ uint32_t sab_start(uint8_t *log, size_t log_len, uint32_t archive,
  *   16 remove: the folder has entries;
  *   18 settle: the object is no record that stands aside.
  */
-uint32_t sab_act(uint8_t *log, size_t log_len, uint32_t archive, uint8_t unit,
-                  const uint8_t *wish, size_t wish_len);
+uint32_t sab_act(uint8_t *log, size_t log_len, uint32_t archive, uint32_t unit,
+                 const uint8_t *wish, size_t wish_len);
 
 /* Hands out one block: the first six or fewer records, in rank order, that the
  * asked vector lacks.
@@ -264,8 +347,8 @@ uint32_t sab_act(uint8_t *log, size_t log_len, uint32_t archive, uint8_t unit,
  * not sound.
  */
 uint32_t sab_hand_out(const uint8_t *log, size_t log_len, uint32_t archive,
-                       uint8_t unit, const uint8_t *asked, size_t asked_len,
-                       uint8_t *block, size_t block_len);
+                      uint32_t unit, const uint8_t *asked, size_t asked_len,
+                      uint8_t *block, size_t block_len);
 
 /* Takes a block wholly or not at all: its new records are laid into the log by
  * rank. Records that are held already must be equal and change nothing, so a
@@ -289,8 +372,8 @@ uint32_t sab_hand_out(const uint8_t *log, size_t log_len, uint32_t archive,
  *   11 a 513th record.
  * The place is 0.
  */
-uint32_t sab_take(uint8_t *log, size_t log_len, uint32_t archive, uint8_t unit,
-                   const uint8_t *block, size_t block_len);
+uint32_t sab_take(uint8_t *log, size_t log_len, uint32_t archive,
+                  uint32_t unit, const uint8_t *block, size_t block_len);
 
 /* Writes the whole log as a file.
  *
@@ -304,7 +387,7 @@ uint32_t sab_take(uint8_t *log, size_t log_len, uint32_t archive, uint8_t unit,
  * its length; 21 unit above 7; 19 log not sound.
  */
 uint32_t sab_write_file(const uint8_t *log, size_t log_len, uint32_t archive,
-                         uint8_t unit, uint8_t *file, size_t file_len);
+                        uint32_t unit, uint8_t *file, size_t file_len);
 
 /* Reads a file, of any archive, into a lent log.
  *
@@ -325,7 +408,7 @@ uint32_t sab_write_file(const uint8_t *log, size_t log_len, uint32_t archive,
  * The place says which block.
  */
 uint32_t sab_read_file(uint8_t *log, size_t log_len, const uint8_t *file,
-                        size_t file_len, uint8_t *head, size_t head_len);
+                       size_t file_len, uint8_t *head, size_t head_len);
 
 /* Shows the tree of a log: the replay of its records in rank order.
  *
@@ -364,7 +447,7 @@ uint32_t sab_read_file(uint8_t *log, size_t log_len, const uint8_t *file,
 #define SAB_SETTLED 2u
 
 uint32_t sab_show(const uint8_t *log, size_t log_len, uint8_t *tree,
-                   size_t tree_len);
+                  size_t tree_len);
 
 /* Lists a file as text, in the form that docs/FORMAT.md gives: archive, unit and
  * count of records; the vector; a line for each entry; a line for each aside. A
@@ -383,9 +466,9 @@ uint32_t sab_show(const uint8_t *log, size_t log_len, uint8_t *tree,
  * they were.
  */
 uint32_t sab_listing(const uint8_t *file, size_t file_len, uint8_t *log,
-                      size_t log_len, uint8_t *tree, size_t tree_len,
-                      uint8_t *out, size_t out_len, uint8_t *length,
-                      size_t length_len);
+                     size_t log_len, uint8_t *tree, size_t tree_len,
+                     uint8_t *out, size_t out_len, uint8_t *length,
+                     size_t length_len);
 
 #ifdef __cplusplus
 }

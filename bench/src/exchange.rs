@@ -49,7 +49,7 @@ impl Pair {
 }
 
 /// Passes all that the other lacks. What it holds is counted from the blocks.
-fn pass(library: &dyn Library, from: &[u8], giver: u8, to: &mut [u8], taker: u8) {
+fn pass(library: &dyn Library, from: &[u8], giver: u32, to: &mut [u8], taker: u32) {
     let mut asked = vector_of(to);
     let mut block = [0; BLOCK];
     loop {

@@ -9,7 +9,7 @@
 #include <string.h>
 
 /* Acts once; a refusal must leave the log. */
-static uint32_t act_on(struct lent log, uint8_t unit, struct lent wish)
+static uint32_t act_on(struct lent log, uint32_t unit, struct lent wish)
 {
     uint32_t r;
     note(log);
@@ -132,6 +132,8 @@ static void test_order_of_checks(struct lent log, struct lent wish)
     log.bytes[31] = 32;
     wish.bytes[31] = 32;
     CHECK(act_on(log, 255, wish) == SAB_BAD_UNIT);
+    for (i = 0; i < WIDE_UNITS; i++)
+        CHECK(act_on(log, wide_unit(i), wish) == SAB_BAD_UNIT);
     CHECK(act_on(log, 0, wish) == SAB_UNSOUND_LOG);
     log.bytes[31] = 3;
     CHECK(act_on(log, 0, wish) == SAB_MALFORMED);

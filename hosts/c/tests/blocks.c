@@ -8,14 +8,14 @@
 
 #include <string.h>
 
-static uint32_t hand_out(struct lent log, uint8_t unit, struct lent asked, struct lent block)
+static uint32_t hand_out(struct lent log, uint32_t unit, struct lent asked, struct lent block)
 {
     uint32_t r;
     only_read(log, 1);
     only_read(asked, 1);
     note(block);
     r = sab_hand_out(log.bytes, SAB_LOG_BYTES, ARCHIVE, unit, asked.bytes, SAB_VECTOR_BYTES,
-                      block.bytes, SAB_BLOCK_BYTES);
+                     block.bytes, SAB_BLOCK_BYTES);
     only_read(log, 0);
     only_read(asked, 0);
     CHECK(r == SAB_OK || kept(block));
@@ -44,13 +44,13 @@ static void test_wrong_buffers(struct lent log, struct lent asked, struct lent b
         size_t no_log = wrong_length(SAB_LOG_BYTES, i), no_asked = wrong_length(SAB_VECTOR_BYTES, i),
                no_block = wrong_length(SAB_BLOCK_BYTES, i);
         CHECK(sab_hand_out(nowhere(), no_log, ARCHIVE, 0, asked.bytes, SAB_VECTOR_BYTES,
-                            block.bytes, SAB_BLOCK_BYTES) == SAB_BAD_BUFFER);
+                           block.bytes, SAB_BLOCK_BYTES) == SAB_BAD_BUFFER);
         CHECK(sab_hand_out(log.bytes, SAB_LOG_BYTES, ARCHIVE, 0, nowhere(), no_asked, block.bytes,
-                            SAB_BLOCK_BYTES) == SAB_BAD_BUFFER);
+                           SAB_BLOCK_BYTES) == SAB_BAD_BUFFER);
         CHECK(sab_hand_out(log.bytes, SAB_LOG_BYTES, ARCHIVE, 0, asked.bytes, SAB_VECTOR_BYTES,
-                            nowhere(), no_block) == SAB_BAD_BUFFER);
+                           nowhere(), no_block) == SAB_BAD_BUFFER);
         CHECK(sab_hand_out(nowhere(), no_log, ARCHIVE, 8, nowhere(), no_asked, nowhere(),
-                            no_block) == SAB_BAD_BUFFER);
+                           no_block) == SAB_BAD_BUFFER);
     }
     CHECK(kept(log) && kept(block));
 }
@@ -61,6 +61,7 @@ void test_hand_out(void)
     struct lent log = lend(SAB_LOG_BYTES), asked = lend_low(SAB_VECTOR_BYTES),
                 block = lend(SAB_BLOCK_BYTES);
     unsigned given;
+    int w;
     full_log(log.bytes);
     test_wrong_buffers(log, asked, block);
     memset(asked.bytes, 0, SAB_VECTOR_BYTES);
@@ -81,14 +82,15 @@ void test_hand_out(void)
     memset(asked.bytes, 0xFF, SAB_VECTOR_BYTES);
     CHECK(hand_out(log, 0, asked, block) == SAB_OK);
     CHECK(memcmp(block.bytes, expected, SAB_BLOCK_BYTES) == 0);
-    CHECK(hand_out(log, 8, asked, block) == SAB_BAD_UNIT);
+    for (w = 0; w < WIDE_UNITS; w++)
+        CHECK(hand_out(log, wide_unit(w), asked, block) == SAB_BAD_UNIT);
     log.bytes[1] = 9;
     CHECK(hand_out(log, 0, asked, block) == SAB_UNSOUND_LOG);
     CHECK(hand_out(log, 8, asked, block) == SAB_BAD_UNIT);
 }
 
 /* Takes once; a refusal must leave the log. */
-static uint32_t take(struct lent log, uint8_t unit, struct lent block)
+static uint32_t take(struct lent log, uint32_t unit, struct lent block)
 {
     uint32_t r;
     note(log);
@@ -175,7 +177,8 @@ static void test_order_of_checks(struct lent log, struct lent block)
     CHECK(sab_take(log.bytes, SAB_LOG_BYTES, ARCHIVE, 0, nowhere(), 0) == SAB_UNSOUND_LOG);
     block.bytes[0] = 0;
     CHECK(take(log, 0, block) == SAB_UNSOUND_LOG);
-    CHECK(take(log, 8, block) == SAB_BAD_UNIT);
+    for (i = 0; i < WIDE_UNITS; i++)
+        CHECK(take(log, wide_unit(i), block) == SAB_BAD_UNIT);
 }
 
 /* A block whose count, place and vector say little is taken, also twice. */

@@ -8,7 +8,7 @@
 
 #include <string.h>
 
-static uint32_t write_file(struct lent log, uint8_t unit, struct lent file)
+static uint32_t write_file(struct lent log, uint32_t unit, struct lent file)
 {
     uint32_t r;
     only_read(log, 1);
@@ -61,7 +61,8 @@ void test_write_file(void)
         expect_file(expected, log.bytes, 4);
         CHECK(memcmp(file.bytes, expected, SAB_FILE_BYTES) == 0);
     }
-    CHECK(write_file(log, 8, file) == SAB_BAD_UNIT);
+    for (i = 0; i < WIDE_UNITS; i++)
+        CHECK(write_file(log, wide_unit(i), file) == SAB_BAD_UNIT);
     log.bytes[SAB_LOG_BYTES - 1] = 1;
     CHECK(write_file(log, 8, file) == SAB_BAD_UNIT);
     CHECK(write_file(log, 0, file) == SAB_UNSOUND_LOG);
@@ -87,7 +88,7 @@ static uint32_t read_file(struct lent log, struct lent file, size_t length, stru
     note(head);
     only_read(file, 1);
     r = sab_read_file(log.bytes, SAB_LOG_BYTES, file.bytes + SAB_FILE_BYTES - length, length,
-                       head.bytes, SAB_HEAD_BYTES);
+                      head.bytes, SAB_HEAD_BYTES);
     only_read(file, 0);
     CHECK(SAB_NUMBER(r) == SAB_OK || (kept(log) && kept(head)));
     return r;
@@ -219,7 +220,7 @@ static void test_lengths(struct lent log, struct lent file, struct lent head)
     note(head);
     for (i = 0; i < 5; i++)
         CHECK(sab_read_file(log.bytes, SAB_LOG_BYTES, nowhere(), not_files[i], head.bytes,
-                             SAB_HEAD_BYTES) == SAB_BAD_LENGTH);
+                            SAB_HEAD_BYTES) == SAB_BAD_LENGTH);
     for (i = 0; i < WRONG_LENGTHS; i++) {
         size_t no_log = wrong_length(SAB_LOG_BYTES, i), no_head = wrong_length(SAB_HEAD_BYTES, i);
         CHECK(sab_read_file(nowhere(), no_log, nowhere(), 0, head.bytes, SAB_HEAD_BYTES) ==

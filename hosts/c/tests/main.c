@@ -21,6 +21,7 @@ void check(int holds, const char *fact, const char *file, int line)
 int main(void)
 {
     test_compare();
+    test_vector();
     test_start();
     test_act();
     test_hand_out();

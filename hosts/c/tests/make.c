@@ -6,6 +6,13 @@
 #include <stdio.h>
 #include <string.h>
 
+uint32_t wide_unit(int i)
+{
+    static const uint32_t units[WIDE_UNITS] = {8,          256,         65536 + 1,
+                                               0x01000007u, 0xFFFFFF00u, 0xFFFFFFFFu};
+    return units[i];
+}
+
 unsigned get16(const uint8_t *bytes)
 {
     return (unsigned)bytes[0] + 256u * bytes[1];
@@ -95,7 +102,7 @@ void pass(const uint8_t *from, uint8_t giver, uint8_t *to, uint8_t taker)
     do {
         counts(to, asked);
         CHECK(sab_hand_out(from, SAB_LOG_BYTES, ARCHIVE, giver, asked, SAB_VECTOR_BYTES, block,
-                            SAB_BLOCK_BYTES) == SAB_OK);
+                           SAB_BLOCK_BYTES) == SAB_OK);
         CHECK(sab_take(to, SAB_LOG_BYTES, ARCHIVE, taker, block, SAB_BLOCK_BYTES) == SAB_OK);
     } while (block[9] != 0);
 }

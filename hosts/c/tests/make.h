@@ -13,6 +13,10 @@ struct id {
     unsigned number;
 };
 
+/* Units above 7; some would be a unit if they were cut to 8, 16 or 24 bits. */
+enum { WIDE_UNITS = 6 };
+uint32_t wide_unit(int i);
+
 unsigned get16(const uint8_t *bytes);
 void put16(uint8_t *bytes, unsigned number);
 
@@ -29,7 +33,7 @@ void act(uint8_t *log, uint8_t unit, const uint8_t *wish);
 void make(uint8_t *log, uint8_t unit, unsigned operation, struct id folder, const char *label);
 void change(uint8_t *log, uint8_t unit, unsigned operation, struct id object, const char *label);
 
-/* The vector of a log. */
+/* The vector of a log, by counting. */
 void counts(const uint8_t *log, uint8_t *vector);
 
 /* How many records a log holds. */

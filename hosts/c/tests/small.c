@@ -1,4 +1,4 @@
-/* Comparing and starting. */
+/* Comparing, the vector of a log, starting. */
 
 #include "check.h"
 #include "lent.h"
@@ -58,6 +58,56 @@ void test_compare(void)
     CHECK(sab_compare(NULL, 0, NULL, 0) == SAB_BAD_BUFFER);
 }
 
+static uint32_t vector_of(struct lent log, struct lent vector)
+{
+    uint32_t r;
+    only_read(log, 1);
+    fill(vector);
+    note(vector);
+    r = sab_vector(log.bytes, SAB_LOG_BYTES, vector.bytes, SAB_VECTOR_BYTES);
+    only_read(log, 0);
+    CHECK(SAB_NUMBER(r) == SAB_OK || kept(vector));
+    return r;
+}
+
+void test_vector(void)
+{
+    static uint8_t apart[SAB_LOG_BYTES];
+    struct lent log = lend(SAB_LOG_BYTES), vector = lend_low(SAB_VECTOR_BYTES);
+    uint8_t expected[SAB_VECTOR_BYTES] = {0};
+    size_t at;
+    int i;
+    memset(log.bytes, 0, SAB_LOG_BYTES);
+    CHECK(vector_of(log, vector) == SAB_OK);
+    CHECK(memcmp(vector.bytes, expected, SAB_VECTOR_BYTES) == 0);
+    bench_logs(apart, log.bytes);
+    put16(expected, 2);
+    put16(expected + 2, 1);
+    CHECK(vector_of(log, vector) == 3u << 16);
+    CHECK(memcmp(vector.bytes, expected, SAB_VECTOR_BYTES) == 0);
+    for (at = 0; at < 4 * SAB_RECORD_BYTES; at += SAB_RECORD_BYTES) {
+        log.bytes[at] ^= 0x80;
+        CHECK(vector_of(log, vector) == SAB_UNSOUND_LOG);
+        log.bytes[at] ^= 0x80;
+    }
+    full_log(log.bytes);
+    counts(log.bytes, expected);
+    CHECK(vector_of(log, vector) == 512u << 16);
+    CHECK(memcmp(vector.bytes, expected, SAB_VECTOR_BYTES) == 0);
+    fill(log);
+    CHECK(vector_of(log, vector) == SAB_UNSOUND_LOG);
+    note(log);
+    note(vector);
+    for (i = 0; i < WRONG_LENGTHS; i++) {
+        size_t no_log = wrong_length(SAB_LOG_BYTES, i), no_vector = wrong_length(SAB_VECTOR_BYTES, i);
+        CHECK(sab_vector(nowhere(), no_log, vector.bytes, SAB_VECTOR_BYTES) == SAB_BAD_BUFFER);
+        CHECK(sab_vector(log.bytes, SAB_LOG_BYTES, nowhere(), no_vector) == SAB_BAD_BUFFER);
+        CHECK(sab_vector(nowhere(), no_log, nowhere(), no_vector) == SAB_BAD_BUFFER);
+    }
+    CHECK(sab_vector(NULL, 0, NULL, 0) == SAB_BAD_BUFFER);
+    CHECK(kept(log) && kept(vector));
+}
+
 void test_start(void)
 {
     struct lent log = lend(SAB_LOG_BYTES);
@@ -65,7 +115,7 @@ void test_start(void)
     int unit, zero;
     for (unit = 0; unit < 8; unit++) {
         fill(log);
-        CHECK(sab_start(log.bytes, SAB_LOG_BYTES, 0xFFFFFFFFu, (uint8_t)unit) == SAB_OK);
+        CHECK(sab_start(log.bytes, SAB_LOG_BYTES, 0xFFFFFFFFu, (uint32_t)unit) == SAB_OK);
         for (i = 0, zero = 1; i < SAB_LOG_BYTES; i++)
             zero &= log.bytes[i] == 0;
         CHECK(zero);
@@ -73,7 +123,9 @@ void test_start(void)
     fill(log);
     note(log);
     for (unit = 8; unit < 256; unit++)
-        CHECK(sab_start(log.bytes, SAB_LOG_BYTES, 0, (uint8_t)unit) == SAB_BAD_UNIT);
+        CHECK(sab_start(log.bytes, SAB_LOG_BYTES, 0, (uint32_t)unit) == SAB_BAD_UNIT);
+    for (i = 0; i < WIDE_UNITS; i++)
+        CHECK(sab_start(log.bytes, SAB_LOG_BYTES, 0, wide_unit((int)i)) == SAB_BAD_UNIT);
     for (i = 0; i < WRONG_LENGTHS; i++) {
         size_t wrong = wrong_length(SAB_LOG_BYTES, (int)i);
         CHECK(sab_start(nowhere(), wrong, ARCHIVE, 0) == SAB_BAD_BUFFER);

@@ -4,6 +4,7 @@
 #define TESTS_H
 
 void test_compare(void);
+void test_vector(void);
 void test_start(void);
 void test_act(void);
 void test_hand_out(void);

@@ -104,8 +104,8 @@ static uint32_t list(struct listing l, size_t file_length)
     note(l.length);
     only_read(l.file, 1);
     r = sab_listing(l.file.bytes + l.file.length - file_length, file_length, l.log.bytes,
-                     SAB_LOG_BYTES, l.tree.bytes, SAB_TREE_BYTES, l.out.bytes, SAB_LISTING_BYTES,
-                     l.length.bytes, SAB_LENGTH_BYTES);
+                    SAB_LOG_BYTES, l.tree.bytes, SAB_TREE_BYTES, l.out.bytes, SAB_LISTING_BYTES,
+                    l.length.bytes, SAB_LENGTH_BYTES);
     only_read(l.file, 0);
     return r;
 }
@@ -177,8 +177,8 @@ void test_listing(void)
     for (i = 0; i < 4; i++) {
         list(l, SAB_BLOCK_BYTES);
         CHECK(sab_listing(nowhere(), not_files[i], l.log.bytes, SAB_LOG_BYTES, l.tree.bytes,
-                           SAB_TREE_BYTES, l.out.bytes, SAB_LISTING_BYTES, l.length.bytes,
-                           SAB_LENGTH_BYTES) == SAB_BAD_LENGTH);
+                          SAB_TREE_BYTES, l.out.bytes, SAB_LISTING_BYTES, l.length.bytes,
+                          SAB_LENGTH_BYTES) == SAB_BAD_LENGTH);
         CHECK(listed(l, "refused 2 at 0\n"));
     }
     note(l.out);

@@ -35,7 +35,7 @@ fn written(library: &dyn Library, archive: u32, unit: u8, records: &[[u8; 80]]) 
         .read_file(&mut log, &laid)
         .expect("an example is a good file");
     let blocks = library
-        .write_file(&log, archive, unit, &mut file)
+        .write_file(&log, archive, unit.into(), &mut file)
         .expect("a log that was read is sound");
     file.truncate(512 * blocks as usize);
     let mut out = vec![0; LISTING];

@@ -90,9 +90,9 @@ impl Calls<'_> {
     fn one(&mut self) -> End {
         let slot = self.chance.below(8);
         let unit = if self.chance.one_in(40) {
-            self.chance.number() as u8
+            self.odd_unit(slot)
         } else {
-            slot as u8
+            slot as u32
         };
         match self.chance.below(100) {
             0 => self.start(slot, unit),
@@ -101,10 +101,19 @@ impl Calls<'_> {
             60..84 => self.take(slot, unit),
             84..88 => self.write_file(slot, unit),
             88..91 => self.read_file(),
-            91..95 => self.show(slot),
-            95..98 => self.listing(),
+            91..94 => self.show(slot),
+            94..96 => self.vector(slot),
+            96..98 => self.listing(),
             _ => self.compare(),
         }
+    }
+
+    /// Another unit, or none: also one whose low byte alone would be a unit.
+    fn odd_unit(&mut self, slot: usize) -> u32 {
+        let any = self.chance.number() as u32;
+        *self
+            .chance
+            .pick(&[any % 16, any % 256, any << 8 | slot as u32, any])
     }
 
     fn archive(&mut self) -> u32 {
@@ -158,7 +167,7 @@ impl Calls<'_> {
         }
     }
 
-    fn start(&mut self, slot: usize, unit: u8) -> End {
+    fn start(&mut self, slot: usize, unit: u32) -> End {
         let archive = self.archive();
         let (log, own) = self.log(slot);
         let mut both = Both::run(self.library, &[&log], |library, lent| {
@@ -169,11 +178,11 @@ impl Calls<'_> {
         end
     }
 
-    fn act(&mut self, slot: usize, unit: u8) -> End {
+    fn act(&mut self, slot: usize, unit: u32) -> End {
         let archive = self.archive();
         let mut tree = [0; TREE];
         let mut wish = match plain::show(&self.logs[slot], &mut tree) {
-            Ok(()) => wish(&mut self.chance, &self.mix, unit & 7, &tree).to_vec(),
+            Ok(()) => wish(&mut self.chance, &self.mix, unit as u8 & 7, &tree).to_vec(),
             Err(_) => return incorrect("a log that is not sound"),
         };
         let (log, own) = self.log(slot);
@@ -199,7 +208,7 @@ impl Calls<'_> {
         ])
     }
 
-    fn hand_out(&mut self, slot: usize, unit: u8) -> End {
+    fn hand_out(&mut self, slot: usize, unit: u32) -> End {
         let archive = self.archive();
         let other = self.chance.below(8);
         let mut asked = vector_of(&self.logs[other]);
@@ -274,7 +283,7 @@ impl Calls<'_> {
         }
     }
 
-    fn take(&mut self, slot: usize, unit: u8) -> End {
+    fn take(&mut self, slot: usize, unit: u32) -> End {
         let archive = self.archive();
         let block = self.block();
         let (log, own) = self.log(slot);
@@ -286,7 +295,7 @@ impl Calls<'_> {
         end
     }
 
-    fn write_file(&mut self, slot: usize, unit: u8) -> End {
+    fn write_file(&mut self, slot: usize, unit: u32) -> End {
         let archive = self.archive();
         let (log, _) = self.log(slot);
         let file = self.lent(FILE);
@@ -341,6 +350,14 @@ impl Calls<'_> {
             library.show(log, tree)
         })
         .compared("show")
+    }
+
+    fn vector(&mut self, slot: usize) -> End {
+        let (log, _) = self.log(slot);
+        Both::run(self.library, &[&log], |library, lent| {
+            library.vector(&lent[0])
+        })
+        .compared("vector")
     }
 
     fn listing(&mut self) -> End {

@@ -1,6 +1,7 @@
 //! `faults [--long] [--seconds N] [--seed N]`: the fault run against the static
 //! library. Prints how each study's experiments ended, under the headings of
-//! document 004's table, and 'N passed, M failed'. Counts are fixed by the
+//! document 004's table, how often a number that was used twice is noticed, and
+//! 'N passed, M failed'. Counts are fixed by the
 //! length of the run; the time bounds it all the same.
 
 mod bytes;
@@ -9,6 +10,7 @@ mod lists;
 mod orders;
 mod power;
 mod study;
+mod twice;
 mod world;
 
 use library::Library;
@@ -55,15 +57,19 @@ fn main() -> ExitCode {
     };
     let mut tallies = Vec::new();
     for (i, (name, study)) in STUDIES.into_iter().enumerate() {
-        plan.share_time(STUDIES.len() - i);
+        plan.share_time(STUDIES.len() + 1 - i);
         tallies.push((name, study(&library::Static, &plan)));
     }
     Tally::head();
     for (name, tally) in &tallies {
         tally.row(name);
     }
+    println!();
+    plan.share_time(1);
+    let (noticing, missing) = twice::table(&plan);
     let passed: u64 = tallies.iter().map(|(_, tally)| tally.correct).sum();
     let failed: u64 = tallies.iter().map(|(_, tally)| tally.failed()).sum();
+    let (passed, failed) = (passed + noticing, failed + missing);
     println!("\n{passed} passed, {failed} failed");
     if failed == 0 && tallies.iter().all(|(_, tally)| tally.correct > 0) {
         ExitCode::SUCCESS

@@ -30,7 +30,7 @@ impl Hosts<'_> {
         let mut file = vec![0xa5; FILE];
         match self
             .library
-            .write_file(&self.logs[unit], ARCHIVE, unit as u8, &mut file)
+            .write_file(&self.logs[unit], ARCHIVE, unit as u32, &mut file)
         {
             Ok(blocks) => file.truncate(BLOCK * blocks as usize),
             Err(refusal) => return manual(format!("no file: {refusal:?}")),
@@ -73,7 +73,7 @@ impl Hosts<'_> {
             let wish = &wishes[count(&self.logs[unit])];
             let answer = self
                 .library
-                .act(&mut self.logs[unit], ARCHIVE, unit as u8, wish);
+                .act(&mut self.logs[unit], ARCHIVE, unit as u32, wish);
             if let Err(refusal) = answer {
                 return manual(format!("an act is refused: {refusal:?}"));
             }

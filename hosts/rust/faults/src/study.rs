@@ -6,6 +6,9 @@ use std::time::{Duration, Instant};
 /// Failures that are told one by one, for each study.
 const TOLD: u64 = 5;
 
+/// What the name of a study says that had no time to end.
+pub const STOPPED: &str = ", stopped by the clock";
+
 /// How an experiment ends: with the same logs and trees as without the fault
 /// (the value says whether records stand aside there), or
 pub type End = Result<bool, Wrong>;
@@ -54,6 +57,11 @@ impl Plan {
         self.study_end.set(now + left / studies as u32);
     }
 
+    /// There is time for more of the study.
+    pub fn has_time(&self) -> bool {
+        Instant::now() < self.study_end.get()
+    }
+
     /// A count for a short run or a long one.
     pub fn count<T>(&self, short: T, long: T) -> T {
         if self.long { long } else { short }
@@ -95,7 +103,7 @@ impl Tally {
 
     /// There is time for more.
     pub fn goes_on(&mut self, plan: &Plan) -> bool {
-        self.stopped |= Instant::now() >= plan.study_end.get();
+        self.stopped |= !plan.has_time();
         !self.stopped
     }
 
@@ -114,11 +122,7 @@ impl Tally {
             let percent = 100.0 * count as f64 / all.max(1) as f64;
             format!("{count} ({percent:.1}%)")
         };
-        let stopped = if self.stopped {
-            ", stopped by the clock"
-        } else {
-            ""
-        };
+        let stopped = if self.stopped { STOPPED } else { "" };
         println!(
             "| {name}{stopped} | {all} | {} | {} | {} | {} |",
             share(self.correct),

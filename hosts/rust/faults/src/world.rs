@@ -48,7 +48,7 @@ pub fn hand_out(
     to: &[u8],
 ) -> Result<Block, Wrong> {
     let mut block = [0xa5; BLOCK];
-    match library.hand_out(from, ARCHIVE, unit as u8, &vector_of(to), &mut block) {
+    match library.hand_out(from, ARCHIVE, unit as u32, &vector_of(to), &mut block) {
         Ok(()) => Ok(block),
         Err(refusal) => manual(format!("no hand-out: {refusal:?}")),
     }
@@ -56,7 +56,7 @@ pub fn hand_out(
 
 /// Takes a block that must be good.
 pub fn take(library: &dyn Library, log: &mut [u8], unit: usize, block: &[u8]) -> Result<(), Wrong> {
-    match library.take(log, ARCHIVE, unit as u8, block) {
+    match library.take(log, ARCHIVE, unit as u32, block) {
         Ok(()) => Ok(()),
         Err(refusal) => manual(format!("a good block refused: {refusal:?}")),
     }

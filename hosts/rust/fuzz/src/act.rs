@@ -26,12 +26,8 @@ pub fn act(data: &[u8]) {
     let mut input = Input::new(data);
     let life = Life::drawn(&mut input);
     let mut log = life.log(input.below(8));
-    let unit = if input.one_in(32) {
-        input.byte()
-    } else {
-        input.byte() % 8
-    };
-    let wish = wish(&mut input, &log, unit);
+    let unit = input.unit();
+    let wish = wish(&mut input, &log, unit as u8);
     if input.one_in(8) {
         let end = RECORD * (held(&log) + 1);
         input.patch(&mut log, end);
@@ -41,6 +37,7 @@ pub fn act(data: &[u8]) {
     });
     let log = &after[0];
     show(log);
+    let _ = both(3, &[log], |library, lent| library.vector(&lent[0]));
     let mut asked = vector_of(log);
     for _ in 0..input.below(4) {
         let of_unit = input.below(8);

@@ -35,6 +35,16 @@ impl<'a> Input<'a> {
         self.byte() % count == count - 1
     }
 
+    /// A unit, or seldom any number: also one whose low byte alone would be a
+    /// unit.
+    pub fn unit(&mut self) -> u32 {
+        if self.one_in(32) {
+            u32::from_le_bytes(std::array::from_fn(|_| self.byte()))
+        } else {
+            u32::from(self.byte() % 8)
+        }
+    }
+
     /// All bytes that are left.
     pub fn rest(&mut self) -> &'a [u8] {
         std::mem::take(&mut self.rest)

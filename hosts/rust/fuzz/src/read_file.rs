@@ -89,7 +89,7 @@ pub fn read_file(data: &[u8]) {
     show(&after[0]);
     let room = vec![0xa5; FILE];
     let (count, again) = both(3, &[&room], |library, lent| {
-        library.write_file(&after[0], head.archive, head.unit, &mut lent[0])
+        library.write_file(&after[0], head.archive, head.unit.into(), &mut lent[0])
     });
     assert_eq!(count, Ok((file.len() / BLOCK) as u16));
     assert!(

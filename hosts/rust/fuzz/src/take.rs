@@ -54,11 +54,7 @@ pub fn take(data: &[u8]) {
         let end = RECORD * (held(&log) + 1);
         input.patch(&mut log, end);
     }
-    let unit = if input.one_in(32) {
-        input.byte()
-    } else {
-        input.byte() % 8
-    };
+    let unit = input.unit();
     let archive = ARCHIVE + input.one_in(32) as u32;
     let block = if input.one_in(16) {
         let mut block = input.rest().to_vec();

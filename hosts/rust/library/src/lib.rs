@@ -28,21 +28,22 @@ pub const LISTING: usize = 76_800;
 /// The entry points. Those that answer an `Option` are run beside what follows
 /// from the others, where an implementation offers them.
 pub trait Library {
-    fn start(&self, log: &mut [u8], archive: u32, unit: u8) -> Answer<()>;
-    fn act(&self, log: &mut [u8], archive: u32, unit: u8, wish: &[u8]) -> Answer<()>;
+    fn start(&self, log: &mut [u8], archive: u32, unit: u32) -> Answer<()>;
+    fn act(&self, log: &mut [u8], archive: u32, unit: u32, wish: &[u8]) -> Answer<()>;
     fn hand_out(
         &self,
         log: &[u8],
         archive: u32,
-        unit: u8,
+        unit: u32,
         asked: &[u16; 8],
         block: &mut [u8],
     ) -> Answer<()>;
-    fn take(&self, log: &mut [u8], archive: u32, unit: u8, block: &[u8]) -> Answer<()>;
-    fn write_file(&self, log: &[u8], archive: u32, unit: u8, file: &mut [u8]) -> Answer<u16>;
+    fn take(&self, log: &mut [u8], archive: u32, unit: u32, block: &[u8]) -> Answer<()>;
+    fn write_file(&self, log: &[u8], archive: u32, unit: u32, file: &mut [u8]) -> Answer<u16>;
     fn read_file(&self, log: &mut [u8], file: &[u8]) -> Answer<Head>;
     fn show(&self, log: &[u8], tree: &mut [u8]) -> Answer<()>;
     fn compare(&self, first: &[u16; 8], second: &[u16; 8]) -> u8;
+    fn vector(&self, log: &[u8]) -> Answer<[u16; 8]>;
 
     /// Writes a file's listing or its line of refusal; its length.
     fn listing_into(&self, _file: &[u8], _out: &mut [u8]) -> Option<usize> {
@@ -65,27 +66,27 @@ pub trait Library {
 /// The entry points of a crate that has them by these names.
 macro_rules! entry_points {
     ($library:ident) => {
-        fn start(&self, log: &mut [u8], archive: u32, unit: u8) -> Answer<()> {
-            $library::start(log, archive, unit).map_err(refusal)
+        fn start(&self, log: &mut [u8], archive: u32, unit: u32) -> Answer<()> {
+            $library::start(log, archive, unit_of(unit)).map_err(refusal)
         }
-        fn act(&self, log: &mut [u8], archive: u32, unit: u8, wish: &[u8]) -> Answer<()> {
-            $library::act(log, archive, unit, wish).map_err(refusal)
+        fn act(&self, log: &mut [u8], archive: u32, unit: u32, wish: &[u8]) -> Answer<()> {
+            $library::act(log, archive, unit_of(unit), wish).map_err(refusal)
         }
         fn hand_out(
             &self,
             log: &[u8],
             archive: u32,
-            unit: u8,
+            unit: u32,
             asked: &[u16; 8],
             block: &mut [u8],
         ) -> Answer<()> {
-            $library::hand_out(log, archive, unit, asked, block).map_err(refusal)
+            $library::hand_out(log, archive, unit_of(unit), asked, block).map_err(refusal)
         }
-        fn take(&self, log: &mut [u8], archive: u32, unit: u8, block: &[u8]) -> Answer<()> {
-            $library::take(log, archive, unit, block).map_err(refusal)
+        fn take(&self, log: &mut [u8], archive: u32, unit: u32, block: &[u8]) -> Answer<()> {
+            $library::take(log, archive, unit_of(unit), block).map_err(refusal)
         }
-        fn write_file(&self, log: &[u8], archive: u32, unit: u8, file: &mut [u8]) -> Answer<u16> {
-            $library::write_file(log, archive, unit, file).map_err(refusal)
+        fn write_file(&self, log: &[u8], archive: u32, unit: u32, file: &mut [u8]) -> Answer<u16> {
+            $library::write_file(log, archive, unit_of(unit), file).map_err(refusal)
         }
         fn read_file(&self, log: &mut [u8], file: &[u8]) -> Answer<Head> {
             let $library::Head {
@@ -107,6 +108,9 @@ macro_rules! entry_points {
         fn compare(&self, first: &[u16; 8], second: &[u16; 8]) -> u8 {
             $library::compare(first, second)
         }
+        fn vector(&self, log: &[u8]) -> Answer<[u16; 8]> {
+            $library::vector(log).map_err(refusal)
+        }
     };
 }
 
@@ -115,6 +119,11 @@ mod plain_rust {
     use super::{Answer, Head, Library, Refusal};
 
     pub struct Plain;
+
+    /// A unit above 7 is refused, whichever it is.
+    fn unit_of(unit: u32) -> u8 {
+        unit.try_into().unwrap_or(u8::MAX)
+    }
 
     fn refusal(plain::Refusal { number, place }: plain::Refusal) -> Refusal {
         Refusal { number, place }
@@ -146,6 +155,7 @@ mod plain_rust {
 #[cfg(feature = "static")]
 mod static_library {
     use super::{Answer, Head, Library, Refusal};
+    use sab::raw;
     use std::cell::RefCell;
 
     pub struct Static;
@@ -153,7 +163,11 @@ mod static_library {
     thread_local! {
         /// Work space of a listing: a log and a tree.
         static WORK: RefCell<(Vec<u8>, Vec<u8>)> =
-            RefCell::new((vec![0; sab::LOG], vec![0; sab::TREE]));
+            RefCell::new((vec![0; raw::LOG], vec![0; raw::TREE]));
+    }
+
+    fn unit_of(unit: u32) -> u32 {
+        unit
     }
 
     fn refusal(sab::Refusal { number, place }: sab::Refusal) -> Refusal {
@@ -161,11 +175,11 @@ mod static_library {
     }
 
     impl Library for Static {
-        entry_points!(sab);
+        entry_points!(raw);
 
         fn listing_into(&self, file: &[u8], out: &mut [u8]) -> Option<usize> {
             WORK.with_borrow_mut(|(log, tree)| {
-                let listed = sab::listing(file, log, tree, out).ok()?;
+                let listed = raw::listing(file, log, tree, out).ok()?;
                 Some(listed.length)
             })
         }

@@ -48,6 +48,17 @@ pub fn sound(log: &[u8]) -> bool {
     log.len() == LOG && scan(log.as_chunks().0, &mut Places::none(), |_, _, _| ()).is_some()
 }
 
+/// The held vector of a log: how many records of each unit.
+pub fn vector(log: &[u8]) -> Answer<[u16; 8]> {
+    if log.len() != LOG {
+        return refuse(1);
+    }
+    match scan(log.as_chunks().0, &mut Places::none(), |_, _, _| ()) {
+        Some(held) => Ok(core::array::from_fn(|unit| held.vector.count(unit))),
+        None => refuse(19),
+    }
+}
+
 /// Empties a log.
 pub fn start(log: &mut [u8], _archive: u32, unit: u8) -> Answer<()> {
     if log.len() != LOG {

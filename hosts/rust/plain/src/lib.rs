@@ -19,7 +19,7 @@ mod table;
 mod vector;
 
 pub use block::sums;
-pub use calls::{Head, act, hand_out, read_file, show, sound, start, take, write_file};
+pub use calls::{Head, act, hand_out, read_file, show, sound, start, take, vector, write_file};
 pub use listing::{LISTING, listing};
 pub use record::{is_date, well_formed};
 pub use vector::compare;

@@ -3,14 +3,16 @@
 //! A result's low byte is the number, its next byte the place, its upper 16
 //! bits the count where a call returns one. `include/sab.h` is the manual.
 
+#![allow(unsafe_code)]
+
 unsafe extern "C" {
-    pub fn sab_start(log: *mut u8, log_len: usize, archive: u32, unit: u8) -> u32;
+    pub fn sab_start(log: *mut u8, log_len: usize, archive: u32, unit: u32) -> u32;
 
     pub fn sab_act(
         log: *mut u8,
         log_len: usize,
         archive: u32,
-        unit: u8,
+        unit: u32,
         wish: *const u8,
         wish_len: usize,
     ) -> u32;
@@ -19,7 +21,7 @@ unsafe extern "C" {
         log: *const u8,
         log_len: usize,
         archive: u32,
-        unit: u8,
+        unit: u32,
         asked: *const u8,
         asked_len: usize,
         block: *mut u8,
@@ -30,7 +32,7 @@ unsafe extern "C" {
         log: *mut u8,
         log_len: usize,
         archive: u32,
-        unit: u8,
+        unit: u32,
         block: *const u8,
         block_len: usize,
     ) -> u32;
@@ -39,7 +41,7 @@ unsafe extern "C" {
         log: *const u8,
         log_len: usize,
         archive: u32,
-        unit: u8,
+        unit: u32,
         file: *mut u8,
         file_len: usize,
     ) -> u32;
@@ -54,6 +56,8 @@ unsafe extern "C" {
     ) -> u32;
 
     pub fn sab_show(log: *const u8, log_len: usize, tree: *mut u8, tree_len: usize) -> u32;
+
+    pub fn sab_vector(log: *const u8, log_len: usize, vector: *mut u8, vector_len: usize) -> u32;
 
     pub fn sab_compare(
         first: *const u8,

@@ -1,210 +1,82 @@
-//! The proved record folder for Rust programs: every entry point of the static
-//! library over slices.
+//! The proved record folder for Rust programs.
 //!
-//! A refused call leaves all lent bytes as they were. A slice of any length may
-//! be lent; one of another length than stated is refused with 1 or 2.
+//! Up to eight bench analysers, units 0 to 7, share an archive of folders and
+//! traces. Every change is a record of 80 bytes in the unit's [`Log`]; units
+//! meet in twos and pass [`Block`]s of 512 bytes; the [`Tree`] follows from the
+//! records alone. A record that does not fit the tree stands aside, with a
+//! reason, at every unit alike. `include/sab.h` is the manual of the calls, and
+//! [`raw`] has them over slices.
+//!
+//! A whole meeting of two units that worked apart:
+//!
+//! ```
+//! use sab::{Date, Identity, Log, Mark, Unit, Wish, meet};
+//!
+//! fn main() -> Result<(), Box<dyn std::error::Error>> {
+//!     let archive = 7;
+//!     let mut van = Log::start(archive, Unit::try_from(0)?);
+//!     let mut bench = Log::start(archive, Unit::try_from(1)?);
+//!     let monday = Date::new(2025, 3, 3);
+//!
+//!     // A common folder; then both make a trace in it, under one label.
+//!     let folder = van.act(&Wish::make_folder(Identity::ROOT, "Bench", monday)?)?;
+//!     assert!(meet(&mut van, &mut bench).is_complete());
+//!     let gain = van.act(&Wish::make_trace(folder, "Gain \"A\"", monday, Mark([0x11; 16]))?)?;
+//!     let late = bench.act(&Wish::make_trace(folder, "Gain \"A\"", monday, Mark([0x22; 16]))?)?;
+//!
+//!     // They meet again. Equal vectors: the same records, the same tree.
+//!     let meeting = meet(&mut van, &mut bench);
+//!     assert!(meeting.is_complete(), "{meeting}");
+//!     assert_eq!(van.vector()?, bench.vector()?);
+//!     assert_eq!(van.vector()?.to_string(), "2 1 0 0 0 0 0 0");
+//!
+//!     // One of the two gave way, at both units alike.
+//!     let tree = bench.show()?;
+//!     let entry = tree.entry(gain).ok_or("no such entry")?;
+//!     assert_eq!(entry.label(), "Gain \"A\"");
+//!     assert!(entry.is_disputed());
+//!     let aside = tree.asides().next().ok_or("nothing stands aside")?;
+//!     assert_eq!((aside.identity(), aside.reason()), (late, 15));
+//!     assert_eq!(aside.marks(), Some(gain));
+//!
+//!     // Someone looks after it: another label, and the aside is settled.
+//!     bench.act(&Wish::make_trace(folder, "Gain B", monday, Mark([0x22; 16]))?)?;
+//!     bench.act(&Wish::settle(late, monday))?;
+//!     assert!(meet(&mut bench, &mut van).is_complete());
+//!     assert!(!van.show()?.asides().any(|aside| aside.is_open()));
+//!
+//!     // A log is kept as its file.
+//!     let card = van.write_file()?;
+//!     let read = Log::read_file(&card)?;
+//!     assert_eq!((read.archive(), read.unit()), (archive, van.unit()));
+//!     assert_eq!(read, van);
+//!     Ok(())
+//! }
+//! ```
 
+#![deny(missing_docs)]
+#![deny(unsafe_code)]
+
+mod block;
 mod ffi;
+mod fields;
+mod log;
+mod meeting;
+pub mod raw;
+mod record;
+mod refusal;
+mod tree;
+mod unit;
+mod vector;
+mod wish;
 
-/// Bytes of the lent log.
-pub const LOG: usize = 40_960;
-/// Bytes of a wish.
-pub const WISH: usize = 80;
-/// Bytes of a block.
-pub const BLOCK: usize = 512;
-/// Bytes lent for writing a file.
-pub const FILE: usize = 44_032;
-/// Bytes of the tree table.
-pub const TREE: usize = 43_012;
-/// Bytes lent for a listing; none is longer.
-pub const LISTING: usize = 76_800;
-
-const HEAD: usize = 24;
-
-/// A call's no: the number of the refusal table, and the block's place, 0 where
-/// the number has none.
-#[derive(Clone, Copy, Debug, PartialEq, Eq)]
-pub struct Refusal {
-    pub number: u8,
-    pub place: u8,
-}
-
-/// What a call answers.
-pub type Answer<T> = Result<T, Refusal>;
-
-/// What a file says of itself.
-#[derive(Clone, Copy, Debug, PartialEq, Eq)]
-pub struct Head {
-    pub archive: u32,
-    pub unit: u8,
-    pub records: u16,
-    pub vector: [u16; 8],
-}
-
-/// The count that a result carries, or its refusal.
-fn answer(result: u32) -> Answer<u16> {
-    match result.to_le_bytes() {
-        [0, _, low, high] => Ok(u16::from_le_bytes([low, high])),
-        [number, place, ..] => Err(Refusal { number, place }),
-    }
-}
-
-fn vector_bytes(vector: &[u16; 8]) -> [u8; 16] {
-    core::array::from_fn(|i| vector[i / 2].to_le_bytes()[i % 2])
-}
-
-/// Empties a log. Refuses 1, 21.
-pub fn start(log: &mut [u8], archive: u32, unit: u8) -> Answer<()> {
-    let result = unsafe { ffi::sab_start(log.as_mut_ptr(), log.len(), archive, unit) };
-    answer(result).map(drop)
-}
-
-/// Makes the wished record, if it fits. Refuses 1, 21, 19, 7, 11, 12 to 16, 18.
-pub fn act(log: &mut [u8], archive: u32, unit: u8, wish: &[u8]) -> Answer<()> {
-    let result = unsafe {
-        ffi::sab_act(
-            log.as_mut_ptr(),
-            log.len(),
-            archive,
-            unit,
-            wish.as_ptr(),
-            wish.len(),
-        )
-    };
-    answer(result).map(drop)
-}
-
-/// Writes a block of the first six or fewer records that the asked vector
-/// lacks. Refuses 1, 21, 19.
-pub fn hand_out(
-    log: &[u8],
-    archive: u32,
-    unit: u8,
-    asked: &[u16; 8],
-    block: &mut [u8],
-) -> Answer<()> {
-    let asked = vector_bytes(asked);
-    let result = unsafe {
-        ffi::sab_hand_out(
-            log.as_ptr(),
-            log.len(),
-            archive,
-            unit,
-            asked.as_ptr(),
-            asked.len(),
-            block.as_mut_ptr(),
-            block.len(),
-        )
-    };
-    answer(result).map(drop)
-}
-
-/// Takes a block wholly or not at all. Refuses 1, 21, 19, 2 to 11.
-pub fn take(log: &mut [u8], archive: u32, unit: u8, block: &[u8]) -> Answer<()> {
-    let result = unsafe {
-        ffi::sab_take(
-            log.as_mut_ptr(),
-            log.len(),
-            archive,
-            unit,
-            block.as_ptr(),
-            block.len(),
-        )
-    };
-    answer(result).map(drop)
-}
-
-/// Writes the whole log as a file; answers its count of blocks. Refuses 1, 21,
-/// 19.
-pub fn write_file(log: &[u8], archive: u32, unit: u8, file: &mut [u8]) -> Answer<u16> {
-    let result = unsafe {
-        ffi::sab_write_file(
-            log.as_ptr(),
-            log.len(),
-            archive,
-            unit,
-            file.as_mut_ptr(),
-            file.len(),
-        )
-    };
-    answer(result)
-}
-
-/// Reads a file into a lent log, whose old bytes are not judged. Refuses 1, 2 to
-/// 5, 7 to 9, 11, 20.
-pub fn read_file(log: &mut [u8], file: &[u8]) -> Answer<Head> {
-    let mut head = [0; HEAD];
-    let result = unsafe {
-        ffi::sab_read_file(
-            log.as_mut_ptr(),
-            log.len(),
-            file.as_ptr(),
-            file.len(),
-            head.as_mut_ptr(),
-            head.len(),
-        )
-    };
-    answer(result)?;
-    let count = |at: usize| u16::from_le_bytes([head[at], head[at + 1]]);
-    Ok(Head {
-        archive: u32::from_le_bytes([head[0], head[1], head[2], head[3]]),
-        unit: head[4],
-        records: count(6),
-        vector: core::array::from_fn(|unit| count(8 + 2 * unit)),
-    })
-}
-
-/// Shows the tree of a log: every byte of the lent table. Refuses 1, 19.
-pub fn show(log: &[u8], tree: &mut [u8]) -> Answer<()> {
-    let result = unsafe { ffi::sab_show(log.as_ptr(), log.len(), tree.as_mut_ptr(), tree.len()) };
-    answer(result).map(drop)
-}
-
-/// Compares two vectors: 0 identical, 1 the first dominates, 2 the second
-/// dominates, 3 both ahead.
-pub fn compare(first: &[u16; 8], second: &[u16; 8]) -> u8 {
-    let (first, second) = (vector_bytes(first), vector_bytes(second));
-    let result =
-        unsafe { ffi::sab_compare(first.as_ptr(), first.len(), second.as_ptr(), second.len()) };
-    (result >> 16) as u8
-}
-
-/// What listing a file answers: the length of the text at the beginning of `out`,
-/// and the refusal that the text tells of, if the file was refused.
-#[derive(Clone, Copy, Debug, PartialEq, Eq)]
-pub struct Listed {
-    pub length: usize,
-    pub refused: Option<Refusal>,
-}
-
-/// Lists a file as text; a refused file gives one line. `log` and `tree` are work
-/// space, and hold the file's records and tree if it is accepted. Refuses 1, for
-/// `log`, `tree` or `out`.
-pub fn listing(file: &[u8], log: &mut [u8], tree: &mut [u8], out: &mut [u8]) -> Answer<Listed> {
-    let mut length = [0; 4];
-    let result = unsafe {
-        ffi::sab_listing(
-            file.as_ptr(),
-            file.len(),
-            log.as_mut_ptr(),
-            log.len(),
-            tree.as_mut_ptr(),
-            tree.len(),
-            out.as_mut_ptr(),
-            out.len(),
-            length.as_mut_ptr(),
-            length.len(),
-        )
-    };
-    let refused = answer(result).err();
-    match refused {
-        Some(Refusal { number: 1, .. }) => Err(Refusal {
-            number: 1,
-            place: 0,
-        }),
-        _ => Ok(Listed {
-            length: u32::from_le_bytes(length) as usize,
-            refused,
-        }),
-    }
-}
+pub use block::Block;
+pub use fields::{Date, Mark, Operation};
+pub use log::Log;
+pub use meeting::{Asking, Meeting, Pass, meet, pass};
+pub use record::{Record, Records};
+pub use refusal::{Answer, Refusal, Unreadable, in_words};
+pub use tree::{Aside, Entry, Kind, Tree};
+pub use unit::{Identity, Unit};
+pub use vector::{Comparison, Vector};
+pub use wish::Wish;

@@ -1,7 +1,8 @@
-//! The safe wrapper against the static library: every call, every buffer of
+//! The calls over slices against the static library: every call, every buffer of
 //! another length, and bytes kept by refusals.
 
-use sab::{BLOCK, FILE, Head, LISTING, LOG, Listed, Refusal, TREE, WISH};
+use sab::Refusal;
+use sab::raw::{self, BLOCK, FILE, Head, LISTING, LOG, Listed, TREE, WISH};
 use workload::{Mix, log_of, vector_of};
 
 const ARCHIVE: u32 = 0xfedc_ba98;
@@ -34,7 +35,7 @@ fn a_log() -> Vec<u8> {
 
 fn file_of(log: &[u8]) -> Vec<u8> {
     let mut file = vec![0; FILE];
-    let blocks = sab::write_file(log, ARCHIVE, 5, &mut file).unwrap();
+    let blocks = raw::write_file(log, ARCHIVE, 5, &mut file).unwrap();
     file.truncate(BLOCK * blocks as usize);
     file
 }
@@ -42,13 +43,13 @@ fn file_of(log: &[u8]) -> Vec<u8> {
 #[test]
 fn starting() {
     let mut log = pattern(LOG);
-    assert_eq!(sab::start(&mut log, ARCHIVE, 8), refused(21));
+    assert_eq!(raw::start(&mut log, ARCHIVE, 8), refused(21));
     assert_eq!(log, pattern(LOG));
-    assert_eq!(sab::start(&mut log, ARCHIVE, 7), Ok(()));
+    assert_eq!(raw::start(&mut log, ARCHIVE, 7), Ok(()));
     assert_eq!(log, vec![0; LOG]);
     for mut log in wrong(LOG) {
         let before = log.clone();
-        assert_eq!(sab::start(&mut log, ARCHIVE, 0), refused(1));
+        assert_eq!(raw::start(&mut log, ARCHIVE, 0), refused(1));
         assert_eq!(log, before);
     }
 }
@@ -57,26 +58,26 @@ fn starting() {
 fn acting() {
     let mut log = vec![0; LOG];
     let wish = make_folder(3, "Bench");
-    assert_eq!(sab::act(&mut log, ARCHIVE, 3, &wish), Ok(()));
+    assert_eq!(raw::act(&mut log, ARCHIVE, 3, &wish), Ok(()));
     let mut record = wish;
     record[2] = 1;
     assert_eq!(log[..WISH], record);
     assert!(log[WISH..].iter().all(|byte| *byte == 0));
     let before = log.clone();
-    assert_eq!(sab::act(&mut log, ARCHIVE, 3, &wish), refused(15));
-    assert_eq!(sab::act(&mut log, ARCHIVE, 4, &wish), refused(7));
-    assert_eq!(sab::act(&mut log, ARCHIVE, 200, &wish), refused(21));
+    assert_eq!(raw::act(&mut log, ARCHIVE, 3, &wish), refused(15));
+    assert_eq!(raw::act(&mut log, ARCHIVE, 4, &wish), refused(7));
+    assert_eq!(raw::act(&mut log, ARCHIVE, 200, &wish), refused(21));
     for wish in wrong(WISH) {
-        assert_eq!(sab::act(&mut log, ARCHIVE, 3, &wish), refused(1));
+        assert_eq!(raw::act(&mut log, ARCHIVE, 3, &wish), refused(1));
     }
     assert_eq!(log, before);
     for mut log in wrong(LOG) {
         let before = log.clone();
-        assert_eq!(sab::act(&mut log, ARCHIVE, 3, &wish), refused(1));
+        assert_eq!(raw::act(&mut log, ARCHIVE, 3, &wish), refused(1));
         assert_eq!(log, before);
     }
     log[1] = 0;
-    assert_eq!(sab::act(&mut log, ARCHIVE, 3, &wish), refused(19));
+    assert_eq!(raw::act(&mut log, ARCHIVE, 3, &wish), refused(19));
 }
 
 #[test]
@@ -87,27 +88,27 @@ fn passing_blocks() {
     loop {
         let asked = vector_of(&log);
         assert_eq!(
-            sab::hand_out(&given, ARCHIVE, 1, &asked, &mut block),
+            raw::hand_out(&given, ARCHIVE, 1, &asked, &mut block),
             Ok(())
         );
-        assert_eq!(sab::take(&mut log, ARCHIVE, 2, &block), Ok(()));
+        assert_eq!(raw::take(&mut log, ARCHIVE, 2, &block), Ok(()));
         if block[9] == 0 {
             break;
         }
     }
     assert_eq!(log, given);
-    assert_eq!(sab::take(&mut log, ARCHIVE + 1, 2, &block), refused(6));
-    assert_eq!(sab::take(&mut log, ARCHIVE, 8, &block), refused(21));
+    assert_eq!(raw::take(&mut log, ARCHIVE + 1, 2, &block), refused(6));
+    assert_eq!(raw::take(&mut log, ARCHIVE, 8, &block), refused(21));
     block[100] ^= 1;
-    assert_eq!(sab::take(&mut log, ARCHIVE, 2, &block), refused(4));
+    assert_eq!(raw::take(&mut log, ARCHIVE, 2, &block), refused(4));
     for block in wrong(BLOCK) {
-        assert_eq!(sab::take(&mut log, ARCHIVE, 2, &block), refused(2));
+        assert_eq!(raw::take(&mut log, ARCHIVE, 2, &block), refused(2));
     }
     assert_eq!(log, given);
     for mut block in wrong(BLOCK) {
         let before = block.clone();
         assert_eq!(
-            sab::hand_out(&log, ARCHIVE, 1, &[0; 8], &mut block),
+            raw::hand_out(&log, ARCHIVE, 1, &[0; 8], &mut block),
             refused(1)
         );
         assert_eq!(block, before);
@@ -115,10 +116,10 @@ fn passing_blocks() {
     for mut log in wrong(LOG) {
         let (before, mut block) = (log.clone(), pattern(BLOCK));
         assert_eq!(
-            sab::hand_out(&log, ARCHIVE, 1, &[0; 8], &mut block),
+            raw::hand_out(&log, ARCHIVE, 1, &[0; 8], &mut block),
             refused(1)
         );
-        assert_eq!(sab::take(&mut log, ARCHIVE, 1, &block), refused(1));
+        assert_eq!(raw::take(&mut log, ARCHIVE, 1, &block), refused(1));
         assert!(log == before && block == pattern(BLOCK));
     }
 }
@@ -146,7 +147,7 @@ fn records_in_any_order() {
     let records: [[u8; WISH]; 6] = std::array::from_fn(|unit| {
         let mut log = vec![0; LOG];
         let wish = make_folder(unit as u8, "Bench");
-        sab::act(&mut log, ARCHIVE, unit as u8, &wish).unwrap();
+        raw::act(&mut log, ARCHIVE, unit as u32, &wish).unwrap();
         log[..WISH].try_into().unwrap()
     });
     let log_with = |held: &dyn Fn(usize) -> bool| {
@@ -157,7 +158,7 @@ fn records_in_any_order() {
     };
     let all = log_with(&|_| true);
     let mut block = [0; BLOCK];
-    sab::hand_out(&all, ARCHIVE, 0, &[0; 8], &mut block).unwrap();
+    raw::hand_out(&all, ARCHIVE, 0, &[0; 8], &mut block).unwrap();
     for order in orders(&records) {
         block[28..508].copy_from_slice(&order.concat());
         let (first, second) = plain::sums(&block);
@@ -165,7 +166,7 @@ fn records_in_any_order() {
         block[510..].copy_from_slice(&second.to_le_bytes());
         for held in 0..64 {
             let mut log = log_with(&|i| held >> i & 1 == 1);
-            assert_eq!(sab::take(&mut log, ARCHIVE, 7, &block), Ok(()));
+            assert_eq!(raw::take(&mut log, ARCHIVE, 7, &block), Ok(()));
             assert!(log == all);
         }
     }
@@ -183,7 +184,7 @@ fn files() {
         records: 40,
         vector: vector_of(&log),
     };
-    assert_eq!(sab::read_file(&mut read, &file), Ok(head));
+    assert_eq!(raw::read_file(&mut read, &file), Ok(head));
     assert_eq!(read, log);
     let mut kept = pattern(LOG);
     file[3 * BLOCK + 60] ^= 4;
@@ -191,24 +192,24 @@ fn files() {
         number: 4,
         place: 3,
     });
-    assert_eq!(sab::read_file(&mut kept, &file), bad_sum);
+    assert_eq!(raw::read_file(&mut kept, &file), bad_sum);
     for length in [0, 1, 511, 513, FILE + BLOCK] {
-        assert_eq!(sab::read_file(&mut kept, &pattern(length)), refused(2));
+        assert_eq!(raw::read_file(&mut kept, &pattern(length)), refused(2));
     }
     assert_eq!(kept, pattern(LOG));
     for mut other in wrong(LOG) {
         let (before, mut lent) = (other.clone(), pattern(FILE));
-        assert_eq!(sab::read_file(&mut other, &file), refused(1));
-        assert_eq!(sab::write_file(&other, ARCHIVE, 5, &mut lent), refused(1));
+        assert_eq!(raw::read_file(&mut other, &file), refused(1));
+        assert_eq!(raw::write_file(&other, ARCHIVE, 5, &mut lent), refused(1));
         assert!(other == before && lent == pattern(FILE));
     }
     for mut lent in wrong(FILE) {
         let before = lent.clone();
-        assert_eq!(sab::write_file(&log, ARCHIVE, 5, &mut lent), refused(1));
+        assert_eq!(raw::write_file(&log, ARCHIVE, 5, &mut lent), refused(1));
         assert_eq!(lent, before);
     }
     assert_eq!(
-        sab::write_file(&log, ARCHIVE, 8, &mut pattern(FILE)),
+        raw::write_file(&log, ARCHIVE, 8, &mut pattern(FILE)),
         refused(21)
     );
 }
@@ -217,21 +218,21 @@ fn files() {
 fn trees() {
     let log = a_log();
     let mut tree = pattern(TREE);
-    assert_eq!(sab::show(&log, &mut tree), Ok(()));
+    assert_eq!(raw::show(&log, &mut tree), Ok(()));
     for mut lent in wrong(TREE) {
         let before = lent.clone();
-        assert_eq!(sab::show(&log, &mut lent), refused(1));
+        assert_eq!(raw::show(&log, &mut lent), refused(1));
         assert_eq!(lent, before);
     }
     for log in wrong(LOG) {
         let mut lent = pattern(TREE);
-        assert_eq!(sab::show(&log, &mut lent), refused(1));
+        assert_eq!(raw::show(&log, &mut lent), refused(1));
         assert_eq!(lent, pattern(TREE));
     }
 
     let (mut work, mut shown, mut out) = (pattern(LOG), pattern(TREE), pattern(LISTING));
     let file = file_of(&log);
-    let listed = sab::listing(&file, &mut work, &mut shown, &mut out).unwrap();
+    let listed = raw::listing(&file, &mut work, &mut shown, &mut out).unwrap();
     assert_eq!(listed.refused, None);
     assert!(work == log && shown == tree);
     let text = String::from_utf8(out[..listed.length].to_vec()).unwrap();
@@ -254,41 +255,77 @@ fn listings_of_refused_files() {
         }),
     };
     assert_eq!(
-        sab::listing(&file, &mut log, &mut tree, &mut out),
+        raw::listing(&file, &mut log, &mut tree, &mut out),
         Ok(expected)
     );
     assert_eq!(&out[..15], b"refused 3 at 2\n");
-    let nothing = sab::listing(&[], &mut log, &mut tree, &mut out).unwrap();
+    let nothing = raw::listing(&[], &mut log, &mut tree, &mut out).unwrap();
     assert_eq!(nothing.refused.map(|refusal| refusal.number), Some(2));
     assert_eq!(&out[..nothing.length], b"refused 2 at 0\n");
     assert!(log == pattern(LOG) && tree == pattern(TREE));
     let before = out.clone();
     for mut log in wrong(LOG) {
         assert_eq!(
-            sab::listing(&file, &mut log, &mut tree, &mut out),
+            raw::listing(&file, &mut log, &mut tree, &mut out),
             refused(1)
         );
     }
     for mut tree in wrong(TREE) {
         assert_eq!(
-            sab::listing(&file, &mut log, &mut tree, &mut out),
+            raw::listing(&file, &mut log, &mut tree, &mut out),
             refused(1)
         );
     }
     for mut out in wrong(LISTING) {
         assert_eq!(
-            sab::listing(&file, &mut log, &mut tree, &mut out),
+            raw::listing(&file, &mut log, &mut tree, &mut out),
             refused(1)
         );
     }
     assert!(log == pattern(LOG) && tree == pattern(TREE) && out == before);
 }
 
+/// A unit is 32 bits: one whose low byte or low half alone would be a unit is
+/// refused by every call that is given one.
+#[test]
+fn wide_units() {
+    let wish = make_folder(0, "Bench");
+    for unit in [8, 255, 256, 263, 65_536, 65_537, 0x0100_0000, u32::MAX] {
+        let (mut log, mut block, mut file) = (a_log(), pattern(BLOCK), pattern(FILE));
+        assert_eq!(raw::start(&mut log, ARCHIVE, unit), refused(21));
+        assert_eq!(raw::act(&mut log, ARCHIVE, unit, &wish), refused(21));
+        assert_eq!(raw::take(&mut log, ARCHIVE, unit, &block), refused(21));
+        assert_eq!(
+            raw::hand_out(&log, ARCHIVE, unit, &[0; 8], &mut block),
+            refused(21)
+        );
+        assert_eq!(raw::write_file(&log, ARCHIVE, unit, &mut file), refused(21));
+        assert!(log == a_log() && block == pattern(BLOCK) && file == pattern(FILE));
+    }
+}
+
+#[test]
+fn held_vectors() {
+    assert_eq!(raw::vector(&vec![0; LOG]), Ok([0; 8]));
+    for records in [1, 40, 512] {
+        let log = log_of(records, 8, 5, &Mix::BENCH, 4);
+        let vector = raw::vector(&log).unwrap();
+        assert_eq!(vector, vector_of(&log));
+        assert_eq!(vector.iter().sum::<u16>() as usize, records);
+        let mut unsound = log;
+        unsound[0] = 8;
+        assert_eq!(raw::vector(&unsound), refused(19));
+    }
+    for log in wrong(LOG) {
+        assert_eq!(raw::vector(&log), refused(1));
+    }
+}
+
 #[test]
 fn comparing() {
     let [low, high] = [[1, 2, 3, 4, 5, 6, 7, 8], [1, 2, 3, 4, 5, 6, 7, 65_535]];
-    assert_eq!(sab::compare(&low, &low), 0);
-    assert_eq!(sab::compare(&high, &low), 1);
-    assert_eq!(sab::compare(&low, &high), 2);
-    assert_eq!(sab::compare(&[9, 0, 0, 0, 0, 0, 0, 0], &high), 3);
+    assert_eq!(raw::compare(&low, &low), 0);
+    assert_eq!(raw::compare(&high, &low), 1);
+    assert_eq!(raw::compare(&low, &high), 2);
+    assert_eq!(raw::compare(&[9, 0, 0, 0, 0, 0, 0, 0], &high), 3);
 }

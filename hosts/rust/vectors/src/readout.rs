@@ -57,7 +57,7 @@ fn listing(library: &dyn Library, file: &[u8]) -> Result<Vec<u8>, Fault> {
         }
     };
     let mut again = vec![0xa5; FILE];
-    let count = library.write_file(&log, head.archive, head.unit, &mut again);
+    let count = library.write_file(&log, head.archive, head.unit.into(), &mut again);
     let (blocks, tail) = again.split_at(file.len());
     let whole = count == Ok((file.len() / 512) as u16);
     if !whole || blocks != file || tail.iter().any(|byte| *byte != 0) {

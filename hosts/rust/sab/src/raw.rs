@@ -1,0 +1,225 @@
+//! The library's calls over slices, one function for each.
+//!
+//! A refused call leaves all lent bytes as they were. A slice of any length may
+//! be lent; one of another length than stated is refused with 1 or 2. A unit is
+//! any number here, and one above 7 is refused with 21. The types beside this
+//! module do the same with less to get wrong.
+
+#![allow(unsafe_code)]
+
+use crate::{Answer, Refusal, ffi};
+
+/// Bytes of the lent log.
+pub const LOG: usize = 40_960;
+/// Bytes of a wish.
+pub const WISH: usize = 80;
+/// Bytes of a block.
+pub const BLOCK: usize = 512;
+/// Bytes lent for writing a file.
+pub const FILE: usize = 44_032;
+/// Bytes of the tree table.
+pub const TREE: usize = 43_012;
+/// Bytes lent for a listing; none is longer.
+pub const LISTING: usize = 76_800;
+
+/// Bytes of a vector.
+pub const VECTOR: usize = 16;
+
+const HEAD: usize = 24;
+
+/// What a file says of itself.
+#[derive(Clone, Copy, Debug, PartialEq, Eq)]
+pub struct Head {
+    /// Its archive.
+    pub archive: u32,
+    /// The unit that wrote it.
+    pub unit: u8,
+    /// How many records it has.
+    pub records: u16,
+    /// How many of each unit.
+    pub vector: [u16; 8],
+}
+
+/// The count that a result carries, or its refusal.
+fn answer(result: u32) -> Answer<u16> {
+    match result.to_le_bytes() {
+        [0, _, low, high] => Ok(u16::from_le_bytes([low, high])),
+        [number, place, ..] => Err(Refusal { number, place }),
+    }
+}
+
+pub(crate) fn vector_bytes(vector: &[u16; 8]) -> [u8; VECTOR] {
+    std::array::from_fn(|i| vector[i / 2].to_le_bytes()[i % 2])
+}
+
+pub(crate) fn vector_of(bytes: &[u8; VECTOR]) -> [u16; 8] {
+    std::array::from_fn(|unit| u16::from_le_bytes([bytes[2 * unit], bytes[2 * unit + 1]]))
+}
+
+/// Empties a log. Refuses 1, 21.
+pub fn start(log: &mut [u8], archive: u32, unit: u32) -> Answer<()> {
+    let result = unsafe { ffi::sab_start(log.as_mut_ptr(), log.len(), archive, unit) };
+    answer(result).map(drop)
+}
+
+/// Makes the wished record, if it fits. Refuses 1, 21, 19, 7, 11, 12 to 16, 18.
+pub fn act(log: &mut [u8], archive: u32, unit: u32, wish: &[u8]) -> Answer<()> {
+    let result = unsafe {
+        ffi::sab_act(
+            log.as_mut_ptr(),
+            log.len(),
+            archive,
+            unit,
+            wish.as_ptr(),
+            wish.len(),
+        )
+    };
+    answer(result).map(drop)
+}
+
+/// Writes a block of the first six or fewer records that the asked vector
+/// lacks. Refuses 1, 21, 19.
+pub fn hand_out(
+    log: &[u8],
+    archive: u32,
+    unit: u32,
+    asked: &[u16; 8],
+    block: &mut [u8],
+) -> Answer<()> {
+    let asked = vector_bytes(asked);
+    let result = unsafe {
+        ffi::sab_hand_out(
+            log.as_ptr(),
+            log.len(),
+            archive,
+            unit,
+            asked.as_ptr(),
+            asked.len(),
+            block.as_mut_ptr(),
+            block.len(),
+        )
+    };
+    answer(result).map(drop)
+}
+
+/// Takes a block wholly or not at all. Refuses 1, 21, 19, 2 to 11.
+pub fn take(log: &mut [u8], archive: u32, unit: u32, block: &[u8]) -> Answer<()> {
+    let result = unsafe {
+        ffi::sab_take(
+            log.as_mut_ptr(),
+            log.len(),
+            archive,
+            unit,
+            block.as_ptr(),
+            block.len(),
+        )
+    };
+    answer(result).map(drop)
+}
+
+/// Writes the whole log as a file; answers its count of blocks. Refuses 1, 21,
+/// 19.
+pub fn write_file(log: &[u8], archive: u32, unit: u32, file: &mut [u8]) -> Answer<u16> {
+    let result = unsafe {
+        ffi::sab_write_file(
+            log.as_ptr(),
+            log.len(),
+            archive,
+            unit,
+            file.as_mut_ptr(),
+            file.len(),
+        )
+    };
+    answer(result)
+}
+
+/// Reads a file into a lent log, whose old bytes are not judged. Refuses 1, 2 to
+/// 5, 7 to 9, 11, 20.
+pub fn read_file(log: &mut [u8], file: &[u8]) -> Answer<Head> {
+    let mut head = [0; HEAD];
+    let result = unsafe {
+        ffi::sab_read_file(
+            log.as_mut_ptr(),
+            log.len(),
+            file.as_ptr(),
+            file.len(),
+            head.as_mut_ptr(),
+            head.len(),
+        )
+    };
+    answer(result)?;
+    let mut vector = [0; VECTOR];
+    vector.copy_from_slice(&head[8..]);
+    Ok(Head {
+        archive: u32::from_le_bytes([head[0], head[1], head[2], head[3]]),
+        unit: head[4],
+        records: u16::from_le_bytes([head[6], head[7]]),
+        vector: vector_of(&vector),
+    })
+}
+
+/// Shows the tree of a log: every byte of the lent table. Refuses 1, 19.
+pub fn show(log: &[u8], tree: &mut [u8]) -> Answer<()> {
+    let result = unsafe { ffi::sab_show(log.as_ptr(), log.len(), tree.as_mut_ptr(), tree.len()) };
+    answer(result).map(drop)
+}
+
+/// The held vector of a log: how many records of each unit. Refuses 1, 19.
+pub fn vector(log: &[u8]) -> Answer<[u16; 8]> {
+    let mut vector = [0; VECTOR];
+    let result =
+        unsafe { ffi::sab_vector(log.as_ptr(), log.len(), vector.as_mut_ptr(), vector.len()) };
+    answer(result)?;
+    Ok(vector_of(&vector))
+}
+
+/// Compares two vectors: 0 identical, 1 the first dominates, 2 the second
+/// dominates, 3 both ahead.
+pub fn compare(first: &[u16; 8], second: &[u16; 8]) -> u8 {
+    let (first, second) = (vector_bytes(first), vector_bytes(second));
+    let result =
+        unsafe { ffi::sab_compare(first.as_ptr(), first.len(), second.as_ptr(), second.len()) };
+    (result >> 16) as u8
+}
+
+/// What listing a file answers: the length of the text at the beginning of `out`,
+/// and the refusal that the text tells of, if the file was refused.
+#[derive(Clone, Copy, Debug, PartialEq, Eq)]
+pub struct Listed {
+    /// Bytes of the text.
+    pub length: usize,
+    /// The refusal that the text tells of.
+    pub refused: Option<Refusal>,
+}
+
+/// Lists a file as text; a refused file gives one line. `log` and `tree` are work
+/// space, and hold the file's records and tree if it is accepted. Refuses 1, for
+/// `log`, `tree` or `out`.
+pub fn listing(file: &[u8], log: &mut [u8], tree: &mut [u8], out: &mut [u8]) -> Answer<Listed> {
+    let mut length = [0; 4];
+    let result = unsafe {
+        ffi::sab_listing(
+            file.as_ptr(),
+            file.len(),
+            log.as_mut_ptr(),
+            log.len(),
+            tree.as_mut_ptr(),
+            tree.len(),
+            out.as_mut_ptr(),
+            out.len(),
+            length.as_mut_ptr(),
+            length.len(),
+        )
+    };
+    let refused = answer(result).err();
+    match refused {
+        Some(Refusal { number: 1, .. }) => Err(Refusal {
+            number: 1,
+            place: 0,
+        }),
+        _ => Ok(Listed {
+            length: u32::from_le_bytes(length) as usize,
+            refused,
+        }),
+    }
+}
