@@ -1,7 +1,7 @@
 //! Archive files: read and judged by the library.
 
 use crate::failure::{Failure, Outcome, Refused, of_library};
-use crate::files::{self, Bytes, Held};
+use crate::files::{self, Bytes, Held, Over};
 use crate::json::Object;
 use crate::numbers::Case;
 use crate::out::shown;
@@ -58,9 +58,7 @@ impl Archive {
 
     /// The tree of its records.
     pub fn tree(&self) -> Outcome<Tree> {
-        self.log
-            .show()
-            .map_err(of_library(&self.name, Case::File))
+        self.log.show().map_err(of_library(&self.name, Case::File))
     }
 
     /// Its name for messages.
@@ -132,6 +130,8 @@ fn reads_back(bytes: &[u8], log: &Log) -> bool {
 /// Writes a log as a new file.
 pub fn create(system: &dyn System, name: &Path, log: &Log) -> Outcome<()> {
     let file = written(log).map_err(of_library(name, Case::File))?;
-    files::create(system, name, &file, false, &|back| reads_back(back, log))?;
+    files::create(system, name, &file, Over::Never, &|back| {
+        reads_back(back, log)
+    })?;
     Ok(())
 }

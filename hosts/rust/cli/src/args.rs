@@ -146,11 +146,7 @@ impl Args {
         Ok(())
     }
 
-    fn put_next(
-        &mut self,
-        option: &Opt,
-        rest: &mut impl Iterator<Item = OsString>,
-    ) -> Read<()> {
+    fn put_next(&mut self, option: &Opt, rest: &mut impl Iterator<Item = OsString>) -> Read<()> {
         match rest.next() {
             Some(value) => self.put(option, Some(value)),
             None => Err(Usage(format!(
@@ -247,20 +243,21 @@ where
 {
     let digits = !text.is_empty() && text.bytes().all(|byte| byte.is_ascii_digit());
     let number = digits.then(|| text.parse().ok()).flatten();
-    number.filter(|number| limits.contains(number)).ok_or_else(|| {
-        Usage(format!(
-            "{what}: {} is not a number from {} to {}",
-            text.escape_debug(),
-            limits.start(),
-            limits.end()
-        ))
-    })
+    number
+        .filter(|number| limits.contains(number))
+        .ok_or_else(|| {
+            Usage(format!(
+                "{what}: {text:?} is not a number from {} to {}",
+                limits.start(),
+                limits.end()
+            ))
+        })
 }
 
 /// Something that has a text form, or what is wrong with the text.
 pub fn parsed<T: FromStr<Err: Display>>(text: &str, what: &str) -> Read<T> {
     text.parse()
-        .map_err(|error| Usage(format!("{what}: {}: {error}", text.escape_debug())))
+        .map_err(|error| Usage(format!("{what}: {text:?} is {error}")))
 }
 
 /// How many letters have to be put in, left out, changed or exchanged with the
@@ -279,10 +276,8 @@ fn distance(one: &str, other: &str) -> usize {
                     let mut least = (table[(i - 1) * width + j] + 1)
                         .min(table[i * width + j - 1] + 1)
                         .min(table[(i - 1) * width + j - 1] + changed);
-                    let exchanged = i > 1
-                        && j > 1
-                        && one[i - 1] == other[j - 2]
-                        && one[i - 2] == other[j - 1];
+                    let exchanged =
+                        i > 1 && j > 1 && one[i - 1] == other[j - 2] && one[i - 2] == other[j - 1];
                     if exchanged {
                         least = least.min(table[(i - 2) * width + j - 2] + 1);
                     }
@@ -350,10 +345,7 @@ mod tests {
         assert_eq!(words(&["--zzzzzz"]), "no option --zzzzzz");
         assert_eq!(words(&["-x"]), "no option -x");
         assert_eq!(words(&["--open=1"]), "--open has no value");
-        assert_eq!(
-            words(&["--depth"]),
-            "--depth needs a value: -d, --depth=N"
-        );
+        assert_eq!(words(&["--depth"]), "--depth needs a value: -d, --depth=N");
         assert_eq!(words(&["-d1", "-d2"]), "--depth is given twice");
         let number = |text: &str| {
             let args = read(&["--depth", text]).unwrap();
@@ -362,7 +354,7 @@ mod tests {
         for text in ["10", "-1", "", "1x", "99999999999999999999", "+1"] {
             assert_eq!(
                 number(text),
-                format!("--depth: {text} is not a number from 0 to 9")
+                format!("--depth: {text:?} is not a number from 0 to 9")
             );
         }
     }
@@ -371,7 +363,7 @@ mod tests {
     fn bytes_that_are_no_text() {
         let word = OsStr::from_bytes(b"\xff\xfe").to_os_string();
         let args = Args::read([word.clone()], KNOWN).unwrap();
-        assert_eq!(args.words(), [word.clone()]);
+        assert_eq!(args.words(), std::slice::from_ref(&word));
         let mut option = OsString::from("--depth=");
         option.push(&word);
         let args = Args::read([option], KNOWN).unwrap();

@@ -71,9 +71,10 @@ pub fn in_runs(identities: &[Identity]) -> String {
     }
     let texts: Vec<String> = runs
         .into_iter()
-        .map(|(first, last)| match first == last {
-            true => first.to_string(),
-            false => format!("{first} to {last}"),
+        .map(|(first, last)| match last.number() - first.number() {
+            0 => first.to_string(),
+            1 => format!("{first}, {last}"),
+            _ => format!("{first} to {last}"),
         })
         .collect();
     texts.join(", ")

@@ -207,9 +207,13 @@ impl<'a> Held<'a> {
             let mut beside = self.path.clone().into_os_string();
             beside.push("~");
             let beside = PathBuf::from(beside);
-            let old = Part::write(self.system, &beside, &self.bytes, Some(&self.facts), &|_| {
-                true
-            })?;
+            let old = Part::write(
+                self.system,
+                &beside,
+                &self.bytes,
+                Some(&self.facts),
+                &|_| true,
+            )?;
             old.put_over(&beside)?;
         }
         let part = Part::write(self.system, &self.path, new, Some(&self.facts), good)?;
@@ -369,6 +373,17 @@ fn exists(target: &Path) -> Trouble {
         .advise("give another name, or remove it first")
 }
 
+/// What is done about a file that has the name of a new one.
+#[derive(Clone, Copy, Debug, PartialEq, Eq)]
+pub enum Over {
+    /// It is left as it is.
+    Never,
+    /// It is left as it is, but -f would have overwritten it.
+    Not,
+    /// It is overwritten.
+    Forced,
+}
+
 /// The folder in which a file lies.
 fn folder_of(path: &Path) -> PathBuf {
     match path.parent() {
@@ -407,10 +422,9 @@ fn create_beside<'a>(
             Err(error) => {
                 return Err(match error.kind() {
                     io::ErrorKind::NotFound => trouble(target, "the folder is not there"),
-                    io::ErrorKind::PermissionDenied => trouble(
-                        target,
-                        "cannot be written: permission denied in its folder",
-                    ),
+                    io::ErrorKind::PermissionDenied => {
+                        trouble(target, "cannot be written: permission denied in its folder")
+                    }
                     _ => failed(target, "cannot be written", &error),
                 });
             }
@@ -446,19 +460,27 @@ pub fn left_over(system: &dyn System, path: &Path) -> Vec<PathBuf> {
 }
 
 /// Writes a new file, if `good` says so of what is read back. A file of this
-/// name is an error, unless `over` allows to put the new one in its place.
+/// name is an error, unless it is to be overwritten.
 pub fn create(
     system: &dyn System,
     target: &Path,
     bytes: &[u8],
-    over: bool,
+    over: Over,
     good: &dyn Fn(&[u8]) -> bool,
 ) -> Done<()> {
     if target.file_name().is_none() {
         return Err(trouble(target, "is no name for a file"));
     }
+    let resolved = match over {
+        Over::Forced => system.resolve(target).ok(),
+        _ => None,
+    };
+    let target = resolved.as_deref().unwrap_or(target);
     let like = match system.facts(target) {
-        Ok(_) if !over => return Err(exists(target)),
+        Ok(_) if over == Over::Not => {
+            return Err(exists(target).advise("give another name, or -f to overwrite it"));
+        }
+        Ok(_) if over == Over::Never => return Err(exists(target)),
         Ok(facts) => {
             changeable(target, &facts)?;
             Some(facts)
@@ -466,7 +488,7 @@ pub fn create(
         Err(_) => None,
     };
     let part = Part::write(system, target, bytes, like.as_ref(), good)?;
-    if over {
+    if over == Over::Forced {
         part.put_over(target)
     } else {
         part.put_new(target)

@@ -9,10 +9,19 @@ const USE: &str = "sab COMMAND [OPTIONS] FILE..";
 
 const STATUSES: &[(&str, &str)] = &[
     ("0", "done; of a question: yes"),
-    ("1", "the answer is no, or what was asked stopped on its way"),
+    (
+        "1",
+        "the answer is no, or what was asked stopped on its way",
+    ),
     ("2", "the command line is wrong"),
-    ("3", "the system refused: a file cannot be opened, read, written, locked, replaced"),
-    ("4", "the library refused: refused N at P stands in the message"),
+    (
+        "3",
+        "the system refused: a file cannot be opened, read, written, locked, replaced",
+    ),
+    (
+        "4",
+        "the library refused: refused N at P stands in the message",
+    ),
 ];
 
 const INTRO: &str = "\
@@ -91,7 +100,11 @@ pub fn markdown() -> String {
         "# The command sab\n\nThis page is what `sab help --all` prints.\n\n    {USE}\n\n{INTRO}\n\n{CHECKLIST}\n"
     );
     for (group, commands) in GROUPS {
-        let _ = write!(text, "\n**{}**\n\n| command | what it does |\n|---|---|\n", capital(group));
+        let _ = write!(
+            text,
+            "\n**{}**\n\n| command | what it does |\n|---|---|\n",
+            capital(group)
+        );
         for command in *commands {
             let _ = writeln!(
                 text,
@@ -151,7 +164,11 @@ fn troff_text(text: &str) -> String {
         let example = part.starts_with("    ");
         page += if example { ".PP\n.nf\n.RS\n" } else { ".PP\n" };
         for line in part.lines() {
-            let line = if example { line.get(4..).unwrap_or("") } else { line };
+            let line = if example {
+                line.get(4..).unwrap_or("")
+            } else {
+                line
+            };
             page += &troff(line);
             page.push('\n');
         }

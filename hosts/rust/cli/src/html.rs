@@ -40,7 +40,10 @@ fn around(title: &str, body: &str) -> String {
 /// The page of a file that is refused.
 pub fn refused(title: Option<&str>, words: &str, advice: Option<&str>) -> String {
     let heading = title.unwrap_or("A file that is refused");
-    let mut body = format!("<header>\n<h1>{}</h1>\n</header>\n<main>\n", escaped(heading));
+    let mut body = format!(
+        "<header>\n<h1>{}</h1>\n</header>\n<main>\n",
+        escaped(heading)
+    );
     let _ = write!(
         body,
         "<article>\n<h3><span class=\"tag\">refused</span></h3>\n<p>{}</p>\n",
@@ -73,7 +76,7 @@ fn put_head(body: &mut String, archive: &Archive, story: &Story, heading: &str) 
     let totals = story.totals();
     let _ = write!(
         body,
-        "<header>\n<h1>{}</h1>\n<p class=\"soft\">archive {}, as unit {} holds it (SAB1)</p>\n<ul class=\"facts\">\n",
+        "<header>\n<h1>{}</h1>\n<p class=\"soft\">archive {}, as unit {} holds it; form SAB1</p>\n<ul class=\"facts\">\n",
         escaped(heading),
         archive.log.archive(),
         archive.log.unit()
@@ -200,7 +203,7 @@ fn put_aside(body: &mut String, story: &Story, aside: Aside) {
     let class = if aside.is_open() { "" } else { " class=\"s\"" };
     let _ = write!(
         body,
-        "<article id=\"a{0}\"{class}>\n<h3>{0} <span class=\"tag\">{1}</span> <small class=\"soft\">reason {2}</small></h3>\n<p>{3};<br>{4}</p>\n",
+        "<article id=\"a{0}\"{class}>\n<h3>{0} <span class=\"tag\">{1}</span> <small class=\"soft\">reason {2}</small></h3>\n<p>{3},<br>{4}</p>\n",
         aside.identity(),
         state(aside),
         aside.reason(),
@@ -217,7 +220,10 @@ fn put_aside(body: &mut String, story: &Story, aside: Aside) {
     } else {
         let _ = writeln!(body, "<p>{}</p>", escaped(&told.todo));
     }
-    if let Some(mark) = story.record(aside.identity()).and_then(|record| record.mark()) {
+    if let Some(mark) = story
+        .record(aside.identity())
+        .and_then(|record| record.mark())
+    {
         let _ = writeln!(body, "<p>mark <code>{mark}</code></p>");
     }
     match aside.marks() {

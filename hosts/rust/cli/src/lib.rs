@@ -12,6 +12,7 @@
 pub mod archive;
 pub mod args;
 pub mod blocks;
+pub mod change;
 pub mod commands;
 pub mod failure;
 pub mod files;

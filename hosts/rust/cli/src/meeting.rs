@@ -1,14 +1,13 @@
-//! Records passed from one log to another, block by block, and what that changed.
+//! Records passed from one log to another, block by block.
 
 use crate::blocks;
 use crate::failure::Refused;
 use crate::json::Object;
 use crate::numbers::Case;
-use crate::out::{Ink, Out};
-use crate::records::{Story, kind_word};
+use crate::out::Out;
 use crate::why::{self, counted};
-use sab::{Answer, Asking, Block, Comparison, Identity, Log, Record, Refusal, Tree};
-use std::collections::{BTreeMap, BTreeSet};
+use sab::{Answer, Asking, Block, Identity, Log, Record, Refusal};
+use std::collections::BTreeMap;
 use std::path::Path;
 
 /// A block that was taken.
@@ -38,7 +37,11 @@ pub struct Passed {
 }
 
 /// Takes a block; what it brought.
-pub fn take(log: &mut Log, block: &Block, how: impl FnOnce(&mut Log) -> Answer<()>) -> Answer<Given> {
+pub fn take(
+    log: &mut Log,
+    block: &Block,
+    how: impl FnOnce(&mut Log) -> Answer<()>,
+) -> Answer<Given> {
     let (held, new) =
         blocks::identities(block).partition(|identity| log.record(*identity).is_some());
     how(log)?;
@@ -155,6 +158,7 @@ pub fn deny_other_archive(name: &Path, from: &Log, to: &Log) -> Result<(), Refus
 
 /// Says which blocks were passed from one file to another.
 pub fn tell_blocks(out: &mut Out, from: &str, to: &str, passed: &Passed) {
+    let nothing_new = passed.blocks.iter().all(|given| given.new.is_empty());
     for (at, given) in passed.blocks.iter().enumerate() {
         out.object(|| {
             Object::new("block")
@@ -164,14 +168,25 @@ pub fn tell_blocks(out: &mut Out, from: &str, to: &str, passed: &Passed) {
                 .texts("records", &given.new)
                 .texts("held", &given.held)
         });
-        out.line(format_args!(
-            "{from} -> {to}  block {}: {}",
-            at + 1,
-            given_words(given)
-        ));
+        if !nothing_new {
+            let words = given_words(given);
+            out.line(format_args!("{from} -> {to}  block {}: {words}", at + 1));
+        }
     }
-    if passed.blocks.is_empty() && matches!(passed.end, End::Whole) {
-        out.line(format_args!("{from} -> {to}  nothing lacking"));
+    if nothing_new && matches!(passed.end, End::Whole) {
+        let held = passed.blocks.iter().map(|given| given.held.len()).sum();
+        let held = match held {
+            0 => String::new(),
+            some => format!("; {}", held_words(some)),
+        };
+        out.line(format_args!("{from} -> {to}  nothing lacking{held}"));
+    }
+}
+
+fn held_words(held: usize) -> String {
+    match held {
+        1 => "1 held already is equal".to_string(),
+        some => format!("{some} held already are equal"),
     }
 }
 
@@ -182,116 +197,10 @@ pub fn given_words(given: &Given) -> String {
         counted(given.new.len(), "new record"),
         blocks::in_runs(&given.new)
     );
-    let held = match given.held.len() {
-        1 => "1 held already is equal".to_string(),
-        some => format!("{some} held already are equal"),
-    };
+    let held = held_words(given.held.len());
     match (given.new.len(), given.held.len()) {
         (_, 0) => new,
         (0, _) => format!("nothing new, {held}"),
         _ => format!("{new}; {held}"),
-    }
-}
-
-/// What a log shows after a passing that it did not show before.
-#[derive(Default)]
-pub struct Change {
-    /// Entries that are disputed now.
-    pub disputed: Vec<Identity>,
-    /// Records that acted and now stand aside.
-    pub aside: Vec<Identity>,
-    /// Records that came and stand aside.
-    pub came: Vec<Identity>,
-    /// Records that stood aside and act now.
-    pub again: Vec<Identity>,
-}
-
-fn asides_of(tree: &Tree) -> BTreeSet<Identity> {
-    tree.asides().map(|aside| aside.identity()).collect()
-}
-
-fn disputed_in(tree: &Tree) -> BTreeSet<Identity> {
-    let disputed = tree.entries().filter(|entry| entry.is_disputed());
-    disputed.map(|entry| entry.identity()).collect()
-}
-
-impl Change {
-    /// From one log to a later one.
-    pub fn between(before: &Log, after: &Log) -> Answer<Change> {
-        let (old, new) = (before.show()?, after.show()?);
-        let (old_disputed, old_asides) = (disputed_in(&old), asides_of(&old));
-        let held: BTreeSet<Identity> = before.records().map(Record::identity).collect();
-        let now: Vec<Identity> = new.asides().map(|aside| aside.identity()).collect();
-        let (aside, came) = now
-            .iter()
-            .filter(|identity| !old_asides.contains(identity))
-            .partition(|identity| held.contains(identity));
-        Ok(Change {
-            disputed: new
-                .entries()
-                .filter(|entry| entry.is_disputed())
-                .map(|entry| entry.identity())
-                .filter(|identity| !old_disputed.contains(identity))
-                .collect(),
-            aside,
-            came,
-            again: old
-                .asides()
-                .map(|aside| aside.identity())
-                .filter(|identity| !now.contains(identity))
-                .collect(),
-        })
-    }
-
-    /// Says it of a file.
-    pub fn tell(&self, out: &mut Out, file: &str, after: &Log) -> Answer<()> {
-        let tree = after.show()?;
-        let story = Story::new(after, &tree);
-        for identity in &self.disputed {
-            let Some(entry) = story.entry(*identity) else { continue };
-            let by: Vec<String> = story.disputing(*identity).map(|id| id.to_string()).collect();
-            let words = out.ink(Ink::Alarm, "newly disputed");
-            out.line(format_args!(
-                "{file}: {words}: {} {} by {}",
-                kind_word(entry.kind()),
-                story.name(*identity),
-                by.join(", ")
-            ));
-        }
-        let lists = [
-            ("stood aside, acts again", &self.again),
-            ("acted, now stands aside", &self.aside),
-            ("came and stands aside", &self.came),
-        ];
-        for (what, identities) in lists {
-            for identity in identities {
-                let Some(record) = story.record(*identity) else { continue };
-                let words = match story.aside(*identity) {
-                    Some(aside) => format!("reason {}, {}", aside.reason(), story.told(aside).words()),
-                    None => story.sentence(record),
-                };
-                out.line(format_args!("{file}: {what}: {identity}: {words}"));
-            }
-        }
-        Ok(())
-    }
-
-    /// Its fields in an object.
-    pub fn put(&self, object: Object) -> Object {
-        object
-            .texts("newly_disputed", &self.disputed)
-            .texts("now_aside", &self.aside)
-            .texts("came_aside", &self.came)
-            .texts("now_acting", &self.again)
-    }
-}
-
-/// How two vectors stand to each other, in words.
-pub fn comparison_words(answer: Comparison) -> &'static str {
-    match answer {
-        Comparison::Identical => "identical",
-        Comparison::FirstAhead => "the first is ahead",
-        Comparison::SecondAhead => "the second is ahead",
-        Comparison::BothAhead => "both ahead",
     }
 }

@@ -54,7 +54,11 @@ pub const ROWS: &[Row] = &[
     },
     Row {
         number: 2,
-        cause: Always("a block is not 512 bytes; a file is not 1 to 86 whole blocks"),
+        cause: By {
+            file: Some("a file is not 1 to 86 whole blocks"),
+            taking: Some("a block is not 512 bytes"),
+            act: None,
+        },
         fault: "card",
         advice: Always(
             "the copy was cut short, is empty or has something behind it: copy the card again; if it stays, \
@@ -81,7 +85,9 @@ pub const ROWS: &[Row] = &[
     },
     Row {
         number: 5,
-        cause: Always("header: unit above 7, count above 6, or bytes in an unused place; the sums are right"),
+        cause: Always(
+            "header: unit above 7, count above 6, or bytes in an unused place; the sums are right",
+        ),
         fault: "peer",
         advice: Always(
             "the writer was no unit of this archive, or was faulty: name the card's unit to the workshop",
@@ -103,7 +109,9 @@ pub const ROWS: &[Row] = &[
         fault: "peer; for an act, wish",
         advice: By {
             file: Some("the writer was faulty: name the card's unit to the workshop"),
-            taking: Some("the sender was faulty: do not go on with it, name its unit to the workshop"),
+            taking: Some(
+                "the sender was faulty: do not go on with it, name its unit to the workshop",
+            ),
             act: Some("the label, date or named entry is not allowed; ask again with others"),
         },
     },
@@ -125,7 +133,9 @@ pub const ROWS: &[Row] = &[
         cause: Always("what the record saw does not hold together"),
         fault: "peer",
         advice: By {
-            file: Some("the records were not made by a sound unit: name the card's unit to the workshop"),
+            file: Some(
+                "the records were not made by a sound unit: name the card's unit to the workshop",
+            ),
             taking: Some(
                 "take the earlier blocks first; if it stays, the records were not made by a sound unit",
             ),
@@ -185,7 +195,9 @@ pub const ROWS: &[Row] = &[
     },
     Row {
         number: 17,
-        cause: Always("never refuses a call: a reason for standing aside, the maker had not seen the last change"),
+        cause: Always(
+            "never refuses a call: a reason for standing aside, the maker had not seen the last change",
+        ),
         fault: "(two people)",
         advice: Always("read both records, decide, act again, then settle the aside"),
     },
@@ -205,7 +217,9 @@ pub const ROWS: &[Row] = &[
     },
     Row {
         number: 20,
-        cause: Always("a file's blocks do not belong together, or its ranks do not rise, or its vector is not its counts"),
+        cause: Always(
+            "a file's blocks do not belong together, or its ranks do not rise, or its vector is not its counts",
+        ),
         fault: "card or peer",
         advice: Always(
             "blocks of two files were mixed or one is missing: copy again; if it stays, `sab salvage`, and name \
@@ -339,6 +353,12 @@ mod tests {
         assert_eq!(advice(8, Case::Act), None);
         assert!(advice(8, Case::Taking).is_some());
         assert_eq!(advice(4, Case::File), advice(4, Case::Taking));
-        assert!(row(11).unwrap().advice.all().contains("Block or act: no record"));
+        assert!(
+            row(11)
+                .unwrap()
+                .advice
+                .all()
+                .contains("Block or act: no record")
+        );
     }
 }

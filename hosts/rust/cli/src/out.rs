@@ -53,6 +53,7 @@ pub struct Out<'a> {
     pub json: bool,
     /// Results are coloured.
     pub color: bool,
+    opening: Option<&'static str>,
     closed: bool,
     failed: Option<io::Error>,
 }
@@ -67,6 +68,7 @@ impl<'a> Out<'a> {
             quiet: false,
             json: false,
             color: false,
+            opening: None,
             closed: false,
             failed: None,
         }
@@ -89,18 +91,22 @@ impl<'a> Out<'a> {
 
     /// An object of a result, where objects are wanted.
     pub fn object(&mut self, make: impl FnOnce() -> Object) {
-        if !self.quiet && self.json {
-            let _ = writeln!(self.held, "{}", make().line());
+        if self.quiet || !self.json {
+            return;
         }
+        if let Some(command) = self.opening.take() {
+            let first = Object::new("sab")
+                .number("schema", SCHEMA)
+                .text("command", command);
+            let _ = writeln!(self.held, "{}", first.line());
+        }
+        let _ = writeln!(self.held, "{}", make().line());
     }
 
-    /// The first line of a command's objects.
-    pub fn opening(&mut self, command: &str) {
-        self.object(|| {
-            Object::new("sab")
-                .number("schema", SCHEMA)
-                .text("command", command)
-        });
+    /// The first object, before any other, is to name the schema and this
+    /// command.
+    pub fn opening(&mut self, command: &'static str) {
+        self.opening = Some(command);
     }
 
     /// A text in colour, where colour is wanted.
@@ -172,6 +178,16 @@ impl<'a> Out<'a> {
             None => status,
         }
     }
+}
+
+/// A file's name as a shell reads it.
+pub fn for_shell(path: &Path) -> String {
+    let name = shown(path);
+    let plain = |byte: u8| byte.is_ascii_alphanumeric() || b"_-./+,:@%~".contains(&byte);
+    if !name.is_empty() && name.bytes().all(plain) {
+        return name;
+    }
+    format!("'{}'", name.replace('\'', "'\\''"))
 }
 
 /// A file's name as text that no terminal takes for anything else.

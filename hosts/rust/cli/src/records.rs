@@ -54,7 +54,7 @@ pub struct Told {
 impl Told {
     /// Who did what and when, and why it gave way.
     pub fn words(&self) -> String {
-        format!("{}; {}", self.did, self.because)
+        format!("{}, {}", self.did, self.because)
     }
 }
 
@@ -64,7 +64,7 @@ impl Stake {
         match self {
             Stake::Work => "work at stake: no trace of the tree has its mark".to_string(),
             Stake::Nothing => "nothing is lost".to_string(),
-            Stake::Follows(first) => format!("follows from {first}: look after that one first"),
+            Stake::Follows(first) => format!("nothing is lost by itself: it follows from {first}"),
         }
     }
 
@@ -76,6 +76,16 @@ impl Stake {
             Stake::Follows(_) => "follows",
         }
     }
+}
+
+/// What a wish names.
+pub struct Wished<'a> {
+    /// The folder of a make.
+    pub folder: Option<Identity>,
+    /// The entry to change, or the record to settle.
+    pub object: Option<Identity>,
+    /// The label.
+    pub label: Option<&'a str>,
 }
 
 /// The records of a log with the tree that they make.
@@ -96,8 +106,14 @@ impl<'a> Story<'a> {
             tree,
             places: places.map(|(at, record)| (record.identity(), at)).collect(),
             records,
-            entries: tree.entries().map(|entry| (entry.identity(), entry)).collect(),
-            asides: tree.asides().map(|aside| (aside.identity(), aside)).collect(),
+            entries: tree
+                .entries()
+                .map(|entry| (entry.identity(), entry))
+                .collect(),
+            asides: tree
+                .asides()
+                .map(|aside| (aside.identity(), aside))
+                .collect(),
         }
     }
 
@@ -164,7 +180,11 @@ impl<'a> Story<'a> {
             path.push('/');
             path += label;
         }
-        if path.is_empty() { "/".to_string() } else { path }
+        if path.is_empty() {
+            "/".to_string()
+        } else {
+            path
+        }
     }
 
     /// An identity with the label of its entry, as far as it is known.
@@ -182,20 +202,44 @@ impl<'a> Story<'a> {
         }
     }
 
-    /// What a record did, without who and when.
+    /// An identity with the label that its entry had when a record came.
+    fn name_before(&self, identity: Identity, record: Record) -> String {
+        let labels = |one: Record| {
+            one.identity() == identity
+                || one.operation() == Operation::Rename && one.object() == Some(identity)
+        };
+        match self
+            .last_before(Some(record), labels)
+            .and_then(Record::label)
+        {
+            Some(label) => format!("{identity} {}", quoted(label)),
+            None => self.name(identity),
+        }
+    }
+
+    /// What a record did, or wanted to do if it stands aside; without who and
+    /// when.
     pub fn what(&self, record: Record) -> String {
-        let object = record.object().map(|object| self.name(object));
-        let object = object.unwrap_or_default();
-        let folder = record.folder().map(|folder| self.name(folder));
-        let folder = folder.unwrap_or_default();
+        let name = |identity: Option<Identity>| {
+            let named = identity.map(|identity| match record.operation() {
+                Operation::Settle => identity.to_string(),
+                _ => self.name_before(identity, record),
+            });
+            named.unwrap_or_default()
+        };
+        let (object, folder) = (name(record.object()), name(record.folder()));
         let label = quoted(record.label().unwrap_or_default());
-        match record.operation() {
-            Operation::MakeFolder => format!("made the folder {label} in {folder}"),
-            Operation::MakeTrace => format!("made the trace {label} in {folder}"),
-            Operation::Store => format!("stored to {object}"),
-            Operation::Remove => format!("removed {object}"),
-            Operation::Rename => format!("renamed {object} to {label}"),
-            Operation::Settle => format!("settled {object}"),
+        let (did, wanted, what) = match record.operation() {
+            Operation::MakeFolder => ("made", "make", format!("the folder {label} in {folder}")),
+            Operation::MakeTrace => ("made", "make", format!("the trace {label} in {folder}")),
+            Operation::Store => ("stored", "store", format!("to {object}")),
+            Operation::Remove => ("removed", "remove", object),
+            Operation::Rename => ("renamed", "rename", format!("{object} to {label}")),
+            Operation::Settle => ("settled", "settle", object),
+        };
+        match self.aside(record.identity()) {
+            None => format!("{did} {what}"),
+            Some(_) => format!("wanted to {wanted} {what}"),
         }
     }
 
@@ -209,32 +253,39 @@ impl<'a> Story<'a> {
         )
     }
 
-    /// The record before another, by rank, that acts and is of this kind.
+    /// The last record before another, by rank, or of all, that acts and is of
+    /// this kind.
     fn last_before(
         &self,
-        record: Record,
+        record: Option<Record>,
         is: impl Fn(Record) -> bool,
     ) -> Option<Record<'a>> {
-        let at = *self.places.get(&record.identity())?;
+        let at = match record {
+            Some(record) => *self.places.get(&record.identity())?,
+            None => self.records.len(),
+        };
         let acting = |one: &&Record| !self.asides.contains_key(&one.identity());
         let before = self.records[..at].iter().rev();
         before.filter(acting).copied().find(|one| is(*one))
     }
 
-    /// Why an entry is not in the tree for a record; the aside that is to blame.
-    fn absent(&self, entry: Identity, record: Record) -> (String, Option<Identity>) {
-        let removes = |one: Record| {
-            one.operation() == Operation::Remove && one.object() == Some(entry)
-        };
+    /// Why an entry is not in the tree for a record, or now; the aside that is to
+    /// blame.
+    fn absent(&self, entry: Identity, record: Option<Record>) -> (String, Option<Identity>) {
+        let removes =
+            |one: Record| one.operation() == Operation::Remove && one.object() == Some(entry);
         if let Some(remove) = self.last_before(record, removes) {
-            return (format!("{} removed it", self.brief(remove)), None);
+            return (format!("removed by {}", self.brief(remove)), None);
         }
         match self.record(entry) {
             Some(make) if make.operation().has_folder() => (
-                "its own make stands aside".to_string(),
+                format!("its own make, {entry}, stands aside"),
                 self.aside(entry).map(|aside| aside.identity()),
             ),
-            Some(other) => (format!("that is a {}, no entry", other.operation()), None),
+            Some(other) => (
+                format!("{entry} is a {}, no entry", other.operation()),
+                None,
+            ),
             None => ("it is not held".to_string(), None),
         }
     }
@@ -253,7 +304,7 @@ impl<'a> Story<'a> {
     fn unseen_change(&self, record: Record) -> Option<(Record<'a>, &'static str)> {
         let entry = record.object()?;
         let last = |operation: Operation| {
-            self.last_before(record, |one| {
+            self.last_before(Some(record), |one| {
                 one.identity() == entry
                     || one.operation() == operation && one.object() == Some(entry)
             })
@@ -270,28 +321,38 @@ impl<'a> Story<'a> {
 
     /// Why a record stands aside, and the aside that is to blame, if one is.
     fn because(&self, aside: Aside, record: Record) -> (String, Option<Identity>) {
-        let marked = aside.marks().map(|marked| self.name(marked));
+        let marked = aside.marks();
+        let marked = marked.map(|marked| self.name_before(marked, record));
         let marked = marked.unwrap_or_default();
         let words = match aside.reason() {
             12 | 13 => {
                 let entry = record.object().or(record.folder());
-                let what = if aside.reason() == 13 { "that folder" } else { "it" };
-                let (why, blame) = self.absent(entry.unwrap_or(Identity::ROOT), record);
-                return (format!("{what} was not there: {why}"), blame);
+                let what = if aside.reason() == 13 {
+                    "that folder"
+                } else {
+                    "that"
+                };
+                let (why, blame) = self.absent(entry.unwrap_or(Identity::ROOT), Some(record));
+                return (format!("but {what} was not there: {why}"), blame);
             }
-            14 if record.operation().has_folder() => format!("{marked} is a trace, not a folder"),
-            14 => format!("{marked} is a folder, not a trace"),
-            15 if aside.marks() == record.object() => "it had this label already".to_string(),
-            15 => format!("that folder had an entry of this label: {marked}{}", self.from(aside)),
-            16 => "it had entries".to_string(),
+            14 if record.operation().has_folder() => {
+                format!("but {marked} is a trace, not a folder")
+            }
+            14 => format!("but {marked} is a folder, not a trace"),
+            15 if aside.marks() == record.object() => "but it had this label already".to_string(),
+            15 => format!(
+                "but that folder had an entry of this label: {marked}{}",
+                self.from(aside)
+            ),
+            16 => "but it had entries".to_string(),
             17 => match self.unseen_change(record) {
                 Some((change, what)) => format!(
-                    "it had not seen the last change of {what}, {}",
+                    "but had not seen the last change of {what}: {}",
                     self.brief(change)
                 ),
-                None => "it had not seen the last change".to_string(),
+                None => "but had not seen the last change".to_string(),
             },
-            18 => "that record does not stand aside".to_string(),
+            18 => "but that record does not stand aside".to_string(),
             reason => format!("reason {reason}"),
         };
         (words, None)
@@ -305,6 +366,41 @@ impl<'a> Story<'a> {
             .unwrap_or_default()
     }
 
+    /// Why a wish was refused with a number of its fit, with the entry named.
+    pub fn unfit(&self, number: u8, wish: &Wished) -> Option<String> {
+        let entry = wish.object.or(wish.folder)?;
+        let name = self.name(entry);
+        match number {
+            12 | 13 => Some(format!("{name}: {}", self.absent(entry, None).0)),
+            14 => {
+                let kind = kind_word(self.entry(entry)?.kind());
+                Some(format!("{name} is a {kind}"))
+            }
+            15 => {
+                let inside = match wish.folder {
+                    Some(folder) => folder,
+                    None => self.entry(entry)?.folder(),
+                };
+                let holder = self.tree.find(inside, wish.label?)?;
+                let kind = kind_word(holder.kind());
+                Some(format!("the {kind} {} has it", holder.identity()))
+            }
+            16 => {
+                let inside = self.inside(entry);
+                let first = inside.first()?.identity();
+                match inside.len() {
+                    1 => Some(format!("{name} has {}", self.name(first))),
+                    count => Some(format!("{name} has {count}, as {}", self.name(first))),
+                }
+            }
+            18 => {
+                let record = self.record(entry)?;
+                Some(format!("{entry} acts: {}", self.sentence(record)))
+            }
+            _ => None,
+        }
+    }
+
     /// Who settled an aside.
     fn settler(&self, aside: Identity) -> Option<Record<'a>> {
         self.records.iter().copied().find(|record| {
@@ -314,34 +410,37 @@ impl<'a> Story<'a> {
         })
     }
 
-    /// What to do about an open aside, before it is settled.
-    fn remedy(&self, aside: Aside, record: Record) -> String {
+    /// What to do about an open aside, before it is settled; none if there is
+    /// nothing left to change.
+    fn remedy(&self, aside: Aside, record: Record) -> Option<String> {
         let marked = aside.marks().map(|marked| marked.to_string());
         let marked = marked.unwrap_or_default();
         let operation = record.operation();
-        match (aside.reason(), operation) {
+        let words = match (aside.reason(), operation) {
             (12, Operation::Store) => "if its measurement counts, make a trace with its mark",
-            (12, _) | (18, _) => "there is nothing left to change",
+            (12, _) | (18, _) => return None,
             (13, _) => "if it is still wanted, make it again in a folder that is there",
             (14, Operation::Store) => "if its measurement counts, store it to a trace",
             (14, _) => "if it is still wanted, make it again in a folder",
             (15, Operation::MakeTrace) => {
-                return format!(
+                return Some(format!(
                     "look at both; make it again under another label, or store to {marked}"
-                );
+                ));
             }
             (15, Operation::MakeFolder) => {
-                return format!("use {marked}, or make it again under another label");
+                return Some(format!(
+                    "use {marked}, or make it again under another label"
+                ));
             }
-            (15, _) if aside.marks() == record.object() => "there is nothing left to change",
+            (15, _) if aside.marks() == record.object() => return None,
             (15, _) => "if it is still wanted, rename it to another label",
             (16, _) => "if the folder is still to go, remove its entries first, then the folder",
             (17, Operation::Store) => "look at both; store again what shall stay",
             (17, Operation::Remove) => "look at the change; remove it again if it is still to go",
             (17, _) => "look at both labels; rename it again if it is still wanted",
             _ => "look at both records and decide",
-        }
-        .to_string()
+        };
+        Some(words.to_string())
     }
 
     /// An aside in words.
@@ -351,7 +450,7 @@ impl<'a> Story<'a> {
             return Told {
                 did: format!("record {identity}"),
                 because: format!("reason {}", aside.reason()),
-                todo: format!("then settle {identity}"),
+                todo: format!("settle {identity}"),
                 stake: Stake::Nothing,
             };
         };
@@ -365,10 +464,13 @@ impl<'a> Story<'a> {
         };
         let todo = match self.settler(identity) {
             Some(settle) if !aside.is_open() => format!("settled by {}", self.brief(settle)),
-            _ => {
-                let remedy = self.remedy(aside, record);
-                format!("{remedy}; then settle {identity}")
-            }
+            _ => match (self.remedy(aside, record), blame) {
+                (Some(remedy), None) => format!("{remedy}; then settle {identity}"),
+                (Some(remedy), Some(blame)) => {
+                    format!("look after {blame} first; {remedy}; then settle {identity}")
+                }
+                (None, _) => format!("nothing is left to change: settle {identity}"),
+            },
         };
         Told {
             did: self.sentence(record),
@@ -418,7 +520,11 @@ impl<'a> Story<'a> {
         Totals {
             folders,
             traces: self.entries.len() - folders,
-            disputed: self.entries.values().filter(|entry| entry.is_disputed()).count(),
+            disputed: self
+                .entries
+                .values()
+                .filter(|entry| entry.is_disputed())
+                .count(),
             asides: self.asides.len(),
             open: self.asides.values().filter(|aside| aside.is_open()).count(),
         }

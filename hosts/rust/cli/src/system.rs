@@ -248,9 +248,7 @@ pub fn date_of(days: u64) -> (u16, u8, u8) {
 /// `<(COMMAND)` does.
 pub fn names_descriptor(path: &Path) -> bool {
     let bytes = path.as_os_str().as_bytes();
-    bytes == b"/dev/stdin"
-        || bytes.starts_with(b"/dev/fd/")
-        || bytes.starts_with(b"/proc/self/fd/")
+    bytes == b"/dev/stdin" || bytes.starts_with(b"/dev/fd/") || bytes.starts_with(b"/proc/self/fd/")
 }
 
 #[cfg(test)]

@@ -24,7 +24,10 @@ pub fn of_file(bytes: &[u8], length: Option<u64>, refusal: Refusal) -> Option<St
         7 | 8 | 9 | 11 => {
             let all = records(bytes);
             let before: Vec<&Bytes> = all.iter().map(|(_, record)| *record).collect();
-            let mut here = all.iter().enumerate().filter(|(_, (at, _))| at / BLOCK == place);
+            let mut here = all
+                .iter()
+                .enumerate()
+                .filter(|(_, (at, _))| at / BLOCK == place);
             here.find_map(|(i, (at, record))| {
                 let fault = record_text(record, &before[..i], refusal.number)?;
                 Some(format!(
@@ -110,7 +113,7 @@ pub fn grouped(number: u64) -> String {
     let digits = number.to_string();
     let mut text = String::new();
     for (at, digit) in digits.chars().enumerate() {
-        if at > 0 && (digits.len() - at) % 3 == 0 {
+        if at > 0 && (digits.len() - at).is_multiple_of(3) {
             text.push(',');
         }
         text.push(digit);
@@ -129,12 +132,17 @@ fn length_text(read: usize, length: Option<u64>) -> String {
     let (blocks, rest) = (length / BLOCK as u64, length % BLOCK as u64);
     match (blocks, rest) {
         (0, 0) => "it is empty".to_string(),
+        (0, _) => format!("{}, less than a block", counted(length as usize, "byte")),
         (_, 0) => format!("{} bytes, {} blocks", grouped(length), grouped(blocks)),
-        (1, _) => format!("{length} bytes, 1 block and {rest} bytes"),
+        (1, _) => format!(
+            "{length} bytes, 1 block and {}",
+            counted(rest as usize, "byte")
+        ),
         _ => format!(
-            "{} bytes, {} blocks and {rest} bytes",
+            "{} bytes, {} blocks and {}",
             grouped(length),
-            grouped(blocks)
+            grouped(blocks),
+            counted(rest as usize, "byte")
         ),
     }
 }
@@ -225,7 +233,11 @@ fn record_text(record: &Bytes, before: &[&Bytes], number: u8) -> Option<String> 
 
 fn other_bytes(held: &Bytes, record: &Bytes) -> String {
     let differing = |(one, other): (&u8, &u8)| one != other;
-    let count = held.iter().zip(record).filter(|pair| differing(*pair)).count();
+    let count = held
+        .iter()
+        .zip(record)
+        .filter(|pair| differing(*pair))
+        .count();
     format!("held with {} of 80 that differ", counted(count, "byte"))
 }
 
@@ -282,7 +294,10 @@ fn bad_head(record: &Bytes) -> Option<String> {
         Some("number 0".to_string())
     } else if seen(record, unit) != number - 1 {
         let own = seen(record, unit);
-        Some(format!("it has seen {own} of its own unit, not {}", number - 1))
+        Some(format!(
+            "it has seen {own} of its own unit, not {}",
+            number - 1
+        ))
     } else {
         None
     }
@@ -301,7 +316,13 @@ fn bad_names(record: &Bytes) -> Option<String> {
     let (object, folder) = (&record[20..24], &record[24..28]);
     if makes(record) {
         let root = folder == [0; 4];
-        let named = || if root { None } else { unnamed(folder, record, "folder") };
+        let named = || {
+            if root {
+                None
+            } else {
+                unnamed(folder, record, "folder")
+            }
+        };
         unused(object, "an object").or_else(named)
     } else {
         unused(folder, "a folder").or_else(|| unnamed(object, record, "object"))
@@ -315,12 +336,16 @@ fn unnamed(field: &[u8], record: &Bytes, what: &str) -> Option<String> {
     if unit > 7 {
         Some(format!("{what} {name}: a unit is 0 to 7"))
     } else if field[1] != 0 {
-        Some(format!("{what}: the byte behind its unit is {:02x}", field[1]))
+        Some(format!(
+            "{what}: the byte behind its unit is {:02x}",
+            field[1]
+        ))
     } else if number == 0 {
         Some(format!("{what} {name} is no record"))
     } else if number > seen(record, unit) {
         let held = seen(record, unit);
-        Some(format!("{what} {name}: of unit {unit} only {held} are known"))
+        let held = counted(held.into(), "record");
+        Some(format!("{what} {name}: of unit {unit} {held} can be named"))
     } else {
         None
     }
@@ -388,7 +413,10 @@ fn disagreement(bytes: &[u8], place: usize) -> Option<String> {
     let fault = if own_place != place {
         Some(format!("it says place {own_place}"))
     } else if block[8] != first[8] {
-        Some(format!("it is of unit {}, block 0 of unit {}", block[8], first[8]))
+        Some(format!(
+            "it is of unit {}, block 0 of unit {}",
+            block[8], first[8]
+        ))
     } else if block[4..8] != first[4..8] {
         Some(format!(
             "it is of archive {}, block 0 of archive {}",
@@ -398,7 +426,10 @@ fn disagreement(bytes: &[u8], place: usize) -> Option<String> {
     } else if block[12..28] != first[12..28] {
         Some("its vector is not that of block 0".to_string())
     } else if count != 6 && place != last {
-        Some(format!("it has {} and is not the last", counted(count.into(), "record")))
+        Some(format!(
+            "it has {} and is not the last",
+            counted(count.into(), "record")
+        ))
     } else if count == 0 && place > 0 {
         Some("it has no record".to_string())
     } else {
@@ -427,8 +458,7 @@ fn count_fault(bytes: &[u8], first: &[u8; BLOCK]) -> Option<String> {
     let all: Vec<&Bytes> = records(bytes).iter().map(|(_, record)| *record).collect();
     (0..8).find_map(|unit| {
         let (says, has) = (number16(&first[12 + 2 * unit..]), count_of(&all, unit));
-        (usize::from(says) != has).then(|| {
-            format!("the header counts {says} of unit {unit}, the file has {has}")
-        })
+        (usize::from(says) != has)
+            .then(|| format!("the header counts {says} of unit {unit}, the file has {has}"))
     })
 }

@@ -21,7 +21,8 @@ settles it.
     $ sab asides bench.sab
     1 aside, 1 open
     1.1  open  reason 15
-         unit 1 made the trace \"Gain \\\"A\\\"\" in 0.1 \"Bench\" on 2025-03-05; that folder had an entry of this label: 0.2 \"Gain \\\"A\\\"\"
+         unit 1 wanted to make the trace \"Gain \\\"A\\\"\" in 0.1 \"Bench\" on 2025-03-05,
+         but that folder had an entry of this label: 0.2 \"Gain \\\"A\\\"\" of unit 0, 2025-03-04
          work at stake: no trace of the tree has its mark
          look at both; make it again under another label, or store to 0.2; then settle 1.1
 
@@ -51,13 +52,18 @@ fn run(session: &mut Session) -> Outcome<Status> {
         session.out.object(|| story.aside_object(aside));
         let told = story.told(aside);
         let identity = aside.identity().to_string();
-        let ink = if aside.is_open() { Ink::Alarm } else { Ink::Well };
+        let ink = if aside.is_open() {
+            Ink::Alarm
+        } else {
+            Ink::Well
+        };
         let state = session.out.ink(ink, state(aside));
         let indent = " ".repeat(identity.len() + 2);
-        session
-            .out
-            .line(format_args!("{identity}  {state}  reason {}", aside.reason()));
-        session.out.line(format_args!("{indent}{};", told.did));
+        session.out.line(format_args!(
+            "{identity}  {state}  reason {}",
+            aside.reason()
+        ));
+        session.out.line(format_args!("{indent}{},", told.did));
         session.out.line(format_args!("{indent}{}", told.because));
         if aside.is_open() {
             session
@@ -66,5 +72,7 @@ fn run(session: &mut Session) -> Outcome<Status> {
         }
         session.out.line(format_args!("{indent}{}", told.todo));
     }
-    Ok(Status::no_if(session.args.has("exit-code") && totals.open > 0))
+    Ok(Status::no_if(
+        session.args.has("exit-code") && totals.open > 0,
+    ))
 }

@@ -3,7 +3,7 @@
 use super::{Command, Session};
 use crate::archive::{Archive, LIMIT, judge};
 use crate::args::flag;
-use crate::blocks::{judge_alone, summary, identities};
+use crate::blocks::{identities, judge_alone, summary};
 use crate::failure::{Outcome, refusal_words};
 use crate::files::{self, is_standard, left_over};
 use crate::json::Object;
@@ -27,6 +27,10 @@ with what to do next.
 
     $ sab check bench.sab
     bench.sab: good: SAB1, archive 7, unit 0, 3 records, seen 2 1 0 0 0 0 0 0
+
+    $ sab check damaged.sab
+    sab: damaged.sab: refused 4 at 0: a sum differs: some byte of the block changed (block 0, bytes 0 to 511: its sums are 10633 44253, due are 10632 44085)
+         copy again; if it stays, the card is worn: take another unit's card, since every unit holds the records it has heard of; `sab salvage` takes the good blocks out of a damaged one
 
 With --blocks there is a line for each 512 bytes, each judged by itself, before
 the line of the file; so one sees how much of a damaged card is whole. sab
@@ -76,7 +80,10 @@ fn tell_blocks(session: &mut Session, name: &Path, bytes: &[u8]) {
             let object = Object::new("state")
                 .text("file", shown(name))
                 .number("block", place as u64)
-                .number("number", judged.as_ref().err().map_or(0, |refusal| refusal.number));
+                .number(
+                    "number",
+                    judged.as_ref().err().map_or(0, |refusal| refusal.number),
+                );
             match &judged {
                 Ok(block) => object
                     .number("archive", block.archive())
@@ -89,7 +96,7 @@ fn tell_blocks(session: &mut Session, name: &Path, bytes: &[u8]) {
             Ok(block) => format!("whole: {}", summary(block)),
             Err(refusal) => {
                 let detail = why::of_block(block, &Log::start(0, Unit::ALL[0]), *refusal);
-                let words = refusal_words(*refusal, Case::File, detail.as_deref());
+                let words = refusal_words(*refusal, Case::Taking, detail.as_deref());
                 session.out.ink(Ink::Alarm, words)
             }
         };
@@ -108,7 +115,7 @@ fn tell_left_over(session: &mut Session, name: &Path) {
         session.out.complain(
             Some(&file),
             "left by a cut while the file beside it was being replaced",
-            Some("it can be removed"),
+            Some("if no sab is at work on that file now, it can be removed"),
         );
     }
 }

@@ -4,9 +4,9 @@ use super::{Command, Session};
 use crate::archive::Archive;
 use crate::failure::Outcome;
 use crate::json::Object;
-use crate::meeting::{comparison_words, deny_other_archive, held_otherwise, twice_words};
+use crate::meeting::{deny_other_archive, held_otherwise, twice_words};
 use crate::numbers::{Case, advice};
-use crate::out::{Ink, Status};
+use crate::out::{Ink, Status, for_shell};
 use sab::Comparison;
 
 /// `sab compare`.
@@ -88,28 +88,30 @@ fn pair(session: &mut Session, first: &Archive, second: &Archive) -> Status {
         }
         return Status::No;
     }
-    let words = comparison_words(answer);
-    match answer {
+    let (words, todo) = match answer {
         Comparison::Identical => {
-            let words = session.out.ink(Ink::Well, words);
-            session
-                .out
-                .line(format_args!("{both}: {words}: the same records, byte for byte"));
+            let words = session.out.ink(Ink::Well, "identical");
+            (format!("{words}: the same records, byte for byte"), None)
         }
-        Comparison::FirstAhead => {
-            session.out.line(format_args!("{both}: {one} is ahead: {other} lacks records"));
-            session.out.line(format_args!("  sab pass {one} {other}"));
-        }
-        Comparison::SecondAhead => {
-            session.out.line(format_args!("{both}: {other} is ahead: {one} lacks records"));
-            session.out.line(format_args!("  sab pass {other} {one}"));
-        }
-        Comparison::BothAhead => {
-            session
-                .out
-                .line(format_args!("{both}: {words}: each lacks records of the other"));
-            session.out.line(format_args!("  sab meet {one} {other}"));
-        }
+        Comparison::FirstAhead => (
+            format!("{one} is ahead: {other} lacks records"),
+            Some(("pass", first, second)),
+        ),
+        Comparison::SecondAhead => (
+            format!("{other} is ahead: {one} lacks records"),
+            Some(("pass", second, first)),
+        ),
+        Comparison::BothAhead => (
+            "both ahead: each lacks records of the other".to_string(),
+            Some(("meet", first, second)),
+        ),
+    };
+    session.out.line(format_args!("{both}: {words}"));
+    if let Some((command, from, to)) = todo {
+        let (from, to) = (for_shell(&from.name), for_shell(&to.name));
+        session
+            .out
+            .line(format_args!("  sab {command} {from} {to}"));
     }
     Status::no_if(answer != Comparison::Identical)
 }

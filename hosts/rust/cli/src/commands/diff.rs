@@ -18,8 +18,8 @@ Prints the lines in which the listings of two files differ: - for a line that on
 the first has, + for one that only the second has. Entries come first, then asides.
 
     $ sab diff card0.sab card1.sab
-    --- card0.sab: archive 7 unit 0 records 2
-    +++ card1.sab: archive 7 unit 1 records 2
+    --- card0.sab: archive 12 unit 0 records 2
+    +++ card1.sab: archive 12 unit 1 records 2
     -trace 0.2 in 0.1 \"Gain\" 2025-03-04 11111111111111111111111111111111
     +trace 1.1 in 0.1 \"Gain\" 2025-03-05 22222222222222222222222222222222",
     options: &[flag("exit-code", None, "status 1 if there is a difference")],
@@ -35,6 +35,8 @@ fn run(session: &mut Session) -> Outcome<Status> {
     let (old, new): (Vec<&str>, Vec<&str>) = (old.lines().collect(), new.lines().collect());
     let (old_rest, new_rest) = (old.get(2..).unwrap_or(&[]), new.get(2..).unwrap_or(&[]));
     let lines = differing(old_rest, new_rest);
+    session.out.object(|| first.object());
+    session.out.object(|| second.object());
     if !lines.is_empty() {
         let head = |lines: &[&str]| lines.first().copied().unwrap_or_default().to_string();
         session
@@ -127,6 +129,9 @@ mod tests {
         );
         assert_eq!(differing(&[], &[]), []);
         // A pair in another order, as two archives can have it, still ends.
-        assert_eq!(differing(&["t 1.1 a", "t 0.1 a"], &["t 0.1 a", "t 1.1 a"]).len(), 4);
+        assert_eq!(
+            differing(&["t 1.1 a", "t 0.1 a"], &["t 0.1 a", "t 1.1 a"]).len(),
+            4
+        );
     }
 }

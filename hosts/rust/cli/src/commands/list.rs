@@ -45,10 +45,7 @@ fn run(session: &mut Session) -> Outcome<Status> {
     match session.args.text("format")? {
         None | Some("text") if !session.out.json => text(session, name),
         None | Some("jsonl") => {
-            if !session.out.json {
-                session.out.json = true;
-                session.out.opening(COMMAND.name);
-            }
+            session.out.json = true;
             objects(session, name)
         }
         Some("csv") if !session.out.json => csv(session, name),
@@ -116,7 +113,10 @@ fn csv(session: &mut Session, name: &Path) -> Outcome<Status> {
             entry.folder(),
             field(entry.label()),
             entry.date(),
-            entry.mark().map(|mark| mark.to_string()).unwrap_or_default(),
+            entry
+                .mark()
+                .map(|mark| mark.to_string())
+                .unwrap_or_default(),
             if entry.is_disputed() { "disputed" } else { "" }
         ));
     }
@@ -126,7 +126,10 @@ fn csv(session: &mut Session, name: &Path) -> Outcome<Status> {
             aside.identity(),
             state(aside),
             aside.reason(),
-            aside.marks().map(|marks| marks.to_string()).unwrap_or_default()
+            aside
+                .marks()
+                .map(|marks| marks.to_string())
+                .unwrap_or_default()
         ));
     }
     Ok(Status::Yes)

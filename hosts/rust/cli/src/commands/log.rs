@@ -25,7 +25,7 @@ and why it stands aside.
     $ sab log bench.sab
     0.1  2025-03-03  unit 0 made the folder \"Bench\" in the root  acts
     0.2  2025-03-04  unit 0 made the trace \"Gain \\\"A\\\"\" in 0.1 \"Bench\"  acts
-    1.1  2025-03-05  unit 1 made the trace \"Gain \\\"A\\\"\" in 0.1 \"Bench\"  aside, reason 15, open
+    1.1  2025-03-05  unit 1 wanted to make the trace \"Gain \\\"A\\\"\" in 0.1 \"Bench\"  aside, reason 15, open
     3 records of 512, 1 stands aside",
     options: &[],
     statuses: "0 printed; 1 no such record; 3 the file cannot be read; 4 it is refused",

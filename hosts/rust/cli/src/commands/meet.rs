@@ -3,18 +3,29 @@
 use super::{Command, Session};
 use crate::archive::Own;
 use crate::args::{Opt, flag, value};
+use crate::change::Change;
 use crate::failure::{Failure, Outcome, Refused, of_library, usage};
+use crate::files;
 use crate::json::Object;
-use crate::meeting::{Change, End, Passed, deny_other_archive, deny_twice, pass, tell_blocks};
+use crate::meeting::{End, Passed, deny_other_archive, deny_twice, pass, tell_blocks};
 use crate::numbers::Case;
-use crate::out::{Ink, Status, shown};
+use crate::out::{Ink, Status, for_shell, shown};
+use crate::why::counted;
 use sab::{Comparison, Log};
-use std::path::Path;
+use std::path::{Path, PathBuf};
 
 /// Options of `meet`, `pass` and `take`.
 pub const OPTIONS: &[Opt] = &[
-    flag("dry-run", Some('n'), "say what would happen, and write nothing"),
-    flag("backup", None, "keep the old file under its name with a ~ behind it"),
+    flag(
+        "dry-run",
+        Some('n'),
+        "say what would happen, and write nothing",
+    ),
+    flag(
+        "backup",
+        None,
+        "keep the old file under its name with a ~ behind it",
+    ),
     value(
         "max-blocks",
         None,
@@ -35,13 +46,14 @@ both, and for each file what the meeting changed: which entries are disputed now
 which records acted and now stand aside, or the other way round.
 
     $ sab meet card0.sab card1.sab
-    card0.sab -> card1.sab  block 1: 2 records: 0.1 0.2; 1 of them held already, compared and equal
-    card1.sab -> card0.sab  block 1: 3 records: 0.1 0.2 1.1; 2 of them held already, compared and equal
+    card0.sab -> card1.sab  block 1: 1 new record: 0.2; 1 held already is equal
+    card1.sab -> card0.sab  block 1: 1 new record: 1.1; 1 held already is equal
     both: seen 2 1 0 0 0 0 0 0
     card0.sab: newly disputed: trace 0.2 \"Gain\" by 1.1
-    card0.sab: came and stands aside: 1.1: reason 15, unit 1 made the trace \"Gain\" in 0.1 \"Bench\" on 2025-03-05; that folder had an entry of this label: 0.2 \"Gain\"
+    card0.sab: 1.1 came and stands aside, reason 15: unit 1 wanted to make the trace \"Gain\" in 0.1 \"Bench\" on 2025-03-05
     card1.sab: newly disputed: trace 0.2 \"Gain\" by 1.1
-    card1.sab: acted, now stands aside: 1.1: reason 15, unit 1 made the trace \"Gain\" in 0.1 \"Bench\" on 2025-03-05; that folder had an entry of this label: 0.2 \"Gain\"
+    card1.sab: 1.1 acted and stands aside now, reason 15: unit 1 wanted to make the trace \"Gain\" in 0.1 \"Bench\" on 2025-03-05
+    1 aside open: sab asides card0.sab tells what to do
 
 The meeting is careful. Records that both hold are compared, byte for byte, before
 anything is passed, and each side asks with every count lowered by one, so that
@@ -82,6 +94,7 @@ fn run(session: &mut Session) -> Outcome<Status> {
     let equal = tell_vectors(session, (&names[0], &one), (&names[1], &other))?;
     tell_change(session, &first, &one, equal)?;
     tell_change(session, &second, &other, equal)?;
+    tell_open(session, &[(&names[0], &one), (&names[1], &other)])?;
     tell_dry_run(session);
     Ok(status)
 }
@@ -94,7 +107,11 @@ pub fn room(session: &Session) -> Outcome<usize> {
 
 /// Two names must not be one file.
 pub fn deny_one_file(session: &Session, one: &Path, other: &Path) -> Outcome<()> {
-    let id = |path: &Path| session.system.facts(path).ok().map(|facts| facts.id);
+    let id = |path: &Path| {
+        let named = !files::is_standard(path);
+        let facts = named.then(|| session.system.facts(path).ok()).flatten();
+        facts.map(|facts| facts.id)
+    };
     let (first, second) = (id(one), id(other));
     if first.is_some() && first == second {
         return Err(usage(format!(
@@ -140,7 +157,10 @@ pub fn ended(session: &mut Session, to: &Path, passed: &Passed) -> Outcome<Statu
 /// Says what both hold; whether that is the same, by the library.
 fn tell_vectors(session: &mut Session, one: (&Path, &Log), other: (&Path, &Log)) -> Outcome<bool> {
     let first = one.1.vector().map_err(of_library(one.0, Case::Taking))?;
-    let second = other.1.vector().map_err(of_library(other.0, Case::Taking))?;
+    let second = other
+        .1
+        .vector()
+        .map_err(of_library(other.0, Case::Taking))?;
     let equal = first.compare(&second) == Comparison::Identical;
     if equal {
         let both = session.out.ink(Ink::Well, "both");
@@ -171,6 +191,23 @@ pub fn tell_change(session: &mut Session, own: &Own, after: &Log, equal: bool) -
     change
         .tell(&mut session.out, &shown(name), after)
         .map_err(&refused)
+}
+
+/// Says where open asides can be read, if there are any.
+pub fn tell_open(session: &mut Session, files: &[(&PathBuf, &Log)]) -> Outcome<()> {
+    for (name, log) in files {
+        let tree = log.show().map_err(of_library(name, Case::Taking))?;
+        let open = tree.asides().filter(|aside| aside.is_open()).count();
+        if open > 0 {
+            let open = counted(open, "aside");
+            let name = for_shell(name);
+            session.out.line(format_args!(
+                "{open} open: sab asides {name} tells what to do"
+            ));
+            return Ok(());
+        }
+    }
+    Ok(())
 }
 
 /// Says that nothing was written, if so.

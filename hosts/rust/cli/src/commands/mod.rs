@@ -58,7 +58,12 @@ pub struct Command {
 pub const COMMON: &[Opt] = &[
     flag("quiet", Some('q'), "print nothing; only the status answers"),
     flag("json", None, "print objects of JSON, one a line"),
-    value("color", None, "WHEN", "auto, always or never; NO_COLOR is obeyed"),
+    value(
+        "color",
+        None,
+        "WHEN",
+        "auto, always or never; NO_COLOR is obeyed",
+    ),
     flag("help", Some('h'), "print this page"),
 ];
 
@@ -91,15 +96,14 @@ pub const GROUPS: &[(&str, &[&Command])] = &[
         "an archive whose only home is this machine",
         &[&new::COMMAND, &act::COMMAND, &settle::COMMAND],
     ),
-    (
-        "help",
-        &[&explain::COMMAND, &words::HELP, &words::VERSION],
-    ),
+    ("help", &[&explain::COMMAND, &words::HELP, &words::VERSION]),
 ];
 
 /// All commands.
 pub fn all() -> impl Iterator<Item = &'static Command> {
-    GROUPS.iter().flat_map(|(_, commands)| commands.iter().copied())
+    GROUPS
+        .iter()
+        .flat_map(|(_, commands)| commands.iter().copied())
 }
 
 /// The command of a name.
@@ -119,11 +123,7 @@ pub fn unknown(name: &str) -> String {
 }
 
 /// Runs a command line; what it comes to.
-pub fn run(
-    words: impl IntoIterator<Item = OsString>,
-    system: &dyn System,
-    mut out: Out,
-) -> Status {
+pub fn run(words: impl IntoIterator<Item = OsString>, system: &dyn System, mut out: Out) -> Status {
     let mut words = words.into_iter();
     let Some(first) = words.next() else {
         out.complain_text(&help::overview());

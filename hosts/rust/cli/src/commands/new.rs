@@ -21,7 +21,12 @@ A unit number belongs to one home for ever. Do not begin anew a unit that has ma
 records: it would use its numbers twice. A unit that lost its file gets its
 records back first, with sab pass from any other unit's file, before it acts.",
     options: &[
-        value("archive", None, "N", "the archive's number, 0 to 4294967295"),
+        value(
+            "archive",
+            None,
+            "N",
+            "the archive's number, 0 to 4294967295",
+        ),
         value("unit", None, "U", "the unit, 0 to 7"),
     ],
     statuses: "0 written; 3 it cannot be written",

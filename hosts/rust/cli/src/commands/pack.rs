@@ -5,13 +5,13 @@ use crate::archive::Archive;
 use crate::args::{Read, Usage, number, value};
 use crate::blocks;
 use crate::failure::{Failure, Outcome, Refused, of_library, usage};
-use crate::files;
+use crate::files::{self, Over};
 use crate::meeting::{deny_other_archive, deny_twice};
 use crate::numbers::Case;
 use crate::out::{Status, shown};
 use crate::why::{self, counted};
 use sab::{Asking, Block, Vector};
-use std::path::PathBuf;
+use std::path::Path;
 
 /// `sab pack`.
 pub const COMMAND: Command = Command {
@@ -32,9 +32,24 @@ carried or sent to where the other file is; sab take takes it there.
 The row begins a record early at each unit that both have records of, so that the
 taker compares these and notices a number that was used twice.",
     options: &[
-        value("for", None, "OTHER", "the file of the unit that will take the row"),
-        value("seen", None, "COUNTS", "its vector, eight counts parted by commas"),
-        value("output", Some('o'), "ROW", "the file to write; - is standard output"),
+        value(
+            "for",
+            None,
+            "OTHER",
+            "the file of the unit that will take the row",
+        ),
+        value(
+            "seen",
+            None,
+            "COUNTS",
+            "its vector, eight counts parted by commas",
+        ),
+        value(
+            "output",
+            Some('o'),
+            "ROW",
+            "the file to write; - is standard output",
+        ),
     ],
     statuses: "0 written; 1 nothing is lacking, nothing written; 3 a file cannot be read or written; 4 refused",
     run,
@@ -42,7 +57,10 @@ taker compares these and notices a number that was used twice.",
 
 fn run(session: &mut Session) -> Outcome<Status> {
     let names = session.args.files(1..=1, "one FILE")?;
-    let target = session.args.path("output").ok_or_else(|| usage("-o ROW wanted"))?;
+    let target = session
+        .args
+        .path("output")
+        .ok_or_else(|| usage("-o ROW wanted"))?;
     let other = session.args.path("for");
     let seen = session.args.text("seen")?.map(counts).transpose()?;
     let from = Archive::read(session.system, &names[0])?;
@@ -58,9 +76,10 @@ fn run(session: &mut Session) -> Outcome<Status> {
         _ => return Err(usage("either --for=OTHER or --seen=COUNTS wanted")),
     };
     if lacked == 0 {
-        session
-            .out
-            .line(format_args!("{whom} lacks nothing of {}; nothing was written", from.shown()));
+        session.out.line(format_args!(
+            "{whom} lacks nothing of {}; nothing was written",
+            from.shown()
+        ));
         return Ok(Status::No);
     }
     let bytes: Vec<u8> = row.iter().flat_map(|block| *block.as_bytes()).collect();
@@ -68,7 +87,7 @@ fn run(session: &mut Session) -> Outcome<Status> {
         session.out.bytes(&bytes);
         return Ok(Status::Yes);
     }
-    files::create(session.system, &target, &bytes, false, &|_| true)?;
+    files::create(session.system, &target, &bytes, Over::Never, &|_| true)?;
     session.out.object(|| {
         crate::json::Object::new("packed")
             .text("file", shown(&target))
@@ -97,7 +116,7 @@ fn counts(text: &str) -> Read<Vector> {
 }
 
 /// The row for a file: each block is taken by a copy of it.
-fn row_for(session: &Session, from: &Archive, other: &PathBuf) -> Outcome<(Vec<Block>, usize)> {
+fn row_for(session: &Session, from: &Archive, other: &Path) -> Outcome<(Vec<Block>, usize)> {
     let to = Archive::read(session.system, other)?;
     deny_other_archive(other, &from.log, &to.log)?;
     deny_twice(other, &from.log, &to.log)?;

@@ -4,7 +4,7 @@ use super::{Command, Session};
 use crate::archive::Archive;
 use crate::args::{flag, value};
 use crate::failure::{Failure, Outcome, usage};
-use crate::files::{self, is_standard};
+use crate::files::{self, Over, is_standard};
 use crate::html;
 use crate::out::{Status, shown};
 use std::path::Path;
@@ -26,9 +26,19 @@ and printed. The same file gives the same page, byte for byte.
 Without -o the page goes to standard output. A refused file gives a page that says
 so, and the status 4.",
     options: &[
-        value("output", Some('o'), "PAGE", "the file to write; - is standard output"),
+        value(
+            "output",
+            Some('o'),
+            "PAGE",
+            "the file to write; - is standard output",
+        ),
         flag("force", Some('f'), "overwrite PAGE; never an archive file"),
-        value("title", None, "TITLE", "the heading; without it the archive's number"),
+        value(
+            "title",
+            None,
+            "TITLE",
+            "the heading; without it the archive's number",
+        ),
     ],
     statuses: "0 written; 3 a file cannot be read or written; 4 the file is refused",
     run,
@@ -60,7 +70,12 @@ fn run(session: &mut Session) -> Outcome<Status> {
         }
         Err(Failure::Refused(refused)) => {
             let page = html::refused(title.as_deref(), &refused.words(), refused.advice());
-            put(session, target.as_deref(), &page, "a page that tells of the refusal")?;
+            put(
+                session,
+                target.as_deref(),
+                &page,
+                "a page that tells of the refusal",
+            )?;
             Err(Failure::Refused(refused))
         }
         Err(failure) => Err(failure),
@@ -95,7 +110,10 @@ fn put(session: &mut Session, target: Option<&Path>, page: &str, words: &str) ->
         session.out.bytes(page.as_bytes());
         return Ok(());
     };
-    let over = session.args.has("force");
+    let over = match session.args.has("force") {
+        true => Over::Forced,
+        false => Over::Not,
+    };
     files::create(session.system, target, page.as_bytes(), over, &|_| true)?;
     session.out.line(format_args!("{}: {words}", shown(target)));
     Ok(())

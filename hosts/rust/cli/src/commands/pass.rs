@@ -1,6 +1,6 @@
 //! `sab pass`: one way of a meeting.
 
-use super::meet::{deny_one_file, ended, room, tell_change, tell_dry_run};
+use super::meet::{deny_one_file, ended, room, tell_change, tell_dry_run, tell_open};
 use super::{Command, Session, meet};
 use crate::archive::{Archive, Own};
 use crate::failure::{Outcome, of_library};
@@ -46,6 +46,7 @@ fn run(session: &mut Session) -> Outcome<Status> {
         .line(format_args!("{}: seen {vector}", shown(&names[1])));
     let equal = from.vector.compare(&vector) == Comparison::Identical;
     tell_change(session, &to, &log, equal)?;
+    tell_open(session, &[(&names[1], &log)])?;
     tell_dry_run(session);
     Ok(status)
 }

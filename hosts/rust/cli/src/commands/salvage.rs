@@ -3,7 +3,7 @@
 use super::{Command, Session};
 use crate::archive::{self, ROOM};
 use crate::args::{flag, value};
-use crate::blocks::{in_runs, identities, judge_alone, summary};
+use crate::blocks::{identities, in_runs, judge_alone, summary};
 use crate::failure::{Outcome, of_library, refusal_words, usage};
 use crate::files;
 use crate::json::Object;
@@ -12,7 +12,8 @@ use crate::out::{Ink, Out, Status, shown};
 use crate::why::{self, counted, grouped};
 use sab::raw::BLOCK;
 use sab::{Block, Identity, Log, Refusal, Unit, Vector};
-use std::collections::BTreeSet;
+use std::cmp::Reverse;
+use std::collections::{BTreeMap, BTreeSet};
 use std::path::{Path, PathBuf};
 
 /// `sab salvage`.
@@ -27,16 +28,26 @@ file what it is, then what the log holds, which records are known of and missing
 and which blocks wait for them. More cards of the same archive, damaged or good,
 fill the gaps: every unit holds the records it has heard of.
 
-    $ sab salvage worn0.sab card1.sab -o mended.sab --unit=0
+    $ sab salvage worn0.sab
     worn0.sab: block 0, bytes 0 to 511: taken, 6 records
-    worn0.sab: block 1, bytes 512 to 1023: refused 4: a sum differs: some byte of the block changed (its sums are 44447 64311, due are 44448 64319)
+    worn0.sab: block 1, bytes 512 to 1023: refused 4: a sum differs: some byte of the block changed (its sums are 15970 39260, due are 15971 39464)
     worn0.sab: block 2, bytes 1024 to 1535: whole, waits for 0.7 to 0.12
-    card1.sab: block 0, bytes 0 to 511: taken, 2 records
-    held: 7 records, seen 6 1 0 0 0 0 0 0
+    held: 6 records, seen 6 0 0 0 0 0 0 0
     missing: 0.7 to 0.14, 8 records
-    mended.sab: SAB1, archive 7, unit 0, 7 records, seen 6 1 0 0 0 0 0 0
-    sab: mended.sab: of its own unit 0.7 to 0.14 are missing
-         it must not act before it has taken them back, from any unit that holds them
+
+Another card of the archive fills the gap, though it is damaged itself:
+
+    $ sab salvage worn0.sab worn1.sab -o mended.sab --unit=0
+    worn0.sab: block 0, bytes 0 to 511: taken, 6 records
+    worn0.sab: block 1, bytes 512 to 1023: refused 4: a sum differs: some byte of the block changed (its sums are 15970 39260, due are 15971 39464)
+    worn0.sab: block 2, bytes 1024 to 1535: whole, held already
+    worn1.sab: block 0, bytes 0 to 511: taken, 1 record
+    worn1.sab: bytes 512 to 521: refused 3: a block does not begin with SAB1 (it begins with 0d 0a 0d 0a)
+    worn1.sab: bytes 522 to 1033: taken, 5 records
+    worn1.sab: bytes 1034 to 1545: taken, 3 records
+    held: 15 records, seen 14 1 0 0 0 0 0 0
+    missing: nothing that these files know of
+    mended.sab: SAB1, archive 12, unit 0, 15 records, seen 14 1 0 0 0 0 0 0
 
 With -o the log is written as a new file. Its unit is the one that the blocks
 name, if they all name the same; else --unit says which.",
@@ -60,6 +71,17 @@ struct Piece {
     at: usize,
     length: usize,
     state: State,
+}
+
+impl Piece {
+    /// Whether it is a whole block of the archive that was not taken.
+    fn is_left(&self) -> bool {
+        match &self.state {
+            State::Waits(_) => true,
+            State::Not(refusal, _) => refusal.number != 6,
+            _ => false,
+        }
+    }
 }
 
 /// What a stretch is, by the library.
@@ -98,10 +120,20 @@ fn run(session: &mut Session) -> Outcome<Status> {
             }
         }
     }
+    if pieces.is_empty() && worst != Status::Yes {
+        return Ok(worst);
+    }
     let found = Found::of(&pieces);
-    let Some(archive) = found.archive(archive)? else {
+    found.tell_archives(&mut session.out, archive);
+    let wanted = archive.or(found.archive());
+    let Some(archive) = wanted.filter(|wanted| found.archives().contains_key(wanted)) else {
         tell_pieces(session, &names, &pieces, &BTreeSet::new());
-        session.out.complain(None, "salvage: no whole block was found", None);
+        let of = archive.map(|archive| format!(" of archive {archive}"));
+        let words = format!(
+            "salvage: no whole block{} was found",
+            of.unwrap_or_default()
+        );
+        session.out.complain(None, words, None);
         return Ok(Status::Refused);
     };
     let own = found.unit(unit, output.is_some(), archive)?;
@@ -110,7 +142,7 @@ fn run(session: &mut Session) -> Outcome<Status> {
     take_all(&mut log, &mut pieces);
     let missing = missing(&log, &known);
     tell_pieces(session, &names, &pieces, &missing);
-    let status = Status::no_if(!missing.is_empty());
+    let status = Status::no_if(!missing.is_empty() || pieces.iter().any(Piece::is_left));
     let vector = log.vector().map_err(of_library(&names[0], Case::Taking))?;
     tell_log(&mut session.out, &log, &vector, &missing);
     if let Some(output) = output {
@@ -171,21 +203,41 @@ impl<'a> Found<'a> {
         }
     }
 
-    /// The archive: the one asked for, or the one that all blocks name.
-    fn archive(&self, asked: Option<u32>) -> Outcome<Option<u32>> {
-        let named: BTreeSet<u32> = self.blocks.iter().map(|block| block.archive()).collect();
-        if asked.is_some() || named.len() <= 1 {
-            return Ok(asked.or(named.first().copied()));
+    /// The archives that blocks name, each with how many do.
+    fn archives(&self) -> BTreeMap<u32, usize> {
+        let mut archives = BTreeMap::new();
+        for block in &self.blocks {
+            *archives.entry(block.archive()).or_default() += 1;
         }
-        Err(usage(format!(
-            "there are blocks of several archives; --archive=N wanted: {}",
-            listed(named)
-        )))
+        archives
+    }
+
+    /// The archive that most blocks name.
+    fn archive(&self) -> Option<u32> {
+        let archives = self.archives().into_iter();
+        let most = archives.max_by_key(|(archive, count)| (*count, Reverse(*archive)));
+        most.map(|(archive, _)| archive)
+    }
+
+    /// Says that there are blocks of several archives, and none was asked for.
+    fn tell_archives(&self, out: &mut Out, asked: Option<u32>) {
+        let archives = self.archives();
+        if asked.is_none() && archives.len() > 1 {
+            let words = format!(
+                "salvage: there are blocks of several archives: {}",
+                listed(archives.keys())
+            );
+            let advice = Some("the one with the most blocks is taken; --archive=N takes another");
+            out.complain(None, words, advice);
+        }
     }
 
     /// The unit: the one asked for, or the one that all blocks name.
     fn unit(&self, asked: Option<Unit>, wanted: bool, archive: u32) -> Outcome<Unit> {
-        let of_archive = self.blocks.iter().filter(|block| block.archive() == archive);
+        let of_archive = self
+            .blocks
+            .iter()
+            .filter(|block| block.archive() == archive);
         let named: BTreeSet<u8> = of_archive.map(|block| block.sender()).collect();
         let only = named.first().copied().unwrap_or_default();
         let only = Unit::try_from(u32::from(only)).unwrap_or(Unit::ALL[0]);
@@ -208,7 +260,11 @@ impl<'a> Found<'a> {
                 *known = (*known).max(*count);
             }
         };
-        for block in self.blocks.iter().filter(|block| block.archive() == archive) {
+        for block in self
+            .blocks
+            .iter()
+            .filter(|block| block.archive() == archive)
+        {
             raise(block.vector().counts());
             for identity in identities(block) {
                 let mut counts = [0; 8];
@@ -286,7 +342,7 @@ fn state_words(piece: &Piece, missing: &BTreeSet<Identity>, each: bool) -> (Stri
             Some(Ink::Alarm),
         ),
         State::Damaged(refusal, detail) => {
-            let words = refusal_words(*refusal, Case::File, detail.as_deref());
+            let words = refusal_words(*refusal, Case::Taking, detail.as_deref());
             (words, Some(Ink::Alarm))
         }
     }
@@ -313,21 +369,26 @@ fn tell_pieces(
         let first = &pieces[at];
         let (words, ink) = state_words(first, missing, each);
         let alike = |piece: &&Piece| {
-            !each && piece.file == first.file && state_words(piece, missing, each).0 == words
+            !each
+                && piece.file == first.file
+                && piece.length == first.length
+                && state_words(piece, missing, each).0 == words
         };
         let run = pieces[at + 1..].iter().take_while(alike).count();
         let last = &pieces[at + run];
         for piece in &pieces[at..=at + run] {
             session.out.object(|| object(&names[piece.file], piece));
         }
-        let ordinal = pieces[..at].iter().filter(|piece| piece.file == first.file).count();
-        let which = match run {
-            0 => format!("block {ordinal}"),
-            _ => format!("blocks {ordinal} to {}", ordinal + run),
+        // A block that lies elsewhere than in a file has no number.
+        let place = first.at / BLOCK;
+        let which = match (run, first.at % BLOCK, last.length) {
+            (0, 0, BLOCK) => format!("block {place}, "),
+            (_, 0, BLOCK) => format!("blocks {place} to {}, ", place + run),
+            _ => String::new(),
         };
         let words = ink.map_or(words.clone(), |ink| session.out.ink(ink, &words));
         session.out.line(format_args!(
-            "{}: {which}, bytes {} to {}: {words}",
+            "{}: {which}bytes {} to {}: {words}",
             shown(&names[first.file]),
             first.at,
             last.at + last.length - 1
@@ -363,7 +424,11 @@ fn tell_log(out: &mut Out, log: &Log, vector: &Vector, missing: &BTreeSet<Identi
             .numbers("vector", vector.counts())
             .texts("missing", &missing)
     });
-    let full = if count == ROOM { ", the log is full" } else { "" };
+    let full = if count == ROOM {
+        ", the log is full"
+    } else {
+        ""
+    };
     out.line(format_args!(
         "held: {}, seen {vector}{full}",
         counted(count, "record")

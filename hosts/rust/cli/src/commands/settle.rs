@@ -16,10 +16,28 @@ Makes a record that settles an aside: someone has looked after it, and the entry
 that it marks is no longer disputed by it. The same as sab act FILE --own-unit=U
 settle RECORD; sab help act says for which files this is.",
     options: &[
-        value("own-unit", None, "U", "the unit whose only home is this machine"),
-        value("date", None, "DATE", "as 2025-03-03; without it today's, in universal time"),
-        flag("dry-run", Some('n'), "say what would happen, and write nothing"),
-        flag("backup", None, "keep the old file under its name with a ~ behind it"),
+        value(
+            "own-unit",
+            None,
+            "U",
+            "the unit whose only home is this machine",
+        ),
+        value(
+            "date",
+            None,
+            "DATE",
+            "as 2025-03-03; without it today's, in universal time",
+        ),
+        flag(
+            "dry-run",
+            Some('n'),
+            "say what would happen, and write nothing",
+        ),
+        flag(
+            "backup",
+            None,
+            "keep the old file under its name with a ~ behind it",
+        ),
     ],
     statuses: "0 settled; 3 the file cannot be read or written; 4 refused: nothing of this identity stands aside",
     run,

@@ -1,6 +1,6 @@
 //! `sab take`: a file takes rows of blocks.
 
-use super::meet::{tell_change, tell_dry_run};
+use super::meet::{tell_change, tell_dry_run, tell_open};
 use super::{Command, Session};
 use crate::archive::{LIMIT, Own};
 use crate::args::flag;
@@ -26,12 +26,15 @@ first that is refused. What was taken before that stays, and the file is replace
 A ROW is a file that sab pack wrote, or any archive file, whose blocks are then
 taken; - is standard input.
 
+    $ sab pack card0.sab --for=card1.sab -o row
+    row: 1 block, 1 record that card1.sab lacks
     $ sab take card1.sab row
-    row: block 1: 2 records: 0.1 0.2; 1 of them held already, compared and equal
+    row: block 1: 1 new record: 0.2; 1 held already is equal
     1 of 1 block taken
     card1.sab: seen 2 1 0 0 0 0 0 0
     card1.sab: newly disputed: trace 0.2 \"Gain\" by 1.1
-    card1.sab: acted, now stands aside: 1.1: reason 15, unit 1 made the trace \"Gain\" in 0.1 \"Bench\" on 2025-03-05; that folder had an entry of this label: 0.2 \"Gain\"
+    card1.sab: 1.1 acted and stands aside now, reason 15: unit 1 wanted to make the trace \"Gain\" in 0.1 \"Bench\" on 2025-03-05
+    1 aside open: sab asides card1.sab tells what to do
 
 If a record is held with other bytes (10), nothing is written at all: a unit used
 a number twice, and that has to be looked after first.",
@@ -63,6 +66,7 @@ fn run(session: &mut Session) -> Outcome<Status> {
         .out
         .line(format_args!("{}: seen {vector}", shown(&names[0])));
     tell_change(session, &own, &log, false)?;
+    tell_open(session, &[(&names[0], &log)])?;
     tell_dry_run(session);
     Ok(status)
 }
@@ -103,7 +107,10 @@ fn row(session: &mut Session, log: &mut Log, name: &Path) -> Outcome<Status> {
             .text("file", shown(name))
             .number("blocks", all as u64)
             .number("taken", taken as u64)
-            .number("stop", stop.as_ref().map_or(0, |(refusal, _)| refusal.number))
+            .number(
+                "stop",
+                stop.as_ref().map_or(0, |(refusal, _)| refusal.number),
+            )
     });
     session
         .out

@@ -58,7 +58,11 @@ fn run(session: &mut Session) -> Outcome<Status> {
     let top = folder.unwrap_or(Identity::ROOT);
     let head = match story.entry(top) {
         None if top.is_root() => {
-            format!("archive {}, unit {}", archive.log.archive(), archive.log.unit())
+            format!(
+                "archive {}, unit {}",
+                archive.log.archive(),
+                archive.log.unit()
+            )
         }
         Some(entry) if entry.kind() == Kind::Folder => described(&story, &session.out, entry),
         _ => {
@@ -76,15 +80,21 @@ fn run(session: &mut Session) -> Outcome<Status> {
     };
     drawing.draw(top, "", 1);
     let totals = story.totals();
-    session
-        .out
-        .line(format_args!("{}; {}", totals.entries(), totals.aside_words()));
+    session.out.line(format_args!(
+        "{}; {}",
+        totals.entries(),
+        totals.aside_words()
+    ));
     Ok(Status::Yes)
 }
 
 /// An entry's line, without the strokes before it.
 fn described(story: &Story, out: &Out, entry: Entry) -> String {
-    let stroke = if entry.kind() == Kind::Folder { "/" } else { "" };
+    let stroke = if entry.kind() == Kind::Folder {
+        "/"
+    } else {
+        ""
+    };
     let facts = out.ink(
         Ink::Faint,
         format_args!("{}  {}", entry.identity(), entry.date()),

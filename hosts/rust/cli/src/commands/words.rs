@@ -1,7 +1,7 @@
 //! `sab help` and `sab version`.
 
 use super::{Command, Session, find, unknown};
-use crate::args::{Usage, flag};
+use crate::args::flag;
 use crate::failure::Outcome;
 use crate::help;
 use crate::json::Object;
@@ -43,17 +43,19 @@ fn run_help(session: &mut Session) -> Outcome<Status> {
     } else if session.args.words().is_empty() {
         help::overview()
     } else {
-        let pages: Vec<String> = session
-            .args
-            .words()
+        let words = session.args.words().iter();
+        let names: Vec<String> = words
+            .map(|word| word.to_string_lossy().into_owned())
+            .collect();
+        if let Some(name) = names.iter().find(|name| find(name).is_none()) {
+            let advice = Some("sab help lists the commands");
+            session.out.complain(None, unknown(name), advice);
+            return Ok(Status::Usage);
+        }
+        let pages: Vec<String> = names
             .iter()
-            .map(|word| {
-                let name = word.to_string_lossy();
-                find(&name)
-                    .map(help::page)
-                    .ok_or_else(|| Usage(unknown(&name)))
-            })
-            .collect::<Result<_, _>>()?;
+            .filter_map(|name| find(name).map(help::page))
+            .collect();
         pages.join("\n")
     };
     session.out.bytes(text.as_bytes());
@@ -67,8 +69,8 @@ fn run_version(session: &mut Session) -> Outcome<Status> {
             .text("version", version)
             .texts("forms", ["SAB1"])
     });
-    session
-        .out
-        .line(format_args!("sab {version}, archive files of the form SAB1"));
+    session.out.line(format_args!(
+        "sab {version}, archive files of the form SAB1"
+    ));
     Ok(Status::Yes)
 }
