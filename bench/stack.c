@@ -31,6 +31,11 @@ static void run_compare(void)
     result = sab_compare(asked, sizeof asked, held, sizeof held);
 }
 
+static void run_vector(void)
+{
+    result = sab_vector(log_bytes, sizeof log_bytes, held, sizeof held);
+}
+
 static void run_start(void)
 {
     result = sab_start(log_bytes, sizeof log_bytes, ARCHIVE, 0);
@@ -79,11 +84,11 @@ struct entry {
 };
 
 static const struct entry ENTRIES[] = {
-    {"sab_compare", run_compare},       {"sab_start", run_start},
-    {"sab_act", run_act},               {"sab_hand_out", run_hand_out},
-    {"sab_take", run_take},             {"sab_write_file", run_write_file},
-    {"sab_read_file", run_read_file},   {"sab_show", run_show},
-    {"sab_listing", run_listing},
+    {"sab_compare", run_compare},       {"sab_vector", run_vector},
+    {"sab_start", run_start},           {"sab_act", run_act},
+    {"sab_hand_out", run_hand_out},     {"sab_take", run_take},
+    {"sab_write_file", run_write_file}, {"sab_read_file", run_read_file},
+    {"sab_show", run_show},             {"sab_listing", run_listing},
 };
 
 static void fail(const char *what)
@@ -120,15 +125,6 @@ static void measure(const struct entry *entry)
     pthread_attr_destroy(&how);
 }
 
-static void counts(const uint8_t *log, uint8_t *vector)
-{
-    size_t at;
-    memset(vector, 0, SAB_VECTOR_BYTES);
-    for (at = 0; at < SAB_LOG_BYTES && (log[at + 2] | log[at + 3]) != 0; at += SAB_RECORD_BYTES)
-        if (++vector[2 * log[at]] == 0)
-            vector[2 * log[at] + 1]++;
-}
-
 /* The first records of the full log. */
 static void first(uint8_t *log, size_t records)
 {
@@ -146,13 +142,13 @@ static void prepare(const struct entry *entry, size_t records)
 {
     uint32_t r;
     first(log_bytes, records);
-    counts(log_bytes, held);
+    run_vector();
     memset(asked, 0, sizeof asked);
     r = sab_write_file(log_bytes, sizeof log_bytes, ARCHIVE, 0, file, sizeof file);
     file_length = SAB_BLOCK_BYTES * SAB_COUNT(r);
     if (entry->run == run_take) {
         first(shorter, least(records, FULL - 6));
-        counts(shorter, asked);
+        sab_vector(shorter, sizeof shorter, asked, sizeof asked);
         r = sab_hand_out(full, sizeof full, ARCHIVE, 0, asked, sizeof asked, block, sizeof block);
     } else if (entry->run == run_act) {
         first(shorter, least(records, FULL - 1));

@@ -50,7 +50,9 @@
  * - The archive number is compared by sab_take and nowhere else. The log does
  *   not hold it.
  * - A log holds 512 records and does not get smaller. A full one refuses new
- *   records (11).
+ *   records (11). A block is taken wholly or not at all, so takes may stop at 507
+ *   records or more: two units with 300 of their own stop at 510 each, and each
+ *   lacks some of the other's for good.
  * - A record that fitted when it was made may stand aside after a meeting, and
  *   the other way round. Show the tree again after every accepted take.
  * - Dates are shown and order nothing.

@@ -8,10 +8,10 @@ ghost use Rattle.model.specs.Log.{recordsOf, soundLog, vectorOf};
 ghost use Rattle.model.specs.Replay.{judge as judgeOf, replay as replayOf};
 ghost use Rattle.model.specs.Outcome.{reasonOf, actNumber, acted, outcome, actOf};
 ghost use Rattle.tree_judge.specs.Judged.{Asks};
-use call_answer::Answer;
-use log_check::check;
 use act_wish::stamp;
 use act_wish::wish_fits;
+use call_answer::Answer;
+use log_check::check;
 use vector::Vector;
 
 // The reason under which a record would stand aside behind the records of a sound log, or 0.

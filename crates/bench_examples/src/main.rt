@@ -71,7 +71,10 @@ fn full() {
     fill(&mut log, 512);
     let w = write_file::write_file(&log, 7, 0, &mut file);
     say(b"512 records, blocks: ", w.blocks as u64);
-    say(b"records in the last: ", byte_slice::wide(file[43529]) as u64);
+    say(
+        b"records in the last: ",
+        byte_slice::wide(file[43529]) as u64,
+    );
     let more = wish(513);
     let a = act::act(&mut log, 7, 0, &more.bytes);
     say(b"a 513th record: ", a.number as u64);

@@ -6,13 +6,13 @@ ghost use lib.ListN.{length};
 ghost use Rattle.model.specs.Record.{unit};
 ghost use Rattle.model.specs.Log.{recordsOf, soundLog, vectorOf};
 ghost use Rattle.model.specs.Outcome.{outcome, handBlock, handOf};
-use call_answer::Answer;
-use hand_out_pick::gather;
-use log_check::check;
-use byte_slice::put;
 use block_write::Block;
 use block_write::block_of;
 use block_write::empty_block;
+use byte_slice::put;
+use call_answer::Answer;
+use hand_out_pick::gather;
+use log_check::check;
 use vector::Vector;
 
 // The block that is handed out.

@@ -8,12 +8,12 @@ ghost use Rattle.read_file_check.specs.Outcome.{readBackOf};
 use block_read::archive_in;
 use block_read::sender_in;
 use block_read::vector_in;
-use read_file_blocks::whole_blocks;
-use read_file_check::file_fault;
-use read_file_check::records_counted;
 use byte_slice::clear;
 use byte_slice::put;
 use file_reader::record_in;
+use read_file_blocks::whole_blocks;
+use read_file_check::file_fault;
+use read_file_check::records_counted;
 use vector::Vector;
 use vector::zero_vector;
 

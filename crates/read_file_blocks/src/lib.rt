@@ -10,8 +10,8 @@ use block_read::count_in;
 use block_read::place_in;
 use block_read::sender_in;
 use block_read::vector_in;
-use vector_compare::compare;
 use vector::Vector;
+use vector_compare::compare;
 
 // A refusal and the place of its block; number 0 for none.
 pub struct Fault {

@@ -6,13 +6,13 @@ ghost use Rattle.model.specs.File.{fault, recordsCounted, fileFault};
 ghost use Rattle.read_file_check.specs.Outcome.{Judges};
 use block_read::count_in;
 use block_read::vector_in;
-use read_file_blocks::Fault;
-use read_file_blocks::blocks_fault;
-use read_file_blocks::same_counts;
 use log_check::Layout;
 use log_check::fresh_places;
 use log_check::fresh_seens;
 use log_check::scan;
+use read_file_blocks::Fault;
+use read_file_blocks::blocks_fault;
+use read_file_blocks::same_counts;
 use vector::Vector;
 
 // The first fault of a file's records and the place of its block, or 0; and without a fault the counts of the records.

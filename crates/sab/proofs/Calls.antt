@@ -1,18 +1,19 @@
 -- What each way out of a call returns and leaves, over plain values.
 -- Assumes nothing.
 use Prim.Native.Nat.{ℕ}
-use mathlib.Core.Path.{_≡_, sym}
-use mathlib.Core.List.{List}
+use mathlib.Core.Path.{_≡_, sym, _∙_}
+use mathlib.Core.List.{List, []}
 use lib.ListN.{length}
 use borrow.Author.Tests.{eq-eqb, ne-eqb}
 use Rattle.model.specs.Bytes.{four, putAt}
 use Rattle.model.specs.Vector.{compareOf, vectorAt}
 use Rattle.model.specs.File.{readOf}
-use Rattle.model.specs.Outcome.{Outcome, outcome, handOf}
+use Rattle.model.specs.Outcome.{Outcome, outcome, startOf, actOf, handOf, takeOf, writeOf}
 use Rattle.byte_slice.proofs.PutAt.{put-whole}
 use Rattle.read_file_check.specs.Outcome.{readBackOf}
 use Rattle.listing.specs.Left.{left, listedOf}
-use Rattle.sab_words.specs.Words.{packed, headOf}
+use Rattle.sab_words.specs.Words.{packed, narrowed, headOf}
+use Rattle.sab_words.proofs.Units.{start-alike, act-alike, hand-alike, take-alike, write-alike}
 use Rattle.sab.specs.Called.{called, wrongBuffer, told, handedOf, headLeft, loadedOf, comparedOf, printed, sizeLeft, printedOf}
 
 -- ---- an outcome in one word
@@ -24,6 +25,22 @@ tells e w = rw (← e, w)
 pub tells-blocks : {n p k j r : ℕ} {log lent : List ℕ} {o : Outcome} → outcome n p log lent k ≡ o → j ≡ k → r ≡ packed n p j → called r log lent ≡ told o
 tells-blocks e h w = tells e (rw h at w)
 
+-- ---- the unit given, in a byte
+
+module _ (u : ℕ) {v r n p : ℕ} (log : List ℕ) {log′ : List ℕ} (given : v ≡ narrowed u) (w : r ≡ packed n p 0) where
+  pub starts : outcome n p log′ [] 0 ≡ startOf v log → called r log′ [] ≡ told (startOf u log)
+  starts e = tells (e ∙ rw given (start-alike u log)) w
+
+  pub acts : (wish : List ℕ) → outcome n p log′ [] 0 ≡ actOf v log wish → called r log′ [] ≡ told (actOf u log wish)
+  acts wish e = tells (e ∙ rw given (act-alike u log wish)) w
+
+  pub takes : (archive : ℕ) (b : List ℕ) → outcome n p log′ [] 0 ≡ takeOf archive v log b → called r log′ [] ≡ told (takeOf archive u log b)
+  takes archive b e = tells (e ∙ rw given (take-alike u log archive b)) w
+
+pub writes : (archive u : ℕ) {v r n p k j : ℕ} (log lent : List ℕ) {lent′ : List ℕ} → v ≡ narrowed u → outcome n p log lent′ k ≡ writeOf archive v log lent → j ≡ k → r ≡ packed n p j
+    → called r log lent′ ≡ told (writeOf archive u log lent)
+writes archive u log lent given e h w = tells-blocks (e ∙ rw given (write-alike u log archive lent)) h w
+
 -- ---- handing out
 
 module _ (archive u : ℕ) {r : ℕ} (log asked lent : List ℕ) where
@@ -31,10 +48,10 @@ module _ (archive u : ℕ) {r : ℕ} (log asked lent : List ℕ) where
   unfolding handedOf wrongBuffer
   asks-wrong a w = rw (ne-eqb (length asked) 16 a, w)
 
-  pub hands : {n p : ℕ} (v : List ℕ) {lent′ : List ℕ} → length asked ≡ 16 → v ≡ vectorAt asked 0 → outcome n p log lent′ 0 ≡ handOf archive u log v lent → r ≡ packed n p 0
+  pub hands : {n p m : ℕ} (v : List ℕ) {lent′ : List ℕ} → length asked ≡ 16 → v ≡ vectorAt asked 0 → m ≡ narrowed u → outcome n p log lent′ 0 ≡ handOf archive m log v lent → r ≡ packed n p 0
       → called r log lent′ ≡ handedOf archive u log asked lent
   unfolding handedOf
-  hands v a h e w = rw (eq-eqb (length asked) 16 a, ← h) (tells e w)
+  hands v a h given e w = rw (eq-eqb (length asked) 16 a, ← h) (tells (e ∙ rw given (hand-alike u log archive v lent)) w)
 
 -- ---- reading a file
 

@@ -2,28 +2,32 @@
 ghost use mathlib.Core.Path.{_≡_};
 ghost use mathlib.Core.List.{[]};
 ghost use Rattle.model.specs.Outcome.{startOf, actOf, takeOf, writeOf, showOf};
+ghost use Rattle.held_vector.specs.Held.{heldOf};
 ghost use Rattle.sab.specs.Called.{called, told, handedOf, loadedOf, comparedOf, printed, printedOf};
 use byte_slice::put32;
 use byte_slice::wide;
-use vector::vector_at;
+use sab_words::narrow;
 use sab_words::pack;
 use sab_words::put_head;
+use vector::vector_at;
 
 // Starts a unit.
 #[no_mangle]
-pub extern "C" fn sab_start(log: &mut [u8], archive: u32, unit: u8) -> u32
+pub extern "C" fn sab_start(log: &mut [u8], archive: u32, unit: u32) -> u32
     ensures { λ r. ⌜ called r (now (log .exit)) [] ≡ told (startOf unit (now (log .entry))) ⌝ }
 {
-    let a = start::start(log, archive, unit);
+    let own = narrow(unit);
+    let a = start::start(log, archive, own);
     pack(a.number, a.place, 0)
 }
 
 // Makes a record of the own unit.
 #[no_mangle]
-pub extern "C" fn sab_act(log: &mut [u8], archive: u32, unit: u8, wish: &[u8]) -> u32
+pub extern "C" fn sab_act(log: &mut [u8], archive: u32, unit: u32, wish: &[u8]) -> u32
     ensures { λ r. ⌜ called r (now (log .exit)) [] ≡ told (actOf unit (now (log .entry)) (now (wish .entry))) ⌝ }
 {
-    let a = act::act(log, archive, unit, wish);
+    let own = narrow(unit);
+    let a = act::act(log, archive, own, wish);
     pack(a.number, a.place, 0)
 }
 
@@ -32,7 +36,7 @@ pub extern "C" fn sab_act(log: &mut [u8], archive: u32, unit: u8, wish: &[u8]) -
 pub extern "C" fn sab_hand_out(
     log: &[u8],
     archive: u32,
-    unit: u8,
+    unit: u32,
     asked: &[u8],
     block: &mut [u8],
 ) -> u32
@@ -42,25 +46,28 @@ pub extern "C" fn sab_hand_out(
         return pack(1, 0, 0);
     }
     let v = vector_at(asked, 0);
-    let a = hand_out::hand_out(log, archive, unit, v, block);
+    let own = narrow(unit);
+    let a = hand_out::hand_out(log, archive, own, v, block);
     pack(a.number, a.place, 0)
 }
 
 // Takes a block, wholly or not at all.
 #[no_mangle]
-pub extern "C" fn sab_take(log: &mut [u8], archive: u32, unit: u8, block: &[u8]) -> u32
+pub extern "C" fn sab_take(log: &mut [u8], archive: u32, unit: u32, block: &[u8]) -> u32
     ensures { λ r. ⌜ called r (now (log .exit)) [] ≡ told (takeOf archive unit (now (log .entry)) (now (block .entry))) ⌝ }
 {
-    let a = take::take(log, archive, unit, block);
+    let own = narrow(unit);
+    let a = take::take(log, archive, own, block);
     pack(a.number, a.place, 0)
 }
 
 // Writes the whole log as a file; the count is that of its blocks.
 #[no_mangle]
-pub extern "C" fn sab_write_file(log: &[u8], archive: u32, unit: u8, file: &mut [u8]) -> u32
+pub extern "C" fn sab_write_file(log: &[u8], archive: u32, unit: u32, file: &mut [u8]) -> u32
     ensures { λ r. ⌜ called r (now (log .entry)) (now (file .exit)) ≡ told (writeOf archive unit (now (log .entry)) (now (file .entry))) ⌝ }
 {
-    let w = write_file::write_file(log, archive, unit, file);
+    let own = narrow(unit);
+    let w = write_file::write_file(log, archive, own, file);
     pack(w.number, w.place, wide(w.blocks))
 }
 
@@ -88,6 +95,15 @@ pub extern "C" fn sab_show(log: &[u8], tree: &mut [u8]) -> u32
 {
     let a = show_tree::show_tree(log, tree);
     pack(a.number, a.place, 0)
+}
+
+// Gives the held vector; the count is that of the records.
+#[no_mangle]
+pub extern "C" fn sab_vector(log: &[u8], vector: &mut [u8]) -> u32
+    ensures { λ r. ⌜ called r (now (log .entry)) (now (vector .exit)) ≡ told (heldOf (now (log .entry)) (now (vector .entry))) ⌝ }
+{
+    let h = held_vector::held_vector(log, vector);
+    pack(h.number, 0, h.records)
 }
 
 // Compares two vectors; the count is the answer.

@@ -1,7 +1,7 @@
-// What a call of the static library returns in one word, and what it writes of a file's head.
+// What a call of the static library returns in one word, the unit that it is given, and what it writes of a file's head.
 ghost use mathlib.Core.Path.{_≡_};
 ghost use lib.ListN.{length};
-ghost use Rattle.sab_words.specs.Words.{packed, headOf};
+ghost use Rattle.sab_words.specs.Words.{packed, narrowed, headOf};
 use byte_slice::put;
 use byte_slice::put16;
 use byte_slice::put32;
@@ -15,6 +15,16 @@ pub fn pack(number: u8, place: u8, count: u16) -> u32
     ensures { λ r. ⌜ r ≡ packed number place count ⌝ }
 {
     wide32(number) + 256 * wide32(place) + 65536 * wider(count)
+}
+
+// The own unit in a byte. Above 7 all are alike, and so is the byte.
+pub fn narrow(unit: u32) -> u8
+    ensures { λ r. ⌜ r ≡ narrowed unit ⌝ }
+{
+    if 7 < unit {
+        return 255;
+    }
+    unit as u8
 }
 
 // What a file says of itself is written.

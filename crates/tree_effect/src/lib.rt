@@ -21,7 +21,12 @@ pub fn add_entry(rec: &[u8], table: &mut [u8], register: &mut [u16], size: Size)
     tree_table::fill_row(&mut table[at..at + 72], rec);
     let s = tree_maps::slot(tree_table::self_of(rec));
     hash_chains::put(register, s, size.entries + 1);
-    tree_maps::enter(register, tree_table::folder_of(rec), &rec[32..64], size.entries);
+    tree_maps::enter(
+        register,
+        tree_table::folder_of(rec),
+        &rec[32..64],
+        size.entries,
+    );
     Size {
         entries: size.entries + 1,
         asides: size.asides,

@@ -7,12 +7,12 @@ ghost use Rattle.model.specs.Bytes.{padded, putAt};
 ghost use Rattle.model.specs.Log.{recordsOf, soundLog, vectorOf};
 ghost use Rattle.model.specs.File.{blockCount, fileOf};
 ghost use Rattle.model.specs.Outcome.{outcome, writeOf};
+use byte_slice::clear;
+use log_check::check;
+use vector::Vector;
 use write_file_blocks::block_count;
 use write_file_blocks::file_block;
 use write_file_blocks::write_at;
-use log_check::check;
-use byte_slice::clear;
-use vector::Vector;
 
 // What writing a file answers: the number, 0 for success, and the count of blocks.
 pub struct Written {

@@ -142,6 +142,36 @@ pub fn markdown() -> String {
     text
 }
 
+/// A text with its lines cut at a width: paragraphs, and steps that begin with a
+/// number and are indented.
+pub fn wrapped(text: &str, width: usize) -> String {
+    let mut lines: Vec<String> = Vec::new();
+    let mut indent = "";
+    let mut fresh = true;
+    for line in text.lines() {
+        let step = line.starts_with(|letter: char| letter.is_ascii_digit());
+        if step || line.is_empty() {
+            fresh = true;
+            indent = if step { "   " } else { "" };
+        }
+        if line.is_empty() {
+            lines.push(String::new());
+        }
+        for word in line.split_whitespace() {
+            match lines.last_mut() {
+                Some(last) if !fresh && last.len() + 1 + word.len() <= width => {
+                    last.push(' ');
+                    last.push_str(word);
+                }
+                _ if fresh => lines.push(word.to_string()),
+                _ => lines.push(format!("{indent}{word}")),
+            }
+            fresh = false;
+        }
+    }
+    lines.join("\n")
+}
+
 fn capital(words: &str) -> String {
     let mut letters = words.chars();
     let first = letters.next().map(|letter| letter.to_ascii_uppercase());

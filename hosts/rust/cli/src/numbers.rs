@@ -42,6 +42,35 @@ pub struct Row {
     pub advice: Words,
 }
 
+/// A number of which more is to be said than fits a row.
+pub struct Section {
+    /// The number.
+    pub number: u8,
+    /// What it comes to.
+    pub title: &'static str,
+    /// How it comes about, and how to go on.
+    pub text: &'static str,
+}
+
+/// The sections behind the table.
+pub const SECTIONS: &[Section] = &[
+    Section {
+        number: 10,
+        title: "a number was used twice",
+        text: include_str!("card/10.md"),
+    },
+    Section {
+        number: 11,
+        title: "the log is full",
+        text: include_str!("card/11.md"),
+    },
+];
+
+/// The section of a number.
+pub fn section(number: u8) -> Option<&'static Section> {
+    SECTIONS.iter().find(|section| section.number == number)
+}
+
 use Words::{Always, By};
 
 /// The table.
@@ -145,10 +174,9 @@ pub const ROWS: &[Row] = &[
     Row {
         number: 10,
         cause: Always("a held record came with other bytes"),
-        fault: "peer, or own log",
+        fault: "some unit, found out as under 10",
         advice: Always(
-            "a unit used its numbers twice, after its log was lost: that unit must take its old records from a \
-             peer before it makes new ones; until then do not meet it",
+            "a number was used twice: stop all meetings and acts, and go on as under 10 (`sab explain 10`)",
         ),
     },
     Row {
@@ -157,8 +185,11 @@ pub const ROWS: &[Row] = &[
         fault: "own log (full); in a file, peer",
         advice: By {
             file: Some("the writer was faulty: name the card's unit to the workshop"),
-            taking: Some("no record can be added to this archive: begin a new one"),
-            act: Some("no record can be added to this archive: begin a new one"),
+            taking: Some(
+                "the two hold more than 512 records together: nothing is lost, but no meeting will finish; go on \
+                 as under 11 (`sab explain 11`)",
+            ),
+            act: Some("this log takes no record any more: go on as under 11 (`sab explain 11`)"),
         },
     },
     Row {
@@ -300,32 +331,10 @@ fn capital(word: &str) -> String {
     }
 }
 
-const CARD_HEAD: &str = "\
-# Field card: what a refusal means at the bench
-
-`readout` prints the archive, or one line `refused N at P`: N is the number below, P the block of 512 bytes, counted from 0, in which
-the fault was found (the file's byte 512 × P is its first). `sab check` says the same in words, with the bytes, and `sab explain N`
-prints a row of this card. The checks go in a fixed order and the first fault is told, so mend one and read again. The library gives
-the same numbers to its callers; a refusal never changes a byte.
-
-";
-
-const CARD_TAIL: &str = "
-In `readout` only 2, 3, 4, 5, 7, 8, 9, 11 and 20 can come. Reasons 12 to 18 also stand behind `reason` in an aside's line: there they
-say why a record gave way, and the line names the entry it collides with. `open` waits for a person; `settled` was dealt with.
-`sab asides` tells of each who made it, what and when, and what to do.
-
-A damaged card, as an example (one byte of examples/bench.sab was changed):
-
-    target/bin/readout < examples/damaged.sab
-
-    refused 4 at 0
-";
-
 /// The whole of docs/FIELD-CARD.md.
 pub fn field_card() -> String {
-    let mut card = String::from(CARD_HEAD);
-    card += "| No. | Cause | Whose fault | What to do next |\n|---|---|---|---|\n";
+    let mut card = String::from(include_str!("card/head.md"));
+    card += "\n| No. | Cause | Whose fault | What to do next |\n|---|---|---|---|\n";
     for row in ROWS {
         card += &format!(
             "| {} | {} | {} | {} |\n",
@@ -335,7 +344,16 @@ pub fn field_card() -> String {
             row.advice.all()
         );
     }
-    card + CARD_TAIL
+    card += "\n";
+    card += include_str!("card/tail.md");
+    for section in SECTIONS {
+        card += &format!(
+            "\n## {}: {}\n\n{}",
+            section.number, section.title, section.text
+        );
+    }
+    card += "\n";
+    card + include_str!("card/example.md")
 }
 
 #[cfg(test)]
@@ -353,12 +371,9 @@ mod tests {
         assert_eq!(advice(8, Case::Act), None);
         assert!(advice(8, Case::Taking).is_some());
         assert_eq!(advice(4, Case::File), advice(4, Case::Taking));
-        assert!(
-            row(11)
-                .unwrap()
-                .advice
-                .all()
-                .contains("Block or act: no record")
+        assert_eq!(
+            row(7).unwrap().cause.all(),
+            "File or block: a record is malformed. Act: the wish is malformed"
         );
     }
 }

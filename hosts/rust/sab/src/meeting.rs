@@ -29,10 +29,10 @@ use std::fmt;
 ///     // Send the vector; the giver answers with a block.
 ///     let block = giver.hand_out(&asking.vector())?;
 ///     match asking.take(&mut taker, &block) {
-///         Ok(true) => continue,                          // store the log, ask on
-///         Ok(false) => break,                            // nothing is lacking
-///         Err(refusal) if refusal.is_damage() => continue, // ask again
-///         Err(refusal) => return Err(refusal),           // end the meeting
+///         Ok(true) => (),                            // store the log, ask on
+///         Ok(false) => break,                        // nothing is lacking
+///         Err(refusal) if refusal.is_damage() => (), // ask again
+///         Err(refusal) => return Err(refusal),       // the meeting ends
 ///     }
 /// }
 /// assert_eq!(taker.vector()?, giver.vector()?);

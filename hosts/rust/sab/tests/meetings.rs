@@ -203,6 +203,42 @@ fn number_used_twice_further_back() {
     assert_eq!(Asking::thorough().pass(&same, &mut one.clone()).blocks, 4);
 }
 
+/// What docs/FIELD-CARD.md says to do after a 10.
+#[test]
+fn mended() {
+    let mut units: Vec<Log> = (0..3).map(start).collect();
+    let [one, other, third] = &mut units[..] else {
+        unreachable!()
+    };
+    traces(one, 4);
+    assert!(meet(one, other).is_complete());
+    // Unit 0 is started and acts; unit 2, which knew nothing of it, takes that.
+    *one = start(0);
+    trace(one, "again", 1);
+    assert!(meet(one, third).is_complete());
+    traces(third, 2);
+    assert!(meet(one, third).is_complete());
+    assert_eq!(meet(one, other).refusal(), Some(Refusal::new(10)));
+    assert_eq!(meet(third, other).refusal(), Some(Refusal::new(10)));
+    // Unit 1 is right; it has taken 2.1 and 2.2 before the other meeting ended.
+    // The others are started, all before any of them acts.
+    *one = start(0);
+    *third = start(2);
+    assert!(pass(other, one).refusal.is_none());
+    assert!(pass(other, third).refusal.is_none());
+    trace(one, "again", 1);
+    traces(third, 2);
+    for _ in 0..2 {
+        assert!(meet(one, other).is_complete());
+        assert!(meet(one, third).is_complete());
+    }
+    for log in [&mut *other, &mut *third] {
+        assert_eq!(Asking::thorough().pass(one, log).refusal, None);
+        assert_eq!(one.as_bytes(), log.as_bytes());
+    }
+    assert_eq!(one.vector(), Ok(Vector::from([5, 0, 4, 0, 0, 0, 0, 0])));
+}
+
 /// Blocks that are lost, damaged, doubled and late.
 #[test]
 fn bad_links() {

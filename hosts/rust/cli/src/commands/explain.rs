@@ -3,8 +3,9 @@
 use super::{Command, Session};
 use crate::args::{as_text, flag, number};
 use crate::failure::{Outcome, usage};
+use crate::help::wrapped;
 use crate::json::Object;
-use crate::numbers::{ROWS, Row, field_card, row};
+use crate::numbers::{ROWS, Row, field_card, row, section};
 use crate::out::{Ink, Status};
 
 /// `sab explain`.
@@ -81,5 +82,10 @@ fn tell(session: &mut Session, row: &Row) {
         session.out.line(format_args!(
             "{indent}of an aside: {aside}; sab asides tells what to do"
         ));
+    }
+    if let Some(section) = section(row.number) {
+        session
+            .out
+            .line(format_args!("\n{}", wrapped(section.text, 80)));
     }
 }
