@@ -3,3 +3,4 @@ pub mod Marks
 pub mod Stepping
 pub mod Playing
 pub mod Sound
+pub mod Registers
