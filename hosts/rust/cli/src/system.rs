@@ -115,7 +115,8 @@ impl From<fs::Metadata> for Facts {
 
 /// Reads so many bytes at the most.
 fn read_some(from: impl Read, limit: usize) -> io::Result<Vec<u8>> {
-    let mut bytes = Vec::new();
+    // The greatest archive file at once; a longer one grows.
+    let mut bytes = Vec::with_capacity(limit.min(1 << 16));
     from.take(limit as u64).read_to_end(&mut bytes)?;
     Ok(bytes)
 }
@@ -134,9 +135,10 @@ impl OpenFile for File {
     }
 
     fn read(&mut self, limit: usize) -> io::Result<Vec<u8>> {
-        // A pipe has no beginning to go back to.
-        if self.metadata()?.is_file() {
-            self.rewind()?;
+        match self.rewind() {
+            // A pipe has no beginning to go back to.
+            Err(error) if error.kind() == io::ErrorKind::NotSeekable => {}
+            other => other?,
         }
         read_some(self, limit)
     }

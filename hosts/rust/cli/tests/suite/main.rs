@@ -10,3 +10,4 @@ mod made;
 mod meetings;
 mod pages;
 mod power;
+mod start;
