@@ -153,10 +153,14 @@ impl OpenFile for File {
         if own.owner != like.owner {
             let _ = fchown(self, Some(like.owner.0), Some(like.owner.1));
         }
-        if own.mode != like.mode {
-            self.set_permissions(Permissions::from_mode(like.mode & 0o777))?;
+        if own.mode == like.mode {
+            return Ok(());
         }
-        Ok(())
+        match self.set_permissions(Permissions::from_mode(like.mode & 0o777)) {
+            // A file system where all files have one mode, as FAT.
+            Err(error) if error.kind() == io::ErrorKind::PermissionDenied => Ok(()),
+            other => other,
+        }
     }
 
     fn sync(&self) -> io::Result<()> {
