@@ -153,7 +153,7 @@ impl<'a> Held<'a> {
         for _ in 0..TRIES {
             let facts = system.facts(&path).map_err(cannot)?;
             changeable(name, &facts)?;
-            let mut file = system.open(&path).map_err(cannot)?;
+            let mut file = system.open_writable(&path).map_err(cannot)?;
             if !file
                 .lock()
                 .map_err(|error| failed(name, "cannot be locked", &error))?

@@ -65,6 +65,8 @@ pub trait System {
     fn facts(&self, path: &Path) -> io::Result<Facts>;
     /// Opens a file for reading.
     fn open(&self, path: &Path) -> io::Result<Box<dyn OpenFile>>;
+    /// Opens a file that is to be replaced: one that may be written.
+    fn open_writable(&self, path: &Path) -> io::Result<Box<dyn OpenFile>>;
     /// Makes a file, of a name that is free, for writing and reading.
     fn create(&self, path: &Path) -> io::Result<Box<dyn OpenFile>>;
     /// Gives a file another name, in place of the file that had it.
@@ -179,6 +181,11 @@ impl System for Machine {
 
     fn open(&self, path: &Path) -> io::Result<Box<dyn OpenFile>> {
         Ok(Box::new(File::open(path)?))
+    }
+
+    fn open_writable(&self, path: &Path) -> io::Result<Box<dyn OpenFile>> {
+        let file = OpenOptions::new().read(true).write(true).open(path)?;
+        Ok(Box::new(file))
     }
 
     fn create(&self, path: &Path) -> io::Result<Box<dyn OpenFile>> {
