@@ -153,7 +153,7 @@ impl<'a> Held<'a> {
         for _ in 0..TRIES {
             let facts = system.facts(&path).map_err(cannot)?;
             changeable(name, &facts)?;
-            let mut file = system.open(&path).map_err(cannot)?;
+            let mut file = system.open_writable(&path).map_err(cannot)?;
             if !file
                 .lock()
                 .map_err(|error| failed(name, "cannot be locked", &error))?
@@ -216,20 +216,24 @@ impl<'a> Held<'a> {
             )?;
             old.put_over(&beside)?;
         }
+        self.put(new, good).map_err(|trouble| Trouble {
+            file: self.name.clone(),
+            ..trouble
+        })
+    }
+
+    fn put(&self, new: &[u8], good: &dyn Fn(&[u8]) -> bool) -> Done<()> {
         let part = Part::write(self.system, &self.path, new, Some(&self.facts), good)?;
-        let now = self
-            .system
-            .facts(&self.path)
-            .map_err(|error| failed(&self.name, "cannot be replaced", &error));
+        let now = self.system.facts(&self.path);
         match now {
             Ok(now) if now == self.facts => part.put_over(&self.path),
             Ok(_) => {
                 part.discard();
-                Err(trouble(&self.name, CHANGED).advise(CHANGED_ADVICE))
+                Err(trouble(&self.path, CHANGED).advise(CHANGED_ADVICE))
             }
-            Err(trouble) => {
+            Err(error) => {
                 part.discard();
-                Err(trouble)
+                Err(failed(&self.path, "cannot be replaced", &error))
             }
         }
     }

@@ -65,6 +65,8 @@ pub trait System {
     fn facts(&self, path: &Path) -> io::Result<Facts>;
     /// Opens a file for reading.
     fn open(&self, path: &Path) -> io::Result<Box<dyn OpenFile>>;
+    /// Opens a file that is to be replaced: one that may be written.
+    fn open_writable(&self, path: &Path) -> io::Result<Box<dyn OpenFile>>;
     /// Makes a file, of a name that is free, for writing and reading.
     fn create(&self, path: &Path) -> io::Result<Box<dyn OpenFile>>;
     /// Gives a file another name, in place of the file that had it.
@@ -153,10 +155,14 @@ impl OpenFile for File {
         if own.owner != like.owner {
             let _ = fchown(self, Some(like.owner.0), Some(like.owner.1));
         }
-        if own.mode != like.mode {
-            self.set_permissions(Permissions::from_mode(like.mode & 0o777))?;
+        if own.mode == like.mode {
+            return Ok(());
         }
-        Ok(())
+        match self.set_permissions(Permissions::from_mode(like.mode & 0o777)) {
+            // A file system where all files have one mode, as FAT.
+            Err(error) if error.kind() == io::ErrorKind::PermissionDenied => Ok(()),
+            other => other,
+        }
     }
 
     fn sync(&self) -> io::Result<()> {
@@ -175,6 +181,11 @@ impl System for Machine {
 
     fn open(&self, path: &Path) -> io::Result<Box<dyn OpenFile>> {
         Ok(Box::new(File::open(path)?))
+    }
+
+    fn open_writable(&self, path: &Path) -> io::Result<Box<dyn OpenFile>> {
+        let file = OpenOptions::new().read(true).write(true).open(path)?;
+        Ok(Box::new(file))
     }
 
     fn create(&self, path: &Path) -> io::Result<Box<dyn OpenFile>> {

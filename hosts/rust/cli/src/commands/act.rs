@@ -31,8 +31,8 @@ Makes a record of the file's own unit, if it fits the tree, and replaces the fil
 FOLDER, TRACE, ENTRY and RECORD are identities, as 0.2; sab tree and sab asides
 show them; without --in a make goes into the root. MARK is 32 hexadecimal digits.
 
-    $ sab new office.sab --archive=7 --unit=7
-    office.sab: SAB1, archive 7, unit 7, 0 records
+    $ sab new office.sab --archive=12 --unit=7
+    office.sab: SAB1, archive 12, unit 7, 0 records
     $ sab act office.sab --own-unit=7 make-folder Bench --date=2025-03-03
     7.1: unit 7 made the folder \"Bench\" in the root on 2025-03-03
 

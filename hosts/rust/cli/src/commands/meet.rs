@@ -80,17 +80,18 @@ fn run(session: &mut Session) -> Outcome<Status> {
     let (mut one, mut other) = (first.archive.log.clone(), second.archive.log.clone());
     let to_second = pass(&one, &mut other, &mut room);
     let to_first = pass(&other, &mut one, &mut room);
-    let (name_one, name_other) = (shown(&names[0]), shown(&names[1]));
-    tell_blocks(&mut session.out, &name_one, &name_other, &to_second);
-    tell_blocks(&mut session.out, &name_other, &name_one, &to_first);
-
-    let mut status = ended(session, &names[1], &to_second)?;
-    status = status.max(ended(session, &names[0], &to_first)?);
+    deny_refused(&names[1], &to_second)?;
+    deny_refused(&names[0], &to_first)?;
     if !session.args.has("dry-run") {
         let backup = session.args.has("backup");
         second.replace(&other, backup)?;
         first.replace(&one, backup)?;
     }
+    let (name_one, name_other) = (shown(&names[0]), shown(&names[1]));
+    tell_blocks(&mut session.out, &name_one, &name_other, &to_second);
+    tell_blocks(&mut session.out, &name_other, &name_one, &to_first);
+    let status = tell_end(session, &names[1], &to_second);
+    let status = status.max(tell_end(session, &names[0], &to_first));
     let equal = tell_vectors(session, (&names[0], &one), (&names[1], &other))?;
     tell_change(session, &first, &one, equal)?;
     tell_change(session, &second, &other, equal)?;
@@ -131,27 +132,36 @@ fn deny_both(first: &Own, second: &Own) -> Outcome<()> {
     Ok(())
 }
 
-/// What the end of a passing comes to. A full log or a limit stops it; any other
-/// refusal ends the command, and nothing is written.
-pub fn ended(session: &mut Session, to: &Path, passed: &Passed) -> Outcome<Status> {
-    match &passed.end {
-        End::Whole => Ok(Status::Yes),
-        End::Cut => {
-            let advice = Some("run the same command again to go on");
-            session
-                .out
-                .complain(Some(to), "stopped by --max-blocks; more is lacking", advice);
-            Ok(Status::No)
-        }
-        End::Stopped(refusal, detail) => {
-            let refused = Refused::new(to, *refusal, Case::Taking, detail.clone());
-            if refusal.number != 11 {
-                return Err(Failure::Refused(refused));
-            }
-            refused.tell(&mut session.out);
-            Ok(Status::No)
-        }
+/// The refusal that stopped a passing, if one did.
+fn stop(to: &Path, passed: &Passed) -> Option<Refused> {
+    let End::Stopped(refusal, detail) = &passed.end else {
+        return None;
+    };
+    Some(Refused::new(to, *refusal, Case::Taking, detail.clone()))
+}
+
+/// A refusal other than that of a full log ends the command, and nothing is
+/// written.
+pub fn deny_refused(to: &Path, passed: &Passed) -> Outcome<()> {
+    match stop(to, passed) {
+        Some(refused) if refused.refusal.number != 11 => Err(Failure::Refused(refused)),
+        _ => Ok(()),
     }
+}
+
+/// Says what stopped a passing, a full log or a limit; no if something did.
+pub fn tell_end(session: &mut Session, to: &Path, passed: &Passed) -> Status {
+    if let Some(refused) = stop(to, passed) {
+        refused.tell(&mut session.out);
+        return Status::No;
+    }
+    if matches!(passed.end, End::Cut) {
+        let words = "stopped by --max-blocks; more is lacking";
+        let advice = Some("run the same command again to go on");
+        session.out.complain(Some(to), words, advice);
+        return Status::No;
+    }
+    Status::Yes
 }
 
 /// Says what both hold; whether that is the same, by the library.

@@ -15,7 +15,15 @@ pub const COMMAND: Command = Command {
     summary: "begin an archive file without records",
     page: "\
 Writes a new file: an archive number of 32 bits that all units of one archive
-share, a unit number of its own from 0 to 7, and no records.
+share, a unit number of its own from 0 to 7, and no records. A laptop or an office
+that wants to make records begins so, with a unit number that nobody else has, and
+takes what is on a card:
+
+    $ sab new office.sab --archive=12 --unit=7
+    office.sab: SAB1, archive 12, unit 7, 0 records
+    $ sab pass card0.sab office.sab
+    card0.sab -> office.sab  block 1: 2 new records: 0.1, 0.2
+    office.sab: seen 2 0 0 0 0 0 0 0
 
 A unit number belongs to one home for ever. Do not begin anew a unit that has made
 records: it would use its numbers twice. A unit that lost its file gets its

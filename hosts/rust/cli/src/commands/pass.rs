@@ -1,6 +1,8 @@
 //! `sab pass`: one way of a meeting.
 
-use super::meet::{deny_one_file, ended, room, tell_change, tell_dry_run, tell_open};
+use super::meet::{
+    deny_one_file, deny_refused, room, tell_change, tell_dry_run, tell_end, tell_open,
+};
 use super::{Command, Session, meet};
 use crate::archive::{Archive, Own};
 use crate::failure::{Outcome, of_library};
@@ -34,12 +36,13 @@ fn run(session: &mut Session) -> Outcome<Status> {
 
     let mut log = to.archive.log.clone();
     let passed = pass(&from.log, &mut log, &mut room);
-    let (from_name, to_name) = (from.shown(), to.archive.shown());
-    tell_blocks(&mut session.out, &from_name, &to_name, &passed);
-    let status = ended(session, &names[1], &passed)?;
+    deny_refused(&names[1], &passed)?;
     if !session.args.has("dry-run") {
         to.replace(&log, session.args.has("backup"))?;
     }
+    let (from_name, to_name) = (from.shown(), to.archive.shown());
+    tell_blocks(&mut session.out, &from_name, &to_name, &passed);
+    let status = tell_end(session, &names[1], &passed);
     let vector = log.vector().map_err(of_library(&names[1], Case::Taking))?;
     session
         .out

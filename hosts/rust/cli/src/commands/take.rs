@@ -7,13 +7,13 @@ use crate::args::flag;
 use crate::failure::{Failure, Outcome, Refused, of_library};
 use crate::files;
 use crate::json::Object;
-use crate::meeting::{self, given_words};
+use crate::meeting::{self, Given, given_words};
 use crate::numbers::Case;
 use crate::out::{Status, shown};
 use crate::why::{self, counted};
 use sab::raw::BLOCK;
 use sab::{Block, Log};
-use std::path::Path;
+use std::path::{Path, PathBuf};
 
 /// `sab take`.
 pub const COMMAND: Command = Command {
@@ -30,7 +30,7 @@ taken; - is standard input.
     row: 1 block, 1 record that card1.sab lacks
     $ sab take card1.sab row
     row: block 1: 1 new record: 0.2; 1 held already is equal
-    1 of 1 block taken
+    row: 1 of 1 block taken
     card1.sab: seen 2 1 0 0 0 0 0 0
     card1.sab: newly disputed: trace 0.2 \"Gain\" by 1.1
     card1.sab: 1.1 acted and stands aside now, reason 15: unit 1 wanted to make the trace \"Gain\" in 0.1 \"Bench\" on 2025-03-05
@@ -51,16 +51,27 @@ fn run(session: &mut Session) -> Outcome<Status> {
     let names = session.args.files(2..=usize::MAX, "FILE and ROW..")?;
     let own = Own::open(session.system, &names[0])?;
     let mut log = own.archive.log.clone();
-    let mut status = Status::Yes;
+    let mut rows = Vec::new();
     for name in &names[1..] {
-        status = row(session, &mut log, name)?;
-        if status != Status::Yes {
+        let row = Row::take(session, &mut log, name)?;
+        let stopped = row.stop.is_some();
+        rows.push(row);
+        if stopped {
             break;
         }
+    }
+    let twice = |row: &Row| {
+        row.stop
+            .as_ref()
+            .is_some_and(|stop| stop.refusal.number == 10)
+    };
+    if let Some(refused) = rows.pop_if(|row| twice(row)).and_then(|row| row.stop) {
+        return Err(Failure::Refused(refused));
     }
     if !session.args.has("dry-run") {
         own.replace(&log, session.args.has("backup"))?;
     }
+    rows.iter().for_each(|row| row.tell(session));
     let vector = log.vector().map_err(of_library(&names[0], Case::Taking))?;
     session
         .out
@@ -68,65 +79,75 @@ fn run(session: &mut Session) -> Outcome<Status> {
     tell_change(session, &own, &log, false)?;
     tell_open(session, &[(&names[0], &log)])?;
     tell_dry_run(session);
-    Ok(status)
+    Ok(Status::no_if(rows.iter().any(|row| row.stop.is_some())))
 }
 
-/// Takes a row; no if it stopped at a block.
-fn row(session: &mut Session, log: &mut Log, name: &Path) -> Outcome<Status> {
-    let read = files::read(session.system, name, LIMIT)?;
-    // The length is judged as that of a file: 1 to 86 whole blocks.
-    if let Err(refusal) = Log::read_file(&read.bytes)
-        && refusal.number == 2
-    {
-        let detail = why::of_file(&read.bytes, read.length, refusal);
-        let refused = Refused::new(name, refusal, Case::File, detail);
-        return Err(Failure::Refused(refused));
-    }
-    let all = read.bytes.len() / BLOCK;
-    let mut stop = None;
-    let mut taken = 0;
-    for bytes in read.bytes.chunks(BLOCK) {
-        let block = Block::try_from(bytes).map_err(of_library(name, Case::Taking))?;
-        match meeting::take(log, &block, |log| log.take(block)) {
-            Ok(given) => {
-                taken += 1;
-                session.out.line(format_args!(
-                    "{}: block {taken}: {}",
-                    shown(name),
-                    given_words(&given)
-                ));
-            }
-            Err(refusal) => {
-                stop = Some((refusal, why::of_block(bytes, log, refusal)));
-                break;
+/// A row that was taken, as far as it went.
+struct Row {
+    name: PathBuf,
+    blocks: usize,
+    taken: Vec<Given>,
+    stop: Option<Refused>,
+}
+
+impl Row {
+    fn take(session: &Session, log: &mut Log, name: &Path) -> Outcome<Row> {
+        let read = files::read(session.system, name, LIMIT)?;
+        // The length is judged as that of a file: 1 to 86 whole blocks.
+        if let Err(refusal) = Log::read_file(&read.bytes)
+            && refusal.number == 2
+        {
+            let detail = why::of_file(&read.bytes, read.length, refusal);
+            let refused = Refused::new(name, refusal, Case::File, detail);
+            return Err(Failure::Refused(refused));
+        }
+        let mut row = Row {
+            name: name.to_path_buf(),
+            blocks: read.bytes.len() / BLOCK,
+            taken: Vec::new(),
+            stop: None,
+        };
+        for bytes in read.bytes.chunks(BLOCK) {
+            let block = Block::try_from(bytes).map_err(of_library(name, Case::Taking))?;
+            match meeting::take(log, &block, |log| log.take(block)) {
+                Ok(given) => row.taken.push(given),
+                Err(refusal) => {
+                    let place = format!("block {} of the row", row.taken.len() + 1);
+                    let detail = match why::of_block(bytes, log, refusal) {
+                        Some(detail) => format!("{place}: {detail}"),
+                        None => place,
+                    };
+                    row.stop = Some(Refused::new(name, refusal, Case::Taking, Some(detail)));
+                    break;
+                }
             }
         }
+        Ok(row)
     }
-    session.out.object(|| {
-        Object::new("row")
-            .text("file", shown(name))
-            .number("blocks", all as u64)
-            .number("taken", taken as u64)
-            .number(
-                "stop",
-                stop.as_ref().map_or(0, |(refusal, _)| refusal.number),
-            )
-    });
-    session
-        .out
-        .line(format_args!("{taken} of {} taken", counted(all, "block")));
-    let Some((refusal, detail)) = stop else {
-        return Ok(Status::Yes);
-    };
-    let place = format!("block {} of the row", taken + 1);
-    let detail = match detail {
-        Some(detail) => format!("{place}: {detail}"),
-        None => place,
-    };
-    let refused = Refused::new(name, refusal, Case::Taking, Some(detail));
-    if refusal.number == 10 {
-        return Err(Failure::Refused(refused));
+
+    fn tell(&self, session: &mut Session) {
+        let name = shown(&self.name);
+        session.out.object(|| {
+            let stop = self.stop.as_ref().map_or(0, |stop| stop.refusal.number);
+            Object::new("row")
+                .text("file", &name)
+                .number("blocks", self.blocks as u64)
+                .number("taken", self.taken.len() as u64)
+                .number("stop", stop)
+        });
+        for (at, given) in self.taken.iter().enumerate() {
+            let words = given_words(given);
+            session
+                .out
+                .line(format_args!("{name}: block {}: {words}", at + 1));
+        }
+        session.out.line(format_args!(
+            "{name}: {} of {} taken",
+            self.taken.len(),
+            counted(self.blocks, "block")
+        ));
+        if let Some(stop) = &self.stop {
+            stop.tell(&mut session.out);
+        }
     }
-    refused.tell(&mut session.out);
-    Ok(Status::No)
 }

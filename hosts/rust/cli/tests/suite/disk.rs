@@ -284,6 +284,10 @@ impl System for Disk {
         }))
     }
 
+    fn open_writable(&self, path: &Path) -> io::Result<Box<dyn OpenFile>> {
+        self.open(path)
+    }
+
     fn create(&self, path: &Path) -> io::Result<Box<dyn OpenFile>> {
         let mut state = self.0.borrow_mut();
         state.step()?;

@@ -1,6 +1,7 @@
 //! Meetings killed at random moments, then run again: they end as the uncut one.
 //! `SAB_KILLS` says how many; without it 50.
 
+use crate::chance::Chance;
 use crate::common::Folder;
 use crate::here::{sab, spawn};
 use crate::made::card;
@@ -22,18 +23,6 @@ fn meet(one: &Path, other: &Path) -> Command {
         .stdout(Stdio::null())
         .stderr(Stdio::null());
     command
-}
-
-/// Numbers by chance, the same for the same seed.
-struct Chance(u64);
-
-impl Chance {
-    fn below(&mut self, limit: u64) -> u64 {
-        self.0 ^= self.0 << 13;
-        self.0 ^= self.0 >> 7;
-        self.0 ^= self.0 << 17;
-        self.0 % limit.max(1)
-    }
 }
 
 #[test]
@@ -59,7 +48,7 @@ fn killed_and_met_again() {
     let mut found = [0; 3];
     for _ in 0..kills {
         put();
-        let delay = Duration::from_nanos(chance.below(whole.as_nanos() as u64));
+        let delay = Duration::from_nanos(chance.below(whole.as_nanos() as usize) as u64);
         let mut child = spawn(&mut meet(&one, &other));
         sleep(delay);
         child.kill().unwrap();

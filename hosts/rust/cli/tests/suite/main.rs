@@ -1,5 +1,6 @@
 //! Tests of the command as a whole.
 
+mod chance;
 #[path = "../common/mod.rs"]
 mod common;
 mod conformance;
