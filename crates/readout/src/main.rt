@@ -19,11 +19,11 @@ fn output(failed: bool, file: &[u8], text: &mut [u8]) -> usize
     listed.length as usize
 }
 
-// It is printed at once.
-fn report(failed: bool, file: &[u8]) {
+// It is printed at once. Whether all of it could be written.
+fn report(failed: bool, file: &[u8]) -> bool {
     let mut text = [0u8; 76800];
     let n = output(failed, file, &mut text);
-    io::write_all(1, &text[0..n]);
+    io::write_all(1, &text[0..n])
 }
 
 // One byte more than a file may have shows that it is longer.
@@ -34,5 +34,7 @@ fn main() {
         io::write_all(2, b"readout: standard input could not be read\n");
     }
     let n = got.count;
-    report(got.failed, &file[0..n]);
+    if !report(got.failed, &file[0..n]) {
+        io::write_all(2, b"readout: cannot write\n");
+    }
 }
