@@ -3,17 +3,15 @@
 use Prim.Native.Nat.{ℕ, zero, suc, _+_, _*_, _≤_, _<_}
 use native.Mathlib.Omega.{arith}
 use mathlib.Core.Path.{_≡_, refl, sym, ap, ap₂, _∙_}
-use mathlib.Core.Logic.{⊎-elim}
 use mathlib.Core.Bool.{Bool, true, false, not}
 use mathlib.Core.List.{List, [], _∷_, _++_, append-nil}
 use lib.ListN.{getD, length}
-use borrow.Author.Tests.{ne-eqb, lt-ltb, le-ltb, not-true, not-false}
+use borrow.Author.Tests.{lt-ltb, le-ltb, not-true, not-false}
 use Rattle.model.specs.Bytes.{putAt, padded, joined}
 use Rattle.model.specs.Record.{Rec}
 use Rattle.model.specs.Log.{recordsOf, soundLog, vectorOf, logBytes}
 use Rattle.model.specs.Replay.{Tree, judge, replay}
 use Rattle.model.specs.Outcome.{outcome, refusal, stamped, wishFits, reasonOf, actNumber, acted, actOf}
-use Rattle.byte_slice.proofs.Numbers.{eq-or-ne}
 use Rattle.byte_slice.proofs.PutAt.{put-padded}
 use Rattle.block_laws.proofs.Fields.{length-joined, joined-append}
 use Rattle.log_laws.proofs.Act.{stamped-seen, wish-fits}
@@ -23,6 +21,7 @@ use Rattle.tree_table.specs.Rows.{treeIn}
 use Rattle.tree_lookup.specs.Roles.{Works}
 use Rattle.tree_lookup.proofs.Working.{works-tree}
 use Rattle.tree_judge.specs.Judged.{verdictOf, Asks}
+use Rattle.tree_judge.proofs.Verdicts.{verdict-numbers}
 use Rattle.tree_replay.proofs.Sound.{formed-asks, count-few}
 use Rattle.call_answer.proofs.Guards.{log-unsound, guards-pass}
 use Rattle.act_wish.specs.Stamp.{stampedBy, fitsAs}
@@ -30,13 +29,9 @@ use Rattle.act_wish.proofs.Stamping.{stamped-is, fits-is}
 
 -- ---- the reason
 
-verdict-reason : (n k : ℕ) → reasonOf (verdictOf n k) ≡ n
-unfolding verdictOf reasonOf
-verdict-reason n k = ⊎-elim (λ (e : n ≡ 0). rw e) (λ (e : n ≡ 0 → ⊥). rw (ne-eqb n 0 e)) (eq-or-ne n 0)
-
 pub judged-reason : (b register : List ℕ) (x y : ℕ) (t : Tree) (r : Rec) (n k : ℕ) → Works b register x y t → verdictOf n k ≡ judge r (treeIn b x y) → n ≡ reasonOf (judge r t)
 judged-reason b register x y t r n k w e =
-    sym (verdict-reason n k) ∙ ap reasonOf (e ∙ ap (judge r) (works-tree b register x y t w))
+    verdict-numbers n k (judge r t) (e ∙ ap (judge r) (works-tree b register x y t w)) .0
 
 -- ---- a record put behind those of a sound log
 

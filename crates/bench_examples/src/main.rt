@@ -20,32 +20,53 @@ fn wish(k: usize) -> Bytes80 {
     Bytes80 { bytes: b }
 }
 
-// n wishes are acted on.
-fn fill(log: &mut [u8], n: usize) {
+// 1 for an answer of 0.
+fn accepted(number: u8) -> u64
+    ensures { λ r. ⌜ r ≤ 1 ⌝ }
+{
+    if number == 0 {
+        return 1;
+    }
+    0
+}
+
+// n wishes are acted on: how many of the acts answer 0.
+fn fill(log: &mut [u8], n: usize) -> u64 {
+    let mut done: u64 = 0;
     for k in 0..n {
         let w = wish(k);
-        act::act(log, 7, 0, &w.bytes);
+        let a = act::act(log, 7, 0, &w.bytes);
+        done += accepted(a.number);
     }
+    done
 }
 
-// The vector of a log with n records of unit 0.
-fn asked(n: u16) -> Vector {
-    let mut v = vector::zero_vector();
-    v.counts[0] = n;
-    v
+// The vector of a log, as it stands in a block that is handed out.
+fn held(log: &[u8]) -> Vector {
+    let mut b = [0u8; 512];
+    hand_out::hand_out(log, 7, 1, vector::zero_vector(), &mut b);
+    vector::vector_at(&b, 12)
 }
 
-// How many blocks pass what another log lacks, of at most 600 records.
-fn blocks(from: &[u8], to: &mut [u8]) -> u64 {
-    for n in 0..100 {
+// How many blocks were handed out with a record, and how many of the takes answered 0.
+pub struct Passed {
+    pub blocks: u64,
+    pub taken: u64,
+}
+
+// Blocks are passed to another log until nothing is lacking, at most 100.
+fn pass(from: &[u8], to: &mut [u8]) -> Passed {
+    let mut taken: u64 = 0;
+    for n in 0u64..100 {
         let mut b = [0u8; 512];
-        hand_out::hand_out(from, 7, 0, asked(6 * n), &mut b);
+        hand_out::hand_out(from, 7, 0, held(to), &mut b);
         if b[9] == 0 {
-            return n as u64;
+            return Passed { blocks: n, taken };
         }
-        take::take(to, 7, 1, &b);
+        let t = take::take(to, 7, 1, &b);
+        taken += accepted(t.number);
     }
-    100
+    Passed { blocks: 100, taken }
 }
 
 // A line: what was tried, and what came of it.
@@ -55,20 +76,32 @@ fn say(what: &[u8], n: u64) {
     io::write_all(1, b"\n");
 }
 
-// n records are lacking: how many blocks pass them.
+// Whether two logs are the same byte for byte.
+fn say_same(log: &[u8], other: &[u8]) {
+    if byte_slice::same(log, other) {
+        io::write_all(1, b"both logs are the same\n");
+    } else {
+        io::write_all(1, b"the logs differ\n");
+    }
+}
+
+// n records are lacking: how many blocks pass them, what the takes answer, and what the receiver holds.
 fn lacking(n: usize) {
     let mut log = [0u8; 40960];
     let mut other = [0u8; 40960];
-    fill(&mut log, n);
+    say(b"acts that answer 0: ", fill(&mut log, n));
+    let p = pass(&log, &mut other);
     io::print_decimal(1, n as u64);
-    say(b" lacking, blocks: ", blocks(&log, &mut other));
+    say(b" lacking, blocks: ", p.blocks);
+    say(b"takes that answer 0: ", p.taken);
+    say_same(&log, &other);
 }
 
 // A log of 512 records: the blocks of its file, and the records of the last.
 fn full() {
     let mut log = [0u8; 40960];
     let mut file = [0u8; 44032];
-    fill(&mut log, 512);
+    say(b"acts that answer 0: ", fill(&mut log, 512));
     let w = write_file::write_file(&log, 7, 0, &mut file);
     say(b"512 records, blocks: ", w.blocks as u64);
     say(

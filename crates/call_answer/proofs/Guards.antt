@@ -1,13 +1,13 @@
 -- The checks 1, 21 and 19 that come first in a call: one law for each way out, over plain values.
 -- Assumes nothing.
 use Prim.Native.Nat.{ℕ, _≤_, _<_}
-use mathlib.Core.Path.{_≡_, sym, _∙_}
+use mathlib.Core.Path.{_≡_}
 use mathlib.Core.Bool.{Bool, true, false, not}
 use mathlib.Core.List.{List}
 use lib.Dec.{eqb}
 use lib.ListN.{length}
 use borrow.Author.Tests.{eq-eqb, ne-eqb, le-leb, lt-leb, not-true, not-false}
-use Rattle.model.specs.Log.{recordsOf, vectorOf, soundLog}
+use Rattle.model.specs.Log.{soundLog}
 use Rattle.model.specs.Outcome.{Outcome, refusal, guarded}
 
 -- the log, what is lent for writing, and a buffer whose stated length is n: the lent one, or a wish
@@ -31,15 +31,3 @@ module _ (u : ℕ) (log lent : List ℕ) (buf : List ℕ) (n : ℕ) (o : Outcome
   pub guards-pass : {s : Bool} → length log ≡ 40960 → length buf ≡ n → u ≤ 7 → s ≡ soundLog log → not s ≡ false → o ≡ guarded u log lent (eqb (length buf) n) o
   unfolding guarded
   guards-pass {s} a b c e h = rw (eq-eqb (length log) 40960 a, eq-eqb (length buf) n b, le-leb u 7 c, ← e, not-false s h)
-
--- ---- what is known of a log that was checked and found sound
-
-module _ (b : List ℕ) {s : Bool} (judged : s ≡ soundLog b) (holds : not s ≡ false) where
-  pub known-sound : soundLog b ≡ true
-  known-sound = sym judged ∙ not-false s holds
-
-  pub known-used : {n : ℕ} → (soundLog b ≡ true → n ≡ length (recordsOf b)) → n ≡ length (recordsOf b)
-  known-used f = f known-sound
-
-  pub known-held : {h : List ℕ} → (soundLog b ≡ true → h ≡ vectorOf (recordsOf b)) → h ≡ vectorOf (recordsOf b)
-  known-held f = f known-sound

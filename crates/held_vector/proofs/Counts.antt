@@ -13,13 +13,14 @@ use Rattle.model.specs.Log.{recordsOf, vectorOf, soundLog}
 use Rattle.model.specs.Outcome.{outcome}
 use Rattle.byte_slice.proofs.PutAt.{put-whole}
 use Rattle.vector.proofs.InBytes.{vectorBytes-length}
-use Rattle.call_answer.proofs.Guards.{known-used, known-held}
 use Rattle.encoding_laws.proofs.Logs.{sound-few}
+use Rattle.log_check.specs.InOrder.{heldOf as checkedHeld}
+use Rattle.log_check.proofs.Sound.{known-held}
 use Rattle.held_vector.specs.Held.{heldOf}
 
--- the records of a sound log are few
-pub few-used : (b : List ℕ) {s : Bool} {used : ℕ} → s ≡ soundLog b → not s ≡ false → (soundLog b ≡ true → used ≡ length (recordsOf b)) → used < 65536
-few-used b e h f = omega (arith, known-used b e h f, sound-few b)
+-- the records of a log are few
+pub few-used : (b : List ℕ) {used : ℕ} → used ≡ length (recordsOf b) → used < 65536
+few-used b e = omega (arith, e, sound-few b)
 
 module _ (log lent : List ℕ) where
   pub bad-log : (length log ≡ 40960 → ⊥) → outcome 1 0 log lent 0 ≡ heldOf log lent
@@ -36,9 +37,9 @@ module _ (log lent : List ℕ) where
       unfolding heldOf
       unsound f = rw (eq-eqb (length log) 40960 h, eq-eqb (length lent) 16 g, ← e, not-true s f)
 
-      pub counted : {held lent′ : List ℕ} {used : ℕ} → not s ≡ false → (soundLog log ≡ true → used ≡ length (recordsOf log)) → (soundLog log ≡ true → held ≡ vectorOf (recordsOf log))
+      pub counted : {held lent′ : List ℕ} {used : ℕ} → not s ≡ false → used ≡ length (recordsOf log) → held ≡ checkedHeld log
           → lent′ ≡ putAt lent 0 (vectorBytes held) → outcome 0 0 log lent′ used ≡ heldOf log lent
       unfolding heldOf
       counted {held} {lent′} f u v p =
           let w : lent′ ≡ vectorBytes held = p ∙ put-whole lent (vectorBytes held) (omega (arith, vectorBytes-length held)) in
-          rw (eq-eqb (length log) 40960 h, eq-eqb (length lent) 16 g, ← e, not-false s f, w, known-used log e f u, known-held log e f v)
+          rw (eq-eqb (length log) 40960 h, eq-eqb (length lent) 16 g, ← e, not-false s f, w, u, known-held log e f v)

@@ -1,11 +1,11 @@
 -- What the pass over records in order is asked, over plain values.
 -- Assumes nothing.
-use Prim.Native.Nat.{ℕ, suc, _+_, _-_, _≤_, _<_}
-use native.Mathlib.Nat.{sub-self, zero-add}
+use Prim.Native.Nat.{ℕ, zero, suc, _+_, _-_, _≤_, _<_}
+use native.Mathlib.Nat.{sub-zero, sub-self, zero-add}
 use native.Mathlib.Numerals.{add-one}
 use native.Mathlib.Omega.{arith}
 use mathlib.Core.Path.{_≡_, refl, sym, ap, _∙_}
-use mathlib.Core.Bool.{cond}
+use mathlib.Core.Bool.{Bool, true, false, cond}
 use mathlib.Core.Option.{none}
 use mathlib.Core.List.{List, [], _∷_, _++_, append-nil}
 use lib.Dec.{eqb}
@@ -15,13 +15,13 @@ use Rattle.model.specs.Bytes.{part}
 use Rattle.model.specs.Record.{Rec, unit, num}
 use Rattle.model.specs.Log.{byId, recordFault}
 use Rattle.byte_slice.proofs.Parts.{part-is}
-use Rattle.log_closure.specs.Tables.{Indexed, Placed, Spare, floorOf, noted, admitOf}
+use Rattle.log_closure.specs.Tables.{Indexed, Placed, Spare, floorOf, Noted, noted, admitOf}
 use Rattle.log_admit.proofs.Counts.{Alike, alike-cons, alike-trans, alike-inside}
 use Rattle.log_admit.proofs.Tables.{indexed-placed, indexed-alike, indexed-none}
 use Rattle.log_admit.proofs.Admits.{indexed-spare, admit-fault, admit-indexed, admit-floor, admit-next}
 use Rattle.log_check.specs.declared.Layout.{Layout}
 use Rattle.log_check.specs.Places.{offsetOf, laidAt, Laid}
-use Rattle.log_check.specs.InOrder.{listed, before, found, firstFault, ScanGives}
+use Rattle.log_check.specs.InOrder.{listed, before, found, firstFault, Scan, scanned, scanFrom, scanOf, ScanGives}
 use Rattle.log_check.proofs.Lists.{before-length, listed-length, listed-more}
 
 -- the first i records have no fault: they are in the tables, the next must rank above the last, and in order they are alike
@@ -79,6 +79,47 @@ module _ (at : ℕ → Rec) (i : ℕ) (held : List ℕ) (floor : ℕ) (places se
               alike = alike-more;
             }
 
+-- ---- what the pass leaves
+
+pub left-none : (at : ℕ → Rec) (n : ℕ) (held places seens : List ℕ) → held ≡ replicate 8 0 → scanFrom at 0 (n - 0) held 0 places seens ≡ scanOf at n places seens
+unfolding scanOf
+left-none at n held places seens e = rw (e, sub-zero n)
+
+-- with a fault the counts are zeros
+either-zeros : (t : Bool) (x y : Scan) → ((x .number ≡ 0 → ⊥) → x .held ≡ replicate 8 0) → y .held ≡ replicate 8 0 → (cond t x y .number ≡ 0 → ⊥) → cond t x y .held ≡ replicate 8 0
+either-zeros true x y p q = p
+either-zeros false x y p q = λ _. q
+
+zeros-from : (at : ℕ → Rec) (i n : ℕ) (held : List ℕ) (floor : ℕ) (places seens : List ℕ)
+    → (scanFrom at i n held floor places seens .number ≡ 0 → ⊥) → scanFrom at i n held floor places seens .held ≡ replicate 8 0
+unfolding scanFrom
+zeros-from at i zero held floor places seens = λ z. absurd (z refl)
+zeros-from at i (suc n) held floor places seens =
+    let a : Noted = admitOf (at i) i held floor places seens in
+    either-zeros (eqb (a .number) 0) (scanFrom at (suc i) n (a .held) (a .floor) (a .places) (a .seens)) (scanned (a .number) i (replicate 8 0) (a .places) (a .seens))
+    (zeros-from at (suc i) n (a .held) (a .floor) (a .places) (a .seens))
+    refl
+
+pub fault-zeros : (at : ℕ → Rec) (n : ℕ) (places seens : List ℕ) (s : Scan) → s ≡ scanOf at n places seens → (s .number ≡ 0 → ⊥) → s .held ≡ replicate 8 0
+unfolding scanOf
+fault-zeros at n places seens s e = rw e (zeros-from at 0 n (replicate 8 0) 0 places seens)
+
+module _ (at : ℕ → Rec) (i n : ℕ) (held : List ℕ) (floor : ℕ) (places seens : List ℕ) (s : Scan) (f : scanFrom at i (n - i) held floor places seens ≡ s) where
+  pub left-ends : i ≤ n → n ≤ i → scanned 0 0 held places seens ≡ s
+  unfolding scanFrom
+  left-ends h g = let e : n - i ≡ 0 = omega arith in rw e at f
+
+  module _ (h : i < n) (number : ℕ) (held′ : List ℕ) (floor′ : ℕ) (places′ seens′ : List ℕ) (e : noted number held′ floor′ places′ seens′ ≡ admitOf (at i) i held floor places seens) where
+    more : cond (eqb number 0) (scanFrom at (i + 1) (n - (i + 1)) held′ floor′ places′ seens′) (scanned number i (replicate 8 0) places′ seens′) ≡ s
+    unfolding scanFrom
+    more = let q : n - i ≡ suc (n - (i + 1)) = omega arith in rw (q, ← e, ← add-one i) at f
+
+    left-stops : (number ≡ 0 → ⊥) → (v : List ℕ) → v ≡ replicate 8 0 → scanned number i v places′ seens′ ≡ s
+    left-stops z v w = rw w (rw (ne-eqb number 0 z) at more)
+
+    left-more : number ≡ 0 → scanFrom at (i + 1) (n - (i + 1)) held′ floor′ places′ seens′ ≡ s
+    left-more z = rw (eq-eqb number 0 z) at more
+
 -- ---- as the code has it
 
 module _ (k : Layout) (b : List ℕ) where
@@ -88,6 +129,14 @@ module _ (k : Layout) (b : List ℕ) where
   lent-is : (i at : ℕ) → at ≡ offsetOf k i → take (at + 80 - at) (drop at b) ≡ laidAt k b i
   unfolding laidAt
   lent-is i at e = part-is b at 80 ∙ ap (λ (a : ℕ). part b a 80) e
+
+  module _ (n i : ℕ) (held : List ℕ) (floor : ℕ) (places seens : List ℕ) (s : Scan) (f : scanFrom (laidAt k b) i (n - i) held floor places seens ≡ s) (h : i < n) (at : ℕ) (q : at ≡ offsetOf k i) (number : ℕ)
+      (held′ : List ℕ) (floor′ : ℕ) (places′ seens′ : List ℕ) (e : noted number held′ floor′ places′ seens′ ≡ admitOf (take (at + 80 - at) (drop at b)) i held floor places seens) where
+    pub scan-left : (number ≡ 0 → ⊥) → (v : List ℕ) → v ≡ replicate 8 0 → scanned number i v places′ seens′ ≡ s
+    scan-left z v w = left-stops (laidAt k b) i n held floor places seens s f h number held′ floor′ places′ seens′ (rw (lent-is i at q) at e) z v w
+
+    pub scan-more : number ≡ 0 → scanFrom (laidAt k b) (i + 1) (n - (i + 1)) held′ floor′ places′ seens′ ≡ s
+    scan-more z = left-more (laidAt k b) i n held floor places seens s f h number held′ floor′ places′ seens′ (rw (lent-is i at q) at e) z
 
   module _ (n i : ℕ) (held : List ℕ) (floor : ℕ) (places seens : List ℕ) (p : Passed (laidAt k b) i held floor places seens) where
     pub scan-ends : i ≤ n → n ≤ i → firstFault (laidAt k b) i (n - i) ≡ firstFault (laidAt k b) 0 n → n ≤ 512 → ScanGives (laidAt k b) n 0 0 held places seens

@@ -5,12 +5,12 @@ use native.Mathlib.Nat.{zero-add, add-zero}
 use native.Mathlib.Omega.{arith}
 use mathlib.Core.Path.{_≡_, refl, sym, ap, _∙_, subst}
 use mathlib.Core.Logic.{⊎-elim}
-use mathlib.Core.Bool.{Bool, true, false, cond, _&&_}
+use mathlib.Core.Bool.{Bool, true, false, cond, not, _&&_}
 use mathlib.Core.List.{List, [], _∷_}
 use lib.Dec.{eqb}
-use lib.ListN.{length, take, drop, length-drop}
+use lib.ListN.{length, take, drop, replicate, length-drop}
 use lib.Seq.{drop-drop, take-all}
-use borrow.Author.Tests.{eq-eqb, ne-eqb, eqb-true}
+use borrow.Author.Tests.{eq-eqb, ne-eqb, eqb-true, not-false}
 use Rattle.model.specs.Bytes.{blank, part}
 use Rattle.model.specs.Record.{Rec}
 use Rattle.model.specs.Log.{vectorOf, recordFault, soundAfter, recordsIn, recordsOf, soundLog}
@@ -20,7 +20,8 @@ use Rattle.encoding_laws.proofs.Logs.{sound-few}
 use Rattle.log_closure.specs.Tables.{Indexed}
 use Rattle.log_check.specs.declared.Layout.the-variants.{Log}
 use Rattle.log_check.specs.Places.{offsetOf, laidAt, Laid}
-use Rattle.log_check.specs.InOrder.{listed, before, Found, firstFault, ScanGives, CheckGives}
+use Rattle.log_check.proofs.Scans.{fault-zeros}
+use Rattle.log_check.specs.InOrder.{listed, before, Found, firstFault, scanned, scanOf, ScanGives, heldOf, Check, checked, checkOf}
 
 -- ---- the records of a log, place by place
 
@@ -102,25 +103,45 @@ module _ (b : List ℕ) (n : ℕ) (e : n ≡ length (recordsOf b)) where
         rw (← listed-records b n e) (sound-pass (laidAt Log b) 0 n)
         ∙ ap (λ (x : Found). eqb (x .number) 0) (sym (g .first))
 
-    pub check-refuses : (number ≡ 0 → ⊥) → CheckGives b false n held places seens
+    pub fault-unsound : (number ≡ 0 → ⊥) → soundLog b ≡ true → ⊥
     unfolding soundLog
-    check-refuses z =
-        let f : soundAfter [] (recordsOf b) ≡ false = pass-is ∙ ne-eqb number 0 z in
-        record { sound-is = rw f; used-is = e; holds = λ t. absurd (z (no-fault t)) }
-      where
-        no-fault : (soundAfter [] (recordsOf b) && blank (drop (80 * length (recordsOf b)) b)) ≡ true → number ≡ 0
-        no-fault t = eqb-true number 0 (sym pass-is ∙ and-true (soundAfter [] (recordsOf b)) (blank (drop (80 * length (recordsOf b)) b)) t .0)
+    fault-unsound z t = z (eqb-true number 0 (sym pass-is ∙ and-true (soundAfter [] (recordsOf b)) (blank (drop (80 * length (recordsOf b)) b)) t .0))
 
-    pub check-passes : (t : Bool) → length b ≡ 40960 → number ≡ 0 → t ≡ blank (take (40960 - 80 * n) (drop (80 * n) b)) → CheckGives b t n held places seens
-    unfolding soundLog
-    check-passes t k z q =
-        let f : soundAfter [] (recordsOf b) ≡ true = pass-is ∙ eq-eqb number 0 z in
-        let d : take (40960 - 80 * n) (drop (80 * n) b) ≡ drop (80 * n) b = take-all (40960 - 80 * n) (drop (80 * n) b) (simp length-drop (omega arith)) in
-        record {
-          sound-is = q ∙ rw (d, f, ← e);
-          used-is = e;
-          holds = λ s. subst (λ (l : List Rec). Indexed (laidAt Log b) n l held places seens) (listed-records b n e) (g .holds z);
-        }
+    pub records-indexed : number ≡ 0 → Indexed (laidAt Log b) n (recordsOf b) held places seens
+    records-indexed z = subst (λ (l : List Rec). Indexed (laidAt Log b) n l held places seens) (listed-records b n e) (g .holds z)
 
-pub checked-vector : (b : List ℕ) (t : Bool) (n : ℕ) (held places seens : List ℕ) → CheckGives b t n held places seens → soundLog b ≡ true → held ≡ vectorOf (recordsOf b)
-checked-vector b t n held places seens g s = g .holds s .counts
+    module _ (places₀ seens₀ : List ℕ) (o : scanned number place held places seens ≡ scanOf (laidAt Log b) n places₀ seens₀) where
+      pub fault-left : (number ≡ 0 → ⊥) → checked false n held places seens ≡ checkOf b places₀ seens₀
+      unfolding checkOf heldOf soundLog
+      fault-left z =
+          let h : held ≡ replicate 8 0 = fault-zeros (laidAt Log b) n places₀ seens₀ (scanned number place held places seens) o z in
+          rw (h, pass-is, ne-eqb number 0 z, ← e, ← o)
+
+      pub records-left : length b ≡ 40960 → number ≡ 0 → (t : Bool) → t ≡ blank (take (40960 - 80 * n) (drop (80 * n) b)) → checked t n held places seens ≡ checkOf b places₀ seens₀
+      unfolding checkOf heldOf soundLog
+      records-left k z t q =
+          let d : take (40960 - 80 * n) (drop (80 * n) b) ≡ drop (80 * n) b = take-all (40960 - 80 * n) (drop (80 * n) b) (simp length-drop (omega arith)) in
+          rw (q, d, pass-is, eq-eqb number 0 z, ← e, ← o, ← records-indexed z .counts)
+
+-- what `check_into` leaves, told apart
+module _ (b places₀ seens₀ : List ℕ) {t : Bool} {n : ℕ} {held places seens : List ℕ} (o : checked t n held places seens ≡ checkOf b places₀ seens₀) where
+  pub checked-sound : t ≡ soundLog b
+  unfolding checkOf
+  checked-sound = ap (λ (x : Check). x .sound) o
+
+  pub checked-used : n ≡ length (recordsOf b)
+  unfolding checkOf
+  checked-used = ap (λ (x : Check). x .used) o
+
+  pub checked-held : held ≡ heldOf b
+  unfolding checkOf
+  checked-held = ap (λ (x : Check). x .held) o
+
+-- what is known of a log that was checked and found sound
+module _ (b : List ℕ) {s : Bool} (judged : s ≡ soundLog b) (holds : not s ≡ false) where
+  pub known-sound : soundLog b ≡ true
+  known-sound = sym judged ∙ not-false s holds
+
+  pub known-held : {h : List ℕ} → h ≡ heldOf b → h ≡ vectorOf (recordsOf b)
+  unfolding heldOf soundLog
+  known-held e = e ∙ rw (and-true (soundAfter [] (recordsOf b)) (blank (drop (80 * length (recordsOf b)) b)) known-sound .0)

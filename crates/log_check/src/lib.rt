@@ -4,9 +4,11 @@ ghost use mathlib.Core.Bool.{true};
 ghost use Prim.Native.Nat.{_+_, _≤_, _<_};
 ghost use lib.ListN.{length, replicate};
 ghost use Rattle.model.specs.Bytes.{blank};
-ghost use Rattle.model.specs.Log.{vectorOf, recordsOf, soundLog};
+ghost use Rattle.model.specs.Log.{recordsOf, soundLog};
+ghost use Rattle.log_closure.specs.Tables.{Indexed};
+ghost use Rattle.log_check.specs.declared.Layout.the-variants.{Log};
 ghost use Rattle.log_check.specs.Places.{offsetOf, laidAt, Laid};
-ghost use Rattle.log_check.specs.InOrder.{ScanGives, CheckGives};
+ghost use Rattle.log_check.specs.InOrder.{scanned, scanOf, ScanGives, heldOf, checked, checkOf};
 use log_admit::Before;
 use vector::Vector;
 
@@ -16,14 +18,14 @@ pub enum Layout {
     File,
 }
 
-// The first fault among records, or 0, and where; and without a fault the counts of the records.
+// The first fault among records, or 0, and where; and the counts of the records, zeros if one has a fault.
 pub struct Scanned {
     pub number: u8,
     pub at: usize,
     pub held: Vector,
 }
 
-// Whether a log is sound; and how many records it has, and of a sound one their counts.
+// Whether a log is sound; how many records it has; and their counts, zeros if one has a fault.
 pub struct Checked {
     pub sound: bool,
     pub used: usize,
@@ -41,7 +43,7 @@ pub fn offset(layout: Layout, i: usize) -> usize
     }
 }
 
-// The first n records are judged one after another, and noted as far as they have no fault.
+// The first n records are judged one after another, and noted up to the first that has a fault.
 pub fn scan(
     bytes: &[u8],
     layout: Layout,
@@ -50,7 +52,8 @@ pub fn scan(
     seens: &mut [u16],
 ) -> Scanned
     requires { ⌜ (n ≤ 512) × Laid layout (now bytes) n × (length (now places) ≡ 4096) × (length (now seens) ≡ 4144) ⌝ }
-    ensures { λ r. ⌜ ScanGives (laidAt layout (now (bytes .entry))) n (r .number) (r .at) (r .held .counts) (now (places .exit)) (now (seens .exit)) ⌝ }
+    ensures outright { λ r. ⌜ scanned (r .number) (r .at) (r .held .counts) (now (places .exit)) (now (seens .exit)) ≡ scanOf (laidAt layout (now (bytes .entry))) n (now (places .entry)) (now (seens .entry)) ⌝ }
+    ensures gives { λ r. ⌜ ScanGives (laidAt layout (now (bytes .entry))) n (r .number) (r .at) (r .held .counts) (now (places .exit)) (now (seens .exit)) ⌝ }
 {
     let none = vector::zero_vector();
     let mut b = Before {
@@ -107,10 +110,11 @@ pub fn used(log: &[u8]) -> usize
     512
 }
 
-// A log is checked, and its records are noted in the tables.
+// A log is checked, and its records are noted in the tables up to the first that has a fault.
 pub fn check_into(log: &[u8], places: &mut [u16], seens: &mut [u16]) -> Checked
     requires { ⌜ (length (now log) ≡ 40960) × (length (now places) ≡ 4096) × (length (now seens) ≡ 4144) ⌝ }
-    ensures { λ r. ⌜ CheckGives (now (log .entry)) (r .sound) (r .used) (r .held .counts) (now (places .exit)) (now (seens .exit)) ⌝ }
+    ensures outright { λ r. ⌜ checked (r .sound) (r .used) (r .held .counts) (now (places .exit)) (now (seens .exit)) ≡ checkOf (now (log .entry)) (now (places .entry)) (now (seens .entry)) ⌝ }
+    ensures holds { λ r. ⌜ (soundLog (now (log .entry)) ≡ true → Indexed (laidAt Log (now (log .entry))) (r .used) (recordsOf (now (log .entry))) (r .held .counts) (now (places .exit)) (now (seens .exit))) ⌝ }
 {
     let n = used(log);
     let s = scan(log, Layout::Log, n, places, seens);
@@ -145,10 +149,10 @@ pub fn fresh_seens() -> [u16; 4144]
     [0u16; 4144]
 }
 
-// A log is checked: sound or not, how many records it has, and the counts of a sound one.
+// A log is checked: sound or not, how many records it has, and their counts, zeros if one has a fault.
 pub fn check(log: &[u8]) -> Checked
     requires { ⌜ length (now log) ≡ 40960 ⌝ }
-    ensures { λ r. ⌜ (r .sound ≡ soundLog (now (log .entry))) × (soundLog (now (log .entry)) ≡ true → r .used ≡ length (recordsOf (now (log .entry)))) × (soundLog (now (log .entry)) ≡ true → r .held .counts ≡ vectorOf (recordsOf (now (log .entry)))) ⌝ }
+    ensures { λ r. ⌜ (r .sound ≡ soundLog (now (log .entry))) × (r .used ≡ length (recordsOf (now (log .entry)))) × (r .held .counts ≡ heldOf (now (log .entry))) ⌝ }
 {
     let mut places = fresh_places();
     let mut seens = fresh_seens();

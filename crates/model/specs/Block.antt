@@ -1,4 +1,5 @@
 -- The block of 512 bytes: its layout, its two sums, and the checks 3, 4 and 5.
+-- Document 01, "Log, blocks and file"; the order of the checks, "When a call says no".
 -- Assumes nothing.
 use Prim.Native.Nat.{ℕ, zero, suc, _+_, _-_, _*_, _%_}
 use mathlib.Core.Bool.{Bool, true, false, cond, _&&_}
@@ -80,9 +81,9 @@ unfoldable pub blockFault : List ℕ → ℕ
 blockFault b =
     cond (sameBytes (take 4 b) letters)
     (cond (sumsHold b)
-    (cond (headerHolds b) 0 badHeader)
-    badSum)
-    badLetters
+    (cond (headerHolds b) 0 badHeader)  -- 5
+    badSum)  -- 4
+    badLetters  -- 3
 
 -- the record place i of a block
 unfoldable pub recordAt : List ℕ → ℕ → Rec

@@ -1,4 +1,5 @@
 -- Bytes, and the numbers that they spell. All numbers are little-endian.
+-- Document 01, "The 80-byte record".
 -- Assumes nothing.
 use Prim.Native.Nat.{ℕ, zero, suc, _+_, _-_, _*_, _/_, _%_}
 use mathlib.Core.Bool.{Bool, true, false, _&&_}

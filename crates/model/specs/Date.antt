@@ -1,4 +1,5 @@
 -- Real Gregorian dates of 1990 to 2199. They are shown and order nothing.
+-- Document 01, "The 80-byte record".
 -- Assumes nothing.
 use Prim.Native.Nat.{ℕ, _%_}
 use mathlib.Core.Bool.{Bool, true, false, cond, not, _&&_, _||_}

@@ -1,6 +1,7 @@
 -- The bench examples of document 01, and some of the same kind, as rows of one table.
+-- Document 01, "Bench examples".
 -- Assumes nothing.
-use Prim.Native.Nat.{ℕ, zero, suc, _+_, _*_, _/_, _%_}
+use Prim.Native.Nat.{ℕ}
 use mathlib.Core.Bool.{Bool, true, false, cond, not, _&&_, _||_}
 use mathlib.Core.List.{List, [], _∷_, _++_}
 use lib.Dec.{leb, eqb}
@@ -8,7 +9,7 @@ use lib.ListN.{length, replicate}
 use Rattle.model.specs.Bytes.{two, sameBytes, padded}
 use Rattle.model.specs.Vector.{compareOf, vectorBytes}
 use Rattle.model.specs.Date.{isDate}
-use Rattle.model.specs.Record.{Rec, identity, root, wellFormed}
+use Rattle.model.specs.Record.{Rec, identity, unitOf, numberOf, root, wellFormed}
 use Rattle.model.specs.Log.{recordFault, soundAfter}
 use Rattle.model.specs.Replay.{Entry, Aside, Tree, replay, presentOnes, isDisputed}
 use Rattle.model.specs.Table.{identityBytes}
@@ -37,7 +38,7 @@ pub record Fields : Type 0 where
 
 unfoldable pub encode : Fields → Rec
 encode f =
-    (f .self % 8 ∷ f .does ∷ two (f .self / 8))
+    (unitOf (f .self) ∷ f .does ∷ two (numberOf (f .self)))
     ++ (vectorBytes (f .saw)
     ++ (identityBytes (f .object)
     ++ (identityBytes (f .folder)
@@ -110,6 +111,23 @@ showsAsides (a ∷ l) (x ∷ xs) =
     (eqb (a .who) (x .0) && (eqb (a .reason) (x .1) && (eqb (a .marked) (x .2) && sameFlag (a .isOpen) (x .3))))
     && showsAsides l xs
 
+-- the same in every field
+abbrev pub sameEntry : Entry → Entry → Bool
+sameEntry e x =
+    eqb (e .made) (x .made)
+    && (eqb (e .kind) (x .kind)
+    && (eqb (e .inside) (x .inside)
+    && (sameBytes (e .label) (x .label)
+    && (eqb (e .contents) (x .contents)
+    && (sameBytes (e .date) (x .date) && (sameBytes (e .mark) (x .mark) && eqb (e .naming) (x .naming)))))))
+
+-- these entries in every field, and whether each is disputed
+abbrev pub showsWhole : List Aside → List Entry → List (Entry × Bool) → Bool
+showsWhole s [] [] = true
+showsWhole s [] (x ∷ xs) = false
+showsWhole s (e ∷ l) [] = false
+showsWhole s (e ∷ l) (x ∷ xs) = (sameEntry e (x .0) && sameFlag (isDisputed (e .made) s) (x .1)) && showsWhole s l xs
+
 -- the records are a sound log, and their replay shows these entries and asides
 unfoldable pub shows : List Rec → List Shown → List Standing → Bool
 shows l es ss =
@@ -127,6 +145,8 @@ pub data Row : Type 0 where
   formed : Rec → Bool → Row
   -- the records of a log, and the entries and asides that it shows
   tree : List Rec → List Shown → List Standing → Row
+  -- the records of a log, the entries that it shows in every field, each with whether it is disputed, and its asides
+  whole : List Rec → List (Entry × Bool) → List Standing → Row
   -- the records of a log, those of a block that it takes, and what it shows afterwards
   takes : List Rec → List Rec → List Shown → List Standing → Row
   -- the records of a log, those of a block, and the number under which the block is refused
@@ -148,6 +168,9 @@ isRefused (taken m) k = false
 
 unfoldable pub right : Row → Bool
 right (vectors a b n) = eqb (compareOf a b) n
+right (whole l es ss) =
+    soundAfter [] l
+    && (showsWhole (replay l .asides) (presentOnes (replay l .entries)) es && showsAsides (replay l .asides) ss)
 right (date y m d b) = sameFlag (isDate y m d) b
 right (formed r b) = sameFlag (wellFormed r) b
 right (tree l es ss) = shows l es ss
@@ -185,9 +208,9 @@ starred =
     ∷ tree (makesTrace 3 (0 · 1) [] root A ∷ stores 4 (0 · 2) (1 ∷ []) (0 · 1) ∷ stores 5 (1 · 1) (1 ∷ []) (0 · 1) ∷ [])
     ((0 · 1, A, 0 · 2, 0 · 1, true) ∷ [])
     ((1 · 1, 17, 0 · 1, true) ∷ [])
-    -- 0.2 store, 1.1 remove: the trace stays
-    ∷ tree (makesTrace 3 (0 · 1) [] root A ∷ stores 4 (0 · 2) (1 ∷ []) (0 · 1) ∷ removes 5 (1 · 1) (1 ∷ []) (0 · 1) ∷ [])
-    ((0 · 1, A, 0 · 2, 0 · 1, true) ∷ [])
+    -- 0.2 store, 1.1 remove: the trace stays, with the date and the mark of 0.2
+    ∷ whole (makesTrace 3 (0 · 1) [] root A ∷ stores 4 (0 · 2) (1 ∷ []) (0 · 1) ∷ removes 5 (1 · 1) (1 ∷ []) (0 · 1) ∷ [])
+    ((record { made = 0 · 1; kind = 2; inside = root; label = padded 32 A; contents = 0 · 2; date = two 2025 ++ (3 ∷ 4 ∷ []); mark = replicate 16 (0 · 2); naming = 0 · 1 }, true) ∷ [])
     ((1 · 1, 17, 0 · 1, true) ∷ [])
     -- 0.2 remove, 1.1 store
     ∷ tree (makesTrace 3 (0 · 1) [] root A ∷ removes 4 (0 · 2) (1 ∷ []) (0 · 1) ∷ stores 5 (1 · 1) (1 ∷ []) (0 · 1) ∷ [])
@@ -305,6 +328,13 @@ further =
     ∷ tree (makesTrace 3 (0 · 1) [] root A ∷ makesTrace 3 (1 · 1) [] root A ∷ removes 3 (0 · 2) (1 ∷ 1 ∷ []) (0 · 1) ∷ [])
     []
     ((1 · 1, 15, 0 · 1, true) ∷ [])
+    -- 2.1 "A" stands aside beside 0.1 "A"; once 1.1, which ranks between them, renames 0.1 to "C", it acts
+    ∷ tree (makesTrace 3 (0 · 1) [] root A ∷ makesTrace 4 (2 · 1) (1 ∷ []) root A ∷ [])
+    ((0 · 1, A, 0 · 1, 0 · 1, true) ∷ [])
+    ((2 · 1, 15, 0 · 1, true) ∷ [])
+    ∷ takes (makesTrace 3 (0 · 1) [] root A ∷ makesTrace 4 (2 · 1) (1 ∷ []) root A ∷ []) (renames 5 (1 · 1) (1 ∷ []) (0 · 1) C ∷ [])
+    ((0 · 1, C, 0 · 1, 1 · 1, false) ∷ (2 · 1, A, 2 · 1, 2 · 1, false) ∷ [])
+    []
     -- a block whose record is held, one whose seen is covered but not closed, one with a gap, one with a held identity
     ∷ takes (makesTrace 3 (0 · 1) [] root A ∷ []) (makesTrace 3 (0 · 1) [] root A ∷ stores 3 (0 · 2) (1 ∷ []) (0 · 1) ∷ [])
     ((0 · 1, A, 0 · 2, 0 · 1, false) ∷ [])

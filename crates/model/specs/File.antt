@@ -1,4 +1,5 @@
 -- The file: the whole log in blocks, how it is written, and how it is checked.
+-- Document 01, "Log, blocks and file"; the order of the checks, "When a call says no".
 -- Assumes nothing.
 use Prim.Native.Nat.{ℕ, zero, suc, _+_, _-_, _*_, _/_, _%_, max}
 use mathlib.Core.Bool.{Bool, true, false, cond, _&&_, _||_}
@@ -59,12 +60,12 @@ agrees n k first b =
     && (eqb (archiveIn b) (archiveIn first)
     && (sameBytes (vectorIn b) (vectorIn first) && countFits n k (countIn b))))
 
--- the first of 3, 4, 5 and 20 that holds of block k, or 0
+-- the first of 3, 4, 5 and 20 that holds of block k, or 0 [F82]
 unfoldable pub fileBlockFault : List ℕ → ℕ → ℕ
 fileBlockFault f k =
     cond (eqb (blockFault (blockAt f k)) 0)
-    (cond (agrees (blocksIn f) k (blockAt f 0) (blockAt f k)) 0 badFile)
-    (blockFault (blockAt f k))
+    (cond (agrees (blocksIn f) k (blockAt f 0) (blockAt f k)) 0 badFile)  -- 20
+    (blockFault (blockAt f k))  -- 3, 4, 5
 
 -- a refusal with its block's place; number 0 for none
 pub record Fault : Type 0 where
@@ -74,12 +75,12 @@ pub record Fault : Type 0 where
 unfoldable pub fault : ℕ → ℕ → Fault
 fault n p = record { number = n; place = p }
 
--- the first fault of the n blocks from k on
+-- the first fault of the n blocks from k on: all checks of a block come before those of the next [F82]
 unfoldable pub blocksFault : List ℕ → ℕ → ℕ → Fault
 blocksFault f k zero = fault 0 0
 blocksFault f k (suc n) = cond (eqb (fileBlockFault f k) 0) (blocksFault f (suc k) n) (fault (fileBlockFault f k) k)
 
--- how many records the blocks of a file count
+-- how many records the blocks of a file count, once these have passed: then every block but the last has six
 unfoldable pub recordsCounted : List ℕ → ℕ
 recordsCounted f = 6 * (blocksIn f - 1) + countIn (blockAt f (blocksIn f - 1))
 
@@ -92,26 +93,28 @@ unfoldable pub fileRecordsFrom : List ℕ → ℕ → ℕ → List Rec
 fileRecordsFrom f i zero = []
 fileRecordsFrom f i (suc n) = fileRecord f i ∷ fileRecordsFrom f (suc i) n
 
+-- the records of a file, once its blocks have passed
 unfoldable pub fileRecords : List ℕ → List Rec
 fileRecords f = fileRecordsFrom f 0 (recordsCounted f)
 
--- the first fault of records behind others, i of them: 11 for a 513th, then 7, 20, 8, 9; those before stand last first [F43]
+-- the first fault of records behind others, i of them: 11 for a 513th, then 7, 20, 8, 9, all of a record before those of the next; those
+-- before stand last first [F43] [F83]
 unfoldable pub recordsFault : List Rec → ℕ → List Rec → Fault
 recordsFault pre i [] = fault 0 0
 recordsFault pre i (r ∷ l) =
     cond (ltb i 512)
     (cond (eqb (recordFault pre r) 0) (recordsFault (r ∷ pre) (suc i) l) (fault (recordFault pre r) (i / 6)))
-    (fault fullLog (i / 6))
+    (fault fullLog (i / 6))  -- 11
 
 -- the header's vector against the record counts, at the last block [F48]
 unfoldable pub countsFault : List ℕ → Fault
 countsFault f = cond (sameBytes (vectorIn (blockAt f 0)) (vectorOf (fileRecords f))) (fault 0 0) (fault badFile (blocksIn f - 1))
 
--- the first fault, or else the next
+-- the first fault, or else the next [F81]
 unfoldable pub orElse : Fault → Fault → Fault
 orElse a b = cond (eqb (a .number) 0) b a
 
--- every check of a file of 1 to 86 blocks: block by block, then record by record, then the vector
+-- every check of a file of 1 to 86 blocks: block by block, then record by record, then the vector; the first that fails is the answer [F81]
 unfoldable pub fileFault : List ℕ → Fault
 fileFault f = orElse (blocksFault f 0 (blocksIn f)) (orElse (recordsFault [] 0 (fileRecords f)) (countsFault f))
 

@@ -1,4 +1,5 @@
--- What `readout` prints of a file, as bytes.
+-- What a reading program prints of a file, as bytes.
+-- Document 01, "The reading program".
 -- Assumes nothing.
 use Prim.Native.Nat.{ℕ, zero, suc, _+_, _*_, _/_, _%_}
 use mathlib.Core.Bool.{Bool, true, false, cond, _||_}
@@ -180,7 +181,7 @@ unfoldable pub asideLines : List ℕ → ℕ → List ℕ
 asideLines t zero = []
 asideLines t (suc n) = asideLines t n ++ asideLine (part t (36868 + 12 * n) 12)
 
--- the entries by rank of their makers, then the asides by rank
+-- the entries by rank of their makers, then the asides by rank [F84]
 unfoldable pub treeLines : List ℕ → List ℕ
 treeLines t = entryLines t (word t 0) ++ asideLines t (word t 2)
 
@@ -190,13 +191,19 @@ refusedLine n p = refusedWord ++ (decimal n ++ (atWord ++ (decimal p ++ (10 ∷ 
 
 -- ---- the listing of a file
 
+-- the two lines of the head, then those of the tree [F84]
 unfoldable pub acceptedLines : List ℕ → List ℕ
 acceptedLines f =
     headLine (archiveIn (blockAt f 0)) (senderIn (blockAt f 0)) (recordsCounted f)
     ++ (seenLine (vectorIn (blockAt f 0)) ++ treeLines (tableBytes (replay (fileRecords f))))
 
+-- the lines of an accepted file, or the line of a refusal
 unfoldable pub listingOf : List ℕ → List ℕ
 listingOf f =
     cond (fileLength f)
     (cond (eqb (fileFault f .number) 0) (acceptedLines f) (refusedLine (fileFault f .number) (fileFault f .place)))
-    (refusedLine badLength 0)
+    (refusedLine badLength 0)  -- 2
+
+-- what is printed of the bytes that were read: the listing, and nothing where the input could not be read to its end [F85]
+unfoldable pub outputOf : Bool → List ℕ → List ℕ
+outputOf failed f = cond failed [] (listingOf f)

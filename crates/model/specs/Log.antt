@@ -1,4 +1,5 @@
 -- Rank, the records of a log, closure, and the sound log.
+-- Document 01, "The 80-byte record" (closed), "Rank and replay" (rank), "Log, blocks and file" (sound).
 -- Assumes nothing.
 use Prim.Native.Nat.{ℕ, zero, suc, _+_, _-_, _*_}
 use mathlib.Core.Bool.{Bool, true, false, cond, _&&_}
@@ -62,7 +63,7 @@ unfoldable pub allTo : ℕ → (ℕ → Bool) → Bool
 allTo zero p = true
 allTo (suc n) p = allTo n p && p n
 
--- the seen of the record s is nowhere above that of r
+-- the seen of the record s is nowhere above that of r. None does not come: of a seen that is within, asked before, u.c is held
 unfoldable pub nowhereAbove : Rec → Option Rec → Bool
 nowhereAbove r none = true
 nowhereAbove r (some s) = covers (seenVector r) (seenVector s)
@@ -84,10 +85,10 @@ recordFault pre r =
     cond (wellFormed r)
     (cond (rises pre r)
     (cond (isNext pre r && isWithin pre r)
-    (cond (isClosed pre r) 0 notClosed)
-    notNext)
-    badFile)
-    malformed
+    (cond (isClosed pre r) 0 notClosed)  -- 9
+    notNext)  -- 8
+    badFile)  -- 20
+    malformed  -- 7
 
 -- well formed and closed, in rising rank, each number next, each seen within the counts before it
 unfoldable pub soundAfter : List Rec → List Rec → Bool

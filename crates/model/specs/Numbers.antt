@@ -1,4 +1,5 @@
 -- The numbers of the refusal table, and of the reasons for standing aside. Success is 0. [F76]
+-- Document 01, "When a call says no"; the reasons also "Rank and replay".
 -- Assumes nothing.
 use Prim.Native.Nat.{ℕ}
 

@@ -1,4 +1,5 @@
 -- What each entry point answers and leaves, for every refusal and for success: what the contracts cite.
+-- Document 01, "Log, blocks and file"; the order of the checks, "When a call says no".
 -- Assumes nothing.
 use Prim.Native.Nat.{ℕ, zero, suc, _+_, _-_, _*_}
 use mathlib.Core.Bool.{Bool, true, false, cond, _&&_}
@@ -113,18 +114,18 @@ unfoldable pub takeNew : List Rec → Rec → Took
 takeNew l r =
     cond (isNext l r && isWithin l r)
     (cond (isClosed l r)
-    (cond (ltb (length l) 512) (taken (insert r l)) (refused fullLog))
-    (refused notClosed))
-    (refused notNext)
+    (cond (ltb (length l) 512) (taken (insert r l)) (refused fullLog))  -- 11
+    (refused notClosed))  -- 9
+    (refused notNext)  -- 8
 
 -- a held record must be equal, a new one next
 unfoldable pub takeHeld : Option Rec → List Rec → Rec → Took
 takeHeld none l r = takeNew l r
-takeHeld (some s) l r = cond (sameBytes s r) (taken l) (refused otherBytes)
+takeHeld (some s) l r = cond (sameBytes s r) (taken l) (refused otherBytes)  -- 10
 
 -- [F70]
 unfoldable pub takeOne : List Rec → Rec → Took
-takeOne l r = cond (wellFormed r) (takeHeld (byId (unit r) (num r) l) l r) (refused malformed)
+takeOne l r = cond (wellFormed r) (takeHeld (byId (unit r) (num r) l) l r) (refused malformed)  -- 7
 
 -- one record after another; earlier records of the block count as held
 unfoldable pub takeAll : List Rec → List Rec → Took
@@ -135,8 +136,8 @@ takeAll l (r ∷ rs) = elim (takeOne l r) [ refused n ↦ refused n | taken m �
 unfoldable pub givenFault : ℕ → List ℕ → ℕ
 givenFault archive b =
     cond (eqb (length b) 512)
-    (cond (eqb (blockFault b) 0) (cond (eqb (archiveIn b) archive) 0 otherArchive) (blockFault b))
-    badLength
+    (cond (eqb (blockFault b) 0) (cond (eqb (archiveIn b) archive) 0 otherArchive) (blockFault b))  -- 6; 3, 4, 5
+    badLength  -- 2
 
 -- [F71]
 unfoldable pub tookAll : List ℕ → Took → Outcome

@@ -1,6 +1,7 @@
 -- The 80-byte record: its fields, and when it is well formed.
+-- Document 01, "Units, identities, vectors" and "The 80-byte record".
 -- Assumes nothing.
-use Prim.Native.Nat.{ℕ, zero, suc, _+_, _-_, _*_}
+use Prim.Native.Nat.{ℕ, zero, suc, _+_, _-_, _*_, _/_, _%_}
 use mathlib.Core.Bool.{Bool, true, false, cond, not, _&&_, _||_}
 use mathlib.Core.List.{List, [], _∷_}
 use lib.Dec.{leb, eqb}
@@ -16,6 +17,13 @@ Rec = List ℕ
 -- the identity unit.number as one number; units are below 8, and the root 0.0 is 0 [F61]
 unfoldable pub identity : ℕ → ℕ → ℕ
 identity u n = 8 * n + u
+
+-- the unit and the number of an identity
+abbrev pub unitOf : ℕ → ℕ
+unitOf k = k % 8
+
+abbrev pub numberOf : ℕ → ℕ
+numberOf k = k / 8
 
 abbrev pub root : ℕ
 root = 0

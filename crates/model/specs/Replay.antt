@@ -9,6 +9,8 @@ use Rattle.model.specs.Numbers.{noObject, noFolder, wrongKind, labelHeld
 use Rattle.model.specs.Bytes.{sameBytes}
 use Rattle.model.specs.Record.{Rec, root, seen, op, selfOf, objectOf, folderOf, dateBytes, labelOf, markOf}
 
+-- Document 01, "Rank and replay".
+
 -- an entry of the tree. One that was removed keeps its row, with kind 0, and is absent
 pub record Entry : Type 0 where
   pub made : ℕ  -- its identity, that of its making record
@@ -75,7 +77,13 @@ standsAside k (a ∷ l) = eqb (a .who) k || standsAside k l
 unfoldable pub unseen : Rec → ℕ → Bool
 unseen r k = ltb (seen r (k % 8)) (k / 8)
 
--- ---- the reasons, in the order written
+-- ---- the reasons: the first that holds, in the order written [F79]
+--   Make: folder absent (13), marks none; folder is a trace (14), marks it; label already in that folder (15), marks its holder.
+--   Store: object absent (12), marks none; object is a folder (14), marks it; its contents' last record unseen (17), marks it.
+--   Remove: absent (12), marks none; folder with entries (16), marks it; last contents or label record unseen (17), marks it.
+--   Rename: absent (12), marks none; last label record unseen (17), marks it; label in its folder, its own included (15), marks the holder.
+--   Settle: the named record does not stand aside (18), marks none.
+-- `judge` and `effect` are for well formed records: a number that is no operation falls to one end of their chains.
 
 -- the label is free in the folder, or 15 marks its holder
 unfoldable pub freeLabel : Option Entry → Verdict
@@ -203,11 +211,13 @@ effect r t =
 
 -- ---- the fold
 
+-- a record that fits has its effect; one that stands aside changes the asides alone: it is added to them, open [F80]
 unfoldable pub apply : Verdict → Rec → Tree → Tree
 apply fits r t = effect r t
 apply (aside n k) r t =
     record { entries = t .entries; asides = t .asides ++ (record { who = selfOf r; reason = n; marked = k; isOpen = true } ∷ []) }
 
+-- a record is judged against what those before it left [F78]
 unfoldable pub step : Tree → Rec → Tree
 step t r = apply (judge r t) r t
 
@@ -215,7 +225,7 @@ unfoldable pub replayFrom : Tree → List Rec → Tree
 replayFrom t [] = t
 replayFrom t (r ∷ l) = replayFrom (step t r) l
 
--- the records of a log in rank order, from the root alone on [F16]
+-- records taken as they stand, from the root alone on. They have to stand in rank order, as in a sound log: nothing is sorted here [F16]
 unfoldable pub replay : List Rec → Tree
 replay l = replayFrom emptyTree l
 
@@ -226,6 +236,7 @@ unfoldable pub isDisputed : ℕ → List Aside → Bool
 isDisputed k [] = false
 isDisputed k (a ∷ l) = (a .isOpen && eqb (a .marked) k) || isDisputed k l
 
+-- the entries that are not absent
 unfoldable pub presentOnes : List Entry → List Entry
 presentOnes [] = []
 presentOnes (e ∷ l) = cond (isPresent e) (e ∷ presentOnes l) (presentOnes l)

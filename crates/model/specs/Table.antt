@@ -1,17 +1,19 @@
 -- The tree table: 43,012 bytes that show entries and asides.
 --   0-1 how many entries, 2-3 how many asides; from 4 on 512 rows of 72 bytes for entries; from 36,868 on 512 rows of 12 bytes
 --   for asides. Rows that are not used are zero.
+-- Document 01, "Log, blocks and file": its length is the team's.
 -- Assumes nothing.
-use Prim.Native.Nat.{ℕ, zero, suc, _+_, _-_, _*_, _/_, _%_}
+use Prim.Native.Nat.{ℕ}
 use mathlib.Core.Bool.{Bool, true, false, cond}
 use mathlib.Core.List.{List, [], _∷_, _++_}
 use lib.ListN.{length}
 use Rattle.model.specs.Bytes.{two, padded}
+use Rattle.model.specs.Record.{unitOf, numberOf}
 use Rattle.model.specs.Replay.{Entry, Aside, Tree, isDisputed, presentOnes}
 
 -- an identity in four bytes: unit, zero, number
 unfoldable pub identityBytes : ℕ → List ℕ
-identityBytes k = k % 8 ∷ 0 ∷ two (k / 8)
+identityBytes k = unitOf k ∷ 0 ∷ two (numberOf k)
 
 -- 0 kind (1 folder, 2 trace), 1 disputed, 2-3 zero, 4-7 identity, 8-11 folder, 12-15 last contents record,
 -- 16-19 last label record, 20-23 date, 24-55 label, 56-71 mark

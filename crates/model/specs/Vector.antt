@@ -1,4 +1,5 @@
 -- Vectors: eight 16-bit counts, one for each unit. Of unit u the records 1 to the count are held.
+-- Document 01, "Units, identities, vectors".
 -- Assumes nothing.
 use Prim.Native.Nat.{ℕ, zero, suc, _+_, _*_}
 use mathlib.Core.Bool.{Bool, true, false, cond, _&&_}
@@ -12,7 +13,7 @@ unfoldable pub coversTo : List ℕ → List ℕ → ℕ → Bool
 coversTo a b zero = true
 coversTo a b (suc n) = coversTo a b n && leb (getD b n 0) (getD a n 0)
 
--- every count of a is at least that of b
+-- every count of a is at least that of b [F77]
 unfoldable pub covers : List ℕ → List ℕ → Bool
 covers a b = coversTo a b 8
 

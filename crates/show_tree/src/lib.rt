@@ -3,15 +3,16 @@ ghost use mathlib.Core.Path.{_≡_};
 ghost use mathlib.Core.Bool.{true};
 ghost use lib.ListN.{length, replicate};
 ghost use Rattle.model.specs.Log.{recordsOf, soundLog};
-ghost use Rattle.model.specs.Replay.{replay};
+ghost use Rattle.model.specs.Replay.{emptyTree, replay};
 ghost use Rattle.model.specs.Table.{tableBytes};
 ghost use Rattle.model.specs.Outcome.{outcome, showOf};
+ghost use Rattle.tree_replay.specs.Registers.{replayOn};
 use call_answer::Answer;
 
 // The tree of the n records of a sound log is laid in a table of zeros, by a register of zeros.
 fn fill_tree(log: &[u8], n: usize, tree: &mut [u8], register: &mut [u16])
     requires { ⌜ (length (now log) ≡ 40960) × (soundLog (now log) ≡ true) × (n ≡ length (recordsOf (now log))) × (now tree ≡ replicate 43012 0) × (now register ≡ replicate 9729 0) ⌝ }
-    ensures { λ _. ⌜ now (tree .exit) ≡ tableBytes (replay (recordsOf (now (log .entry)))) ⌝ }
+    ensures { λ _. ⌜ (now (tree .exit) ≡ tableBytes (replay (recordsOf (now (log .entry))))) × (now (register .exit) ≡ replayOn emptyTree (replicate 9729 0) (recordsOf (now (log .entry)))) ⌝ }
 {
     let size = tree_replay::replay_log(log, n, tree, register);
     tree_finish::finish(tree, register, size);

@@ -13,13 +13,14 @@ use Rattle.model.specs.Block.{countIn, blockFault, recordAt, recordsFrom, block
 use Rattle.model.specs.Outcome.{Outcome, outcome, taken, takeAll, givenFault, tookAll, tookBlock, takeOf}
 use Rattle.byte_slice.proofs.Numbers.{eq-or-ne}
 use Rattle.block_laws.proofs.Faults.{header-right, stored-header}
-use Rattle.call_answer.proofs.Guards.{guards-pass, known-sound}
+use Rattle.call_answer.proofs.Guards.{guards-pass}
 use Rattle.encoding_laws.proofs.Logs.{sound-records, sound-bytes, sound-few}
 use Rattle.log_closure.specs.Tables.{Indexed}
 use Rattle.log_check.specs.declared.Layout.the-variants.{Log}
 use Rattle.log_check.specs.Places.{laidAt}
-use Rattle.log_check.specs.InOrder.{CheckGives}
-use Rattle.take_beside.specs.Judging.{afterTo, JudgeGives}
+use Rattle.log_check.specs.InOrder.{checked, checkOf}
+use Rattle.log_check.proofs.Sound.{checked-sound, known-sound}
+use Rattle.take_beside.specs.Judging.{Judgement, judgement, judgeOf, judgeGiven, afterTo, JudgeGives}
 use Rattle.take_store.specs.Stored.{Stored}
 
 -- ---- a block without a fault
@@ -32,6 +33,19 @@ module _ (archive : ℕ) (b : List ℕ) (f : ℕ) (e : f ≡ givenFault archive 
       go : (n : ℕ) → (n ≡ 0 → ⊥) → outcome n 0 log [] 0 ≡ tookBlock log b n
       go zero h = absurd (h refl)
       go (suc n) h = refl
+
+  module _ (log held : List ℕ) (used : ℕ) (places seens : List ℕ) where
+    pub bad-left : (f ≡ 0 → ⊥) → judgement f places seens ≡ judgeGiven (givenFault archive b) log b held used places seens
+    unfolding judgeGiven
+    bad-left h = rw (← e, ne-eqb f 0 h)
+
+    pub judged-left : f ≡ 0 → (n : ℕ) → n ≡ countIn b → (o : Judgement) → o ≡ judgeOf log b n held used places seens → o ≡ judgeGiven (givenFault archive b) log b held used places seens
+    unfolding judgeGiven
+    judged-left z n q o g = g ∙ rw (← e, z, ← q)
+
+    pub taken-left : f ≡ 0 → (n : ℕ) → n ≡ countIn b → (k : ℕ) (p s : List ℕ) → judgement k p s ≡ judgeOf log b n held used places seens → k ≡ 0
+        → judgement 0 p s ≡ judgeGiven (givenFault archive b) log b held used places seens
+    taken-left z n q k p s g w = rw w at (judged-left z n q (judgement k p s) g)
 
   module _ (z : f ≡ 0) where
     no-fault : givenFault archive b ≡ 0
@@ -76,11 +90,13 @@ log-stored log used held places seens n s u i =
 
 -- ---- a log that was checked
 
-pub took : (archive u : ℕ) (log b : List ℕ) {s : Bool} → length log ≡ 40960 → u ≤ 7 → s ≡ soundLog log → not s ≡ false
-    → (o : Outcome) → o ≡ tookBlock log b (givenFault archive b) → o ≡ takeOf archive u log b
-unfolding takeOf
-took archive u log b n h c g o q = q ∙ guards-pass u log [] [] 0 (tookBlock log b (givenFault archive b)) n refl h c g
+module _ (log places₀ seens₀ : List ℕ) {s : Bool} {used : ℕ} {held places seens : List ℕ} (c : checked s used held places seens ≡ checkOf log places₀ seens₀) (g : not s ≡ false) where
+  pub checked-known : soundLog log ≡ true
+  checked-known = known-sound log (checked-sound log places₀ seens₀ c) g
 
-pub checked-indexed : (log : List ℕ) {s : Bool} {used : ℕ} {held places seens : List ℕ} → CheckGives log s used held places seens → not s ≡ false
-    → Indexed (laidAt Log log) used (recordsOf log) held places seens
-checked-indexed log c g = c .holds (known-sound log (c .sound-is) g)
+  pub checked-indexed : (soundLog log ≡ true → Indexed (laidAt Log log) used (recordsOf log) held places seens) → Indexed (laidAt Log log) used (recordsOf log) held places seens
+  checked-indexed f = f checked-known
+
+  pub took : (archive u : ℕ) (b : List ℕ) → length log ≡ 40960 → u ≤ 7 → (o : Outcome) → o ≡ tookBlock log b (givenFault archive b) → o ≡ takeOf archive u log b
+  unfolding takeOf
+  took archive u b n h o q = q ∙ guards-pass u log [] [] 0 (tookBlock log b (givenFault archive b)) n refl h (checked-sound log places₀ seens₀ c) g

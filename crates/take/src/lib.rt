@@ -8,6 +8,7 @@ ghost use Rattle.model.specs.Outcome.{outcome, givenFault, tookBlock, takeOf};
 ghost use Rattle.log_closure.specs.Tables.{Indexed};
 ghost use Rattle.log_check.specs.declared.Layout.the-variants.{Log};
 ghost use Rattle.log_check.specs.Places.{laidAt};
+ghost use Rattle.take_beside.specs.Judging.{judgement, judgeGiven};
 use call_answer::Answer;
 use take_store::Stock;
 use vector::Vector;
@@ -23,7 +24,8 @@ pub fn take_block(
     seens: &mut [u16],
 ) -> u8
     requires { ⌜ (length (now log) ≡ 40960) × (soundLog (now log) ≡ true) × (used ≡ length (recordsOf (now log))) × (length (now places) ≡ 4096) × (length (now seens) ≡ 4144) × Indexed (laidAt Log (now log)) used (recordsOf (now log)) (held .counts) (now places) (now seens) ⌝ }
-    ensures { λ r. ⌜ outcome r 0 (now (log .exit)) [] 0 ≡ tookBlock (now (log .entry)) (now (b .entry)) (givenFault archive (now (b .entry))) ⌝ }
+    ensures took { λ r. ⌜ outcome r 0 (now (log .exit)) [] 0 ≡ tookBlock (now (log .entry)) (now (b .entry)) (givenFault archive (now (b .entry))) ⌝ }
+    ensures tables { λ r. ⌜ judgement r (now (places .exit)) (now (seens .exit)) ≡ judgeGiven (givenFault archive (now (b .entry))) (now (log .entry)) (now (b .entry)) (held .counts) used (now (places .entry)) (now (seens .entry)) ⌝ }
 {
     let f = take_beside::given_fault(archive, b);
     if f != 0 {

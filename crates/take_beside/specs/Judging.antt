@@ -9,7 +9,7 @@ use lib.ListN.{getD, set}
 use Rattle.model.specs.Numbers.{malformed, otherBytes, fullLog}
 use Rattle.model.specs.Bytes.{sameBytes, putAt}
 use Rattle.model.specs.Record.{Rec, unit, num, seenVector, wellFormed}
-use Rattle.model.specs.Block.{recordAt, blockRecords}
+use Rattle.model.specs.Block.{countIn, recordAt, blockRecords}
 use Rattle.model.specs.Outcome.{refused, taken, takeOne, takeAll}
 use Rattle.log_closure.specs.Tables.{slotOf, positionOf, joinFault}
 use Rattle.log_check.specs.declared.Layout.the-variants.{Log}
@@ -58,6 +58,32 @@ takeBy at r p held used places seens =
     cond (wellFormed r)
     (cond (leb (num r) (getD held (unit r) 0)) (step (heldBy at places r) held used places seens) (newStep r p held used places seens))
     (step malformed held used places seens)
+
+-- the n records of a block from j on, one after another, up to the first that is refused
+unfoldable pub judgeFrom : List ℕ → List ℕ → ℕ → ℕ → List ℕ → ℕ → List ℕ → List ℕ → Step
+judgeFrom log block j zero held used places seens = step 0 held used places seens
+judgeFrom log block j (suc n) held used places seens =
+    let t : Step = takeBy (heldAt log block) (recordAt block j) (512 + j) held used places seens in
+    cond (eqb (t .number) 0) (judgeFrom log block (suc j) n (t .held) (t .used) (t .places) (t .seens)) t
+
+-- the number of a block, and the tables as judging it leaves them
+pub record Judgement : Type 0 where
+  pub number : ℕ
+  pub places : List ℕ
+  pub seens : List ℕ
+
+abbrev pub judgement : ℕ → List ℕ → List ℕ → Judgement
+judgement n places seens = record { number = n; places = places; seens = seens }
+
+unfoldable pub judgeOf : List ℕ → List ℕ → ℕ → List ℕ → ℕ → List ℕ → List ℕ → Judgement
+judgeOf log block n held used places seens =
+    let s : Step = judgeFrom log block 0 n held used places seens in
+    judgement (s .number) (s .places) (s .seens)
+
+-- a block with a fault of its own is not judged further
+unfoldable pub judgeGiven : ℕ → List ℕ → List ℕ → List ℕ → ℕ → List ℕ → List ℕ → Judgement
+judgeGiven fault log block held used places seens =
+    cond (eqb fault 0) (judgeOf log block (countIn block) held used places seens) (judgement fault places seens)
 
 -- ---- by the list
 

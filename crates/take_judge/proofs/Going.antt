@@ -4,10 +4,13 @@ use Prim.Native.Nat.{ℕ, suc, _+_, _-_, _*_, _≤_, _<_}
 use native.Mathlib.Nat.{sub-self, sub-zero}
 use native.Mathlib.Numerals.{add-one}
 use native.Mathlib.Omega.{arith}
-use mathlib.Core.Path.{_≡_, refl, sym, _∙_}
+use mathlib.Core.Path.{_≡_, refl, sym, ap, _∙_}
+use mathlib.Core.Bool.{cond}
 use mathlib.Core.List.{List, [], _∷_}
+use lib.Dec.{eqb}
 use lib.ListN.{length, take, drop}
-use borrow.Author.Tests.{lt-ltb, le-ltb}
+use borrow.Author.Tests.{eq-eqb, ne-eqb, lt-ltb, le-ltb}
+use Rattle.model.specs.Bytes.{part}
 use Rattle.model.specs.Log.{recordsOf}
 use Rattle.model.specs.Block.{countIn, recordAt, recordsFrom, blockRecords}
 use Rattle.model.specs.Outcome.{refused, takeOne, takeAll}
@@ -17,7 +20,7 @@ use Rattle.log_closure.specs.Tables.{Indexed, Placed}
 use Rattle.log_admit.proofs.Tables.{indexed-placed, indexed-where}
 use Rattle.log_check.specs.declared.Layout.the-variants.{Log}
 use Rattle.log_check.specs.Places.{laidAt}
-use Rattle.take_beside.specs.Judging.{Counted, heldAt, Step, step, takeBy, after, afterTo, JudgeGives}
+use Rattle.take_beside.specs.Judging.{Counted, heldAt, Step, step, takeBy, judgeFrom, judgement, judgeOf, after, afterTo, JudgeGives}
 use Rattle.take_judge.proofs.Beside.{counted, beside-refused, beside-taken}
 
 -- the first j records of a block are taken: the tables have all records held, and the rest is still to come
@@ -88,3 +91,33 @@ module _ (log block : List ℕ) (n j : ℕ) (held : List ℕ) (used : ℕ) (plac
           counts = rw (add-one j) (a .counts);
           rest = rw (add-one j) (sym (takeAll-goes l (recordAt block j) (recordsFrom block (suc j) (n - suc j)) (after l (recordAt block j)) (a .takes)) ∙ (rw (add-one j) at next-rest));
         }
+
+-- ---- what judging leaves
+
+pub left-starts : (log block : List ℕ) (n : ℕ) (v : List ℕ) (m : ℕ) (places seens : List ℕ) → judgeFrom log block 0 (n - 0) v m places seens ≡ judgeFrom log block 0 n v m places seens
+left-starts log block n v m places seens = rw sub-zero
+
+module _ (log block : List ℕ) (n j : ℕ) (held : List ℕ) (used : ℕ) (places seens v : List ℕ) (m : ℕ) (places₀ seens₀ : List ℕ)
+    (f : judgeFrom log block j (n - j) held used places seens ≡ judgeFrom log block 0 n v m places₀ seens₀) where
+  told : (s : Step) → s ≡ judgeFrom log block 0 n v m places₀ seens₀ → judgement (s .number) (s .places) (s .seens) ≡ judgeOf log block n v m places₀ seens₀
+  unfolding judgeOf
+  told s e = ap (λ (x : Step). judgement (x .number) (x .places) (x .seens)) e
+
+  pub left-ends : j ≤ n → n ≤ j → judgement 0 places seens ≡ judgeOf log block n v m places₀ seens₀
+  unfolding judgeFrom
+  left-ends h k = let e : n - j ≡ 0 = omega arith in told (step 0 held used places seens) (rw e at f)
+
+  module _ (h : j < n) (number : ℕ) (held′ : List ℕ) (used′ : ℕ) (places′ seens′ : List ℕ)
+      (e : step number held′ used′ places′ seens′ ≡ takeBy (heldAt log block) (take (28 + 80 * j + 80 - (28 + 80 * j)) (drop (28 + 80 * j) block)) (512 + j) held used places seens) where
+    more : cond (eqb number 0) (judgeFrom log block (j + 1) (n - (j + 1)) held′ used′ places′ seens′) (step number held′ used′ places′ seens′) ≡ judgeFrom log block 0 n v m places₀ seens₀
+    unfolding judgeFrom recordAt part
+    more =
+        let q : n - j ≡ suc (n - (j + 1)) = omega arith in
+        let w : 28 + 80 * j + 80 - (28 + 80 * j) ≡ 80 = omega arith in
+        rw (q, ← (rw w at e), ← add-one j) at f
+
+    pub left-stops : (number ≡ 0 → ⊥) → judgement number places′ seens′ ≡ judgeOf log block n v m places₀ seens₀
+    left-stops z = told (step number held′ used′ places′ seens′) (rw (ne-eqb number 0 z) at more)
+
+    pub left-next : number ≡ 0 → judgeFrom log block (j + 1) (n - (j + 1)) held′ used′ places′ seens′ ≡ judgeFrom log block 0 n v m places₀ seens₀
+    left-next z = rw (eq-eqb number 0 z) at more

@@ -7,7 +7,7 @@ ghost use Rattle.model.specs.Block.{countIn};
 ghost use Rattle.log_closure.specs.Tables.{Placed, Indexed};
 ghost use Rattle.log_check.specs.declared.Layout.the-variants.{Log};
 ghost use Rattle.log_check.specs.Places.{laidAt};
-ghost use Rattle.take_beside.specs.Judging.{Counted, heldAt, step, takeBy, JudgeGives};
+ghost use Rattle.take_beside.specs.Judging.{Counted, heldAt, step, takeBy, judgement, judgeOf, JudgeGives};
 use take_beside::Judged;
 use take_beside::same_held;
 use take_beside::take_new;
@@ -65,7 +65,8 @@ pub fn judge_block(
     seens: &mut [u16],
 ) -> u8
     requires { ⌜ (length (now b) ≡ 512) × (n ≡ countIn (now b)) × (n ≤ 6) × (length (now log) ≡ 40960) × (m ≡ length (recordsOf (now log))) × (length (now places) ≡ 4096) × (length (now seens) ≡ 4144) × Indexed (laidAt Log (now log)) m (recordsOf (now log)) (v .counts) (now places) (now seens) ⌝ }
-    ensures { λ r. ⌜ JudgeGives (recordsOf (now (log .entry))) (now (b .entry)) n r ⌝ }
+    ensures outright { λ r. ⌜ judgement r (now (places .exit)) (now (seens .exit)) ≡ judgeOf (now (log .entry)) (now (b .entry)) n (v .counts) m (now (places .entry)) (now (seens .entry)) ⌝ }
+    ensures gives { λ r. ⌜ JudgeGives (recordsOf (now (log .entry))) (now (b .entry)) n r ⌝ }
 {
     let mut held = v;
     let mut used = m;

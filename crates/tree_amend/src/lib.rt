@@ -8,6 +8,7 @@ ghost use Rattle.tree_table.specs.Rows.{entriesFrom, asidesFrom, treeIn};
 ghost use Rattle.hash_chains.specs.Chains.{nodesIn};
 ghost use Rattle.tree_lookup.specs.Roles.{Works, Holds};
 ghost use Rattle.tree_amend.specs.Effects.{withEntries, withAsides, Takes};
+ghost use Rattle.tree_amend.specs.Registers.{renamedOn, removedOn};
 use tree_table::Size;
 
 // A store: contents record, date and mark of the object's row.
@@ -26,7 +27,7 @@ pub fn store(rec: &[u8], table: &mut [u8], register: &[u16], size: Size)
 // A rename: label record and label of the object's row.
 pub fn rename(rec: &[u8], table: &mut [u8], register: &mut [u16], size: Size)
     requires { ⌜ Takes (treeIn (now table) (size .entries) (size .asides)) (now rec) × Holds (now table) (now register) (size .entries) (size .asides) × (nodesIn (now register) < 512) × (2 < getD (now rec) 1 0) ⌝ }
-    ensures { λ _. ⌜ Works (now (table .exit)) (now (register .exit)) (size .entries) (size .asides) (withEntries (treeIn (now (table .entry)) (size .entries) (size .asides)) (changed (renamed (now (rec .entry))) (objectOf (now (rec .entry))) (entriesFrom (now (table .entry)) 0 (size .entries)))) × (nodesIn (now (register .exit)) ≤ nodesIn (now (register .entry)) + 1) ⌝ }
+    ensures { λ _. ⌜ Works (now (table .exit)) (now (register .exit)) (size .entries) (size .asides) (withEntries (treeIn (now (table .entry)) (size .entries) (size .asides)) (changed (renamed (now (rec .entry))) (objectOf (now (rec .entry))) (entriesFrom (now (table .entry)) 0 (size .entries)))) × (nodesIn (now (register .exit)) ≤ nodesIn (now (register .entry)) + 1) × (now (register .exit) ≡ renamedOn (now (rec .entry)) (treeIn (now (table .entry)) (size .entries) (size .asides)) (now (register .entry))) ⌝ }
 {
     let row = tree_lookup::entry_of(table, register, size, tree_table::object_of(rec));
     if size.entries <= row {
@@ -54,7 +55,7 @@ fn remove_row(row: &mut [u8])
 // A remove: the object's row stays, with kind 0.
 pub fn remove(rec: &[u8], table: &mut [u8], register: &mut [u16], size: Size)
     requires { ⌜ Takes (treeIn (now table) (size .entries) (size .asides)) (now rec) × Holds (now table) (now register) (size .entries) (size .asides) × (2 < getD (now rec) 1 0) ⌝ }
-    ensures { λ _. ⌜ Works (now (table .exit)) (now (register .exit)) (size .entries) (size .asides) (withEntries (treeIn (now (table .entry)) (size .entries) (size .asides)) (changed removed (objectOf (now (rec .entry))) (entriesFrom (now (table .entry)) 0 (size .entries)))) × (nodesIn (now (register .exit)) ≤ nodesIn (now (register .entry)) + 1) ⌝ }
+    ensures { λ _. ⌜ Works (now (table .exit)) (now (register .exit)) (size .entries) (size .asides) (withEntries (treeIn (now (table .entry)) (size .entries) (size .asides)) (changed removed (objectOf (now (rec .entry))) (entriesFrom (now (table .entry)) 0 (size .entries)))) × (nodesIn (now (register .exit)) ≤ nodesIn (now (register .entry)) + 1) × (now (register .exit) ≡ removedOn (now (rec .entry)) (treeIn (now (table .entry)) (size .entries) (size .asides)) (now (register .entry))) ⌝ }
 {
     let row = tree_lookup::entry_of(table, register, size, tree_table::object_of(rec));
     if size.entries <= row {

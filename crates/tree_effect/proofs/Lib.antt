@@ -1,2 +1,3 @@
 pub mod Additions
 pub mod Effects
+pub mod Registers

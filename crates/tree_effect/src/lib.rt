@@ -10,12 +10,13 @@ ghost use Rattle.tree_table.specs.Rows.{entriesFrom, asidesFrom, treeIn, newAsi
 ghost use Rattle.hash_chains.specs.Chains.{nodesIn};
 ghost use Rattle.tree_lookup.specs.Roles.{Works, Holds};
 ghost use Rattle.tree_amend.specs.Effects.{withEntries, withAsides, Takes};
+ghost use Rattle.tree_amend.specs.Registers.{madeOn, effectOn, asideOn};
 use tree_table::Size;
 
 // A make: a row for the new entry, its role, its folder's count and its label.
 pub fn add_entry(rec: &[u8], table: &mut [u8], register: &mut [u16], size: Size) -> Size
     requires { ⌜ Takes (treeIn (now table) (size .entries) (size .asides)) (now rec) × Holds (now table) (now register) (size .entries) (size .asides) × (size .entries < 512) × (nodesIn (now register) < 512) × (getD (now rec) 1 0 ≤ 2) ⌝ }
-    ensures { λ r. ⌜ Works (now (table .exit)) (now (register .exit)) (r .entries) (r .asides) (withEntries (treeIn (now (table .entry)) (size .entries) (size .asides)) (entriesFrom (now (table .entry)) 0 (size .entries) ++ (newEntry (now (rec .entry)) ∷ []))) × (nodesIn (now (register .exit)) ≤ nodesIn (now (register .entry)) + 1) ⌝ }
+    ensures { λ r. ⌜ Works (now (table .exit)) (now (register .exit)) (r .entries) (r .asides) (withEntries (treeIn (now (table .entry)) (size .entries) (size .asides)) (entriesFrom (now (table .entry)) 0 (size .entries) ++ (newEntry (now (rec .entry)) ∷ []))) × (nodesIn (now (register .exit)) ≤ nodesIn (now (register .entry)) + 1) × (now (register .exit) ≡ madeOn (now (rec .entry)) (treeIn (now (table .entry)) (size .entries) (size .asides)) (now (register .entry))) ⌝ }
 {
     let at = 4 + 72 * size.entries;
     tree_table::fill_row(&mut table[at..at + 72], rec);
@@ -43,7 +44,7 @@ pub fn stand_aside(
     size: Size,
 ) -> Size
     requires { ⌜ Takes (treeIn (now table) (size .entries) (size .asides)) (now rec) × Holds (now table) (now register) (size .entries) (size .asides) × (size .asides < 512) × ((marked ≡ 0) ⊎ InRange marked) ⌝ }
-    ensures { λ r. ⌜ Works (now (table .exit)) (now (register .exit)) (r .entries) (r .asides) (withAsides (treeIn (now (table .entry)) (size .entries) (size .asides)) (asidesFrom (now (table .entry)) 0 (size .asides) ++ (newAside (selfOf (now (rec .entry))) reason marked ∷ []))) × (nodesIn (now (register .exit)) ≤ nodesIn (now (register .entry)) + 1) ⌝ }
+    ensures { λ r. ⌜ Works (now (table .exit)) (now (register .exit)) (r .entries) (r .asides) (withAsides (treeIn (now (table .entry)) (size .entries) (size .asides)) (asidesFrom (now (table .entry)) 0 (size .asides) ++ (newAside (selfOf (now (rec .entry))) reason marked ∷ []))) × (nodesIn (now (register .exit)) ≤ nodesIn (now (register .entry)) + 1) × (now (register .exit) ≡ asideOn (now (rec .entry)) (treeIn (now (table .entry)) (size .entries) (size .asides)) (now (register .entry))) ⌝ }
 {
     let who = tree_table::self_of(rec);
     let at = 36868 + 12 * size.asides;
@@ -59,7 +60,7 @@ pub fn stand_aside(
 // A record that fits does what its operation says.
 pub fn effect(rec: &[u8], table: &mut [u8], register: &mut [u16], size: Size) -> Size
     requires { ⌜ Takes (treeIn (now table) (size .entries) (size .asides)) (now rec) × Holds (now table) (now register) (size .entries) (size .asides) × (size .entries < 512) × (nodesIn (now register) < 512) ⌝ }
-    ensures { λ r. ⌜ Works (now (table .exit)) (now (register .exit)) (r .entries) (r .asides) (effectOf (now (rec .entry)) (treeIn (now (table .entry)) (size .entries) (size .asides))) × (nodesIn (now (register .exit)) ≤ nodesIn (now (register .entry)) + 1) ⌝ }
+    ensures { λ r. ⌜ Works (now (table .exit)) (now (register .exit)) (r .entries) (r .asides) (effectOf (now (rec .entry)) (treeIn (now (table .entry)) (size .entries) (size .asides))) × (nodesIn (now (register .exit)) ≤ nodesIn (now (register .entry)) + 1) × (now (register .exit) ≡ effectOn (now (rec .entry)) (treeIn (now (table .entry)) (size .entries) (size .asides)) (now (register .entry))) ⌝ }
 {
     let op = rec[1];
     if op <= 2 {

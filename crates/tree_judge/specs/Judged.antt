@@ -12,9 +12,14 @@ use Rattle.model.specs.Replay.{Entry, Verdict, fits, aside}
 use Rattle.tree_table.specs.Rows.{InRange}
 use Rattle.tree_maps.specs.Keys.{slotOf}
 
--- a reason and the entry that it marks; reason 0 fits
+-- a reason and the entry that it marks, as a verdict: 0 and 0 fits, and no other two numbers do
 unfoldable pub verdictOf : ℕ → ℕ → Verdict
-verdictOf n k = cond (eqb n 0) fits (aside n k)
+verdictOf n k = cond (eqb n 0 && eqb k 0) fits (aside n k)
+
+-- the entry that a verdict marks; 0 for none
+unfoldable pub markedOf : Verdict → ℕ
+markedOf fits = 0
+markedOf (aside n k) = k
 
 -- the entry is a folder that has entries, by the number that a register has for it
 unfoldable pub fullBy : List ℕ → Entry → Bool

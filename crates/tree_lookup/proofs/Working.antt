@@ -6,7 +6,7 @@ use native.Mathlib.Omega.{arith}
 use mathlib.Core.Path.{_≡_, refl, sym, ap, _∙_}
 use mathlib.Core.Logic.{_⊎_, inl, inr, ⊎-elim}
 use mathlib.Core.Bool.{false}
-use mathlib.Core.Option.{none, some}
+use mathlib.Core.Option.{Option, none, some}
 use mathlib.Core.List.{List, [], _∷_}
 use lib.ListN.{getD, length}
 use borrow.Author.Tests.{eq-eqb, ne-eqb, lt-ltb, le-ltb}
@@ -14,9 +14,11 @@ use Rattle.model.specs.Replay.{Entry, Aside, Tree, isPresent, entryOf}
 use Rattle.tree_table.specs.Rows.{entryIn, asideIn, entriesFrom, asidesFrom, treeIn, rowIn, workBytes, InRange, Proper, AllProper}
 use Rattle.tree_table.proofs.Rows.{tree-back}
 use Rattle.tree_table.proofs.Writes.{flagged-long}
+use Rattle.byte_slice.proofs.Numbers.{lt-or-ge}
 use Rattle.tree_lookup.specs.Roles.{rowFrom, rowOf, noteOf, behindRows, roleOf, Works, Holds}
+use Rattle.tree_lookup.specs.Lookup.{rowAmong}
 use Rattle.tree_maps.specs.Keys.{slotOf}
-use Rattle.tree_lookup.proofs.Places.{row-at, no-entry, entry-at, ifPresent}
+use Rattle.tree_lookup.proofs.Places.{row-at, row-lone, no-entry, entry-at, ifPresent}
 
 -- an entry of no table, for places behind the rows
 pub blankEntry : Entry
@@ -149,7 +151,7 @@ module _ (b register : List ℕ) (n m : ℕ) (t : Tree) (w : Works b register n 
       (λ (y : (1 ≤ noteOf k t) × (behindRows (noteOf k t) ≡ 512 + noteOf k t)). absurd (omega (arith, y .1)))
       (behind-cases (noteOf k t))
 
--- ---- what `entry_of` answers
+-- ---- a row and what it shows
 
 pub row-none : (b : List ℕ) (n i : ℕ) → n ≤ i → rowIn b n i ≡ none
 unfolding rowIn
@@ -158,6 +160,27 @@ row-none b n i h = rw (le-ltb i n h)
 pub row-some : (b : List ℕ) (n i : ℕ) → i < n → rowIn b n i ≡ some (entryIn b (4 + 72 * i))
 unfolding rowIn
 row-some b n i h = rw (lt-ltb i n h)
+
+-- what a row shows has no other row
+pub row-among : (b register : List ℕ) (n m : ℕ) → Holds b register n m → (i : ℕ) (o : Option Entry) → i ≤ n → rowIn b n i ≡ o
+    → i ≡ rowAmong (entriesFrom b 0 n) o
+unfolding rowAmong treeIn
+row-among b register n m w i o h e =
+    let es = entriesFrom b 0 n in
+    let l = entries-length b 0 n in
+    ⊎-elim
+    (λ (g : i < n).
+    let x = entryIn b (4 + 72 * i) in
+    let at : getD es i blankEntry ≡ x = rw (zero-add i) at (entries-at b 0 n i blankEntry g) in
+    let r : rowFrom (x .made) 0 es ≡ suc (0 + i) = row-lone (x .made) 0 es i blankEntry (w .lone) (omega arith) (rw at) in
+    rw (← e, row-some b n i g) (omega arith))
+    (λ (g : n ≤ i). rw (← e, row-none b n i g) (omega arith))
+    (lt-or-ge i n)
+
+-- ---- what `entry_of` answers
+
+pub row-within : (role n : ℕ) → role ≤ n → role - 1 ≤ n
+row-within role n h = omega arith
 
 module _ (b register : List ℕ) (n m : ℕ) (w : Holds b register n m) (k : ℕ) (u : InRange k) (role : ℕ) (e : role ≡ getD register (slotOf k) 0) where
   nowhere : (role ≡ 0) ⊎ (n < role) → rowIn b n n ≡ entryOf k (entriesFrom b 0 n)

@@ -6,6 +6,7 @@ ghost use Rattle.model.specs.Replay.{entryOf, isIn, holderOf};
 ghost use Rattle.tree_table.specs.Rows.{entryIn, entriesFrom, rowIn, InRange};
 ghost use Rattle.tree_maps.specs.Keys.{slotOf};
 ghost use Rattle.tree_lookup.specs.Roles.{holdsAt, earlierOf, Holds};
+ghost use Rattle.tree_lookup.specs.Lookup.{rowAmong};
 use tree_table::Size;
 
 // The role of an identity.
@@ -20,7 +21,7 @@ pub fn role_of(register: &[u16], k: u32) -> usize
 // The row of the entry k, or the number of rows if it is absent.
 pub fn entry_of(table: &[u8], register: &[u16], size: Size, k: u32) -> usize
     requires { ⌜ Holds (now table) (now register) (size .entries) (size .asides) × InRange k ⌝ }
-    ensures { λ r. ⌜ rowIn (now (table .entry)) (size .entries) r ≡ entryOf k (entriesFrom (now (table .entry)) 0 (size .entries)) ⌝ }
+    ensures { λ r. ⌜ (r ≡ rowAmong (entriesFrom (now (table .entry)) 0 (size .entries)) (entryOf k (entriesFrom (now (table .entry)) 0 (size .entries)))) × (rowIn (now (table .entry)) (size .entries) r ≡ entryOf k (entriesFrom (now (table .entry)) 0 (size .entries))) ⌝ }
 {
     let role = role_of(register, k);
     if role == 0 {
@@ -75,7 +76,7 @@ pub fn earlier(table: &[u8], row: usize, best: usize, f: u32, label: &[u8]) -> u
 // The row of the holder of a label in the folder f, or the number of rows if the label is free.
 pub fn holder(table: &[u8], register: &[u16], size: Size, f: u32, label: &[u8]) -> usize
     requires { ⌜ Holds (now table) (now register) (size .entries) (size .asides) × (length (now label) ≡ 32) ⌝ }
-    ensures { λ r. ⌜ rowIn (now (table .entry)) (size .entries) r ≡ holderOf f (now (label .entry)) (entriesFrom (now (table .entry)) 0 (size .entries)) ⌝ }
+    ensures { λ r. ⌜ (r ≡ rowAmong (entriesFrom (now (table .entry)) 0 (size .entries)) (holderOf f (now (label .entry)) (entriesFrom (now (table .entry)) 0 (size .entries)))) × (rowIn (now (table .entry)) (size .entries) r ≡ holderOf f (now (label .entry)) (entriesFrom (now (table .entry)) 0 (size .entries))) ⌝ }
 {
     let h = tree_maps::hash(f, label);
     let mut best = size.entries;

@@ -1,4 +1,6 @@
+pub mod Fitting
 pub mod Marks
 pub mod Stepping
 pub mod Playing
 pub mod Sound
+pub mod Registers

@@ -55,6 +55,10 @@ replay-fresh t at n p (suc i) j h g =
 
 -- ---- what `replay` is asked, over plain values
 
+pub record-is : (k : Layout) (bytes : List ℕ) (i at : ℕ) → at ≡ offsetOf k i → take (at + 80 - at) (drop at bytes) ≡ laidAt k bytes i
+unfolding laidAt
+record-is k bytes i at o = part-is bytes at 80 ∙ rw o
+
 module _ (k : Layout) (bytes b₀ register₀ : List ℕ) (n₀ m₀ n : ℕ) (p : Playable (treeIn b₀ n₀ m₀) (laidAt k bytes) n) (w₀ : Holds b₀ register₀ n₀ m₀) (b register : List ℕ) (x y i : ℕ) (w : Works b register x y (replayFrom (treeIn b₀ n₀ m₀) (listed (laidAt k bytes) 0 i))) where
   pub turn-entries : i < n → n₀ + n ≤ 512 → x < 512
   turn-entries h g =
@@ -72,21 +76,17 @@ module _ (k : Layout) (bytes b₀ register₀ : List ℕ) (n₀ m₀ n : ℕ) (p
   turn-holds = works-holds b register x y (replayFrom (treeIn b₀ n₀ m₀) (listed (laidAt k bytes) 0 i)) w
 
   module _ (at : ℕ) (o : at ≡ offsetOf k i) where
-    record-is : take (at + 80 - at) (drop at bytes) ≡ laidAt k bytes i
-    unfolding laidAt
-    record-is = part-is bytes at 80 ∙ rw o
-
     pub turn-takes : i < n → Takes (treeIn b x y) (take (at + 80 - at) (drop at bytes))
     turn-takes h =
         let t = replayFrom (treeIn b₀ n₀ m₀) (listed (laidAt k bytes) 0 i) in
-        rw (record-is, works-tree b register x y t w)
+        rw (record-is k bytes i at o, works-tree b register x y t w)
         (record { asks = p .asks i h; own = p .own i h; fresh = replay-fresh (treeIn b₀ n₀ m₀) (laidAt k bytes) n p i i (omega arith) h })
 
     pub turn-goes : (b' register' : List ℕ) (x' y' : ℕ) → Works b' register' x' y' (step (treeIn b x y) (take (at + 80 - at) (drop at bytes)))
         → Works b' register' x' y' (replayFrom (treeIn b₀ n₀ m₀) (listed (laidAt k bytes) 0 (i + 1)))
     turn-goes b' register' x' y' v =
         let t = replayFrom (treeIn b₀ n₀ m₀) (listed (laidAt k bytes) 0 i) in
-        let u = rw (record-is, works-tree b register x y t w) at v in
+        let u = rw (record-is k bytes i at o, works-tree b register x y t w) at v in
         rw (replay-next (treeIn b₀ n₀ m₀) (laidAt k bytes) i) u
 
     pub turn-inside : Laid k bytes n → i < n → at + 80 ≤ length bytes

@@ -171,7 +171,7 @@ start-works b register e f =
 
 -- ---- what `replay_log` is asked, over plain values
 
-empty-rows : (b : List ℕ) → treeIn b 0 0 ≡ emptyTree
+pub empty-rows : (b : List ℕ) → treeIn b 0 0 ≡ emptyTree
 unfolding treeIn emptyTree entriesFrom asidesFrom
 empty-rows b = refl
 

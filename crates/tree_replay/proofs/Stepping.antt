@@ -17,6 +17,7 @@ use Rattle.tree_lookup.specs.Roles.{rowFrom, noteFrom, rowOf, noteOf, roleOf, W
 use Rattle.tree_lookup.proofs.Places.{row-more, note-more}
 use Rattle.tree_judge.specs.Judged.{verdictOf}
 use Rattle.tree_amend.specs.Effects.{withAsides}
+use Rattle.tree_replay.proofs.Fitting.{judged-fits}
 use Rattle.tree_replay.proofs.Marks.{marked-fits}
 
 -- ---- changes keep places and lengths
@@ -95,9 +96,9 @@ module _ (b register : List ℕ) (n m : ℕ) (r : Rec) (x k : ℕ) (e : verdictO
 
   module _ (b' register' : List ℕ) (n' m' : ℕ) where
     pub step-acts : x ≡ 0 → Works b' register' n' m' (effect r (treeIn b n m)) → Works b' register' n' m' (step (treeIn b n m) r)
-    unfolding step verdictOf apply
+    unfolding step apply
     step-acts h w =
-        let q : fits ≡ judge r (treeIn b n m) = rw h at e in
+        let q : fits ≡ judge r (treeIn b n m) = judged-fits r (treeIn b n m) x k e h in
         rw (← q) w
 
     pub step-stands : (x ≡ 0 → ⊥) → Works b' register' n' m' (withAsides (treeIn b n m) (asidesFrom b 0 m ++ (newAside (selfOf r) x k ∷ [])))

@@ -1,5 +1,6 @@
 use Rattle.model.specs.Outcome.{actOf}
-use Rattle.call_answer.proofs.Guards.{log-length, buffer-length, unit-above, known-sound, known-used, known-held}
+use Rattle.call_answer.proofs.Guards.{log-length, buffer-length, unit-above}
+use Rattle.log_check.proofs.Sound.{known-sound, known-held}
 use Rattle.act.proofs.Acting.{act-unsound, act-done}
 use native.Mathlib.Omega.{arith}
 use borrow.Author.Needs.{needs}
@@ -39,7 +40,7 @@ returns-4 c = act-unsound _ _ _ (search needs) (search needs) (search needs) (c 
 
 -- src/lib.rt:110:9
 act-on-requires : tie.Need-act-on-requires
-act-on-requires c κs = (search needs, search (known-sound), search (known-used), search (known-held), omega arith, search needs)
+act-on-requires c κs = (search needs, search (known-sound), search needs, search (known-held), omega arith, search needs)
 
 -- src/lib.rt:82:1
 same-length-2 : tie.Need-same-length-2

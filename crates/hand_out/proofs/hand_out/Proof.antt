@@ -1,7 +1,8 @@
 use mathlib.Core.Path.{_≡_}
 use lib.ListN.{length}
 use Rattle.hand_out.proofs.Handed.{handed}
-use Rattle.call_answer.proofs.Guards.{log-length, buffer-length, unit-above, log-unsound, known-sound, known-used, known-held}
+use Rattle.call_answer.proofs.Guards.{log-length, buffer-length, unit-above, log-unsound}
+use Rattle.log_check.proofs.Sound.{known-sound, known-held}
 use Rattle.model.specs.Outcome.{handOf}
 use native.Mathlib.Omega.{arith}
 use borrow.Author.Needs.{needs}
@@ -39,7 +40,7 @@ returns-4 c = search (log-unsound)
 
 -- src/lib.rt:85:9
 block-for-requires : tie.Need-block-for-requires
-block-for-requires c κs = (search needs, search (known-sound), search (known-used), search (known-held))
+block-for-requires c κs = (search needs, search (known-sound), search needs, search (known-held))
 
 -- src/lib.rt:87:19
 slice-aggregate-put : tie.Need-slice-aggregate-put

@@ -1,4 +1,4 @@
-use Rattle.log_check.proofs.Sound.{checked-vector}
+use Rattle.log_check.proofs.Sound.{checked-sound, checked-used, checked-held}
 use borrow.Author.Needs.{needs}
 use Rattle.log_check.proofs.check.Statement.{statement}
 use Rattle.log_check.proofs.check.Tie as tie
@@ -19,7 +19,7 @@ check-into-requires : tie.Need-check-into-requires
 check-into-requires c κs = search needs
 
 returns : tie.Need-returns
-returns c = (search needs, λ s. search needs, λ s. search (checked-vector))
+returns c = (search (checked-sound), search (checked-used), search (checked-held))
 
 pub check-spec : {M : Type 1} → statement M
 check-spec =

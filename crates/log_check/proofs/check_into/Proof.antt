@@ -1,4 +1,4 @@
-use Rattle.log_check.proofs.Sound.{log-laid, check-refuses, check-passes}
+use Rattle.log_check.proofs.Sound.{log-laid, fault-unsound, records-indexed, fault-left, records-left}
 use borrow.Author.Needs.{needs}
 use Rattle.log_check.proofs.check_into.Statement.{statement}
 use Rattle.log_check.proofs.check_into.Tie as tie
@@ -16,7 +16,7 @@ same-length-2 : tie.Need-same-length-2
 same-length-2 c = search needs
 
 returns : tie.Need-returns
-returns c = search (check-refuses)
+returns c = (search (fault-left), λ s. search (fault-unsound))
 
 mul-at : tie.Need-mul-at
 mul-at c = search needs
@@ -40,7 +40,7 @@ same-length-4 : tie.Need-same-length-4
 same-length-4 c = search needs
 
 returns-2 : tie.Need-returns-2
-returns-2 c = search (check-passes)
+returns-2 c = (search (records-left), λ s. search (records-indexed))
 
 pub check-into-spec : {M : Type 1} → statement M
 check-into-spec =

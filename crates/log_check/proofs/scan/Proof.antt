@@ -1,10 +1,10 @@
 use Prim.Native.Nat.{_≤_, _-_}
 use native.Mathlib.Nat.{sub-zero}
 use mathlib.Core.Path.{_≡_}
-use lib.ListN.{length}
+use lib.ListN.{length, replicate}
 use Rattle.log_check.specs.Places.{laidAt}
-use Rattle.log_check.specs.InOrder.{firstFault}
-use Rattle.log_check.proofs.Scans.{Passed, passed-none, passed-placed, passed-spare, laid-inside, scan-stops, scan-first, scan-passed, scan-ends}
+use Rattle.log_check.specs.InOrder.{firstFault, scanFrom, scanOf}
+use Rattle.log_check.proofs.Scans.{Passed, passed-none, passed-placed, passed-spare, left-none, left-ends, laid-inside, scan-stops, scan-left, scan-more, scan-first, scan-passed, scan-ends}
 use borrow.Author.Needs.{needs}
 use native.Mathlib.Omega.{arith}
 use Rattle.log_check.proofs.scan.Statement.{statement}
@@ -13,9 +13,11 @@ use Rattle.log_check.proofs.scan.Tie as tie
 abbrev Inv-loop : tie.InvT-loop
 Inv-loop bytes layout n places₀ seens₀ none b₀ i₀ places seens b i =
     (i ≤ n)
+    × (none .counts ≡ replicate 8 0)
     × (length places ≡ 4096)
     × (length seens ≡ 4144)
     × (firstFault (laidAt layout bytes) i (n - i) ≡ firstFault (laidAt layout bytes) 0 n)
+    × (scanFrom (laidAt layout bytes) i (n - i) (b .held .counts) (b .floor) places seens ≡ scanOf (laidAt layout bytes) n places₀ seens₀)
     × Passed (laidAt layout bytes) i (b .held .counts) (b .floor) places seens
 
 abbrev μ-loop : tie.MeasureT-loop
@@ -25,7 +27,7 @@ zero-vector-requires : tie.Need-zero-vector-requires Inv-loop μ-loop
 zero-vector-requires c κs = search needs
 
 loop-holds : tie.Need-loop-holds Inv-loop μ-loop
-loop-holds c = (omega arith, search needs, search needs, rw sub-zero, search (passed-none))
+loop-holds c = (omega arith, search needs, search needs, search needs, rw sub-zero, search (left-none), search (passed-none))
 
 offset-requires : tie.Need-offset-requires Inv-loop μ-loop
 offset-requires c κs = search needs
@@ -52,7 +54,7 @@ same-length-2 : tie.Need-same-length-2 Inv-loop μ-loop
 same-length-2 c = search needs
 
 returns : tie.Need-returns Inv-loop μ-loop
-returns c = search (scan-stops)
+returns c = (search (scan-left), search (scan-stops))
 
 add-i : tie.Need-add-i Inv-loop μ-loop
 add-i c = search needs
@@ -61,7 +63,7 @@ loop-less : tie.Need-loop-less Inv-loop μ-loop
 loop-less c = search needs
 
 loop-again : tie.Need-loop-again Inv-loop μ-loop
-loop-again c = (omega arith, search needs, search needs, search (scan-first), search (scan-passed))
+loop-again c = (omega arith, search needs, search needs, search needs, search (scan-first), search (scan-more), search (scan-passed))
 
 same-length-3 : tie.Need-same-length-3 Inv-loop μ-loop
 same-length-3 c = search needs
@@ -70,7 +72,7 @@ same-length-4 : tie.Need-same-length-4 Inv-loop μ-loop
 same-length-4 c = search needs
 
 returns-2 : tie.Need-returns-2 Inv-loop μ-loop
-returns-2 c = search (scan-ends)
+returns-2 c = (search (left-ends), search (scan-ends))
 
 pub scan-spec : {M : Type 1} → statement M
 scan-spec =

@@ -17,7 +17,7 @@ same-length-2 : tie.Need-same-length-2
 same-length-2 c = search needs
 
 returns : tie.Need-returns
-returns c = search (laid)
+returns c = (search (laid), search)
 
 pub fill-tree-spec : {M : Type 1} → statement M
 fill-tree-spec =

@@ -1,4 +1,4 @@
-use Rattle.call_answer.proofs.Guards.{known-sound, known-used}
+use Rattle.log_check.proofs.Sound.{known-sound}
 use Rattle.show_tree.proofs.Shown.{bad-log, bad-tree, unsound, shown}
 use borrow.Author.Needs.{needs}
 use Rattle.show_tree.proofs.show_tree.Statement.{statement}
@@ -17,7 +17,7 @@ returns-3 : tie.Need-returns-3
 returns-3 c = search (unsound)
 
 lay-tree-requires : tie.Need-lay-tree-requires
-lay-tree-requires c κs = (search, search (known-sound), search (known-used), search)
+lay-tree-requires c κs = (search, search (known-sound), search, search)
 
 same-length : tie.Need-same-length
 same-length c = search needs

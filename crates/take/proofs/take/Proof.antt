@@ -1,8 +1,9 @@
 use mathlib.Core.Path.{refl}
 use mathlib.Core.List.{[]}
 use Rattle.model.specs.Outcome.{takeOf}
-use Rattle.call_answer.proofs.Guards.{log-length, unit-above, log-unsound, known-sound}
-use Rattle.take.proofs.Ways.{checked-indexed, took}
+use Rattle.call_answer.proofs.Guards.{log-length, unit-above, log-unsound}
+use Rattle.log_check.proofs.Sound.{checked-sound, checked-used}
+use Rattle.take.proofs.Ways.{checked-known, checked-indexed, took}
 use borrow.Author.Needs.{needs}
 use Rattle.take.proofs.take.Statement.{statement}
 use Rattle.take.proofs.take.Tie as tie
@@ -38,7 +39,7 @@ returns-3 : tie.Need-returns-3
 unfolding takeOf
 returns-3 c =
     let k = c .before .before .before .before in
-    log-unsound _ _ _ [] 0 _ (search needs) refl (search needs) (k .check-into .ensures .sound-is) (c .if3 .taken)
+    log-unsound _ _ _ [] 0 _ (search needs) refl (search needs) (checked-sound _ _ _ (k .check-into .ensures .0)) (c .if3 .taken)
 
 slice-aggregate-take-block : tie.Need-slice-aggregate-take-block
 slice-aggregate-take-block c = search needs
@@ -47,7 +48,7 @@ slice-aggregate-take-block-2 : tie.Need-slice-aggregate-take-block-2
 slice-aggregate-take-block-2 c = search needs
 
 take-block-requires : tie.Need-take-block-requires
-take-block-requires c κs = (search needs, search (known-sound), search needs, search needs, search needs, search (checked-indexed))
+take-block-requires c κs = (search needs, search (checked-known), search (checked-used), search needs, search needs, search (checked-indexed))
 
 same-length-2 : tie.Need-same-length-2
 same-length-2 c = search needs

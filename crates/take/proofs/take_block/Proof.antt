@@ -1,4 +1,4 @@
-use Rattle.take.proofs.Ways.{block-bad, given-long, given-few, block-refused, log-stored, block-passed, block-taken}
+use Rattle.take.proofs.Ways.{block-bad, bad-left, judged-left, taken-left, given-long, given-few, block-refused, log-stored, block-passed, block-taken}
 use borrow.Author.Needs.{needs}
 use Rattle.take.proofs.take_block.Statement.{statement}
 use Rattle.take.proofs.take_block.Tie as tie
@@ -7,7 +7,7 @@ given-fault-requires : tie.Need-given-fault-requires
 given-fault-requires c κs = search needs
 
 returns : tie.Need-returns
-returns c = search (block-bad)
+returns c = (search (block-bad), search (bad-left))
 
 count-in-requires : tie.Need-count-in-requires
 count-in-requires c κs = search (given-long)
@@ -28,7 +28,7 @@ same-length-3 : tie.Need-same-length-3
 same-length-3 c = search needs
 
 returns-2 : tie.Need-returns-2
-returns-2 c = search (block-refused)
+returns-2 c = (search (block-refused), search (judged-left))
 
 store-requires : tie.Need-store-requires
 store-requires c κs =
@@ -37,7 +37,7 @@ store-requires c κs =
       search (given-long),
       search (given-few),
       search (log-stored),
-      block-passed _ _ _ _ (j .judge-block .ensures) (j .before .before .before .before .count-in .ensures) (c .before .if2 .left),
+      block-passed _ _ _ _ (j .judge-block .ensures .1) (j .before .before .before .before .count-in .ensures) (c .before .if2 .left),
     )
 
 same-length-4 : tie.Need-same-length-4
@@ -50,7 +50,7 @@ same-length-6 : tie.Need-same-length-6
 same-length-6 c = search needs
 
 returns-3 : tie.Need-returns-3
-returns-3 c = search (block-taken)
+returns-3 c = (search (block-taken), search (taken-left))
 
 pub take-block-spec : {M : Type 1} → statement M
 take-block-spec =

@@ -1,7 +1,8 @@
 use Prim.Native.Nat.{_≤_, _-_}
 use mathlib.Core.Path.{_≡_}
 use lib.ListN.{length}
-use Rattle.take_judge.proofs.Going.{Going, going-starts, going-few, going-placed, going-counted, going-stops, going-next, going-ends}
+use Rattle.take_beside.specs.Judging.{judgeFrom}
+use Rattle.take_judge.proofs.Going.{Going, going-starts, going-few, going-placed, going-counted, going-stops, going-next, going-ends, left-starts, left-stops, left-next, left-ends}
 use borrow.Author.Needs.{needs}
 use native.Mathlib.Omega.{arith}
 use Rattle.take_judge.proofs.judge_block.Statement.{statement}
@@ -9,13 +10,14 @@ use Rattle.take_judge.proofs.judge_block.Tie as tie
 
 abbrev Inv-loop : tie.InvT-loop
 Inv-loop b n log m places₀ seens₀ held₀ used₀ j₀ places seens held used j =
-    (j ≤ n) × (length places ≡ 4096) × (length seens ≡ 4144) × Going log b n j (held .counts) used places seens
+    (j ≤ n) × (length places ≡ 4096) × (length seens ≡ 4144) × (judgeFrom log b j (n - j) (held .counts) used places seens ≡ judgeFrom log b 0 n (held₀ .counts) m places₀ seens₀)
+    × Going log b n j (held .counts) used places seens
 
 abbrev μ-loop : tie.MeasureT-loop
 μ-loop b n log m places₀ seens₀ held₀ used₀ j₀ places seens held used j = n - j
 
 loop-holds : tie.Need-loop-holds Inv-loop μ-loop
-loop-holds c = (omega arith, search needs, search needs, search (going-starts))
+loop-holds c = (omega arith, search needs, search needs, search (left-starts), search (going-starts))
 
 mul-at : tie.Need-mul-at Inv-loop μ-loop
 mul-at c = search needs
@@ -48,7 +50,7 @@ same-length-2 : tie.Need-same-length-2 Inv-loop μ-loop
 same-length-2 c = search needs
 
 returns : tie.Need-returns Inv-loop μ-loop
-returns c = search (going-stops)
+returns c = (search (left-stops), search (going-stops))
 
 add-j : tie.Need-add-j Inv-loop μ-loop
 add-j c = search needs
@@ -57,7 +59,7 @@ loop-less : tie.Need-loop-less Inv-loop μ-loop
 loop-less c = search needs
 
 loop-again : tie.Need-loop-again Inv-loop μ-loop
-loop-again c = (omega arith, search needs, search needs, search (going-next))
+loop-again c = (omega arith, search needs, search needs, search (left-next), search (going-next))
 
 same-length-3 : tie.Need-same-length-3 Inv-loop μ-loop
 same-length-3 c = search needs
@@ -66,7 +68,7 @@ same-length-4 : tie.Need-same-length-4 Inv-loop μ-loop
 same-length-4 c = search needs
 
 returns-2 : tie.Need-returns-2 Inv-loop μ-loop
-returns-2 c = search (going-ends)
+returns-2 c = (search (left-ends), search (going-ends))
 
 pub judge-block-spec : {M : Type 1} → statement M
 judge-block-spec =

@@ -1,3 +1,4 @@
+use Rattle.tree_amend.proofs.Registers.{remove-leaves, remove-register}
 use Rattle.tree_judge.proofs.Reasons.{object-range}
 use Rattle.tree_amend.proofs.Amending.{unchanged, remove-done, remove-nodes, leave-counts, row-end, label-end, works-chains}
 use Rattle.tree_lookup.proofs.Working.{works-long}
@@ -19,7 +20,7 @@ same-length-2 : tie.Need-same-length-2
 same-length-2 c = search needs
 
 returns : tie.Need-returns
-returns c = (search (unchanged), omega arith)
+returns c = (search (unchanged), omega arith, search (remove-leaves))
 
 mul-at : tie.Need-mul-at
 mul-at c = search needs
@@ -76,8 +77,9 @@ returns-2 c =
     let e = d .before .before .before .before .before .before in
     let o = e .before .before in
     let s = o .before .before .before .before .before .before .before in (
-      remove-done _ _ _ _ (s .pre .1) _ (s .pre .0) _ _ (o .before .object-of .ensures) (o .entry-of .ensures) _ _ _ (e .if1 .left) (d .before .before .before .inside-at .ensures) (d .leave .ensures) _ (a .remove-row .ensures),
+      remove-done _ _ _ _ (s .pre .1) _ (s .pre .0) _ _ (o .before .object-of .ensures) (o .entry-of .ensures .1) _ _ _ (e .if1 .left) (d .before .before .before .inside-at .ensures) (d .leave .ensures) _ (a .remove-row .ensures),
       search (remove-nodes),
+      remove-register _ _ _ _ _ _ _ (o .before .object-of .ensures) (o .entry-of .ensures .0) (o .entry-of .ensures .1) (e .if1 .left) _ (d .before .before .before .inside-at .ensures) _ (d .leave .ensures),
     )
 
 pub remove-spec : {M : Type 1} → statement M

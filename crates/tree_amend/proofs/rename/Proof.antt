@@ -1,5 +1,6 @@
+use Rattle.tree_amend.proofs.Registers.{within-row, rename-leaves, rename-register}
 use Rattle.tree_judge.proofs.Reasons.{object-range}
-use Rattle.tree_amend.proofs.Amending.{unchanged, rename-done, rename-nodes, row-end, label-end, works-chains}
+use Rattle.tree_amend.proofs.Amending.{unchanged, rename-done, rename-nodes, row-end, works-chains}
 use Rattle.tree_lookup.proofs.Working.{works-long}
 use Rattle.model.specs.Record.{labelOf}
 use Rattle.model.specs.Bytes.{part}
@@ -21,7 +22,7 @@ same-length-2 : tie.Need-same-length-2
 same-length-2 c = search needs
 
 returns : tie.Need-returns
-returns c = (search (unchanged), omega arith)
+returns c = (search (unchanged), omega arith, search (rename-leaves))
 
 mul-at : tie.Need-mul-at
 mul-at c = search needs
@@ -45,7 +46,7 @@ part-relabel-start : tie.Need-part-relabel-start
 part-relabel-start c = search needs
 
 part-relabel-end : tie.Need-part-relabel-end
-part-relabel-end c = search (label-end)
+part-relabel-end c = search (needs, within-row)
 
 sub-relabel-2 : tie.Need-sub-relabel-2
 sub-relabel-2 c = search needs
@@ -88,8 +89,9 @@ returns-2 c =
     let e = d .before .before .before .before .before .before .before in
     let o = e .before .before in
     let s = o .before .before .before .before .before .before .before in (
-      rename-done _ _ _ _ (s .pre .1) _ (s .pre .0) _ _ (o .before .object-of .ensures) (o .entry-of .ensures) _ _ _ (e .if1 .left) (s .pre .2) (d .before .before .before .before .inside-at .ensures) (d .relabel .ensures) _ (a .rename-row .ensures),
+      rename-done _ _ _ _ (s .pre .1) _ (s .pre .0) _ _ (o .before .object-of .ensures) (o .entry-of .ensures .1) _ _ _ (e .if1 .left) (s .pre .2) (d .before .before .before .before .inside-at .ensures) (d .relabel .ensures) _ (a .rename-row .ensures),
       search (rename-nodes),
+      rename-register _ _ _ _ _ _ _ (o .before .object-of .ensures) (o .entry-of .ensures .0) (o .entry-of .ensures .1) (e .if1 .left) _ (d .before .before .before .before .inside-at .ensures) _ (d .relabel .ensures),
     )
 
 pub rename-spec : {M : Type 1} → statement M

@@ -1,6 +1,7 @@
 use Rattle.tree_effect.proofs.Effects.{entry-added, made-nodes, enter-chains, enter-nodes, enter-count, next-row-end, own-low, folder-low}
 use Rattle.model.specs.Record.{labelOf}
 use Rattle.model.specs.Bytes.{part}
+use Rattle.tree_effect.proofs.Registers.{make-register}
 use borrow.Author.Needs.{needs}
 use Rattle.tree_effect.proofs.add_entry.Statement.{statement}
 use Rattle.tree_effect.proofs.add_entry.Tie as tie
@@ -73,7 +74,7 @@ same-length-2 c = search needs
 
 returns : tie.Need-returns
 unfolding labelOf part
-returns c = (search (entry-added), search (made-nodes))
+returns c = (search (entry-added), search (made-nodes), search (make-register))
 
 pub add-entry-spec : {M : Type 1} → statement M
 add-entry-spec =

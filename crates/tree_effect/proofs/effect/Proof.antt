@@ -3,6 +3,7 @@ use Rattle.tree_effect.proofs.Effects.{effect-make, effect-store, effec
 use borrow.Author.Needs.{needs}
 use Rattle.tree_effect.proofs.effect.Statement.{statement}
 use Rattle.tree_effect.proofs.effect.Tie as tie
+use Rattle.tree_effect.proofs.Registers.{make-turns, store-turns, remove-turns, rename-turns, settle-turns}
 
 shared-slice-read-op : tie.Need-shared-slice-read-op
 shared-slice-read-op c = search needs
@@ -17,7 +18,7 @@ same-length-2 : tie.Need-same-length-2
 same-length-2 c = search needs
 
 returns : tie.Need-returns
-returns c = (search (effect-make), omega arith)
+returns c = (search (effect-make), omega arith, search (make-turns))
 
 store-requires : tie.Need-store-requires
 store-requires c κs = search needs
@@ -38,7 +39,7 @@ same-length-4 : tie.Need-same-length-4
 same-length-4 c = search needs
 
 returns-2 : tie.Need-returns-2
-returns-2 c = (search (effect-store), omega arith)
+returns-2 c = (search (effect-store), omega arith, search (store-turns))
 
 same-length-5 : tie.Need-same-length-5
 same-length-5 c = search needs
@@ -47,7 +48,7 @@ same-length-6 : tie.Need-same-length-6
 same-length-6 c = search needs
 
 returns-3 : tie.Need-returns-3
-returns-3 c = (search (effect-remove), omega arith)
+returns-3 c = (search (effect-remove), omega arith, search (remove-turns))
 
 same-length-7 : tie.Need-same-length-7
 same-length-7 c = search needs
@@ -56,7 +57,7 @@ same-length-8 : tie.Need-same-length-8
 same-length-8 c = search needs
 
 returns-4 : tie.Need-returns-4
-returns-4 c = (search (effect-rename), omega arith)
+returns-4 c = (search (effect-rename), omega arith, search (rename-turns))
 
 same-length-9 : tie.Need-same-length-9
 same-length-9 c = search needs
@@ -65,7 +66,7 @@ same-length-10 : tie.Need-same-length-10
 same-length-10 c = search needs
 
 returns-5 : tie.Need-returns-5
-returns-5 c = (search (effect-settle), omega arith)
+returns-5 c = (search (effect-settle), omega arith, search (settle-turns))
 
 pub effect-spec : {M : Type 1} → statement M
 effect-spec =

@@ -1,4 +1,5 @@
 use Rattle.tree_effect.proofs.Effects.{aside-added, role-kept, next-note-end, who-low, marked-low}
+use Rattle.tree_effect.proofs.Registers.{aside-register}
 use borrow.Author.Needs.{needs}
 use Rattle.tree_effect.proofs.stand_aside.Statement.{statement}
 use Rattle.tree_effect.proofs.stand_aside.Tie as tie
@@ -46,7 +47,7 @@ same-length-2 : tie.Need-same-length-2
 same-length-2 c = search needs
 
 returns : tie.Need-returns
-returns c = (search (aside-added), search (role-kept))
+returns c = (search (aside-added), search (role-kept), search (aside-register))
 
 pub stand-aside-spec : {M : Type 1} → statement M
 stand-aside-spec =

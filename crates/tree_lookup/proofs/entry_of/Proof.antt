@@ -1,4 +1,4 @@
-use Rattle.tree_lookup.proofs.Working.{entry-no-role, entry-aside, entry-removed, entry-found, works-long}
+use Rattle.tree_lookup.proofs.Working.{entry-no-role, entry-aside, entry-removed, entry-found, works-long, row-among, row-within}
 use native.Mathlib.Omega.{arith}
 use borrow.Author.Needs.{needs}
 use Rattle.tree_lookup.proofs.entry_of.Statement.{statement}
@@ -8,10 +8,10 @@ role-of-requires : tie.Need-role-of-requires
 role-of-requires c κs = search needs
 
 returns : tie.Need-returns
-returns c = search (entry-no-role)
+returns c = (search (needs, row-among, entry-no-role), search (entry-no-role))
 
 returns-2 : tie.Need-returns-2
-returns-2 c = search (entry-aside)
+returns-2 c = (search (needs, row-among, entry-aside), search (entry-aside))
 
 sub-kind-at : tie.Need-sub-kind-at
 sub-kind-at c = search needs
@@ -20,13 +20,13 @@ kind-at-requires : tie.Need-kind-at-requires
 kind-at-requires c κs = (search (works-long), omega arith)
 
 returns-3 : tie.Need-returns-3
-returns-3 c = search (entry-removed)
+returns-3 c = (search (needs, row-among, entry-removed), search (entry-removed))
 
 sub-result : tie.Need-sub-result
 sub-result c = search needs
 
 returns-4 : tie.Need-returns-4
-returns-4 c = search (entry-found)
+returns-4 c = (search (row-within, row-among, entry-found), search (entry-found))
 
 pub entry-of-spec : {M : Type 1} → statement M
 entry-of-spec =

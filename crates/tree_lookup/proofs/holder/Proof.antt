@@ -1,5 +1,5 @@
 use Rattle.tree_lookup.proofs.Labels.{Seeking, seek-starts, seek-row, seek-goes, seek-ends}
-use Rattle.tree_lookup.proofs.Working.{works-long}
+use Rattle.tree_lookup.proofs.Working.{works-long, row-among}
 use borrow.Author.Needs.{needs}
 use Rattle.tree_lookup.proofs.holder.Statement.{statement}
 use Rattle.tree_lookup.proofs.holder.Tie as tie
@@ -35,7 +35,7 @@ loop-again : tie.Need-loop-again Inv-loop μ-loop
 loop-again c = search (seek-goes)
 
 returns : tie.Need-returns Inv-loop μ-loop
-returns c = search (seek-ends)
+returns c = (search (row-among, seek-ends), search (seek-ends))
 
 pub holder-spec : {M : Type 1} → statement M
 holder-spec =

@@ -8,19 +8,21 @@ use Rattle.hash_chains.specs.Chains.{nodesIn}
 use Rattle.tree_lookup.specs.Roles.{Works}
 use Rattle.log_check.specs.Places.{laidAt}
 use Rattle.log_check.specs.InOrder.{listed}
+use Rattle.tree_replay.specs.Registers.{replayOn}
+use Rattle.tree_replay.proofs.Registers.{starts-on, goes-on, ends-on}
 use borrow.Author.Needs.{needs}
 use native.Mathlib.Omega.{arith}
 use Rattle.tree_replay.proofs.replay.Statement.{statement}
 use Rattle.tree_replay.proofs.replay.Tie as tie
 
 abbrev Inv-loop : tie.InvT-loop
-Inv-loop bytes layout n table₀ register₀ size₀ i₀ table register size i = (i ≤ n) × (length table ≡ length table₀) × (length register ≡ length register₀) × (nodesIn register ≤ nodesIn register₀ + i) × Works table register (size .entries) (size .asides) (replayFrom (treeIn table₀ (size₀ .entries) (size₀ .asides)) (listed (laidAt layout bytes) 0 i))
+Inv-loop bytes layout n table₀ register₀ size₀ i₀ table register size i = (i ≤ n) × (length table ≡ length table₀) × (length register ≡ length register₀) × (nodesIn register ≤ nodesIn register₀ + i) × Works table register (size .entries) (size .asides) (replayFrom (treeIn table₀ (size₀ .entries) (size₀ .asides)) (listed (laidAt layout bytes) 0 i)) × (register ≡ replayOn (treeIn table₀ (size₀ .entries) (size₀ .asides)) register₀ (listed (laidAt layout bytes) 0 i))
 
 abbrev μ-loop : tie.MeasureT-loop
 μ-loop bytes layout n table₀ register₀ size₀ i₀ table register size i = n - i
 
 loop-holds : tie.Need-loop-holds Inv-loop μ-loop
-loop-holds c = (omega arith, refl, refl, omega arith, search (play-starts))
+loop-holds c = (omega arith, refl, refl, omega arith, search (play-starts), search (starts-on))
 
 offset-requires : tie.Need-offset-requires Inv-loop μ-loop
 offset-requires c κs = omega arith
@@ -47,7 +49,7 @@ loop-less : tie.Need-loop-less Inv-loop μ-loop
 loop-less c = search needs
 
 loop-again : tie.Need-loop-again Inv-loop μ-loop
-loop-again c = (omega arith, search needs, search needs, omega arith, search (turn-goes))
+loop-again c = (omega arith, search needs, search needs, omega arith, search (turn-goes), search (goes-on))
 
 same-length : tie.Need-same-length Inv-loop μ-loop
 same-length c = search needs
@@ -56,7 +58,7 @@ same-length-2 : tie.Need-same-length-2 Inv-loop μ-loop
 same-length-2 c = search needs
 
 returns : tie.Need-returns Inv-loop μ-loop
-returns c = search (play-ends)
+returns c = (search (play-ends), search (ends-on))
 
 pub replay-spec : {M : Type 1} → statement M
 replay-spec =

@@ -1,5 +1,6 @@
 use Rattle.log_check.proofs.Sound.{log-laid}
 use Rattle.tree_replay.proofs.Sound.{start-holds, start-nodes, few-records, log-room, log-playable, log-replayed}
+use Rattle.tree_replay.proofs.Registers.{log-on}
 use borrow.Author.Needs.{needs}
 use Rattle.tree_replay.proofs.replay_log.Statement.{statement}
 use Rattle.tree_replay.proofs.replay_log.Tie as tie
@@ -14,7 +15,7 @@ same-length-2 : tie.Need-same-length-2
 same-length-2 c = search needs
 
 returns : tie.Need-returns
-returns c = search (log-replayed)
+returns c = (search (log-replayed), search (log-on))
 
 pub replay-log-spec : {M : Type 1} → statement M
 replay-log-spec =

@@ -1,5 +1,6 @@
 use native.Mathlib.Omega.{arith}
 use Rattle.tree_replay.proofs.Stepping.{step-acts, step-stands, mark-fits}
+use Rattle.tree_replay.proofs.Registers.{acts-on, stands-on}
 use borrow.Author.Needs.{needs}
 use Rattle.tree_replay.proofs.step.Statement.{statement}
 use Rattle.tree_replay.proofs.step.Tie as tie
@@ -17,7 +18,7 @@ same-length-2 : tie.Need-same-length-2
 same-length-2 c = search needs
 
 returns : tie.Need-returns
-returns c = (search (step-acts), omega arith)
+returns c = (search (step-acts), omega arith, search (acts-on))
 
 stand-aside-requires : tie.Need-stand-aside-requires
 stand-aside-requires c κs = (search, search, search, search (mark-fits))
@@ -29,7 +30,7 @@ same-length-4 : tie.Need-same-length-4
 same-length-4 c = search needs
 
 returns-2 : tie.Need-returns-2
-returns-2 c = (search (step-stands), omega arith)
+returns-2 c = (search (step-stands), omega arith, search (stands-on))
 
 pub step-spec : {M : Type 1} → statement M
 step-spec =

@@ -1,5 +1,6 @@
 use Rattle.write_file.proofs.Whole.{all-written}
-use Rattle.call_answer.proofs.Guards.{log-length, buffer-length, unit-above, log-unsound, known-sound, known-used, known-held}
+use Rattle.call_answer.proofs.Guards.{log-length, buffer-length, unit-above, log-unsound}
+use Rattle.log_check.proofs.Sound.{known-sound, known-held}
 use Rattle.model.specs.Outcome.{writeOf}
 use borrow.Author.Needs.{needs}
 use Rattle.write_file.proofs.write_file.Statement.{statement}
@@ -35,7 +36,7 @@ returns-4 c = search (log-unsound)
 
 -- src/lib.rt:128:9
 write-blocks-requires : tie.Need-write-blocks-requires
-write-blocks-requires c κs = (search needs, search (known-sound), search (known-used), search (known-held), search needs)
+write-blocks-requires c κs = (search needs, search (known-sound), search needs, search (known-held), search needs)
 
 -- src/lib.rt:112:1
 same-length : tie.Need-same-length
