@@ -107,24 +107,3 @@ fn quote(into: &mut String, text: &str) {
     }
     into.push('"');
 }
-
-#[cfg(test)]
-mod tests {
-    use super::Object;
-
-    #[test]
-    fn a_line() {
-        let line = Object::new("entry")
-            .text("label", "a\"b\\c\nd")
-            .number("reason", 15u8)
-            .truth("open", true)
-            .maybe("marks", None::<u8>)
-            .numbers("vector", &[1, 0])
-            .texts("ids", ["0.1", "0.2"])
-            .line();
-        assert_eq!(
-            line,
-            r#"{"type":"entry","label":"a\"b\\c\u000ad","reason":15,"open":true,"marks":null,"vector":[1,0],"ids":["0.1","0.2"]}"#
-        );
-    }
-}

@@ -355,25 +355,3 @@ pub fn field_card() -> String {
     card += "\n";
     card + include_str!("card/example.md")
 }
-
-#[cfg(test)]
-mod tests {
-    use super::*;
-
-    #[test]
-    fn every_number_once_and_in_order() {
-        let numbers: Vec<u8> = ROWS.iter().map(|row| row.number).collect();
-        assert_eq!(numbers, (1..=21).collect::<Vec<u8>>());
-    }
-
-    #[test]
-    fn advice_by_case() {
-        assert_eq!(advice(8, Case::Act), None);
-        assert!(advice(8, Case::Taking).is_some());
-        assert_eq!(advice(4, Case::File), advice(4, Case::Taking));
-        assert_eq!(
-            row(7).unwrap().cause.all(),
-            "File or block: a record is malformed. Act: the wish is malformed"
-        );
-    }
-}

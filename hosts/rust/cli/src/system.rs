@@ -263,18 +263,3 @@ pub fn names_descriptor(path: &Path) -> bool {
     let bytes = path.as_os_str().as_bytes();
     bytes == b"/dev/stdin" || bytes.starts_with(b"/dev/fd/") || bytes.starts_with(b"/proc/self/fd/")
 }
-
-#[cfg(test)]
-mod tests {
-    use super::date_of;
-
-    #[test]
-    fn dates() {
-        assert_eq!(date_of(0), (1970, 1, 1));
-        assert_eq!(date_of(58), (1970, 2, 28));
-        assert_eq!(date_of(59), (1970, 3, 1));
-        assert_eq!(date_of(11_016), (2000, 2, 29));
-        assert_eq!(date_of(20_150), (2025, 3, 3));
-        assert_eq!(date_of(47_541), (2100, 3, 1));
-    }
-}

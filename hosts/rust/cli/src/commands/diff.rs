@@ -109,29 +109,3 @@ fn differing<'a>(old: &[&'a str], new: &[&'a str]) -> Vec<(char, &'a str)> {
         }
     }
 }
-
-#[cfg(test)]
-mod tests {
-    use super::differing;
-
-    #[test]
-    fn lines_that_differ() {
-        let old = ["folder 0.1 a", "trace 0.2 a", "trace 0.3 a", "aside 1.1 a"];
-        let new = ["folder 0.1 a", "trace 0.3 b", "trace 1.2 a", "aside 1.1 a"];
-        assert_eq!(
-            differing(&old, &new),
-            [
-                ('-', "trace 0.2 a"),
-                ('-', "trace 0.3 a"),
-                ('+', "trace 0.3 b"),
-                ('+', "trace 1.2 a"),
-            ]
-        );
-        assert_eq!(differing(&[], &[]), []);
-        // A pair in another order, as two archives can have it, still ends.
-        assert_eq!(
-            differing(&["t 1.1 a", "t 0.1 a"], &["t 0.1 a", "t 1.1 a"]).len(),
-            4
-        );
-    }
-}

@@ -85,7 +85,10 @@ fn run(session: &mut Session) -> Outcome<Status> {
     if !session.args.has("dry-run") {
         let backup = session.args.has("backup");
         second.replace(&other, backup)?;
-        first.replace(&one, backup)?;
+        if let Err(failure) = first.replace(&one, backup) {
+            tell_half(session, &second, &other);
+            return Err(failure);
+        }
     }
     let (name_one, name_other) = (shown(&names[0]), shown(&names[1]));
     tell_blocks(&mut session.out, &name_one, &name_other, &to_second);
@@ -98,6 +101,17 @@ fn run(session: &mut Session) -> Outcome<Status> {
     tell_open(session, &[(&names[0], &one), (&names[1], &other)])?;
     tell_dry_run(session);
     Ok(status)
+}
+
+/// Says that the second file was replaced, though the first cannot be.
+fn tell_half(session: &mut Session, second: &Own, log: &Log) {
+    if *log != second.archive.log {
+        let words = "was replaced; the other file cannot be";
+        let advice = Some("nothing is lost: run the same command again to go on");
+        session
+            .out
+            .complain(Some(&second.archive.name), words, advice);
+    }
 }
 
 /// How many blocks with new records may be taken.

@@ -10,5 +10,6 @@ mod killed;
 mod made;
 mod meetings;
 mod pages;
+mod parts;
 mod power;
 mod start;
