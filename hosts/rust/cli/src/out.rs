@@ -192,6 +192,9 @@ pub fn for_shell(path: &Path) -> String {
 
 /// A file's name as text that no terminal takes for anything else.
 pub fn shown(path: &Path) -> String {
+    if path.as_os_str().is_empty() {
+        return "''".to_string();
+    }
     path.to_string_lossy()
         .chars()
         .flat_map(|letter| {

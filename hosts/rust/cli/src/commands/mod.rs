@@ -124,15 +124,10 @@ pub fn unknown(name: &str) -> String {
 
 /// Runs a command line; what it comes to.
 pub fn run(words: impl IntoIterator<Item = OsString>, system: &dyn System, mut out: Out) -> Status {
-    let mut words = words.into_iter();
-    let Some(first) = words.next() else {
+    let (name, words) = parted(words.into_iter().collect());
+    let Some(name) = name else {
         out.complain_text(&help::overview());
         return out.end(Status::Usage);
-    };
-    let name = match first.to_string_lossy().as_ref() {
-        "-h" | "--help" => "help".to_string(),
-        "--version" | "-V" => "version".to_string(),
-        name => name.to_string(),
     };
     let Some(command) = find(&name) else {
         let advice = Some("sab help lists the commands");
@@ -161,6 +156,24 @@ pub fn run(words: impl IntoIterator<Item = OsString>, system: &dyn System, mut o
         Err(failure) => failure.tell(command.name, &mut session.out),
     };
     session.out.end(status)
+}
+
+/// The name of the command, and the other words. Options may stand before it.
+fn parted(mut words: Vec<OsString>) -> (Option<String>, Vec<OsString>) {
+    let mut at = 0;
+    while let Some(word) = words.get(at).map(|word| word.to_string_lossy()) {
+        match word.as_ref() {
+            "-h" | "--help" => return (Some("help".to_string()), Vec::new()),
+            "-V" | "--version" => return (Some("version".to_string()), Vec::new()),
+            "--color" => at += 2,
+            option if option.starts_with('-') && option.len() > 1 => at += 1,
+            _ => {
+                let name = words.remove(at).to_string_lossy().into_owned();
+                return (Some(name), words);
+            }
+        }
+    }
+    (None, words)
 }
 
 /// Obeys the options that every command has.
