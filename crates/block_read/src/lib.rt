@@ -4,11 +4,11 @@ ghost use Prim.Native.Nat.{_≤_};
 ghost use lib.ListN.{length, take};
 ghost use Rattle.model.specs.Bytes.{sameBytes};
 ghost use Rattle.model.specs.Block.{letters, countIn, archiveIn, senderIn, placeIn, vectorIn, sumsHold, headerHolds, blockFault};
+use block_sums::block_sums;
 use byte_slice::is_blank;
 use byte_slice::le16;
 use byte_slice::le32;
 use byte_slice::same;
-use block_sums::block_sums;
 use vector::Vector;
 use vector::vector_at;
 

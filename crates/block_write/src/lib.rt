@@ -5,10 +5,10 @@ ghost use Prim.Native.Nat.{_≤_};
 ghost use lib.ListN.{length, take};
 ghost use Rattle.model.specs.Bytes.{putAt, padded};
 ghost use Rattle.model.specs.Block.{headBytes, sealed, blockOf};
+use block_sums::block_sums;
 use byte_slice::put;
 use byte_slice::put16;
 use byte_slice::put32;
-use block_sums::block_sums;
 use vector::Vector;
 use vector::put_vector;
 

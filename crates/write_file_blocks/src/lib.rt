@@ -6,10 +6,10 @@ ghost use lib.ListN.{length};
 ghost use Rattle.model.specs.Bytes.{putAt};
 ghost use Rattle.model.specs.Log.{recordsOf, soundLog, vectorOf};
 ghost use Rattle.model.specs.File.{blockCount, fileBlock};
-use byte_slice::put;
 use block_write::Block;
 use block_write::block_of;
 use block_write::empty_block;
+use byte_slice::put;
 use vector::Vector;
 
 // How many blocks hold n records: six records a block, and one block for none.
