@@ -5,13 +5,12 @@ use mathlib.Core.Bool.{Bool, true, false, cond, _||_}
 use mathlib.Core.List.{List, [], _∷_, _++_}
 use lib.Dec.{ltb, eqb}
 use lib.ListN.{getD, take}
-use Rattle.model.specs.Numbers.{badLength}
 use Rattle.model.specs.Bytes.{word, blank, part}
 use Rattle.model.specs.Record.{textLength}
 use Rattle.model.specs.Replay.{replay}
 use Rattle.model.specs.Table.{tableBytes}
 use Rattle.model.specs.Block.{archiveIn, senderIn, vectorIn}
-use Rattle.model.specs.File.{fileLength, fileFault, blockAt, recordsCounted, fileRecords}
+use Rattle.model.specs.File.{checkedFault, blockAt, recordsCounted, fileRecords}
 
 -- ---- the words, in ASCII [F49]
 
@@ -197,6 +196,4 @@ acceptedLines f =
 
 unfoldable pub listingOf : List ℕ → List ℕ
 listingOf f =
-    cond (fileLength f)
-    (cond (eqb (fileFault f .number) 0) (acceptedLines f) (refusedLine (fileFault f .number) (fileFault f .place)))
-    (refusedLine badLength 0)
+    cond (eqb (checkedFault f .number) 0) (acceptedLines f) (refusedLine (checkedFault f .number) (checkedFault f .place))
