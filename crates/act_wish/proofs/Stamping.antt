@@ -12,11 +12,11 @@ use Rattle.model.specs.Bytes.{two, blank, part, putAt}
 use Rattle.model.specs.Vector.{vectorBytes}
 use Rattle.model.specs.Record.{Rec, wellFormed}
 use Rattle.model.specs.Log.{count, vectorOf}
-use Rattle.model.specs.Outcome.{stamped, wishFits}
+use Rattle.model.specs.Outcome.{stamped, wishFits, wishNumber}
 use Rattle.byte_slice.proofs.PutAt.{put-whole, put-more}
 use Rattle.vector.proofs.InBytes.{vectorBytes-length}
 use Rattle.log_laws.proofs.Tests.{vectorOf-getD}
-use Rattle.act_wish.specs.Stamp.{stampedBy, fitsAs}
+use Rattle.act_wish.specs.Stamp.{stampedBy, fitsAs, numberAs}
 
 -- ---- the three writings
 
@@ -37,22 +37,27 @@ pub stamped-is : (u : ℕ) (l : List Rec) (w : List ℕ) {v : List ℕ} → u < 
 unfolding stampedBy stamped
 stamped-is u l w h e = rw (e, vectorOf-getD l u h, add-one (count u l))
 
-pub fits-is : (u : ℕ) (l : List Rec) (w : List ℕ) {r : Rec} → r ≡ stamped u l w → fitsAs u w r ≡ wishFits u l w
-unfolding fitsAs wishFits
-fits-is u l w e = rw e
+pub number-is : (u : ℕ) (l : List Rec) (w : List ℕ) {r : Rec} → r ≡ stamped u l w → numberAs u w r ≡ wishNumber u l w
+unfolding numberAs fitsAs wishFits
+number-is u l w e = rw e
 
--- ---- the ways out of `wish_fits`
+-- ---- the ways out of `wish_number`
 
 module _ (u : ℕ) (w : List ℕ) (r : Rec) where
-  pub other-unit : (getD w 0 0 ≡ u → ⊥) → false ≡ fitsAs u w r
-  unfolding fitsAs
+  pub other-unit : (getD w 0 0 ≡ u → ⊥) → 7 ≡ numberAs u w r
+  unfolding numberAs fitsAs
   other-unit h = rw (ne-eqb (getD w 0 0) u h)
 
   module _ (a : getD w 0 0 ≡ u) {b : Bool} (e : b ≡ blank (take (20 - 2) (drop 2 w))) where
-    pub not-zero : not b ≡ true → false ≡ fitsAs u w r
-    unfolding fitsAs part
+    pub not-zero : not b ≡ true → 7 ≡ numberAs u w r
+    unfolding numberAs fitsAs part
     not-zero h = rw (eq-eqb (getD w 0 0) u a, ← e, not-true b h)
 
-    pub fits-formed : {f : Bool} → not b ≡ false → f ≡ wellFormed r → f ≡ fitsAs u w r
-    unfolding fitsAs part
-    fits-formed h g = rw (eq-eqb (getD w 0 0) u a, ← e, not-false b h, g)
+    module _ {f : Bool} (h : not b ≡ false) (g : f ≡ wellFormed r) where
+      pub not-formed : not f ≡ true → 7 ≡ numberAs u w r
+      unfolding numberAs fitsAs part
+      not-formed k = rw (eq-eqb (getD w 0 0) u a, ← e, not-false b h, ← g, not-true f k)
+
+      pub wish-fits : not f ≡ false → 0 ≡ numberAs u w r
+      unfolding numberAs fitsAs part
+      wish-fits k = rw (eq-eqb (getD w 0 0) u a, ← e, not-false b h, ← g, not-false f k)

@@ -1,10 +1,11 @@
 -- A wish with the number and the vector that it is given, and whether it may be acted on.
 -- Assumes nothing.
 use Prim.Native.Nat.{ℕ}
-use mathlib.Core.Bool.{Bool, _&&_}
+use mathlib.Core.Bool.{Bool, cond, _&&_}
 use mathlib.Core.List.{List, _++_}
 use lib.Dec.{eqb}
 use lib.ListN.{getD, take, drop}
+use Rattle.model.specs.Numbers.{malformed}
 use Rattle.model.specs.Bytes.{two, blank, part}
 use Rattle.model.specs.Vector.{vectorBytes}
 use Rattle.model.specs.Record.{Rec, wellFormed}
@@ -16,3 +17,7 @@ stampedBy n v w = take 2 w ++ (two n ++ (vectorBytes v ++ drop 20 w))
 -- a wish of the unit u, number and seen zero, that is well formed as the record r
 unfoldable pub fitsAs : ℕ → List ℕ → Rec → Bool
 fitsAs u w r = eqb (getD w 0 0) u && (blank (part w 2 18) && wellFormed r)
+
+-- 7, or 0
+unfoldable pub numberAs : ℕ → List ℕ → Rec → ℕ
+numberAs u w r = cond (fitsAs u w r) 0 malformed

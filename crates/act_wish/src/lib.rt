@@ -2,20 +2,22 @@
 ghost use mathlib.Core.Path.{_≡_};
 ghost use Prim.Native.Nat.{_+_, _<_};
 ghost use lib.ListN.{length, getD};
-ghost use Rattle.act_wish.specs.Stamp.{stampedBy, fitsAs};
+ghost use Rattle.model.specs.Lengths.{recordSize};
+ghost use Rattle.act_wish.specs.Stamp.{stampedBy, numberAs};
+use model::RECORD_BYTES;
 use vector::Vector;
 
 // A record that was stamped.
 pub struct Stamped {
-    pub bytes: [u8; 80],
+    pub bytes: [u8; RECORD_BYTES],
 }
 
 // The wish with the unit's next number and the held vector.
 pub fn stamp(wish: &[u8], unit: u8, held: Vector) -> Stamped
-    requires { ⌜ (length (now wish) ≡ 80) × (unit < 8) × (getD (held .counts) unit 0 < 65535) ⌝ }
+    requires { ⌜ (length (now wish) ≡ recordSize) × (unit < 8) × (getD (held .counts) unit 0 < 65535) ⌝ }
     ensures { λ r. ⌜ r .bytes ≡ stampedBy (getD (held .counts) unit 0 + 1) (held .counts) (now (wish .entry)) ⌝ }
 {
-    let mut bytes = [0u8; 80];
+    let mut bytes = [0u8; RECORD_BYTES];
     byte_slice::put(&mut bytes, 0, wish);
     let next = held.counts[unit as usize] + 1;
     byte_slice::put16(&mut bytes, 2, next);
@@ -23,16 +25,19 @@ pub fn stamp(wish: &[u8], unit: u8, held: Vector) -> Stamped
     Stamped { bytes }
 }
 
-// The wish is the unit's own, its number and seen are zero, and it is well formed as the record.
-pub fn wish_fits(wish: &[u8], unit: u8, rec: &[u8]) -> bool
-    requires { ⌜ length (now wish) ≡ 80 ⌝ }
-    ensures { λ r. ⌜ r ≡ fitsAs unit (now (wish .entry)) (now (rec .entry)) ⌝ }
+// 7 for a wish that is not the unit's own, or whose number and seen are not zero, or that is not well formed as the record; or 0.
+pub fn wish_number(wish: &[u8], unit: u8, rec: &[u8]) -> u8
+    requires { ⌜ length (now wish) ≡ recordSize ⌝ }
+    ensures { λ r. ⌜ r ≡ numberAs unit (now (wish .entry)) (now (rec .entry)) ⌝ }
 {
     if wish[0] != unit {
-        return false;
+        return 7;
     }
     if !byte_slice::is_blank(&wish[2..20]) {
-        return false;
+        return 7;
     }
-    record::well_formed(rec)
+    if !record::well_formed(rec) {
+        return 7;
+    }
+    0
 }

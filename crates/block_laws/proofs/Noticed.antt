@@ -5,17 +5,14 @@ use native.Mathlib.Omega.{arith}
 use native.Mathlib.Nat.{add-zero, add-suc}
 use mathlib.Core.Path.{_≡_, refl, sym, _∙_}
 use mathlib.Core.Logic.{_⊎_, inl, inr, ⊎-elim}
-use mathlib.Core.Bool.{Bool, true, false, cond, _&&_}
+use mathlib.Core.Bool.{true}
 use mathlib.Core.List.{List, []}
-use lib.Dec.{leb, eqb}
 use lib.ListN.{getD, length, set, length-set}
 use lib.Seq.{getD-set-same, getD-set-other}
 use borrow.Author.Tests.{eq-eqb, ne-eqb}
 use Rattle.model.specs.Bytes.{word}
 use Rattle.model.specs.Block.{firstTo, blockFault}
-use Rattle.model.specs.Outcome.{refusal, guarded, givenFault, tookBlock, takeOf}
-use Rattle.model.specs.Numbers.{badBuffer, badUnit, unsoundLog}
-use Rattle.model.specs.Log.{soundLog}
+use Rattle.model.specs.Outcome.{refusal, orRefused, guardNumber, guarded, givenFault, tookBlock, takeOf}
 use Rattle.byte_slice.proofs.Numbers.{lt-or-ge}
 use Rattle.byte_slice.proofs.Words.{word-same}
 use Rattle.block_laws.proofs.Sums.{first-small, first-same, second-same}
@@ -140,12 +137,10 @@ pub altered-taken : (archive u : ℕ) (log b : List ℕ) (i z : ℕ) → length 
 unfolding takeOf guarded tookBlock
 altered-taken archive u log b i z l h p q d e = go (givenFault archive (set b i z)) (altered-given archive b i z l h p q d e)
   where
-    checked : (t s r : Bool) (n : ℕ) → (cond t (cond s (cond r (refusal (suc n) log []) (refusal unsoundLog log [])) (refusal badUnit log [])) (refusal badBuffer log []) .number ≡ 0 → ⊥) × (cond t (cond s (cond r (refusal (suc n) log []) (refusal unsoundLog log [])) (refusal badUnit log [])) (refusal badBuffer log []) .log ≡ log)
-    checked true true true n = (λ x. omega arith, refl)
-    checked true true false n = (λ x. omega arith, refl)
-    checked true false r n = (λ x. omega arith, refl)
-    checked false s r n = (λ x. omega arith, refl)
+    checked : (k n : ℕ) → (orRefused k log [] (refusal (suc n) log []) .number ≡ 0 → ⊥) × (orRefused k log [] (refusal (suc n) log []) .log ≡ log)
+    checked zero n = (λ x. omega arith, refl)
+    checked (suc k) n = (λ x. omega arith, refl)
 
     go : (n : ℕ) → (n ≡ 0 → ⊥) → (guarded u log [] true (tookBlock log (set b i z) n) .number ≡ 0 → ⊥) × (guarded u log [] true (tookBlock log (set b i z) n) .log ≡ log)
     go zero x = absurd (x refl)
-    go (suc n) x = checked (eqb (length log) 40960 && true) (leb u 7) (soundLog log) n
+    go (suc n) x = checked (guardNumber u log true true) n

@@ -1,11 +1,12 @@
 -- Case distinctions on numbers and tests.
 -- Assumes nothing.
-use Prim.Native.Nat.{ℕ, _<_, _≤_}
+use Prim.Native.Nat.{ℕ, zero, suc, _<_, _≤_}
 use mathlib.Core.Path.{_≡_, refl}
 use mathlib.Core.Logic.{_⊎_, inl, inr}
 use mathlib.Core.Bool.{Bool, true, false, cond, _&&_, _||_, false≢true, true≢false}
 use native.Mathlib.Omega.{arith}
 use native.Mathlib.Decide.{decLt, ℕ-discrete}
+use Rattle.model.specs.Outcome.{firstOf}
 
 pub lt-or-ge : (a b : ℕ) → (a < b) ⊎ (b ≤ a)
 lt-or-ge a b = go (decLt a b)
@@ -61,6 +62,15 @@ and-false false b e = inl refl
 pub not-both : (b : Bool) → b ≡ true → b ≡ false → ⊥
 not-both true p q = true≢false q
 not-both false p q = false≢true p
+
+-- the first of two numbers that is not 0
+pub first-stops : (m n : ℕ) → (m ≡ 0 → ⊥) → firstOf m n ≡ m
+first-stops zero n h = absurd (h refl)
+first-stops (suc m) n h = refl
+
+pub first-zero : (m n : ℕ) → firstOf m n ≡ 0 → (m ≡ 0) × (n ≡ 0)
+first-zero zero n e = (refl, e)
+first-zero (suc m) n e = absurd (omega arith)
 
 -- a test that cannot hold fails, and the other way round
 pub test-false : (b : Bool) → (b ≡ true → ⊥) → b ≡ false

@@ -1,5 +1,29 @@
-// What a call answers: the number of the refusal table, 0 for success, and the place of a block.
+// What a call answers, and the checks that come before its log is judged.
+ghost use mathlib.Core.Path.{_≡_};
+ghost use Rattle.model.specs.Outcome.{earlyNumber};
+use model::LOG_BYTES;
+
+// The number of the refusal table, 0 for success, and the place of a block.
 pub struct Answer {
     pub number: u8,
     pub place: u8,
+}
+
+// 1 for a log or another lent buffer that is not of its stated length, 21 for a unit above 7, 2 for a row of blocks; or 0.
+pub fn early_number(log: &[u8], unit: u8, lent: bool, row: bool) -> u8
+    ensures { λ r. ⌜ r ≡ earlyNumber unit (now (log .entry)) lent row ⌝ }
+{
+    if log.len() != LOG_BYTES {
+        return 1;
+    }
+    if !lent {
+        return 1;
+    }
+    if 7 < unit {
+        return 21;
+    }
+    if !row {
+        return 2;
+    }
+    0
 }

@@ -16,7 +16,7 @@ use Rattle.model.specs.Replay.{replay}
 use Rattle.model.specs.Table.{tableBytes}
 use Rattle.model.specs.Block.{blockRecords}
 use Rattle.model.specs.File.{blockCount, fileOf}
-use Rattle.model.specs.Outcome.{Outcome, outcome, refusal, startOf, guarded, stamped, actNumber, acted, actOf, handBlock, handOf, writeOf, Took, refused, taken, takeAll, givenFault, tookAll, tookBlock, takeOf, showOf}
+use Rattle.model.specs.Outcome.{Outcome, outcome, refusal, orRefused, earlyNumber, startOf, guarded, stamped, actNumber, acted, actOf, handBlock, handOf, writeOf, Took, refused, taken, takeAll, givenFault, tookAll, tookBlock, takeOf, showOf}
 use Rattle.byte_slice.proofs.Numbers.{bool-cases, and-true}
 use Rattle.log_laws.specs.Sound.{Sound}
 use Rattle.log_laws.proofs.Act.{wish-fits, act-zero, act-sound}
@@ -84,26 +84,23 @@ stays log lent o g e f = record { accepted = λ _. subst Good (sym e) g; refused
 
 pub start-keeps : (u : ℕ) (log : List ℕ) → Keeps log [] (startOf u log)
 unfolding startOf
-start-keeps u log = go (bool-cases (eqb (length log) 40960)) (bool-cases (leb u 7))
+start-keeps u log = go (earlyNumber u log true true)
   where
-    started : Keeps log [] (outcome 0 0 (replicate 40960 0) [] 0)
-    started = record { accepted = λ _. zeros-good; refused = λ z. absurd (z refl) }
-
-    go : (eqb (length log) 40960 ≡ true) ⊎ (eqb (length log) 40960 ≡ false) → (leb u 7 ≡ true) ⊎ (leb u 7 ≡ false) → Keeps log [] (startOf u log)
-    go (inl a) (inl b) = rw (a, b) started
-    go (inl a) (inr b) = rw (a, b) (refusal-keeps 20 log [])
-    go (inr a) b = rw a (refusal-keeps 0 log [])
+    go : (n : ℕ) → Keeps log [] (orRefused n log [] (outcome 0 0 (replicate 40960 0) [] 0))
+    go zero = record { accepted = λ _. zeros-good; refused = λ z. absurd (z refl) }
+    go (suc n) = refusal-keeps n log []
 
 -- the log is emptied, or left
 pub start-cases : (u : ℕ) (log : List ℕ) → (startOf u log .log ≡ log) ⊎ (startOf u log .log ≡ replicate 40960 0)
 unfolding startOf
-start-cases u log = go (bool-cases (eqb (length log) 40960)) (bool-cases (leb u 7))
+start-cases u log = go (earlyNumber u log true true)
   where
-    go : (eqb (length log) 40960 ≡ true) ⊎ (eqb (length log) 40960 ≡ false) → (leb u 7 ≡ true) ⊎ (leb u 7 ≡ false)
-        → (startOf u log .log ≡ log) ⊎ (startOf u log .log ≡ replicate 40960 0)
-    go (inl a) (inl b) = rw (a, b) (inr refl)
-    go (inl a) (inr b) = rw (a, b) (inl refl)
-    go (inr a) b = rw a (inl refl)
+    left : ℕ → List ℕ
+    left n = orRefused n log [] (outcome 0 0 (replicate 40960 0) [] 0) .log
+
+    go : (n : ℕ) → (left n ≡ log) ⊎ (left n ≡ replicate 40960 0)
+    go zero = inr refl
+    go (suc n) = inl refl
 
 -- ---- acting
 
@@ -225,17 +222,6 @@ take-done archive u log b m k g f e = rw (guarded-passes u log [] true (tookBloc
 
 pub show-keeps : (log lent : List ℕ) → Keeps log lent (showOf log lent)
 unfolding showOf
-show-keeps log lent = go (bool-cases (eqb (length log) 40960 && eqb (length lent) 43012)) (bool-cases (soundLog log))
-  where
-    shown : (eqb (length log) 40960 && eqb (length lent) 43012) ≡ true → soundLog log ≡ true → Keeps log lent (outcome 0 0 log (tableBytes (replay (recordsOf log))) 0)
-    shown a b =
-        record {
-          accepted = λ _. record { long = eqb-true (length log) 40960 (and-true (eqb (length log) 40960) (eqb (length lent) 43012) a .0); sound = b };
-          refused = λ z. absurd (z refl);
-        }
-
-    go : ((eqb (length log) 40960 && eqb (length lent) 43012) ≡ true) ⊎ ((eqb (length log) 40960 && eqb (length lent) 43012) ≡ false)
-        → (soundLog log ≡ true) ⊎ (soundLog log ≡ false) → Keeps log lent (showOf log lent)
-    go (inl a) (inl b) = rw (a, b) (shown a b)
-    go (inl a) (inr b) = rw (a, b) (refusal-keeps 18 log lent)
-    go (inr a) b = rw a (refusal-keeps 0 log lent)
+show-keeps log lent =
+    let o : Outcome = outcome 0 0 log (tableBytes (replay (recordsOf log))) 0 in
+    guarded-keeps 0 log lent (eqb (length lent) 43012) o (λ a g. stays log lent o g refl (λ z. absurd (z refl)))

@@ -11,7 +11,7 @@ use lib.ListN.{length}
 use borrow.Author.Tests.{eqb-true, eqb-false, ltb-true}
 use Rattle.model.specs.Record.{Rec}
 use Rattle.model.specs.Log.{recordFault, soundAfter}
-use Rattle.model.specs.File.{fileLength, Fault, fault, blocksIn, blocksFault, fileRecords, recordsFault, countsFault, orElse, fileFault, notRead, readBack, readOf}
+use Rattle.model.specs.File.{fileLength, Fault, fault, blocksIn, blocksFault, fileRecords, recordsFault, countsFault, orElse, fileFault, checkedFault, notRead, readBack, readOf}
 use Rattle.byte_slice.proofs.Numbers.{bool-cases, true-and}
 use Rattle.log_laws.proofs.Tests.{sound-means}
 use Rattle.encoding_laws.specs.Keeps.{Reads}
@@ -50,15 +50,22 @@ file-records f e =
     let (a, b) = faultless-records (fileRecords f) [] 0 (omega arith) c in
     (a, omega arith)
 
+-- a file that was checked and found right has 1 to 86 blocks and no fault
+pub checked-right : (f : List ℕ) → checkedFault f .number ≡ 0 → (fileLength f ≡ true) × (fileFault f .number ≡ 0)
+unfolding fault
+checked-right f e = go (bool-cases (fileLength f))
+  where
+    go : (fileLength f ≡ true) ⊎ (fileLength f ≡ false) → (fileLength f ≡ true) × (fileFault f .number ≡ 0)
+    go (inl a) = (a, rw a at e)
+    go (inr a) = let z : _≡_ {A = ℕ} 2 0 = rw a at e in absurd (omega arith)
+
 pub read-keeps : (log f : List ℕ) → Reads log (readOf log f)
 unfolding readOf readBack notRead
-read-keeps log f = go (bool-cases (eqb (length log) 40960)) (bool-cases (fileLength f)) (bool-cases (eqb (fileFault f .number) 0))
+read-keeps log f = go (bool-cases (eqb (length log) 40960)) (bool-cases (eqb (checkedFault f .number) 0))
   where
-    go : (eqb (length log) 40960 ≡ true) ⊎ (eqb (length log) 40960 ≡ false) → (fileLength f ≡ true) ⊎ (fileLength f ≡ false)
-        → (eqb (fileFault f .number) 0 ≡ true) ⊎ (eqb (fileFault f .number) 0 ≡ false) → Reads log (readOf log f)
-    go (inl a) (inl b) (inl c) =
-        let (h, k) = file-records f (eqb-true (fileFault f .number) 0 c) in
-        rw (a, b, c) (record { accepted = λ _. log-good (fileRecords f) (sound-means (fileRecords f) h) k; refused = λ z. absurd (z refl) })
-    go (inl a) (inl b) (inr c) = rw (a, b, c) (record { accepted = λ z. absurd (eqb-false (fileFault f .number) 0 c z); refused = λ _. refl })
-    go (inl a) (inr b) c = rw (a, b) (record { accepted = λ z. absurd (omega arith); refused = λ _. refl })
-    go (inr a) b c = rw a (record { accepted = λ z. absurd (omega arith); refused = λ _. refl })
+    go : (eqb (length log) 40960 ≡ true) ⊎ (eqb (length log) 40960 ≡ false) → (eqb (checkedFault f .number) 0 ≡ true) ⊎ (eqb (checkedFault f .number) 0 ≡ false) → Reads log (readOf log f)
+    go (inl a) (inl c) =
+        let (h, k) = file-records f (checked-right f (eqb-true (checkedFault f .number) 0 c) .1) in
+        rw (a, c) (record { accepted = λ _. log-good (fileRecords f) (sound-means (fileRecords f) h) k; refused = λ z. absurd (z refl) })
+    go (inl a) (inr c) = rw (a, c) (record { accepted = λ z. absurd (eqb-false (checkedFault f .number) 0 c z); refused = λ _. refl })
+    go (inr a) c = rw a (record { accepted = λ z. absurd (omega arith); refused = λ _. refl })

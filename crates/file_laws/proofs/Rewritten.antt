@@ -13,10 +13,11 @@ use borrow.Author.Tests.{eqb-true, eqb-false, leb-true, ne-eqb, lt-ltb, le-ltb}
 use Rattle.model.specs.Bytes.{sameBytes, part}
 use Rattle.model.specs.Log.{vectorOf}
 use Rattle.model.specs.Block.{blockOf, blockFault, archiveIn, senderIn, placeIn, countIn, vectorIn, blockRecords}
-use Rattle.model.specs.File.{blockCount, headerOf, fileBlock, fileTo, fileOf, fileLength, blocksIn, blockAt, countFits, agrees, fileBlockFault, Fault, fault, blocksFault, recordsCounted, fileRecordsFrom, fileRecords, recordsFault, countsFault, orElse, fileFault, notRead, readBack, readOf}
+use Rattle.model.specs.File.{blockCount, headerOf, fileBlock, fileTo, fileOf, fileLength, blocksIn, blockAt, countFits, agrees, fileBlockFault, Fault, fault, blocksFault, recordsCounted, fileRecordsFrom, fileRecords, recordsFault, countsFault, orElse, fileFault, checkedFault, notRead, readBack, readOf}
 use Rattle.byte_slice.proofs.Numbers.{bool-cases, lt-or-ge, eq-or-ne, and-true}
 use Rattle.byte_slice.proofs.Parts.{part-length}
 use Rattle.byte_slice.proofs.Compare.{same-eq}
+use Rattle.encoding_laws.proofs.Reading.{checked-right}
 use Rattle.block_laws.proofs.Faults.{header-right, stored-header}
 use Rattle.file_laws.proofs.Records.{records-of-block, length-fileRecords, take-fileRecords, drop-fileRecords}
 use Rattle.file_laws.proofs.Blocks.{Bytes, bytes-part, headerIn, block-again}
@@ -38,13 +39,9 @@ read-accepted log f e =
     ⊎-elim
     (λ (a : eqb (length log) 40960 ≡ true).
     ⊎-elim
-    (λ (b : fileLength f ≡ true).
-    ⊎-elim
-    (λ (c : eqb (fileFault f .number) 0 ≡ true). (b, eqb-true (fileFault f .number) 0 c, rw (a, b, c)))
-    (λ (c : eqb (fileFault f .number) 0 ≡ false). let z : fileFault f .number ≡ 0 = rw (a, b, c) at e in absurd (eqb-false (fileFault f .number) 0 c z))
-    (bool-cases (eqb (fileFault f .number) 0)))
-    (λ (b : fileLength f ≡ false). let z : _≡_ {A = ℕ} 2 0 = rw (a, b) at e in absurd (omega arith))
-    (bool-cases (fileLength f)))
+    (λ (c : eqb (checkedFault f .number) 0 ≡ true). let (x, y) = checked-right f (eqb-true (checkedFault f .number) 0 c) in (x, y, rw (a, c)))
+    (λ (c : eqb (checkedFault f .number) 0 ≡ false). let z : checkedFault f .number ≡ 0 = rw (a, c) at e in absurd (eqb-false (checkedFault f .number) 0 c z))
+    (bool-cases (eqb (checkedFault f .number) 0)))
     (λ (a : eqb (length log) 40960 ≡ false). let z : _≡_ {A = ℕ} 1 0 = rw a at e in absurd (omega arith))
     (bool-cases (eqb (length log) 40960))
 

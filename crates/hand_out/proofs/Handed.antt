@@ -1,19 +1,21 @@
 -- The block that is handed out, and the ways out of handing out, over plain values.
 -- Assumes nothing.
-use Prim.Native.Nat.{ℕ, _-_, _≤_}
+use Prim.Native.Nat.{ℕ, _+_, _-_, _≤_}
 use native.Mathlib.Omega.{arith}
 use mathlib.Core.Path.{_≡_, refl, sym, _∙_}
-use mathlib.Core.Bool.{Bool, false, not}
+use mathlib.Core.Bool.{true}
 use mathlib.Core.List.{List, [], _∷_, _++_, append-nil}
+use lib.Dec.{eqb}
 use lib.ListN.{length, take, replicate, length-append, length-replicate}
 use Rattle.model.specs.Bytes.{padded, joined, putAt}
 use Rattle.model.specs.Record.{Rec}
-use Rattle.model.specs.Log.{recordsOf, soundLog, vectorOf}
+use Rattle.model.specs.Log.{recordsOf, vectorOf}
 use Rattle.model.specs.Block.{headBytes, bodyBytes, sealed, blockOf}
 use Rattle.model.specs.File.{headerOf}
 use Rattle.model.specs.Outcome.{outcome, lacking, handBlock, handOf}
 use Rattle.byte_slice.proofs.PutAt.{put-whole}
-use Rattle.call_answer.proofs.Guards.{guards-pass}
+use Rattle.call_guard.specs.Opened.{opened, openOf}
+use Rattle.call_guard.proofs.Opening.{open-buffer, call-passes}
 
 no-records : (l : List Rec) → length l ≡ 0 → l ≡ []
 no-records [] e = refl
@@ -41,9 +43,12 @@ module _ (a u : ℕ) (b v h : List ℕ) {n : ℕ} {o : List ℕ} (counted : n �
 
 -- ---- success
 
-pub handed : (a u : ℕ) (log v lent : List ℕ) {bytes o : List ℕ} {s : Bool} → o ≡ putAt lent 0 bytes → bytes ≡ handBlock a u (recordsOf log) v → length bytes ≡ 512
-    → length log ≡ 40960 → length lent ≡ 512 → u ≤ 7 → s ≡ soundLog log → not s ≡ false → outcome 0 0 log o 0 ≡ handOf a u log v lent
-unfolding handOf
-handed a u log v lent {bytes} p q n l m h e f =
-    let w : putAt lent 0 bytes ≡ bytes = put-whole lent bytes (n ∙ sym m) in
-    (rw (p, w, q)) ∙ guards-pass u log lent lent 512 (outcome 0 0 log (handBlock a u (recordsOf log) v) 0) l m h e f
+module _ (a u : ℕ) (log v lent bytes : List ℕ) {n used : ℕ} {held : List ℕ} (e : opened n held used ≡ openOf u log (eqb (length lent) 512) true) (z : n ≡ 0) (long : length bytes ≡ 512) where
+  pub block-fits : 0 + length bytes ≤ length lent
+  block-fits = omega (arith, open-buffer u log true lent 512 e z)
+
+  pub handed : (o : List ℕ) → o ≡ putAt lent 0 bytes → bytes ≡ handBlock a u (recordsOf log) v → outcome 0 0 log o 0 ≡ handOf a u log v lent
+  unfolding handOf
+  handed o p q =
+      let w : putAt lent 0 bytes ≡ bytes = put-whole lent bytes (long ∙ sym (open-buffer u log true lent 512 e z)) in
+      (rw (p, w, q)) ∙ call-passes u log lent (eqb (length lent) 512) e (outcome 0 0 log (handBlock a u (recordsOf log) v) 0) z

@@ -1,9 +1,8 @@
 // Handing out: the block of the first six or fewer records that another unit lacks.
 ghost use mathlib.Core.Path.{_≡_};
 ghost use mathlib.Core.Bool.{true};
-ghost use Prim.Native.Nat.{_<_};
 ghost use lib.ListN.{length};
-ghost use Rattle.model.specs.Record.{unit};
+ghost use Rattle.model.specs.Lengths.{logSize};
 ghost use Rattle.model.specs.Log.{recordsOf, soundLog, vectorOf};
 ghost use Rattle.model.specs.Outcome.{outcome, handBlock, handOf};
 use block_write::Block;
@@ -11,13 +10,14 @@ use block_write::block_of;
 use block_write::empty_block;
 use byte_slice::put;
 use call_answer::Answer;
+use call_guard::open;
 use hand_out_pick::gather;
-use log_check::check;
+use model::BLOCK_BYTES;
 use vector::Vector;
 
 // The block that is handed out.
 fn block_for(log: &[u8], used: usize, held: Vector, archive: u32, unit: u8, asked: Vector) -> Block
-    requires { ⌜ (length (now log) ≡ 40960) × (soundLog (now log) ≡ true) × (used ≡ length (recordsOf (now log))) × (held .counts ≡ vectorOf (recordsOf (now log))) ⌝ }
+    requires { ⌜ (length (now log) ≡ logSize) × (soundLog (now log) ≡ true) × (used ≡ length (recordsOf (now log))) × (held .counts ≡ vectorOf (recordsOf (now log))) ⌝ }
     ensures { λ r. ⌜ r .bytes ≡ handBlock archive unit (recordsOf (now (log .entry))) (asked .counts) ⌝ }
 {
     let mut recs = [0u8; 480];
@@ -32,32 +32,14 @@ fn block_for(log: &[u8], used: usize, held: Vector, archive: u32, unit: u8, aske
 pub fn hand_out(log: &[u8], archive: u32, unit: u8, asked: Vector, block: &mut [u8]) -> Answer
     ensures { λ r. ⌜ outcome (r .number) (r .place) (now (log .entry)) (now (block .exit)) 0 ≡ handOf archive unit (now (log .entry)) (asked .counts) (now (block .entry)) ⌝ }
 {
-    if log.len() != 40960 {
+    let o = open(log, unit, block.len() == BLOCK_BYTES, true);
+    if o.number != 0 {
         return Answer {
-            number: 1,
+            number: o.number,
             place: 0,
         };
     }
-    if block.len() != 512 {
-        return Answer {
-            number: 1,
-            place: 0,
-        };
-    }
-    if 7 < unit {
-        return Answer {
-            number: 21,
-            place: 0,
-        };
-    }
-    let c = check(log);
-    if !c.sound {
-        return Answer {
-            number: 19,
-            place: 0,
-        };
-    }
-    let b = block_for(log, c.used, c.held, archive, unit, asked);
+    let b = block_for(log, o.used, o.held, archive, unit, asked);
     let bytes = b.bytes;
     put(block, 0, &bytes);
     Answer {

@@ -13,8 +13,8 @@ use Rattle.model.specs.Bytes.{word, putAt}
 use Rattle.model.specs.Log.{recordsOf, soundLog}
 use Rattle.model.specs.Replay.{replay}
 use Rattle.model.specs.Table.{tableBytes}
-use Rattle.model.specs.File.{fileLength, fileFault, recordsCounted, fileRecords, ReadBack, notRead, readBack, readOf}
-use Rattle.model.specs.Outcome.{showOf}
+use Rattle.model.specs.File.{fileFault, checkedFault, recordsCounted, fileRecords, ReadBack, notRead, readBack, readOf}
+use Rattle.model.specs.Outcome.{guarded, showOf}
 use Rattle.model.specs.Listing.{headLine, seenLine, treeLines, refusedLine, acceptedLines, listingOf}
 use Rattle.byte_slice.proofs.Numbers.{bool-cases}
 use Rattle.log_laws.proofs.Tests.{sound-means}
@@ -27,7 +27,6 @@ use Rattle.listing_laws.proofs.Rows.{entries-counted, asides-counted}
 use Rattle.listing_laws.proofs.Lines.{refused-line-length}
 use Rattle.listing_laws.proofs.Claims.{rows-fit, log-lines-fit}
 use Rattle.line_text.specs.Written.{Wrote}
-use Rattle.read_file_check.specs.Outcome.{readBackOf}
 use Rattle.listing_laws.proofs.Lines.{refused-line-length}
 use Rattle.read_file_check.specs.Outcome.{readBackOf}
 use Rattle.listing.specs.Left.{left, lentWell, treeLeft, listedOf, logLines, Lists}
@@ -54,13 +53,9 @@ module _ (log f : List ℕ) (long : length log ≡ 40960) (no : readOf log f .nu
   unfolding readOf readBack notRead listingOf
   refused-is =
       ⊎-elim
-      (λ (b : fileLength f ≡ true).
-      ⊎-elim
-      (λ (c : eqb (fileFault f .number) 0 ≡ true). absurd (no (rw (eq-eqb (length log) 40960 long, b, c))))
-      (λ (c : eqb (fileFault f .number) 0 ≡ false). rw (eq-eqb (length log) 40960 long, b, c) (refl, refl))
-      (bool-cases (eqb (fileFault f .number) 0)))
-      (λ (b : fileLength f ≡ false). rw (eq-eqb (length log) 40960 long, b) (refl, refl))
-      (bool-cases (fileLength f))
+      (λ (c : eqb (checkedFault f .number) 0 ≡ true). absurd (no (rw (eq-eqb (length log) 40960 long, c))))
+      (λ (c : eqb (checkedFault f .number) 0 ≡ false). rw (eq-eqb (length log) 40960 long, c) (refl, refl))
+      (bool-cases (eqb (checkedFault f .number) 0))
 
 -- ---- an accepted file
 
@@ -101,7 +96,7 @@ module _ (log f : List ℕ) (yes : readOf log f .number ≡ 0) where
   accepted-is = let (a, b, c) = read-accepted log f yes in rw (log-records, c, a, eq-eqb (fileFault f .number) 0 b)
 
   shown-is : (tree : List ℕ) → length tree ≡ 43012 → showOf (readOf log f .log) tree .lent ≡ tableBytes (replay (recordsOf (readOf log f .log)))
-  unfolding showOf
+  unfolding showOf guarded
   shown-is tree h = rw (eq-eqb (length (readOf log f .log)) 40960 log-long, eq-eqb (length tree) 43012 h, log-good)
 
 -- ---- the lines of a sound log

@@ -6,6 +6,7 @@ use mathlib.Core.Path.{_≡_}
 use mathlib.Core.List.{List, _++_}
 use lib.Dec.{eqb}
 use lib.ListN.{length}
+use Rattle.model.specs.Lengths.{logSize, treeSize}
 use Rattle.model.specs.Numbers.{badBuffer}
 use Rattle.model.specs.Bytes.{putAt}
 use Rattle.model.specs.File.{readOf}
@@ -28,9 +29,13 @@ pub record Left : Type 0 where
 abbrev pub left : ℕ → ℕ → ℕ → List ℕ → List ℕ → List ℕ → Left
 left n p k log tree text = record { number = n; place = p; size = k; log = log; tree = tree; text = text }
 
+-- a listing at the most
+abbrev pub listingSize : ℕ
+listingSize = 76800
+
 -- log, tree table and text have their stated lengths
 unfoldable pub lentWell : List ℕ → List ℕ → List ℕ → Bool
-lentWell log tree text = eqb (length log) 40960 && (eqb (length tree) 43012 && eqb (length text) 76800)
+lentWell log tree text = eqb (length log) logSize && (eqb (length tree) treeSize && eqb (length text) listingSize)
 
 -- the tree of an accepted file; a refused one leaves the table
 unfoldable pub treeLeft : List ℕ → List ℕ → List ℕ → List ℕ

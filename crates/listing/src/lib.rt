@@ -3,17 +3,23 @@ ghost use mathlib.Core.Path.{_≡_};
 ghost use mathlib.Core.List.{_++_};
 ghost use Prim.Native.Nat.{_≤_};
 ghost use lib.ListN.{length};
+ghost use Rattle.model.specs.Lengths.{logSize, treeSize};
 ghost use Rattle.model.specs.Bytes.{word};
 ghost use Rattle.model.specs.Log.{recordsOf, soundLog};
 ghost use Rattle.model.specs.Listing.{headLine, seenLine, treeLines, refusedLine};
 ghost use mathlib.Core.Bool.{true};
 ghost use Rattle.line_text.specs.Written.{Wrote};
-ghost use Rattle.listing.specs.Left.{Lists, left, listedOf};
+ghost use Rattle.listing.specs.Left.{listingSize, Lists, left, listedOf};
+use model::LOG_BYTES;
+use model::TREE_BYTES;
 use vector::Vector;
+
+// Lent for a listing: none is longer.
+pub const LISTING_BYTES: usize = 76800;
 
 // The lines of an accepted file: its head, its vector and its tree.
 fn file_lines(out: &mut [u8], tree: &[u8], archive: u32, unit: u8, records: u16, v: Vector) -> usize
-    requires { ⌜ (length (now tree) ≡ 43012) × (word (now tree) 0 ≤ 512) × (word (now tree) 2 ≤ 512)
+    requires { ⌜ (length (now tree) ≡ treeSize) × (word (now tree) 0 ≤ 512) × (word (now tree) 2 ≤ 512)
         × (length (headLine archive unit records ++ (seenLine (v .counts) ++ treeLines (now tree))) ≤ length (now out)) ⌝ }
     ensures { λ r. ⌜ Wrote (now (out .entry)) (now (out .exit)) 0 r (headLine archive unit records ++ (seenLine (v .counts) ++ treeLines (now (tree .entry)))) ⌝ }
 {
@@ -32,7 +38,7 @@ fn log_lines(
     records: u16,
     v: Vector,
 ) -> u32
-    requires { ⌜ (length (now text) ≡ 76800) × (length (now log) ≡ 40960) × (soundLog (now log) ≡ true) × (records ≡ length (recordsOf (now log))) × (length (now tree) ≡ 43012) ⌝ }
+    requires { ⌜ (length (now text) ≡ listingSize) × (length (now log) ≡ logSize) × (soundLog (now log) ≡ true) × (records ≡ length (recordsOf (now log))) × (length (now tree) ≡ treeSize) ⌝ }
     ensures { λ r. ⌜ Lists archive unit records (v .counts) (now (log .entry)) (now (tree .exit)) (now (text .entry)) (now (text .exit)) r ⌝ }
 {
     show_tree::lay_tree(log, records as usize, tree);
@@ -41,7 +47,7 @@ fn log_lines(
 
 // The line of a refused file.
 fn refuse(text: &mut [u8], number: u8, place: u8) -> u32
-    requires { ⌜ length (now text) ≡ 76800 ⌝ }
+    requires { ⌜ length (now text) ≡ listingSize ⌝ }
     ensures { λ r. ⌜ Wrote (now (text .entry)) (now (text .exit)) 0 r (refusedLine number place) ⌝ }
 {
     line_refusal::refused_line(text, 0, number, place) as u32
@@ -59,21 +65,21 @@ pub struct Listed {
 pub fn listing(file: &[u8], log: &mut [u8], tree: &mut [u8], text: &mut [u8]) -> Listed
     ensures { λ r. ⌜ left (r .number) (r .place) (r .length) (now (log .exit)) (now (tree .exit)) (now (text .exit)) ≡ listedOf (now (file .entry)) (now (log .entry)) (now (tree .entry)) (now (text .entry)) ⌝ }
 {
-    if log.len() != 40960 {
+    if log.len() != LOG_BYTES {
         return Listed {
             number: 1,
             place: 0,
             length: 0,
         };
     }
-    if tree.len() != 43012 {
+    if tree.len() != TREE_BYTES {
         return Listed {
             number: 1,
             place: 0,
             length: 0,
         };
     }
-    if text.len() != 76800 {
+    if text.len() != LISTING_BYTES {
         return Listed {
             number: 1,
             place: 0,

@@ -3,22 +3,20 @@
 use Prim.Native.Nat.{ℕ, _+_, _≤_}
 use native.Mathlib.Omega.{arith}
 use mathlib.Core.Path.{_≡_}
-use mathlib.Core.Bool.{cond}
 use mathlib.Core.List.{List, _++_}
 use lib.Dec.{eqb}
 use lib.ListN.{length, length-append}
 use borrow.Author.Tests.{eqb-true}
-use Rattle.model.specs.Numbers.{badLength}
 use Rattle.model.specs.Record.{Rec}
 use Rattle.model.specs.Replay.{Tree, replay, presentOnes}
 use Rattle.model.specs.Table.{tableBytes}
 use Rattle.model.specs.Block.{archiveIn, senderIn, vectorIn}
-use Rattle.model.specs.File.{fileLength, fileFault, blockAt, recordsCounted, fileRecords}
+use Rattle.model.specs.File.{fileFault, checkedFault, blockAt, recordsCounted, fileRecords}
 use Rattle.model.specs.Listing.{headLine, seenLine, treeLines, refusedLine, acceptedLines, listingOf}
 use Rattle.vector.proofs.InBytes.{vectorAt-length}
 use Rattle.log_laws.specs.Sound.{Sound}
 use Rattle.log_laws.proofs.Tests.{sound-means}
-use Rattle.encoding_laws.proofs.Reading.{file-records}
+use Rattle.encoding_laws.proofs.Reading.{file-records, checked-right}
 use Rattle.tree_laws.proofs.Steps.{cond-elim}
 use Rattle.listing_laws.proofs.Lines.{head-line-length, seen-line-length, refused-line-length, tree-lines-length}
 use Rattle.listing_laws.proofs.Rows.{sound-rows, rows-within, entries-counted, asides-counted, row-lines}
@@ -60,10 +58,8 @@ pub listing-fits : (f : List ℕ) → length (listingOf f) ≤ 76800
 unfolding listingOf
 listing-fits f =
     let P : List ℕ → Type 0 = λ (l : List ℕ). length l ≤ 76800 in
-    let n = fileFault f .number in
-    let p = fileFault f .place in
-    cond-elim P (fileLength f) (cond (eqb n 0) (acceptedLines f) (refusedLine n p)) (refusedLine badLength 0)
-    (λ _. cond-elim P (eqb n 0) (acceptedLines f) (refusedLine n p)
-    (λ h. omega (arith, accepted-fits f (eqb-true n 0 h)))
-    (λ _. omega (arith, refused-line-length n p)))
-    (λ _. omega (arith, refused-line-length badLength 0))
+    let n = checkedFault f .number in
+    let p = checkedFault f .place in
+    cond-elim P (eqb n 0) (acceptedLines f) (refusedLine n p)
+    (λ h. omega (arith, accepted-fits f (checked-right f (eqb-true n 0 h) .1)))
+    (λ _. omega (arith, refused-line-length n p))

@@ -6,7 +6,7 @@ ghost use lib.ListN.{length, set};
 ghost use Rattle.model.specs.Bytes.{putAt};
 ghost use Rattle.model.specs.Record.{seenVector, wellFormed};
 ghost use Rattle.model.specs.Log.{rank};
-ghost use Rattle.log_closure.specs.Tables.{slotOf, joinFault, faultBy, Placed, Spare, noted, admitOf};
+ghost use Rattle.log_closure.specs.Tables.{placesSize, seensSize, slotOf, joinFault, faultBy, Placed, Spare, noted, admitOf};
 use log_closure::all_covered;
 use log_closure::is_closed;
 use log_closure::slot;
@@ -26,7 +26,7 @@ pub struct Admitted {
 
 // A vector is written into a row.
 fn put_row(seens: &mut [u16], p: usize, s: Vector)
-    requires { ⌜ (length (now seens) ≡ 4144) × (p < 518) ⌝ }
+    requires { ⌜ (length (now seens) ≡ seensSize) × (p < 518) ⌝ }
     ensures { λ _. ⌜ now (seens .exit) ≡ putAt (now (seens .entry)) (8 * p) (s .counts) ⌝ }
 {
     for v in 0..8 {
@@ -36,7 +36,7 @@ fn put_row(seens: &mut [u16], p: usize, s: Vector)
 
 // The record u.c is noted: it stands at the position p and has seen s.
 pub fn note(u: usize, c: u16, p: usize, s: Vector, places: &mut [u16], seens: &mut [u16])
-    requires { ⌜ (u < 8) × (1 ≤ c) × (c ≤ 512) × (p < 518) × (length (now places) ≡ 4096) × (length (now seens) ≡ 4144) ⌝ }
+    requires { ⌜ (u < 8) × (1 ≤ c) × (c ≤ 512) × (p < 518) × (length (now places) ≡ placesSize) × (length (now seens) ≡ seensSize) ⌝ }
     ensures { λ _. ⌜ (now (places .exit) ≡ set (now (places .entry)) (slotOf u c) p) × (now (seens .exit) ≡ putAt (now (seens .entry)) (8 * p) (s .counts)) ⌝ }
 {
     let i = slot(u, c);
@@ -46,7 +46,7 @@ pub fn note(u: usize, c: u16, p: usize, s: Vector, places: &mut [u16], seens: &m
 
 // The first of 8 and 9 that holds of a well-formed record beside those held, or 0. Its seen is given.
 pub fn join_fault(rec: &[u8], s: Vector, held: Vector, places: &[u16], seens: &[u16]) -> u8
-    requires { ⌜ (length (now rec) ≡ 80) × (wellFormed (now rec) ≡ true) × (s .counts ≡ seenVector (now rec)) × (length (now places) ≡ 4096) × (length (now seens) ≡ 4144) × Placed (held .counts) (now places) ⌝ }
+    requires { ⌜ (length (now rec) ≡ 80) × (wellFormed (now rec) ≡ true) × (s .counts ≡ seenVector (now rec)) × (length (now places) ≡ placesSize) × (length (now seens) ≡ seensSize) × Placed (held .counts) (now places) ⌝ }
     ensures { λ r. ⌜ r ≡ joinFault (held .counts) (now (places .entry)) (now (seens .entry)) (now (rec .entry)) ⌝ }
 {
     let u = record::unit_of(rec) as usize;
@@ -67,7 +67,7 @@ pub fn join_fault(rec: &[u8], s: Vector, held: Vector, places: &[u16], seens: &[
 
 // The first of 7, 20, 8 and 9 that holds of a record behind others, or 0. Its seen and its rank are given.
 pub fn record_fault(rec: &[u8], s: Vector, k: u32, b: Before, places: &[u16], seens: &[u16]) -> u8
-    requires { ⌜ (length (now rec) ≡ 80) × (s .counts ≡ seenVector (now rec)) × (k ≡ rank (now rec)) × (length (now places) ≡ 4096) × (length (now seens) ≡ 4144) × Placed (b .held .counts) (now places) ⌝ }
+    requires { ⌜ (length (now rec) ≡ 80) × (s .counts ≡ seenVector (now rec)) × (k ≡ rank (now rec)) × (length (now places) ≡ placesSize) × (length (now seens) ≡ seensSize) × Placed (b .held .counts) (now places) ⌝ }
     ensures { λ r. ⌜ r ≡ faultBy (b .floor) (b .held .counts) (now (places .entry)) (now (seens .entry)) (now (rec .entry)) ⌝ }
 {
     if !record::well_formed(rec) {
@@ -81,7 +81,7 @@ pub fn record_fault(rec: &[u8], s: Vector, k: u32, b: Before, places: &[u16], se
 
 // A record behind others is refused with its fault, or noted at the position p.
 pub fn admit(rec: &[u8], p: usize, b: Before, places: &mut [u16], seens: &mut [u16]) -> Admitted
-    requires { ⌜ (length (now rec) ≡ 80) × (p < 518) × (length (now places) ≡ 4096) × (length (now seens) ≡ 4144) × Placed (b .held .counts) (now places) × Spare (b .held .counts) ⌝ }
+    requires { ⌜ (length (now rec) ≡ 80) × (p < 518) × (length (now places) ≡ placesSize) × (length (now seens) ≡ seensSize) × Placed (b .held .counts) (now places) × Spare (b .held .counts) ⌝ }
     ensures { λ r. ⌜ noted (r .number) (r .before .held .counts) (r .before .floor) (now (places .exit)) (now (seens .exit)) ≡ admitOf (now (rec .entry)) p (b .held .counts) (b .floor) (now (places .entry)) (now (seens .entry)) ⌝ }
 {
     let s = record::seen_vector(rec);

@@ -3,13 +3,18 @@ ghost use mathlib.Core.Path.{_≡_};
 ghost use mathlib.Core.Bool.{true};
 ghost use Prim.Native.Nat.{_+_, _≤_, _<_};
 ghost use lib.ListN.{length, replicate};
+ghost use Rattle.model.specs.Lengths.{logSize, logPlaces};
 ghost use Rattle.model.specs.Bytes.{blank};
 ghost use Rattle.model.specs.Log.{recordsOf, soundLog};
-ghost use Rattle.log_closure.specs.Tables.{Indexed};
+ghost use Rattle.log_closure.specs.Tables.{placesSize, seensSize, Indexed};
 ghost use Rattle.log_check.specs.declared.Layout.the-variants.{Log};
 ghost use Rattle.log_check.specs.Places.{offsetOf, laidAt, Laid};
 ghost use Rattle.log_check.specs.InOrder.{scanned, scanOf, ScanGives, heldOf, checked, checkOf};
 use log_admit::Before;
+use log_closure::PLACES;
+use log_closure::SEENS;
+use model::LOG_BYTES;
+use model::LOG_PLACES;
 use vector::Vector;
 
 // Where records stand: places of 80 bytes, or six to a block of 512 bytes behind its header.
@@ -51,7 +56,7 @@ pub fn scan(
     places: &mut [u16],
     seens: &mut [u16],
 ) -> Scanned
-    requires { ⌜ (n ≤ 512) × Laid layout (now bytes) n × (length (now places) ≡ 4096) × (length (now seens) ≡ 4144) ⌝ }
+    requires { ⌜ (n ≤ logPlaces) × Laid layout (now bytes) n × (length (now places) ≡ placesSize) × (length (now seens) ≡ seensSize) ⌝ }
     ensures outright { λ r. ⌜ scanned (r .number) (r .at) (r .held .counts) (now (places .exit)) (now (seens .exit)) ≡ scanOf (laidAt layout (now (bytes .entry))) n (now (places .entry)) (now (seens .entry)) ⌝ }
     ensures gives { λ r. ⌜ ScanGives (laidAt layout (now (bytes .entry))) n (r .number) (r .at) (r .held .counts) (now (places .exit)) (now (seens .exit)) ⌝ }
 {
@@ -96,23 +101,23 @@ fn is_free(place: &[u8]) -> bool
 
 // How many places stand before the first that is all zero.
 pub fn used(log: &[u8]) -> usize
-    requires { ⌜ length (now log) ≡ 40960 ⌝ }
-    ensures { λ r. ⌜ (r ≡ length (recordsOf (now (log .entry)))) × (r ≤ 512) ⌝ }
+    requires { ⌜ length (now log) ≡ logSize ⌝ }
+    ensures { λ r. ⌜ (r ≡ length (recordsOf (now (log .entry)))) × (r ≤ logPlaces) ⌝ }
 {
     let mut i: usize = 0;
-    while i < 512 {
+    while i < LOG_PLACES {
         let at = 80 * i;
         if is_free(&log[at..at + 80]) {
             return i;
         }
         i += 1;
     }
-    512
+    LOG_PLACES
 }
 
 // A log is checked, and its records are noted in the tables up to the first that has a fault.
 pub fn check_into(log: &[u8], places: &mut [u16], seens: &mut [u16]) -> Checked
-    requires { ⌜ (length (now log) ≡ 40960) × (length (now places) ≡ 4096) × (length (now seens) ≡ 4144) ⌝ }
+    requires { ⌜ (length (now log) ≡ logSize) × (length (now places) ≡ placesSize) × (length (now seens) ≡ seensSize) ⌝ }
     ensures outright { λ r. ⌜ checked (r .sound) (r .used) (r .held .counts) (now (places .exit)) (now (seens .exit)) ≡ checkOf (now (log .entry)) (now (places .entry)) (now (seens .entry)) ⌝ }
     ensures holds { λ r. ⌜ (soundLog (now (log .entry)) ≡ true → Indexed (laidAt Log (now (log .entry))) (r .used) (recordsOf (now (log .entry))) (r .held .counts) (now (places .exit)) (now (seens .exit))) ⌝ }
 {
@@ -127,7 +132,7 @@ pub fn check_into(log: &[u8], places: &mut [u16], seens: &mut [u16]) -> Checked
         };
     }
     let at = 80 * n;
-    let sound = byte_slice::is_blank(&log[at..40960]);
+    let sound = byte_slice::is_blank(&log[at..LOG_BYTES]);
     Checked {
         sound,
         used: n,
@@ -136,22 +141,22 @@ pub fn check_into(log: &[u8], places: &mut [u16], seens: &mut [u16]) -> Checked
 }
 
 // A table of 4,096 positions, all zero.
-pub fn fresh_places() -> [u16; 4096]
-    ensures { λ r. ⌜ (r ≡ replicate 4096 0) × (length r ≡ 4096) ⌝ }
+pub fn fresh_places() -> [u16; PLACES]
+    ensures { λ r. ⌜ (r ≡ replicate placesSize 0) × (length r ≡ placesSize) ⌝ }
 {
-    [0u16; 4096]
+    [0u16; PLACES]
 }
 
 // A table of 518 rows of 8 counts, all zero.
-pub fn fresh_seens() -> [u16; 4144]
-    ensures { λ r. ⌜ (r ≡ replicate 4144 0) × (length r ≡ 4144) ⌝ }
+pub fn fresh_seens() -> [u16; SEENS]
+    ensures { λ r. ⌜ (r ≡ replicate seensSize 0) × (length r ≡ seensSize) ⌝ }
 {
-    [0u16; 4144]
+    [0u16; SEENS]
 }
 
 // A log is checked: sound or not, how many records it has, and their counts, zeros if one has a fault.
 pub fn check(log: &[u8]) -> Checked
-    requires { ⌜ length (now log) ≡ 40960 ⌝ }
+    requires { ⌜ length (now log) ≡ logSize ⌝ }
     ensures { λ r. ⌜ (r .sound ≡ soundLog (now (log .entry))) × (r .used ≡ length (recordsOf (now (log .entry)))) × (r .held .counts ≡ heldOf (now (log .entry))) ⌝ }
 {
     let mut places = fresh_places();

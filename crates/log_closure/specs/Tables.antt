@@ -89,3 +89,20 @@ pub record Indexed (at : ℕ → Rec) (top : ℕ) (m : List Rec) (held places se
   pub room : top ≤ 518
   pub stands : (u c : ℕ) → u < 8 → 1 ≤ c → c ≤ count u m → Stands at top m places seens u c
   pub beyond : (u c : ℕ) → count u m < c → byId u c m ≡ none
+
+-- ---- the two tables lent
+
+-- a position for each unit and number
+abbrev pub placesSize : ℕ
+placesSize = 4096
+
+-- a row of eight for each position
+abbrev pub seensSize : ℕ
+seensSize = 4144
+
+pub record Tables : Type 0 where
+  pub places : List ℕ
+  pub seens : List ℕ
+
+abbrev pub tables : List ℕ → List ℕ → Tables
+tables places seens = record { places = places; seens = seens }

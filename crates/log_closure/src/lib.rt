@@ -5,6 +5,12 @@ ghost use lib.ListN.{length};
 ghost use Rattle.log_closure.specs.Tables.{slotOf, positionOf, rowAt, unitClosed, closedBy, Placed};
 use vector::Vector;
 
+// The table of positions: one for each unit and number.
+pub const PLACES: usize = 4096;
+
+// The table of what was seen: a row of eight for each position.
+pub const SEENS: usize = 4144;
+
 // A 16-bit number as an index.
 fn index(x: u16) -> usize
     ensures { λ r. ⌜ r ≡ x ⌝ }

@@ -3,6 +3,7 @@ ghost use mathlib.Core.Path.{_≡_};
 ghost use mathlib.Core.Bool.{true};
 ghost use Prim.Native.Nat.{_+_, _*_, _≤_};
 ghost use lib.ListN.{length};
+ghost use Rattle.model.specs.Lengths.{logSize, logPlaces};
 ghost use Rattle.model.specs.Log.{recordsOf, soundLog, logBytes};
 ghost use Rattle.log_check.specs.Places.{laidAt};
 ghost use Rattle.log_check.specs.declared.Layout.the-variants.{Log};
@@ -10,7 +11,7 @@ ghost use Rattle.log_insert.specs.Where.{placeBehind, Rising, insertTo};
 
 // The place behind the last of the first n records that ranks no higher than k.
 pub fn place_behind(log: &[u8], n: usize, k: u32) -> usize
-    requires { ⌜ (length (now log) ≡ 40960) × (n ≤ 512) ⌝ }
+    requires { ⌜ (length (now log) ≡ logSize) × (n ≤ logPlaces) ⌝ }
     ensures { λ r. ⌜ (r ≡ placeBehind (laidAt Log (now (log .entry))) k n) × (r ≤ n) ⌝ }
 {
     let mut i = n;
@@ -27,7 +28,7 @@ pub fn place_behind(log: &[u8], n: usize, k: u32) -> usize
 // The k records in recs, which rise in rank, are put in by rank among the n records of a sound log. The last goes in first, so that each
 // record of the log moves once.
 pub fn insert_records(log: &mut [u8], n: usize, recs: &[u8], k: usize)
-    requires { ⌜ (length (now log) ≡ 40960) × (soundLog (now log) ≡ true) × (n ≡ length (recordsOf (now log))) × (n + k ≤ 512) × (length (now recs) ≡ 80 * k) × Rising (laidAt Log (now recs)) k ⌝ }
+    requires { ⌜ (length (now log) ≡ logSize) × (soundLog (now log) ≡ true) × (n ≡ length (recordsOf (now log))) × (n + k ≤ logPlaces) × (length (now recs) ≡ 80 * k) × Rising (laidAt Log (now recs)) k ⌝ }
     ensures { λ _. ⌜ now (log .exit) ≡ logBytes (insertTo (recordsOf (now (log .entry))) (laidAt Log (now (recs .entry))) k) ⌝ }
 {
     let mut end = n;

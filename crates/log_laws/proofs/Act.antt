@@ -3,8 +3,8 @@
 use Prim.Native.Nat.{ℕ, suc, _+_, _*_, _<_}
 use native.Mathlib.Omega.{arith}
 use mathlib.Core.Path.{_≡_, sym, ap, _∙_, subst}
-use mathlib.Core.Logic.{⊎-elim}
-use mathlib.Core.Bool.{true, cond, _&&_}
+use mathlib.Core.Logic.{_⊎_, inl, inr, ⊎-elim}
+use mathlib.Core.Bool.{true, false, _&&_}
 use mathlib.Core.List.{List, [], _∷_, _++_, append-assoc}
 use lib.Dec.{ltb, eqb}
 use lib.ListN.{getD, length, take, drop, length-append, List·getD-append}
@@ -16,8 +16,8 @@ use Rattle.model.specs.Vector.{vectorBytes}
 use Rattle.model.specs.Record.{Rec, unit, num, seen, wellFormed}
 use Rattle.model.specs.Log.{sumTo, rank, insert, count, vectorOf}
 use Rattle.model.specs.Replay.{judge, replay}
-use Rattle.model.specs.Outcome.{stamped, wishFits, reasonOf, actNumber}
-use Rattle.byte_slice.proofs.Numbers.{and-true, cond-cases}
+use Rattle.model.specs.Outcome.{stamped, wishFits, wishNumber, reasonOf, actNumber}
+use Rattle.byte_slice.proofs.Numbers.{and-true, bool-cases, cond-cases}
 use Rattle.byte_slice.proofs.Words.{word-at, word-front, word-behind}
 use Rattle.vector.proofs.InBytes.{vectorBytes-length, vectorBytes-word}
 use Rattle.log_laws.specs.Members.{Has}
@@ -96,16 +96,28 @@ wish-fits u l w e =
     let (c, d) = and-true (blank (part w 2 18)) (wellFormed (stamped u l w)) b in
     (eqb-true (getD w 0 0) u a, d)
 
--- 0 means a fitting wish and a free place
-pub act-zero : (u : ℕ) (l : List Rec) (w : List ℕ) → actNumber u l w ≡ 0 → (wishFits u l w ≡ true) × (length l < 512)
+pub wish-zero : (u : ℕ) (l : List Rec) (w : List ℕ) → wishNumber u l w ≡ 0 → wishFits u l w ≡ true
+wish-zero u l w e = ⊎-elim (λ a. a .0) (λ a. absurd (omega (arith, sym (a .1) ∙ e))) (cond-cases (wishFits u l w) 0 malformed)
+
+-- 7, 11, or of a fitting wish with a free place the reason
+pub act-numbers : (u : ℕ) (l : List Rec) (w : List ℕ)
+    → ((wishFits u l w ≡ true) × (length l < 512) × (actNumber u l w ≡ reasonOf (judge (stamped u l w) (replay l)))) ⊎ ((actNumber u l w ≡ 7) ⊎ (actNumber u l w ≡ 11))
 unfolding actNumber
-act-zero u l w e =
+act-numbers u l w =
     let reason : ℕ = reasonOf (judge (stamped u l w) (replay l)) in
     ⊎-elim
-    (λ a.
+    (λ (a : wishFits u l w ≡ true).
     ⊎-elim
-    (λ b. (a .0, ltb-true (length l) 512 (b .0)))
-    (λ b. absurd (omega (arith, sym (b .1) ∙ sym (a .1) ∙ e)))
+    (λ b. inl (a, ltb-true (length l) 512 (b .0), rw a (b .1)))
+    (λ b. inr (inr (rw a (b .1))))
     (cond-cases (ltb (length l) 512) reason fullLog))
-    (λ a. absurd (omega (arith, sym (a .1) ∙ e)))
-    (cond-cases (wishFits u l w) (cond (ltb (length l) 512) reason fullLog) malformed)
+    (λ (a : wishFits u l w ≡ false). inr (inl (rw a)))
+    (bool-cases (wishFits u l w))
+
+-- 0 means a fitting wish and a free place
+pub act-zero : (u : ℕ) (l : List Rec) (w : List ℕ) → actNumber u l w ≡ 0 → (wishFits u l w ≡ true) × (length l < 512)
+act-zero u l w e =
+    ⊎-elim
+    (λ a. (a .0, a .1))
+    (⊎-elim (λ a. absurd (omega (arith, sym a ∙ e))) (λ a. absurd (omega (arith, sym a ∙ e))))
+    (act-numbers u l w)

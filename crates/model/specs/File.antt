@@ -7,6 +7,7 @@ use mathlib.Core.List.{List, [], _∷_, _++_}
 use lib.Dec.{ltb, leb, eqb}
 use lib.ListN.{getD, length, take, drop}
 use Rattle.model.specs.Numbers.{badBuffer, badLength, fullLog, badFile}
+use Rattle.model.specs.Lengths.{logSize}
 use Rattle.model.specs.Bytes.{sameBytes, part, padded}
 use Rattle.model.specs.Record.{Rec}
 use Rattle.model.specs.Log.{vectorOf, recordFault, logBytes}
@@ -118,6 +119,10 @@ orElse a b = cond (eqb (a .number) 0) b a
 unfoldable pub fileFault : List ℕ → Fault
 fileFault f = orElse (blocksFault f 0 (blocksIn f)) (orElse (recordsFault [] 0 (fileRecords f)) (countsFault f))
 
+-- 2 for a file that is not of 1 to 86 blocks, then every check
+abbrev pub checkedFault : List ℕ → Fault
+checkedFault f = cond (fileLength f) (fileFault f) (fault badLength 0)
+
 -- what reading a file into a lent log answers and leaves; a refusal leaves the log, and zeros for the rest
 pub record ReadBack : Type 0 where
   pub number : ℕ
@@ -148,8 +153,6 @@ readBack f =
 
 unfoldable pub readOf : List ℕ → List ℕ → ReadBack
 readOf log f =
-    cond (eqb (length log) 40960)
-    (cond (fileLength f)
-    (cond (eqb (fileFault f .number) 0) (readBack f) (notRead log (fileFault f .number) (fileFault f .place)))
-    (notRead log badLength 0))
+    cond (eqb (length log) logSize)
+    (cond (eqb (checkedFault f .number) 0) (readBack f) (notRead log (checkedFault f .number) (checkedFault f .place)))
     (notRead log badBuffer 0)

@@ -6,13 +6,12 @@ use mathlib.Core.Bool.{Bool, true, false, cond, _||_}
 use mathlib.Core.List.{List, [], _∷_, _++_}
 use lib.Dec.{ltb, eqb}
 use lib.ListN.{getD, take}
-use Rattle.model.specs.Numbers.{badLength}
 use Rattle.model.specs.Bytes.{word, blank, part}
 use Rattle.model.specs.Record.{textLength}
 use Rattle.model.specs.Replay.{replay}
 use Rattle.model.specs.Table.{tableBytes}
 use Rattle.model.specs.Block.{archiveIn, senderIn, vectorIn}
-use Rattle.model.specs.File.{fileLength, fileFault, blockAt, recordsCounted, fileRecords}
+use Rattle.model.specs.File.{checkedFault, blockAt, recordsCounted, fileRecords}
 
 -- ---- the words, in ASCII [F49]
 
@@ -200,9 +199,7 @@ acceptedLines f =
 -- the lines of an accepted file, or the line of a refusal
 unfoldable pub listingOf : List ℕ → List ℕ
 listingOf f =
-    cond (fileLength f)
-    (cond (eqb (fileFault f .number) 0) (acceptedLines f) (refusedLine (fileFault f .number) (fileFault f .place)))
-    (refusedLine badLength 0)  -- 2
+    cond (eqb (checkedFault f .number) 0) (acceptedLines f) (refusedLine (checkedFault f .number) (checkedFault f .place))
 
 -- what is printed of the bytes that were read: the listing, and nothing where the input could not be read to its end [F85]
 unfoldable pub outputOf : Bool → List ℕ → List ℕ

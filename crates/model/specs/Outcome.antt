@@ -8,6 +8,7 @@ use mathlib.Core.List.{List, [], _∷_, _++_}
 use lib.Dec.{ltb, leb, eqb}
 use lib.ListN.{getD, length, take, drop, replicate}
 use Rattle.model.specs.Numbers.{badBuffer, badLength, otherArchive, malformed, notNext, notClosed, otherBytes, fullLog, unsoundLog, badUnit}
+use Rattle.model.specs.Lengths.{recordSize, blockSize, logSize, fileSize, treeSize, logPlaces}
 use Rattle.model.specs.Bytes.{two, blank, sameBytes, part, padded}
 use Rattle.model.specs.Vector.{vectorBytes}
 use Rattle.model.specs.Record.{Rec, unit, num, wellFormed}
@@ -33,23 +34,35 @@ outcome n p log lent k = record { number = n; place = p; log = log; lent = lent;
 abbrev pub refusal : ℕ → List ℕ → List ℕ → Outcome
 refusal n log lent = outcome n 0 log lent 0
 
+-- a refusal with the number, or the outcome if the number is 0
+abbrev pub orRefused : ℕ → List ℕ → List ℕ → Outcome → Outcome
+orRefused zero log lent o = o
+orRefused (suc n) log lent o = refusal (suc n) log lent
+
+-- ---- the checks that come first: `ok` says that the other lent buffers have their stated lengths, `row` that a row of blocks has its own
+
+-- the first of two numbers that is not 0
+abbrev pub firstOf : ℕ → ℕ → ℕ
+firstOf zero n = n
+firstOf (suc m) n = suc m
+
+-- 1, 21, 2: before the log is judged
+abbrev pub earlyNumber : ℕ → List ℕ → Bool → Bool → ℕ
+earlyNumber u log ok row = cond (eqb (length log) logSize && ok) (cond (leb u 7) (cond row 0 badLength) badUnit) badBuffer
+
+-- 1, 21, 2, 19; or 0 [F65]
+abbrev pub guardNumber : ℕ → List ℕ → Bool → Bool → ℕ
+guardNumber u log ok row = firstOf (earlyNumber u log ok row) (cond (soundLog log) 0 unsoundLog)
+
+-- a call without a row
+unfoldable pub guarded : ℕ → List ℕ → List ℕ → Bool → Outcome → Outcome
+guarded u log lent ok o = orRefused (guardNumber u log ok true) log lent o
+
 -- ---- starting
 
 -- [F66]
 unfoldable pub startOf : ℕ → List ℕ → Outcome
-startOf u log =
-    cond (eqb (length log) 40960)
-    (cond (leb u 7) (outcome 0 0 (replicate 40960 0) [] 0) (refusal badUnit log []))
-    (refusal badBuffer log [])
-
--- ---- the checks 1, 21 and 19 come first; `ok` says that the other lent buffers have their stated lengths
-
--- [F65]
-unfoldable pub guarded : ℕ → List ℕ → List ℕ → Bool → Outcome → Outcome
-guarded u log lent ok o =
-    cond (eqb (length log) 40960 && ok)
-    (cond (leb u 7) (cond (soundLog log) o (refusal unsoundLog log lent)) (refusal badUnit log lent))
-    (refusal badBuffer log lent)
+startOf u log = orRefused (earlyNumber u log true true) log [] (outcome 0 0 (replicate logSize 0) [] 0)
 
 -- ---- acting
 
@@ -65,19 +78,21 @@ unfoldable pub reasonOf : Verdict → ℕ
 reasonOf fits = 0
 reasonOf (aside n k) = n
 
--- 7, 11, then the reason under which the record would stand aside; 0 if it fits [F68]
+-- 7, or 0
+abbrev pub wishNumber : ℕ → List Rec → List ℕ → ℕ
+wishNumber u l w = cond (wishFits u l w) 0 malformed
+
+-- that of the wish, 11, then the reason under which the record would stand aside; 0 if it fits [F68]
 unfoldable pub actNumber : ℕ → List Rec → List ℕ → ℕ
 actNumber u l w =
-    cond (wishFits u l w)
-    (cond (ltb (length l) 512) (reasonOf (judge (stamped u l w) (replay l))) fullLog)
-    malformed
+    firstOf (wishNumber u l w)
+    (cond (ltb (length l) logPlaces) (reasonOf (judge (stamped u l w) (replay l))) fullLog)
 
 unfoldable pub acted : ℕ → List ℕ → List ℕ → ℕ → Outcome
-acted u log w zero = outcome 0 0 (logBytes (recordsOf log ++ (stamped u (recordsOf log) w ∷ []))) [] 0
-acted u log w (suc n) = refusal (suc n) log []
+acted u log w n = orRefused n log [] (outcome 0 0 (logBytes (recordsOf log ++ (stamped u (recordsOf log) w ∷ []))) [] 0)
 
 unfoldable pub actOf : ℕ → List ℕ → List ℕ → Outcome
-actOf u log w = guarded u log [] (eqb (length w) 80) (acted u log w (actNumber u (recordsOf log) w))
+actOf u log w = guarded u log [] (eqb (length w) recordSize) (acted u log w (actNumber u (recordsOf log) w))
 
 -- ---- handing out
 
@@ -92,15 +107,15 @@ handBlock archive u l v = blockOf (headerOf archive u 0 l) (take 6 (lacking v l)
 
 unfoldable pub handOf : ℕ → ℕ → List ℕ → List ℕ → List ℕ → Outcome
 handOf archive u log v lent =
-    guarded u log lent (eqb (length lent) 512) (outcome 0 0 log (handBlock archive u (recordsOf log) v) 0)
+    guarded u log lent (eqb (length lent) blockSize) (outcome 0 0 log (handBlock archive u (recordsOf log) v) 0)
 
 -- ---- writing a file
 
 -- [F73]
 unfoldable pub writeOf : ℕ → ℕ → List ℕ → List ℕ → Outcome
 writeOf archive u log lent =
-    guarded u log lent (eqb (length lent) 44032)
-    (outcome 0 0 log (padded 44032 (fileOf archive u (recordsOf log))) (blockCount (length (recordsOf log))))
+    guarded u log lent (eqb (length lent) fileSize)
+    (outcome 0 0 log (padded fileSize (fileOf archive u (recordsOf log))) (blockCount (length (recordsOf log))))
 
 -- ---- taking
 
@@ -135,7 +150,7 @@ takeAll l (r ∷ rs) = elim (takeOne l r) [ refused n ↦ refused n | taken m �
 -- the first of 2 to 6 that holds of a block, or 0 [F69]
 unfoldable pub givenFault : ℕ → List ℕ → ℕ
 givenFault archive b =
-    cond (eqb (length b) 512)
+    cond (eqb (length b) blockSize)
     (cond (eqb (blockFault b) 0) (cond (eqb (archiveIn b) archive) 0 otherArchive) (blockFault b))  -- 6; 3, 4, 5
     badLength  -- 2
 
@@ -145,17 +160,13 @@ tookAll log (refused n) = refusal n log []
 tookAll log (taken m) = outcome 0 0 (logBytes m) [] 0
 
 unfoldable pub tookBlock : List ℕ → List ℕ → ℕ → Outcome
-tookBlock log b zero = tookAll log (takeAll (recordsOf log) (blockRecords b))
-tookBlock log b (suc n) = refusal (suc n) log []
+tookBlock log b n = orRefused n log [] (tookAll log (takeAll (recordsOf log) (blockRecords b)))
 
 unfoldable pub takeOf : ℕ → ℕ → List ℕ → List ℕ → Outcome
 takeOf archive u log b = guarded u log [] true (tookBlock log b (givenFault archive b))
 
 -- ---- showing the tree
 
--- [F75]
+-- no unit is given: 0 passes [F75]
 unfoldable pub showOf : List ℕ → List ℕ → Outcome
-showOf log lent =
-    cond (eqb (length log) 40960 && eqb (length lent) 43012)
-    (cond (soundLog log) (outcome 0 0 log (tableBytes (replay (recordsOf log))) 0) (refusal unsoundLog log lent))
-    (refusal badBuffer log lent)
+showOf log lent = guarded 0 log lent (eqb (length lent) treeSize) (outcome 0 0 log (tableBytes (replay (recordsOf log))) 0)

@@ -2,6 +2,7 @@
 ghost use mathlib.Core.Path.{_≡_};
 ghost use Prim.Native.Nat.{_*_, _<_, _≤_};
 ghost use lib.ListN.{length, replicate};
+ghost use Rattle.model.specs.Lengths.{logSize, logPlaces};
 ghost use Rattle.model.specs.Log.{logBytes};
 ghost use Rattle.model.specs.File.{fault, fileRecordsFrom, fileFault, readBack, readOf};
 ghost use Rattle.read_file_check.specs.Outcome.{readBackOf};
@@ -10,8 +11,9 @@ use block_read::sender_in;
 use block_read::vector_in;
 use byte_slice::clear;
 use file_reader::walk;
-use read_file_blocks::whole_blocks;
-use read_file_check::file_fault;
+use model::BLOCK_BYTES;
+use model::LOG_BYTES;
+use read_file_check::checked_fault;
 use read_file_check::records_counted;
 use vector::Vector;
 use vector::zero_vector;
@@ -27,8 +29,8 @@ pub struct ReadFile {
 }
 
 // The first records of a file become a log.
-fn copy_records(log: &mut [u8], file: &[u8], n: usize, total: usize)
-    requires { ⌜ (length (now log) ≡ 40960) × (length (now file) ≡ 512 * n) × (total ≤ 6 * n) × (total ≤ 512) ⌝ }
+pub fn copy_records(log: &mut [u8], file: &[u8], n: usize, total: usize)
+    requires { ⌜ (length (now log) ≡ logSize) × (length (now file) ≡ 512 * n) × (total ≤ 6 * n) × (total ≤ logPlaces) ⌝ }
     ensures { λ _. ⌜ now (log .exit) ≡ logBytes (fileRecordsFrom (now (file .entry)) 0 total) ⌝ }
 {
     clear(log);
@@ -52,7 +54,7 @@ fn refused(number: u8, place: u8) -> ReadFile
 
 // A file without a fault becomes the log.
 fn load(log: &mut [u8], file: &[u8], n: usize) -> ReadFile
-    requires { ⌜ (length (now log) ≡ 40960) × (length (now file) ≡ 512 * n) × (1 ≤ n) × (n ≤ 86) × (fileFault (now file) .number ≡ 0) ⌝ }
+    requires { ⌜ (length (now log) ≡ logSize) × (length (now file) ≡ 512 * n) × (1 ≤ n) × (n ≤ 86) × (fileFault (now file) .number ≡ 0) ⌝ }
     ensures { λ r. ⌜ readBackOf (r .number) (r .place) (r .archive) (r .unit) (r .records) (r .vector .counts) (now (log .exit)) ≡ readBack (now (file .entry)) ⌝ }
 {
     let total = records_counted(file, n);
@@ -74,16 +76,13 @@ fn load(log: &mut [u8], file: &[u8], n: usize) -> ReadFile
 pub fn read_file(log: &mut [u8], file: &[u8]) -> ReadFile
     ensures { λ r. ⌜ readBackOf (r .number) (r .place) (r .archive) (r .unit) (r .records) (r .vector .counts) (now (log .exit)) ≡ readOf (now (log .entry)) (now (file .entry)) ⌝ }
 {
-    if log.len() != 40960 {
+    if log.len() != LOG_BYTES {
         return refused(1, 0);
     }
-    if !whole_blocks(file) {
-        return refused(2, 0);
-    }
-    let n = file.len() / 512;
-    let e = file_fault(file, n);
+    let e = checked_fault(file);
     if e.number != 0 {
         return refused(e.number, e.place);
     }
+    let n = file.len() / BLOCK_BYTES;
     load(log, file, n)
 }

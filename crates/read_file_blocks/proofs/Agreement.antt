@@ -6,19 +6,19 @@ use native.Mathlib.Numerals.{add-one}
 use native.Mathlib.Omega.{arith}
 use mathlib.Core.Path.{_≡_, refl, sym, _∙_}
 use mathlib.Core.Logic.{⊎-elim}
-use mathlib.Core.Bool.{Bool, true, false, cond, not}
+use mathlib.Core.Bool.{Bool, true, false, cond, not, _&&_}
 use mathlib.Core.List.{List}
 use lib.Dec.{leb, eqb}
 use lib.ListN.{length, take, drop}
 use borrow.Author.Tests.{eq-eqb, ne-eqb, le-leb, lt-leb, lt-ltb, le-ltb, not-true, not-false}
 use Rattle.model.specs.Bytes.{sameBytes, part}
-use Rattle.model.specs.Vector.{compareOf}
+use Rattle.model.specs.Vector.{covers}
 use Rattle.model.specs.Block.{blockFault, archiveIn, senderIn, placeIn, countIn, vectorIn}
 use Rattle.model.specs.File.{fileLength, blocksIn, blockAt, countFits, agrees, fileBlockFault, fault, blocksFault}
-use Rattle.byte_slice.proofs.Numbers.{eq-or-ne}
+use Rattle.byte_slice.proofs.Numbers.{bool-cases, and-true, true-and, not-both}
 use Rattle.byte_slice.proofs.Parts.{part-is}
 use Rattle.byte_slice.proofs.Compare.{eq-same, ne-same}
-use Rattle.vector_compare.proofs.Claims.{identical-equal, equal-identical}
+use Rattle.vector.proofs.Dominance.{covers-refl, covers-antisym}
 
 -- ---- the length
 
@@ -37,12 +37,17 @@ module _ (f : List ℕ) where
 
 -- ---- the vectors
 
-pub identical-same : (a b : List ℕ) → length a ≡ 8 → length b ≡ 8 → {n : ℕ} → n ≡ compareOf a b → eqb n 0 ≡ sameBytes a b
-identical-same a b p q {n} e =
-    ⊎-elim
-    (λ (h : n ≡ 0). eq-eqb n 0 h ∙ sym (eq-same a b (identical-equal a b p q (sym e ∙ h))))
-    (λ (h : n ≡ 0 → ⊥). ne-eqb n 0 h ∙ sym (ne-same a b (λ g. h (e ∙ equal-identical a b g))))
-    (eq-or-ne n 0)
+pub both-cover : (a b : List ℕ) → length a ≡ 8 → length b ≡ 8 → {g l : Bool} → g ≡ covers a b → l ≡ covers b a → g && l ≡ sameBytes a b
+both-cover a b p q e f = rw (e, f) (⊎-elim holds fails (bool-cases (covers a b && covers b a)))
+  where
+    holds : covers a b && covers b a ≡ true → covers a b && covers b a ≡ sameBytes a b
+    holds t =
+        let (g, l) = and-true (covers a b) (covers b a) t in
+        t ∙ sym (eq-same a b (covers-antisym a b p q g l))
+
+    fails : covers a b && covers b a ≡ false → covers a b && covers b a ≡ sameBytes a b
+    fails t =
+        t ∙ sym (ne-same a b (λ (g : a ≡ b). not-both (covers a b && covers b a) (rw g (true-and (covers b b) (covers b b) (covers-refl b) (covers-refl b))) t))
 
 -- ---- the count
 

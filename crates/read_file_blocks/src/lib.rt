@@ -11,7 +11,7 @@ use block_read::place_in;
 use block_read::sender_in;
 use block_read::vector_in;
 use vector::Vector;
-use vector_compare::compare;
+use vector::covers;
 
 // A refusal and the place of its block; number 0 for none.
 pub struct Fault {
@@ -33,11 +33,11 @@ pub fn whole_blocks(file: &[u8]) -> bool
     n <= 86
 }
 
-// The same counts.
+// The same counts: each covers the other.
 pub fn same_counts(a: Vector, b: Vector) -> bool
     ensures { λ r. ⌜ r ≡ sameBytes (a .counts) (b .counts) ⌝ }
 {
-    compare(a, b).answer == 0
+    covers(a, b) & covers(b, a)
 }
 
 // A block before the last is full; a count of 0 stands only in an only block.

@@ -2,7 +2,7 @@
 -- Assumes nothing.
 use Prim.Native.Nat.{ℕ, _-_, _*_, _/_, _%_, _≤_}
 use native.Mathlib.Omega.{arith}
-use mathlib.Core.Path.{_≡_, sym, ap, _∙_}
+use mathlib.Core.Path.{_≡_, refl, sym, ap, _∙_}
 use mathlib.Core.Bool.{Bool, true, false, not, _&&_}
 use mathlib.Core.List.{List, []}
 use lib.Dec.{leb, eqb}
@@ -11,12 +11,16 @@ use borrow.Author.Tests.{eq-eqb, ne-eqb, eqb-true, leb-true, not-true, not-false
 use Rattle.model.specs.Bytes.{sameBytes, part}
 use Rattle.model.specs.Log.{vectorOf}
 use Rattle.model.specs.Block.{vectorIn}
-use Rattle.model.specs.File.{fileLength, blockAt, Fault, fault, blocksFault, recordsCounted, fileRecords, recordsFault, countsFault, orElse, fileFault, notRead, readBack, readOf}
+use Rattle.model.specs.File.{fileLength, blockAt, Fault, fault, blocksFault, recordsCounted, fileRecords, recordsFault, countsFault, orElse, fileFault, checkedFault, notRead, readBack, readOf}
 use Rattle.byte_slice.proofs.Numbers.{and-true}
 use Rattle.block_laws.proofs.Faults.{header-right, stored-header}
 use Rattle.file_laws.proofs.Rewritten.{blocks-passed, block-passed}
 use Rattle.read_file_blocks.proofs.Agreement.{blocks-counted}
-use Rattle.read_file_check.specs.Outcome.{Judges, readBackOf}
+use Rattle.encoding_laws.proofs.Reading.{checked-right}
+use Rattle.log_closure.specs.Tables.{tables, Indexed}
+use Rattle.log_check.specs.declared.Layout.the-variants.{File}
+use Rattle.log_check.specs.Places.{laidAt}
+use Rattle.read_file_check.specs.Outcome.{Judges, left, recordsLeft, fileTables, readBackOf}
 
 -- ---- the length
 
@@ -61,7 +65,16 @@ module _ (f : List ℕ) (n : ℕ) (whole : length f ≡ 512 * n) where
     unfolding orElse fault
     block-refused h = sym (blocks-first ∙ rw (ne-eqb bn 0 h))
 
-    module _ (rn rp : ℕ) (held : List ℕ) (z : bn ≡ 0) (j : Judges f rn rp held) where
+    module _ (places₀ seens₀ : List ℕ) where
+      pub unread-left : (bn ≡ 0 → ⊥) → tables places₀ seens₀ ≡ fileTables f places₀ seens₀
+      unfolding fileTables fault
+      unread-left h = rw (blocks-counted f n whole, ← eb, ne-eqb bn 0 h)
+
+      pub read-left : bn ≡ 0 → (held places seens : List ℕ) → left held places seens ≡ recordsLeft f places₀ seens₀ → tables places seens ≡ fileTables f places₀ seens₀
+      unfolding fileTables fault
+      read-left z held places seens e = rw (blocks-counted f n whole, ← eb, z, ← e)
+
+    module _ (rn rp : ℕ) (held places seens : List ℕ) (z : bn ≡ 0) (j : Judges f rn rp held places seens) where
       records-next : fileFault f ≡ orElse (fault rn rp) (countsFault f)
       unfolding orElse fault
       records-next = blocks-first ∙ rw (z, ← j .first)
@@ -73,7 +86,7 @@ module _ (f : List ℕ) (n : ℕ) (whole : length f ≡ 512 * n) where
       module _ {v : List ℕ} {t : Bool} (y : rn ≡ 0) (ev : v ≡ vectorIn (take (512 - 0) (drop 0 f))) (et : t ≡ sameBytes v held) where
         compared : t ≡ sameBytes (vectorIn (blockAt f 0)) (vectorOf (fileRecords f))
         unfolding blockAt part
-        compared = rw (← j .counts y, ← ev) et
+        compared = rw (← j .holds y .counts, ← ev) et
 
         vector-last : fileFault f ≡ countsFault f
         unfolding orElse fault
@@ -87,6 +100,18 @@ module _ (f : List ℕ) (n : ℕ) (whole : length f ≡ 512 * n) where
         unfolding countsFault
         nothing-refused h = sym (vector-last ∙ rw (← compared, not-false t h))
 
+      pub file-indexed : rn ≡ 0 → Indexed (laidAt File f) (recordsCounted f) (fileRecords f) (vectorOf (fileRecords f)) places seens
+      file-indexed y = rw (← j .holds y .counts) (j .holds y)
+
+-- ---- the ways out of `checked_fault`
+
+module _ (f : List ℕ) {t : Bool} (e : t ≡ fileLength f) where
+  pub not-whole : not t ≡ true → fault 2 0 ≡ checkedFault f
+  not-whole h = rw (← e, not-true t h)
+
+  pub whole-checked : not t ≡ false → (n p : ℕ) → fault n p ≡ fileFault f → fault n p ≡ checkedFault f
+  whole-checked h n p q = q ∙ rw (← e, not-false t h)
+
 -- ---- what reading answers
 
 module _ (log f : List ℕ) where
@@ -99,20 +124,27 @@ module _ (log f : List ℕ) where
     unfolding readOf
     log-length en ep h = refused-is ∙ rw (en, ep, ne-eqb (length log) 40960 h)
 
-    module _ {t : Bool} (l : length log ≡ 40960) (et : t ≡ fileLength f) where
-      pub file-length : n ≡ 2 → p ≡ 0 → not t ≡ true → readBackOf n p a u k v log ≡ readOf log f
-      unfolding readOf
-      file-length en ep h = refused-is ∙ rw (en, ep, eq-eqb (length log) 40960 l, ← et, not-true t h)
+    pub file-refused : (m q : ℕ) → n ≡ m → p ≡ q → length log ≡ 40960 → fault m q ≡ checkedFault f → (m ≡ 0 → ⊥) → readBackOf n p a u k v log ≡ readOf log f
+    unfolding readOf fault
+    file-refused m q en ep l e z = refused-is ∙ rw (en, ep, eq-eqb (length log) 40960 l, ← e, ne-eqb m 0 z)
 
-      pub file-refused : (m q : ℕ) → n ≡ m → p ≡ q → not t ≡ false → fault m q ≡ fileFault f → (m ≡ 0 → ⊥) → readBackOf n p a u k v log ≡ readOf log f
-      unfolding readOf fault
-      file-refused m q en ep h e z = refused-is ∙ rw (en, ep, eq-eqb (length log) 40960 l, ← et, not-false t h, ← e, ne-eqb m 0 z)
-
-  pub file-read : {n p a u k : ℕ} {v o : List ℕ} {t : Bool} (m q : ℕ) → length log ≡ 40960 → t ≡ fileLength f → not t ≡ false → fault m q ≡ fileFault f → m ≡ 0
-      → readBackOf n p a u k v o ≡ readBack f → readBackOf n p a u k v o ≡ readOf log f
+  pub file-read : {n p a u k : ℕ} {v o : List ℕ} (m q : ℕ) → length log ≡ 40960 → fault m q ≡ checkedFault f → m ≡ 0 → readBackOf n p a u k v o ≡ readBack f → readBackOf n p a u k v o ≡ readOf log f
   unfolding readOf fault
-  file-read {t = t} m q l et h e z r = r ∙ rw (eq-eqb (length log) 40960 l, ← et, not-false t h, ← e, z)
+  file-read m q l e z r = r ∙ rw (eq-eqb (length log) 40960 l, ← e, z)
 
-  pub faultless : (m q : ℕ) → fault m q ≡ fileFault f → m ≡ 0 → fileFault f .number ≡ 0
+module _ (f : List ℕ) (m q : ℕ) (e : fault m q ≡ checkedFault f) (z : m ≡ 0) where
+  right : (fileLength f ≡ true) × (fileFault f .number ≡ 0)
   unfolding fault
-  faultless m q e z = sym (ap (λ (x : Fault). x .number) e) ∙ z
+  right = checked-right f (sym (ap (λ (x : Fault). x .number) e) ∙ z)
+
+  pub right-whole : length f ≡ 512 * (length f / 512)
+  right-whole = whole f (sym (right .0)) refl
+
+  pub right-some : 1 ≤ length f / 512
+  right-some = some-block f (sym (right .0)) refl
+
+  pub right-few : length f / 512 ≤ 86
+  right-few = few-blocks f (sym (right .0)) refl
+
+  pub faultless : fileFault f .number ≡ 0
+  faultless = right .1

@@ -19,9 +19,9 @@ use Rattle.byte_slice.proofs.Numbers.{eq-or-ne}
 use Rattle.byte_slice.proofs.Parts.{part-is}
 use Rattle.log_check.specs.declared.Layout.the-variants.{File}
 use Rattle.log_check.specs.Places.{offsetOf, laidAt, Laid}
-use Rattle.log_check.specs.InOrder.{listed, before, Found, firstFault, ScanGives}
+use Rattle.log_check.specs.InOrder.{listed, before, Found, firstFault, Scan, scanned, scanOf, ScanGives}
 use Rattle.read_file_blocks.proofs.Agreement.{blocks-counted}
-use Rattle.read_file_check.specs.Outcome.{Judges}
+use Rattle.read_file_check.specs.Outcome.{Judges, left, recordsLeft}
 
 -- ---- how many
 
@@ -82,19 +82,28 @@ module _ (f : List ℕ) (total m number place : ℕ) (held places seens : List �
         let z : 0 + m ≡ m = omega arith in
         rw (← et, file-listed f 0 total) (rw (← g .first, z) at (in-order (laidAt File f) m 0 total (omega arith) (omega arith)))
 
-    pub record-refused : (number ≡ 0 → ⊥) → Judges f number (place / 6) held
-    record-refused z = record { first = sym (all ∙ rw (ne-eqb number 0 z)); counts = λ e. absurd (z e) }
+    pub record-refused : (number ≡ 0 → ⊥) → Judges f number (place / 6) held places seens
+    record-refused z = record { first = sym (all ∙ rw (ne-eqb number 0 z)); holds = λ e. absurd (z e) }
 
     module _ (z : number ≡ 0) where
-      pub one-too-many : 512 < total → Judges f 11 85 held
+      pub one-too-many : 512 < total → Judges f 11 85 held places seens
       unfolding recordsFault listed
       one-too-many h =
           let e : m ≡ 512 = omega arith in
           let s : total - 512 ≡ suc (total - 513) = omega arith in
-          record { first = sym (all ∙ rw (z, e, s)); counts = λ (x : _≡_ {A = ℕ} 11 0). absurd (omega arith) }
+          record { first = sym (all ∙ rw (z, e, s)); holds = λ (x : _≡_ {A = ℕ} 11 0). absurd (omega arith) }
 
-      pub none-refused : total ≤ 512 → Judges f 0 0 held
+      pub none-refused : total ≤ 512 → Judges f 0 0 held places seens
       unfolding recordsFault listed fileRecords
       none-refused h =
           let e : m ≡ total = omega arith in
-          record { first = sym (all ∙ rw (z, e, sub-self)); counts = λ x. g .holds z .counts ∙ rw (e, ← et, file-listed f 0 total) }
+          record { first = sym (all ∙ rw (z, e, sub-self)); holds = λ x. rw (← et, file-listed f 0 total, ← e) (g .holds z) }
+
+-- ---- what it leaves
+
+pub records-left : (f : List ℕ) (total m number place : ℕ) (held places seens places₀ seens₀ : List ℕ)
+    → scanned number place held places seens ≡ scanOf (laidAt File f) m places₀ seens₀ → m ≡ min total 512 → total ≡ recordsCounted f → left held places seens ≡ recordsLeft f places₀ seens₀
+unfolding recordsLeft
+records-left f total m number place held places seens places₀ seens₀ o em et =
+    let e : scanned number place held places seens ≡ scanOf (laidAt File f) (min (recordsCounted f) 512) places₀ seens₀ = rw (em, et) at o in
+    ap (λ (x : Scan). left (x .held) (x .places) (x .seens)) e

@@ -2,20 +2,28 @@
 ghost use mathlib.Core.Path.{_≡_};
 ghost use Prim.Native.Nat.{_*_, _<_, _≤_, min};
 ghost use lib.ListN.{length};
-ghost use Rattle.model.specs.File.{fault, recordsCounted, fileFault};
-ghost use Rattle.read_file_check.specs.Outcome.{Judges};
+ghost use Rattle.model.specs.Lengths.{logPlaces};
+ghost use Rattle.model.specs.Log.{vectorOf};
+ghost use Rattle.model.specs.File.{fault, recordsCounted, fileRecords, fileFault, checkedFault};
+ghost use Rattle.log_closure.specs.Tables.{placesSize, seensSize, tables, Indexed};
+ghost use Rattle.log_check.specs.declared.Layout.the-variants.{File};
+ghost use Rattle.log_check.specs.Places.{laidAt};
+ghost use Rattle.read_file_check.specs.Outcome.{Judges, left, recordsLeft, fileTables};
 use block_read::count_in;
 use block_read::vector_in;
 use log_check::Layout;
 use log_check::fresh_places;
 use log_check::fresh_seens;
 use log_check::scan;
+use model::BLOCK_BYTES;
+use model::LOG_PLACES;
 use read_file_blocks::Fault;
 use read_file_blocks::blocks_fault;
 use read_file_blocks::same_counts;
+use read_file_blocks::whole_blocks;
 use vector::Vector;
 
-// The first fault of a file's records and the place of its block, or 0; and without a fault the counts of the records.
+// The first fault of a file's records and the place of its block, or 0; and the counts of the first 512, zeros if one has a fault.
 pub struct Judged {
     pub number: u8,
     pub place: u8,
@@ -34,24 +42,23 @@ pub fn records_counted(file: &[u8], n: usize) -> usize
 
 // No more than a log has places.
 fn at_most_512(n: usize) -> usize
-    ensures { λ r. ⌜ r ≡ min n 512 ⌝ }
+    ensures { λ r. ⌜ r ≡ min n logPlaces ⌝ }
 {
-    if n < 512 {
+    if n < LOG_PLACES {
         return n;
     }
-    512
+    LOG_PLACES
 }
 
-// The records are judged one after another; a 513th is one too many.
-fn records_fault(file: &[u8], n: usize) -> Judged
-    requires { ⌜ (length (now file) ≡ 512 * n) × (1 ≤ n) × (n ≤ 86) × (recordsCounted (now file) ≤ 6 * n) ⌝ }
-    ensures { λ r. ⌜ Judges (now (file .entry)) (r .number) (r .place) (r .held .counts) ⌝ }
+// The records are judged one after another; a 513th is one too many. Those before the first fault are noted in the tables.
+fn records_fault(file: &[u8], n: usize, places: &mut [u16], seens: &mut [u16]) -> Judged
+    requires { ⌜ (length (now file) ≡ 512 * n) × (1 ≤ n) × (n ≤ 86) × (recordsCounted (now file) ≤ 6 * n) × (length (now places) ≡ placesSize) × (length (now seens) ≡ seensSize) ⌝ }
+    ensures judges { λ r. ⌜ Judges (now (file .entry)) (r .number) (r .place) (r .held .counts) (now (places .exit)) (now (seens .exit)) ⌝ }
+    ensures leaves { λ r. ⌜ left (r .held .counts) (now (places .exit)) (now (seens .exit)) ≡ recordsLeft (now (file .entry)) (now (places .entry)) (now (seens .entry)) ⌝ }
 {
     let total = records_counted(file, n);
     let m = at_most_512(total);
-    let mut places = fresh_places();
-    let mut seens = fresh_seens();
-    let s = scan(file, Layout::File, m, &mut places, &mut seens);
+    let s = scan(file, Layout::File, m, places, seens);
     let held = s.held;
     if s.number != 0 {
         return Judged {
@@ -60,7 +67,7 @@ fn records_fault(file: &[u8], n: usize) -> Judged
             held,
         };
     }
-    if 512 < total {
+    if LOG_PLACES < total {
         return Judged {
             number: 11,
             place: 85,
@@ -74,16 +81,19 @@ fn records_fault(file: &[u8], n: usize) -> Judged
     }
 }
 
-// The first fault of a file of n blocks: of its blocks, then of its records, then of its vector against their counts.
-pub fn file_fault(file: &[u8], n: usize) -> Fault
-    requires { ⌜ (length (now file) ≡ 512 * n) × (1 ≤ n) × (n ≤ 86) ⌝ }
-    ensures { λ r. ⌜ fault (r .number) (r .place) ≡ fileFault (now (file .entry)) ⌝ }
+// The first fault of a file of n blocks: of its blocks, then of its records, then of its vector against their counts. The records before
+// the first fault of a record are noted in the tables, once the blocks have none.
+pub fn file_fault_into(file: &[u8], n: usize, places: &mut [u16], seens: &mut [u16]) -> Fault
+    requires { ⌜ (length (now file) ≡ 512 * n) × (1 ≤ n) × (n ≤ 86) × (length (now places) ≡ placesSize) × (length (now seens) ≡ seensSize) ⌝ }
+    ensures outright { λ r. ⌜ fault (r .number) (r .place) ≡ fileFault (now (file .entry)) ⌝ }
+    ensures leaves { λ r. ⌜ tables (now (places .exit)) (now (seens .exit)) ≡ fileTables (now (file .entry)) (now (places .entry)) (now (seens .entry)) ⌝ }
+    ensures holds { λ r. ⌜ (r .number ≡ 0 → Indexed (laidAt File (now (file .entry))) (recordsCounted (now (file .entry))) (fileRecords (now (file .entry))) (vectorOf (fileRecords (now (file .entry)))) (now (places .exit)) (now (seens .exit))) ⌝ }
 {
     let b = blocks_fault(file, n);
     if b.number != 0 {
         return b;
     }
-    let j = records_fault(file, n);
+    let j = records_fault(file, n, places, seens);
     if j.number != 0 {
         return Fault {
             number: j.number,
@@ -101,4 +111,28 @@ pub fn file_fault(file: &[u8], n: usize) -> Fault
         number: 0,
         place: 0,
     }
+}
+
+// The first fault of a file of n blocks.
+pub fn file_fault(file: &[u8], n: usize) -> Fault
+    requires { ⌜ (length (now file) ≡ 512 * n) × (1 ≤ n) × (n ≤ 86) ⌝ }
+    ensures { λ r. ⌜ fault (r .number) (r .place) ≡ fileFault (now (file .entry)) ⌝ }
+{
+    let mut places = fresh_places();
+    let mut seens = fresh_seens();
+    file_fault_into(file, n, &mut places, &mut seens)
+}
+
+// 2 for a file that is not of 1 to 86 blocks, then its first fault.
+pub fn checked_fault(file: &[u8]) -> Fault
+    ensures { λ r. ⌜ fault (r .number) (r .place) ≡ checkedFault (now (file .entry)) ⌝ }
+{
+    if !whole_blocks(file) {
+        return Fault {
+            number: 2,
+            place: 0,
+        };
+    }
+    let n = file.len() / BLOCK_BYTES;
+    file_fault(file, n)
 }

@@ -2,16 +2,18 @@
 ghost use mathlib.Core.Path.{_≡_};
 ghost use mathlib.Core.Bool.{true};
 ghost use lib.ListN.{length, replicate};
+ghost use Rattle.model.specs.Lengths.{logSize, treeSize};
 ghost use Rattle.model.specs.Log.{recordsOf, soundLog};
 ghost use Rattle.model.specs.Replay.{emptyTree, replay};
 ghost use Rattle.model.specs.Table.{tableBytes};
 ghost use Rattle.model.specs.Outcome.{outcome, showOf};
 ghost use Rattle.tree_replay.specs.Registers.{replayOn};
 use call_answer::Answer;
+use model::TREE_BYTES;
 
 // The tree of the n records of a sound log is laid in a table of zeros, by a register of zeros.
 fn fill_tree(log: &[u8], n: usize, tree: &mut [u8], register: &mut [u16])
-    requires { ⌜ (length (now log) ≡ 40960) × (soundLog (now log) ≡ true) × (n ≡ length (recordsOf (now log))) × (now tree ≡ replicate 43012 0) × (now register ≡ replicate 9729 0) ⌝ }
+    requires { ⌜ (length (now log) ≡ logSize) × (soundLog (now log) ≡ true) × (n ≡ length (recordsOf (now log))) × (now tree ≡ replicate treeSize 0) × (now register ≡ replicate 9729 0) ⌝ }
     ensures { λ _. ⌜ (now (tree .exit) ≡ tableBytes (replay (recordsOf (now (log .entry))))) × (now (register .exit) ≡ replayOn emptyTree (replicate 9729 0) (recordsOf (now (log .entry)))) ⌝ }
 {
     let size = tree_replay::replay_log(log, n, tree, register);
@@ -20,7 +22,7 @@ fn fill_tree(log: &[u8], n: usize, tree: &mut [u8], register: &mut [u16])
 
 // The tree of the n records of a sound log is laid in a lent table, which may hold anything before.
 pub fn lay_tree(log: &[u8], n: usize, tree: &mut [u8])
-    requires { ⌜ (length (now log) ≡ 40960) × (soundLog (now log) ≡ true) × (n ≡ length (recordsOf (now log))) × (length (now tree) ≡ 43012) ⌝ }
+    requires { ⌜ (length (now log) ≡ logSize) × (soundLog (now log) ≡ true) × (n ≡ length (recordsOf (now log))) × (length (now tree) ≡ treeSize) ⌝ }
     ensures { λ _. ⌜ now (tree .exit) ≡ tableBytes (replay (recordsOf (now (log .entry)))) ⌝ }
 {
     byte_slice::clear(tree);
@@ -28,30 +30,18 @@ pub fn lay_tree(log: &[u8], n: usize, tree: &mut [u8])
     fill_tree(log, n, tree, &mut register);
 }
 
-// The lent table shows the tree and the asides of the lent log. A refusal leaves the table as it was.
+// The lent table shows the tree and the asides of the lent log. A refusal leaves the table as it was. No unit is asked: 0 passes.
 pub fn show_tree(log: &[u8], tree: &mut [u8]) -> Answer
     ensures { λ r. ⌜ outcome (r .number) (r .place) (now (log .entry)) (now (tree .exit)) 0 ≡ showOf (now (log .entry)) (now (tree .entry)) ⌝ }
 {
-    if log.len() != 40960 {
+    let o = call_guard::open(log, 0, tree.len() == TREE_BYTES, true);
+    if o.number != 0 {
         return Answer {
-            number: 1,
+            number: o.number,
             place: 0,
         };
     }
-    if tree.len() != 43012 {
-        return Answer {
-            number: 1,
-            place: 0,
-        };
-    }
-    let c = log_check::check(log);
-    if !c.sound {
-        return Answer {
-            number: 19,
-            place: 0,
-        };
-    }
-    lay_tree(log, c.used, tree);
+    lay_tree(log, o.used, tree);
     Answer {
         number: 0,
         place: 0,

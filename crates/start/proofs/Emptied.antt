@@ -1,21 +1,18 @@
--- What starting answers and leaves: one law for each way out, over plain values.
+-- What starting answers and leaves, over plain values.
 -- Assumes nothing.
-use Prim.Native.Nat.{ℕ, _≤_, _<_}
-use mathlib.Core.Path.{_≡_}
+use Prim.Native.Nat.{ℕ}
+use mathlib.Core.Path.{_≡_, sym, _∙_}
+use mathlib.Core.Bool.{true}
 use mathlib.Core.List.{List, []}
 use lib.ListN.{length, replicate}
-use borrow.Author.Tests.{eq-eqb, ne-eqb, le-leb, lt-leb}
-use Rattle.model.specs.Outcome.{outcome, startOf}
+use Rattle.model.specs.Outcome.{outcome, refusal, earlyNumber, startOf}
+use Rattle.call_answer.proofs.Guards.{early-long, refused-by}
 
-module _ (u : ℕ) (log : List ℕ) where
-  pub log-length : (length log ≡ 40960 → ⊥) → outcome 1 0 log [] 0 ≡ startOf u log
+module _ (u : ℕ) (log : List ℕ) (n : ℕ) (e : n ≡ earlyNumber u log true true) where
+  pub not-started : (n ≡ 0 → ⊥) → refusal n log [] ≡ startOf u log
   unfolding startOf
-  log-length h = rw (ne-eqb (length log) 40960 h)
+  not-started h = rw (← e) (refused-by n log [] (outcome 0 0 (replicate 40960 0) [] 0) h)
 
-  pub unit-above : length log ≡ 40960 → 7 < u → outcome 21 0 log [] 0 ≡ startOf u log
+  pub emptied : n ≡ 0 → (left : List ℕ) → left ≡ replicate (length log) 0 → outcome 0 0 left [] 0 ≡ startOf u log
   unfolding startOf
-  unit-above a h = rw (eq-eqb (length log) 40960 a, lt-leb u 7 h)
-
-  pub emptied : {left : List ℕ} → length log ≡ 40960 → u ≤ 7 → left ≡ replicate (length log) 0 → outcome 0 0 left [] 0 ≡ startOf u log
-  unfolding startOf
-  emptied a h e = rw (eq-eqb (length log) 40960 a, le-leb u 7 h, e, a)
+  emptied z left q = rw (← e, z, q, early-long u log true true (sym e ∙ z))

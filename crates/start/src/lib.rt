@@ -3,20 +3,16 @@ ghost use mathlib.Core.Path.{_≡_};
 ghost use mathlib.Core.List.{[]};
 ghost use Rattle.model.specs.Outcome.{outcome, startOf};
 use call_answer::Answer;
+use call_answer::early_number;
 
 // The lent log is emptied, whatever stood in it. The archive is not asked.
 pub fn start(log: &mut [u8], archive: u32, unit: u8) -> Answer
     ensures { λ r. ⌜ outcome (r .number) (r .place) (now (log .exit)) [] 0 ≡ startOf unit (now (log .entry)) ⌝ }
 {
-    if log.len() != 40960 {
+    let n = early_number(log, unit, true, true);
+    if n != 0 {
         return Answer {
-            number: 1,
-            place: 0,
-        };
-    }
-    if 7 < unit {
-        return Answer {
-            number: 21,
+            number: n,
             place: 0,
         };
     }

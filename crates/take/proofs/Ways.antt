@@ -1,10 +1,10 @@
 -- The ways out of taking a block, over plain values.
 -- Assumes nothing.
-use Prim.Native.Nat.{ℕ, zero, suc, _≤_}
+use Prim.Native.Nat.{ℕ, _≤_}
 use native.Mathlib.Omega.{arith}
-use mathlib.Core.Path.{_≡_, refl, sym, _∙_}
+use mathlib.Core.Path.{_≡_, sym, _∙_}
 use mathlib.Core.Logic.{⊎-elim}
-use mathlib.Core.Bool.{Bool, true, false, not}
+use mathlib.Core.Bool.{true}
 use mathlib.Core.List.{List, []}
 use lib.ListN.{length}
 use borrow.Author.Tests.{eq-eqb, ne-eqb}
@@ -13,13 +13,13 @@ use Rattle.model.specs.Block.{countIn, blockFault, recordAt, recordsFrom, block
 use Rattle.model.specs.Outcome.{Outcome, outcome, taken, takeAll, givenFault, tookAll, tookBlock, takeOf}
 use Rattle.byte_slice.proofs.Numbers.{eq-or-ne}
 use Rattle.block_laws.proofs.Faults.{header-right, stored-header}
-use Rattle.call_answer.proofs.Guards.{guards-pass}
+use Rattle.call_answer.proofs.Guards.{refused-by}
+use Rattle.call_guard.specs.Opened.{opened, openOf}
+use Rattle.call_guard.proofs.Opening.{call-passes}
 use Rattle.encoding_laws.proofs.Logs.{sound-records, sound-bytes, sound-few}
 use Rattle.log_closure.specs.Tables.{Indexed}
 use Rattle.log_check.specs.declared.Layout.the-variants.{Log}
 use Rattle.log_check.specs.Places.{laidAt}
-use Rattle.log_check.specs.InOrder.{checked, checkOf}
-use Rattle.log_check.proofs.Sound.{checked-sound, known-sound}
 use Rattle.take_beside.specs.Judging.{Judgement, judgement, judgeOf, judgeGiven, afterTo, JudgeGives}
 use Rattle.take_store.specs.Stored.{Stored}
 
@@ -28,11 +28,7 @@ use Rattle.take_store.specs.Stored.{Stored}
 module _ (archive : ℕ) (b : List ℕ) (f : ℕ) (e : f ≡ givenFault archive b) where
   pub block-bad : (log : List ℕ) → (f ≡ 0 → ⊥) → outcome f 0 log [] 0 ≡ tookBlock log b (givenFault archive b)
   unfolding tookBlock
-  block-bad log h = rw (← e) (go f h)
-    where
-      go : (n : ℕ) → (n ≡ 0 → ⊥) → outcome n 0 log [] 0 ≡ tookBlock log b n
-      go zero h = absurd (h refl)
-      go (suc n) h = refl
+  block-bad log h = rw (← e) (refused-by f log [] (tookAll log (takeAll (recordsOf log) (blockRecords b))) h)
 
   module _ (log held : List ℕ) (used : ℕ) (places seens : List ℕ) where
     pub bad-left : (f ≡ 0 → ⊥) → judgement f places seens ≡ judgeGiven (givenFault archive b) log b held used places seens
@@ -88,15 +84,13 @@ pub log-stored : (log : List ℕ) (used : ℕ) (held places seens : List ℕ) �
 log-stored log used held places seens n s u i =
     record { bytes = sym (sound-bytes log n s); sound = sound-records log s; few = sound-few log; used-is = u; counts = i .counts }
 
--- ---- a log that was checked
+-- ---- a log that was opened
 
-module _ (log places₀ seens₀ : List ℕ) {s : Bool} {used : ℕ} {held places seens : List ℕ} (c : checked s used held places seens ≡ checkOf log places₀ seens₀) (g : not s ≡ false) where
-  pub checked-known : soundLog log ≡ true
-  checked-known = known-sound log (checked-sound log places₀ seens₀ c) g
+pub opened-indexed : (log : List ℕ) (n used : ℕ) (held places seens : List ℕ) → (n ≡ 0 → Indexed (laidAt Log log) used (recordsOf log) held places seens) → n ≡ 0
+    → Indexed (laidAt Log log) used (recordsOf log) held places seens
+opened-indexed log n used held places seens f z = f z
 
-  pub checked-indexed : (soundLog log ≡ true → Indexed (laidAt Log log) used (recordsOf log) held places seens) → Indexed (laidAt Log log) used (recordsOf log) held places seens
-  checked-indexed f = f checked-known
-
-  pub took : (archive u : ℕ) (b : List ℕ) → length log ≡ 40960 → u ≤ 7 → (o : Outcome) → o ≡ tookBlock log b (givenFault archive b) → o ≡ takeOf archive u log b
-  unfolding takeOf
-  took archive u b n h o q = q ∙ guards-pass u log [] [] 0 (tookBlock log b (givenFault archive b)) n refl h (checked-sound log places₀ seens₀ c) g
+pub took : (archive u : ℕ) (log b : List ℕ) {n used : ℕ} {held : List ℕ} → opened n held used ≡ openOf u log true true → n ≡ 0
+    → (o : Outcome) → o ≡ tookBlock log b (givenFault archive b) → o ≡ takeOf archive u log b
+unfolding takeOf
+took archive u log b e z o q = q ∙ call-passes u log [] true e (tookBlock log b (givenFault archive b)) z

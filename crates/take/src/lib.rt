@@ -3,13 +3,15 @@ ghost use mathlib.Core.Path.{_≡_};
 ghost use mathlib.Core.Bool.{true};
 ghost use mathlib.Core.List.{[]};
 ghost use lib.ListN.{length};
+ghost use Rattle.model.specs.Lengths.{logSize};
 ghost use Rattle.model.specs.Log.{recordsOf, soundLog};
 ghost use Rattle.model.specs.Outcome.{outcome, givenFault, tookBlock, takeOf};
-ghost use Rattle.log_closure.specs.Tables.{Indexed};
+ghost use Rattle.log_closure.specs.Tables.{placesSize, seensSize, Indexed};
 ghost use Rattle.log_check.specs.declared.Layout.the-variants.{Log};
 ghost use Rattle.log_check.specs.Places.{laidAt};
 ghost use Rattle.take_beside.specs.Judging.{judgement, judgeGiven};
 use call_answer::Answer;
+use call_guard::open_into;
 use take_store::Stock;
 use vector::Vector;
 
@@ -23,7 +25,7 @@ pub fn take_block(
     places: &mut [u16],
     seens: &mut [u16],
 ) -> u8
-    requires { ⌜ (length (now log) ≡ 40960) × (soundLog (now log) ≡ true) × (used ≡ length (recordsOf (now log))) × (length (now places) ≡ 4096) × (length (now seens) ≡ 4144) × Indexed (laidAt Log (now log)) used (recordsOf (now log)) (held .counts) (now places) (now seens) ⌝ }
+    requires { ⌜ (length (now log) ≡ logSize) × (soundLog (now log) ≡ true) × (used ≡ length (recordsOf (now log))) × (length (now places) ≡ placesSize) × (length (now seens) ≡ seensSize) × Indexed (laidAt Log (now log)) used (recordsOf (now log)) (held .counts) (now places) (now seens) ⌝ }
     ensures took { λ r. ⌜ outcome r 0 (now (log .exit)) [] 0 ≡ tookBlock (now (log .entry)) (now (b .entry)) (givenFault archive (now (b .entry))) ⌝ }
     ensures tables { λ r. ⌜ judgement r (now (places .exit)) (now (seens .exit)) ≡ judgeGiven (givenFault archive (now (b .entry))) (now (log .entry)) (now (b .entry)) (held .counts) used (now (places .entry)) (now (seens .entry)) ⌝ }
 {
@@ -44,28 +46,16 @@ pub fn take_block(
 pub fn take(log: &mut [u8], archive: u32, unit: u8, b: &[u8]) -> Answer
     ensures { λ r. ⌜ outcome (r .number) (r .place) (now (log .exit)) [] 0 ≡ takeOf archive unit (now (log .entry)) (now (b .entry)) ⌝ }
 {
-    if log.len() != 40960 {
-        return Answer {
-            number: 1,
-            place: 0,
-        };
-    }
-    if 7 < unit {
-        return Answer {
-            number: 21,
-            place: 0,
-        };
-    }
     let mut places = log_check::fresh_places();
     let mut seens = log_check::fresh_seens();
-    let c = log_check::check_into(log, &mut places, &mut seens);
-    if !c.sound {
+    let o = open_into(log, unit, true, true, &mut places, &mut seens);
+    if o.number != 0 {
         return Answer {
-            number: 19,
+            number: o.number,
             place: 0,
         };
     }
-    let held = c.held;
-    let number = take_block(log, archive, b, c.used, held, &mut places, &mut seens);
+    let held = o.held;
+    let number = take_block(log, archive, b, o.used, held, &mut places, &mut seens);
     Answer { number, place: 0 }
 }

@@ -3,11 +3,14 @@ ghost use mathlib.Core.Path.{_≡_};
 ghost use mathlib.Core.Bool.{true};
 ghost use Prim.Native.Nat.{_+_, _≤_, _<_};
 ghost use lib.ListN.{length};
+ghost use Rattle.model.specs.Lengths.{recordSize, blockSize, logSize, logPlaces};
 ghost use Rattle.model.specs.Bytes.{sameBytes};
 ghost use Rattle.model.specs.Record.{seenVector, wellFormed};
 ghost use Rattle.model.specs.Outcome.{givenFault};
-ghost use Rattle.log_closure.specs.Tables.{Placed};
+ghost use Rattle.log_closure.specs.Tables.{placesSize, seensSize, Placed};
 ghost use Rattle.take_beside.specs.Judging.{Counted, heldAt, step, newBy, newStep};
+use model::BLOCK_BYTES;
+use model::LOG_PLACES;
 use vector::Vector;
 
 // What a record of a block comes to: its number, or 0; the counts of the records held then, and how many they are.
@@ -21,7 +24,7 @@ pub struct Judged {
 pub fn given_fault(archive: u32, b: &[u8]) -> u8
     ensures { λ r. ⌜ r ≡ givenFault archive (now (b .entry)) ⌝ }
 {
-    if b.len() != 512 {
+    if b.len() != BLOCK_BYTES {
         return 2;
     }
     let f = block_read::block_fault(b);
@@ -36,7 +39,7 @@ pub fn given_fault(archive: u32, b: &[u8]) -> u8
 
 // The record at a position has the bytes of rec.
 pub fn same_held(rec: &[u8], p: usize, log: &[u8], b: &[u8]) -> bool
-    requires { ⌜ (p < 518) × (length (now log) ≡ 40960) × (length (now b) ≡ 512) ⌝ }
+    requires { ⌜ (p < 518) × (length (now log) ≡ logSize) × (length (now b) ≡ blockSize) ⌝ }
     ensures { λ r. ⌜ r ≡ sameBytes (heldAt (now (log .entry)) (now (b .entry)) p) (now (rec .entry)) ⌝ }
 {
     if p < 512 {
@@ -56,14 +59,14 @@ pub fn new_fault(
     places: &[u16],
     seens: &[u16],
 ) -> u8
-    requires { ⌜ (length (now rec) ≡ 80) × (wellFormed (now rec) ≡ true) × (s .counts ≡ seenVector (now rec)) × (length (now places) ≡ 4096) × (length (now seens) ≡ 4144) × Placed (held .counts) (now places) ⌝ }
+    requires { ⌜ (length (now rec) ≡ recordSize) × (wellFormed (now rec) ≡ true) × (s .counts ≡ seenVector (now rec)) × (length (now places) ≡ placesSize) × (length (now seens) ≡ seensSize) × Placed (held .counts) (now places) ⌝ }
     ensures { λ r. ⌜ r ≡ newBy (held .counts) used (now (places .entry)) (now (seens .entry)) (now (rec .entry)) ⌝ }
 {
     let f = log_admit::join_fault(rec, s, held, places, seens);
     if f != 0 {
         return f;
     }
-    if 512 <= used {
+    if LOG_PLACES <= used {
         return 11;
     }
     0
@@ -78,7 +81,7 @@ pub fn take_new(
     places: &mut [u16],
     seens: &mut [u16],
 ) -> Judged
-    requires { ⌜ (length (now rec) ≡ 80) × (wellFormed (now rec) ≡ true) × (p < 518) × (used ≤ 512) × (length (now places) ≡ 4096) × (length (now seens) ≡ 4144) × Placed (held .counts) (now places) × Counted (held .counts) used ⌝ }
+    requires { ⌜ (length (now rec) ≡ recordSize) × (wellFormed (now rec) ≡ true) × (p < 518) × (used ≤ logPlaces) × (length (now places) ≡ placesSize) × (length (now seens) ≡ seensSize) × Placed (held .counts) (now places) × Counted (held .counts) used ⌝ }
     ensures { λ r. ⌜ step (r .number) (r .held .counts) (r .used) (now (places .exit)) (now (seens .exit)) ≡ newStep (now (rec .entry)) p (held .counts) used (now (places .entry)) (now (seens .entry)) ⌝ }
 {
     let s = record::seen_vector(rec);

@@ -2,9 +2,10 @@
 ghost use mathlib.Core.Path.{_≡_};
 ghost use Prim.Native.Nat.{_+_, _≤_, _<_};
 ghost use lib.ListN.{length};
+ghost use Rattle.model.specs.Lengths.{recordSize, blockSize, logSize, logPlaces};
 ghost use Rattle.model.specs.Log.{recordsOf};
 ghost use Rattle.model.specs.Block.{countIn};
-ghost use Rattle.log_closure.specs.Tables.{Placed, Indexed};
+ghost use Rattle.log_closure.specs.Tables.{placesSize, seensSize, Placed, Indexed};
 ghost use Rattle.log_check.specs.declared.Layout.the-variants.{Log};
 ghost use Rattle.log_check.specs.Places.{laidAt};
 ghost use Rattle.take_beside.specs.Judging.{Counted, heldAt, step, takeBy, judgement, judgeOf, JudgeGives};
@@ -24,7 +25,7 @@ pub fn take_record(
     places: &mut [u16],
     seens: &mut [u16],
 ) -> Judged
-    requires { ⌜ (length (now rec) ≡ 80) × (p < 518) × (used ≤ 512) × (length (now log) ≡ 40960) × (length (now b) ≡ 512) × (length (now places) ≡ 4096) × (length (now seens) ≡ 4144) × Placed (held .counts) (now places) × Counted (held .counts) used ⌝ }
+    requires { ⌜ (length (now rec) ≡ recordSize) × (p < 518) × (used ≤ logPlaces) × (length (now log) ≡ logSize) × (length (now b) ≡ blockSize) × (length (now places) ≡ placesSize) × (length (now seens) ≡ seensSize) × Placed (held .counts) (now places) × Counted (held .counts) used ⌝ }
     ensures { λ r. ⌜ step (r .number) (r .held .counts) (r .used) (now (places .exit)) (now (seens .exit)) ≡ takeBy (heldAt (now (log .entry)) (now (b .entry))) (now (rec .entry)) p (held .counts) used (now (places .entry)) (now (seens .entry)) ⌝ }
 {
     if !record::well_formed(rec) {
@@ -64,7 +65,7 @@ pub fn judge_block(
     places: &mut [u16],
     seens: &mut [u16],
 ) -> u8
-    requires { ⌜ (length (now b) ≡ 512) × (n ≡ countIn (now b)) × (n ≤ 6) × (length (now log) ≡ 40960) × (m ≡ length (recordsOf (now log))) × (length (now places) ≡ 4096) × (length (now seens) ≡ 4144) × Indexed (laidAt Log (now log)) m (recordsOf (now log)) (v .counts) (now places) (now seens) ⌝ }
+    requires { ⌜ (length (now b) ≡ blockSize) × (n ≡ countIn (now b)) × (n ≤ 6) × (length (now log) ≡ logSize) × (m ≡ length (recordsOf (now log))) × (length (now places) ≡ placesSize) × (length (now seens) ≡ seensSize) × Indexed (laidAt Log (now log)) m (recordsOf (now log)) (v .counts) (now places) (now seens) ⌝ }
     ensures outright { λ r. ⌜ judgement r (now (places .exit)) (now (seens .exit)) ≡ judgeOf (now (log .entry)) (now (b .entry)) n (v .counts) m (now (places .entry)) (now (seens .entry)) ⌝ }
     ensures gives { λ r. ⌜ JudgeGives (recordsOf (now (log .entry))) (now (b .entry)) n r ⌝ }
 {

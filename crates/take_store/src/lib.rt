@@ -2,6 +2,7 @@
 ghost use mathlib.Core.Path.{_≡_};
 ghost use Prim.Native.Nat.{_≤_, _<_};
 ghost use lib.ListN.{length};
+ghost use Rattle.model.specs.Lengths.{recordSize, blockSize, logSize};
 ghost use Rattle.model.specs.Record.{unit};
 ghost use Rattle.model.specs.Log.{recordsOf, logBytes};
 ghost use Rattle.model.specs.Block.{recordAt, recordsFrom};
@@ -19,7 +20,7 @@ pub struct Stock {
 
 // A record has a number above the count of its unit.
 fn is_new(rec: &[u8], held: Vector) -> bool
-    requires { ⌜ (length (now rec) ≡ 80) × (unit (now rec) < 8) ⌝ }
+    requires { ⌜ (length (now rec) ≡ recordSize) × (unit (now rec) < 8) ⌝ }
     ensures { λ r. ⌜ r ≡ isNew (held .counts) (now (rec .entry)) ⌝ }
 {
     let u = record::unit_of(rec) as usize;
@@ -28,7 +29,7 @@ fn is_new(rec: &[u8], held: Vector) -> bool
 
 // The n records of a block are all new, and rise in rank.
 fn are_new(b: &[u8], n: usize, held: Vector) -> bool
-    requires { ⌜ (length (now b) ≡ 512) × (n ≤ 6) × Units (recordAt (now b)) n ⌝ }
+    requires { ⌜ (length (now b) ≡ blockSize) × (n ≤ 6) × Units (recordAt (now b)) n ⌝ }
     ensures { λ r. ⌜ r ≡ newFrom (held .counts) (recordAt (now (b .entry))) 0 0 n ⌝ }
 {
     let mut floor: u32 = 0;
@@ -50,7 +51,7 @@ fn are_new(b: &[u8], n: usize, held: Vector) -> bool
 
 // A record that passed is stored: a new one by rank, a held one not again.
 pub fn store_record(log: &mut [u8], rec: &[u8], s: Stock) -> Stock
-    requires { ⌜ (length (now log) ≡ 40960) × (length (now rec) ≡ 80) × Stored (recordsOf (now log)) (now log) (s .used) (s .held .counts) × (takeOne (recordsOf (now log)) (now rec) ≡ taken (after (recordsOf (now log)) (now rec))) ⌝ }
+    requires { ⌜ (length (now log) ≡ logSize) × (length (now rec) ≡ recordSize) × Stored (recordsOf (now log)) (now log) (s .used) (s .held .counts) × (takeOne (recordsOf (now log)) (now rec) ≡ taken (after (recordsOf (now log)) (now rec))) ⌝ }
     ensures { λ r. ⌜ Stored (after (recordsOf (now (log .entry))) (now (rec .entry))) (now (log .exit)) (r .used) (r .held .counts) ⌝ }
 {
     let held = s.held;
@@ -68,7 +69,7 @@ pub fn store_record(log: &mut [u8], rec: &[u8], s: Stock) -> Stock
 
 // The n records of a block that passed are stored, one after another.
 pub fn store_each(log: &mut [u8], b: &[u8], n: usize, s: Stock)
-    requires { ⌜ (length (now log) ≡ 40960) × (length (now b) ≡ 512) × (n ≤ 6) × Stored (recordsOf (now log)) (now log) (s .used) (s .held .counts) × (takeAll (recordsOf (now log)) (recordsFrom (now b) 0 n) ≡ taken (afterTo (recordsOf (now log)) (recordAt (now b)) n)) ⌝ }
+    requires { ⌜ (length (now log) ≡ logSize) × (length (now b) ≡ blockSize) × (n ≤ 6) × Stored (recordsOf (now log)) (now log) (s .used) (s .held .counts) × (takeAll (recordsOf (now log)) (recordsFrom (now b) 0 n) ≡ taken (afterTo (recordsOf (now log)) (recordAt (now b)) n)) ⌝ }
     ensures { λ _. ⌜ now (log .exit) ≡ logBytes (afterTo (recordsOf (now (log .entry))) (recordAt (now (b .entry))) n) ⌝ }
 {
     let mut cur = s;
@@ -83,7 +84,7 @@ pub fn store_each(log: &mut [u8], b: &[u8], n: usize, s: Stock)
 
 // The n records of a block that passed are stored: as a block is handed out, all at once, and in any other order one after another.
 pub fn store(log: &mut [u8], b: &[u8], n: usize, s: Stock)
-    requires { ⌜ (length (now log) ≡ 40960) × (length (now b) ≡ 512) × (n ≤ 6) × Stored (recordsOf (now log)) (now log) (s .used) (s .held .counts) × (takeAll (recordsOf (now log)) (recordsFrom (now b) 0 n) ≡ taken (afterTo (recordsOf (now log)) (recordAt (now b)) n)) ⌝ }
+    requires { ⌜ (length (now log) ≡ logSize) × (length (now b) ≡ blockSize) × (n ≤ 6) × Stored (recordsOf (now log)) (now log) (s .used) (s .held .counts) × (takeAll (recordsOf (now log)) (recordsFrom (now b) 0 n) ≡ taken (afterTo (recordsOf (now log)) (recordAt (now b)) n)) ⌝ }
     ensures { λ _. ⌜ now (log .exit) ≡ logBytes (afterTo (recordsOf (now (log .entry))) (recordAt (now (b .entry))) n) ⌝ }
 {
     let held = s.held;

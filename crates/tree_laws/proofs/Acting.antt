@@ -2,13 +2,14 @@
 -- Assumes nothing.
 use Prim.Native.Nat.{ℕ, _+_, _*_, _/_, _%_, _<_}
 use mathlib.Core.Path.{_≡_, refl, sym, _∙_}
-use mathlib.Core.Bool.{true, false, cond, _&&_}
+use mathlib.Core.Bool.{true, false, _&&_}
 use mathlib.Core.Logic.{inl, inr, ⊎-elim, _↔_}
 use mathlib.Core.Option.{Option, none, some}
 use mathlib.Core.List.{List, [], _∷_, _++_}
 use native.Mathlib.Omega.{arith}
-use lib.Dec.{ltb, eqb}
+use lib.Dec.{eqb}
 use lib.ListN.{length}
+use Rattle.log_laws.proofs.Act.{act-numbers}
 use borrow.Author.Tests.{le-ltb, lt-ltb}
 use Rattle.byte_slice.proofs.Numbers.{cond-cases}
 use Rattle.model.specs.Numbers.{fullLog, malformed}
@@ -179,17 +180,12 @@ act-accepted u l w = (
 )
 
 pub act-answers-never-17 : (u : ℕ) (l : List Rec) (w : List ℕ) → length w ≡ 80 → Sound l → actNumber u l w ≡ 17 → ⊥
-unfolding actNumber reasonOf
+unfolding reasonOf
 act-answers-never-17 u l w n h e =
-    let v : Verdict = judge (stamped u l w) (replay l) in
     ⊎-elim
-    (λ a.
-    ⊎-elim
-    (λ b. not-17 v (act-never-17 u l w n h) (sym (b .1) ∙ sym (a .1) ∙ e))
-    (λ b. omega (arith, sym (b .1) ∙ sym (a .1) ∙ e))
-    (cond-cases (ltb (length l) 512) (reasonOf v) fullLog))
-    (λ a. omega (arith, sym (a .1) ∙ e))
-    (cond-cases (wishFits u l w) (cond (ltb (length l) 512) (reasonOf v) fullLog) malformed)
+    (λ a. not-17 (judge (stamped u l w) (replay l)) (act-never-17 u l w n h) (sym (a .2) ∙ e))
+    (⊎-elim (λ a. omega (arith, sym a ∙ e)) (λ a. omega (arith, sym a ∙ e)))
+    (act-numbers u l w)
   where
     not-17 : (v : Verdict) → Under Not17 v → reasonOf v ≡ 17 → ⊥
     not-17 fits k q = omega arith

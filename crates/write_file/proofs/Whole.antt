@@ -4,8 +4,9 @@ use Prim.Native.Nat.{ℕ, _+_, _-_, _*_, _≤_, _<_}
 use native.Mathlib.Numerals.{add-one}
 use native.Mathlib.Omega.{arith}
 use mathlib.Core.Path.{_≡_, _∙_}
-use mathlib.Core.Bool.{Bool, true, false, not}
+use mathlib.Core.Bool.{true}
 use mathlib.Core.List.{List, _++_, append-nil}
+use lib.Dec.{eqb}
 use lib.ListN.{length, take, drop, replicate, length-append, length-drop, length-replicate}
 use lib.Seq.{length-take-le, drop-length}
 use borrow.Rule.Slice.PartMut.{putMid}
@@ -15,7 +16,8 @@ use Rattle.model.specs.File.{blockCount, fileBlock, fileTo, fileOf}
 use Rattle.model.specs.Outcome.{outcome, writeOf}
 use Rattle.byte_slice.proofs.PutAt.{mid-put, put-grows}
 use Rattle.block_laws.proofs.Fields.{Sized}
-use Rattle.call_answer.proofs.Guards.{guards-pass}
+use Rattle.call_guard.specs.Opened.{opened, openOf}
+use Rattle.call_guard.proofs.Opening.{call-passes}
 use Rattle.encoding_laws.proofs.Logs.{sound-proper, proper-sized, sound-records, sound-few}
 use Rattle.encoding_laws.proofs.Files.{few-blocks, length-fileBlock, length-fileTo}
 
@@ -79,8 +81,8 @@ module _ (a u : ℕ) (b d : List ℕ) (long : length b ≡ 40960) (sound : sound
 
 -- ---- success
 
-pub all-written : (a u : ℕ) (log lent : List ℕ) {n : ℕ} {o : List ℕ} {s : Bool} → o ≡ padded 44032 (fileOf a u (recordsOf log)) → n ≡ blockCount (length (recordsOf log))
-    → length log ≡ 40960 → length lent ≡ 44032 → u ≤ 7 → s ≡ soundLog log → not s ≡ false → outcome 0 0 log o n ≡ writeOf a u log lent
+pub all-written : (a u : ℕ) (log lent : List ℕ) {m used : ℕ} {held : List ℕ} → opened m held used ≡ openOf u log (eqb (length lent) 44032) true → m ≡ 0
+    → (n : ℕ) (o : List ℕ) → o ≡ padded 44032 (fileOf a u (recordsOf log)) → n ≡ blockCount (length (recordsOf log)) → outcome 0 0 log o n ≡ writeOf a u log lent
 unfolding writeOf
-all-written a u log lent p q l m h e f =
-    (rw (p, q)) ∙ guards-pass u log lent lent 44032 (outcome 0 0 log (padded 44032 (fileOf a u (recordsOf log))) (blockCount (length (recordsOf log)))) l m h e f
+all-written a u log lent e z n o p q =
+    (rw (p, q)) ∙ call-passes u log lent (eqb (length lent) 44032) e (outcome 0 0 log (padded 44032 (fileOf a u (recordsOf log))) (blockCount (length (recordsOf log)))) z

@@ -3,12 +3,14 @@ ghost use mathlib.Core.Path.{_≡_};
 ghost use mathlib.Core.Bool.{true};
 ghost use Prim.Native.Nat.{_*_, _-_, _<_, _≤_};
 ghost use lib.ListN.{length, replicate};
+ghost use Rattle.model.specs.Lengths.{logSize, fileSize};
 ghost use Rattle.model.specs.Bytes.{padded, putAt};
 ghost use Rattle.model.specs.Log.{recordsOf, soundLog, vectorOf};
 ghost use Rattle.model.specs.File.{blockCount, fileOf};
 ghost use Rattle.model.specs.Outcome.{outcome, writeOf};
 use byte_slice::clear;
-use log_check::check;
+use call_guard::open;
+use model::FILE_BYTES;
 use vector::Vector;
 use write_file_blocks::block_count;
 use write_file_blocks::file_block;
@@ -23,11 +25,11 @@ pub struct Written {
 
 // Zeros are written behind the first n blocks.
 fn clear_behind(file: &mut [u8], n: usize)
-    requires { ⌜ (length (now file) ≡ 44032) × (n ≤ 86) ⌝ }
-    ensures { λ _. ⌜ now (file .exit) ≡ putAt (now (file .entry)) (512 * n) (replicate (44032 - 512 * n) 0) ⌝ }
+    requires { ⌜ (length (now file) ≡ fileSize) × (n ≤ 86) ⌝ }
+    ensures { λ _. ⌜ now (file .exit) ≡ putAt (now (file .entry)) (512 * n) (replicate (fileSize - 512 * n) 0) ⌝ }
 {
     let at = 512 * n;
-    clear(&mut file[at..44032]);
+    clear(&mut file[at..FILE_BYTES]);
 }
 
 // Block after block is written, then zeros; the count of blocks is returned.
@@ -39,9 +41,9 @@ fn write_blocks(
     unit: u8,
     file: &mut [u8],
 ) -> u8
-    requires { ⌜ (length (now log) ≡ 40960) × (soundLog (now log) ≡ true) × (used ≡ length (recordsOf (now log))) × (held .counts ≡ vectorOf (recordsOf (now log))) × (length (now file) ≡ 44032) ⌝ }
+    requires { ⌜ (length (now log) ≡ logSize) × (soundLog (now log) ≡ true) × (used ≡ length (recordsOf (now log))) × (held .counts ≡ vectorOf (recordsOf (now log))) × (length (now file) ≡ fileSize) ⌝ }
     ensures counted { λ r. ⌜ r ≡ blockCount (length (recordsOf (now (log .entry)))) ⌝ }
-    ensures written { λ _. ⌜ now (file .exit) ≡ padded 44032 (fileOf archive unit (recordsOf (now (log .entry)))) ⌝ }
+    ensures written { λ _. ⌜ now (file .exit) ≡ padded fileSize (fileOf archive unit (recordsOf (now (log .entry)))) ⌝ }
 {
     let n = block_count(used);
     let mut k: usize = 0;
@@ -58,36 +60,15 @@ fn write_blocks(
 pub fn write_file(log: &[u8], archive: u32, unit: u8, file: &mut [u8]) -> Written
     ensures { λ r. ⌜ outcome (r .number) (r .place) (now (log .entry)) (now (file .exit)) (r .blocks) ≡ writeOf archive unit (now (log .entry)) (now (file .entry)) ⌝ }
 {
-    if log.len() != 40960 {
+    let o = open(log, unit, file.len() == FILE_BYTES, true);
+    if o.number != 0 {
         return Written {
-            number: 1,
+            number: o.number,
             place: 0,
             blocks: 0,
         };
     }
-    if file.len() != 44032 {
-        return Written {
-            number: 1,
-            place: 0,
-            blocks: 0,
-        };
-    }
-    if 7 < unit {
-        return Written {
-            number: 21,
-            place: 0,
-            blocks: 0,
-        };
-    }
-    let c = check(log);
-    if !c.sound {
-        return Written {
-            number: 19,
-            place: 0,
-            blocks: 0,
-        };
-    }
-    let n = write_blocks(log, c.used, c.held, archive, unit, file);
+    let n = write_blocks(log, o.used, o.held, archive, unit, file);
     Written {
         number: 0,
         place: 0,

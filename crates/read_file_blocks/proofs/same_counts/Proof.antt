@@ -1,18 +1,16 @@
-use Rattle.read_file_blocks.proofs.Agreement.{identical-same}
+use Rattle.read_file_blocks.proofs.Agreement.{both-cover}
 use borrow.Author.Needs.{needs}
 use Rattle.read_file_blocks.proofs.same_counts.Statement.{statement}
 use Rattle.read_file_blocks.proofs.same_counts.Tie as tie
-use Rattle.read_file_blocks.proofs.same_counts.Reads as reads
-use Rattle.read_file_blocks.proofs.same_counts.Lts as lts
-use Rattle.vector_compare.proofs.compare.Reads as compare-reads
 
--- src/lib.rt:40:5
-compare-requires : tie.Need-compare-requires
-compare-requires c κs = search needs
+covers-requires : tie.Need-covers-requires
+covers-requires c κs = search needs
 
--- src/lib.rt:37:1
+covers-requires-2 : tie.Need-covers-requires-2
+covers-requires-2 c κs = search needs
+
 returns : tie.Need-returns
-returns c = search (identical-same, needs)
+returns c = search (both-cover, needs)
 
 pub same-counts-spec : {M : Type 1} → statement M
-same-counts-spec = tie.close (tie.spec compare-requires returns)
+same-counts-spec = tie.close (tie.spec covers-requires covers-requires-2 returns)

@@ -1,31 +1,25 @@
-use Rattle.log_check.proofs.Sound.{known-sound}
-use Rattle.show_tree.proofs.Shown.{bad-log, bad-tree, unsound, shown}
+use Rattle.model.specs.Outcome.{showOf}
+use Rattle.call_guard.proofs.Opening.{open-long, open-sound, open-used, open-buffer, call-refused}
+use Rattle.show_tree.proofs.Shown.{shown}
 use borrow.Author.Needs.{needs}
 use Rattle.show_tree.proofs.show_tree.Statement.{statement}
 use Rattle.show_tree.proofs.show_tree.Tie as tie
 
+open-requires : tie.Need-open-requires
+open-requires c κs = search needs
+
 returns : tie.Need-returns
-returns c = search (bad-log)
-
-returns-2 : tie.Need-returns-2
-returns-2 c = search (bad-tree)
-
-check-requires : tie.Need-check-requires
-check-requires c κs = search needs
-
-returns-3 : tie.Need-returns-3
-returns-3 c = search (unsound)
+unfolding showOf
+returns c = search (call-refused)
 
 lay-tree-requires : tie.Need-lay-tree-requires
-lay-tree-requires c κs = (search, search (known-sound), search, search)
+lay-tree-requires c κs = (search (open-long), search (open-sound), search (open-used), search (open-buffer))
 
 same-length : tie.Need-same-length
 same-length c = search needs
 
-returns-4 : tie.Need-returns-4
-returns-4 c = search (shown)
+returns-2 : tie.Need-returns-2
+returns-2 c = search (shown)
 
 pub show-tree-spec : {M : Type 1} → statement M
-show-tree-spec =
-    tie.close
-    (tie.spec returns returns-2 check-requires returns-3 lay-tree-requires same-length returns-4)
+show-tree-spec = tie.close (tie.spec open-requires returns lay-tree-requires same-length returns-2)
