@@ -118,6 +118,10 @@ orElse a b = cond (eqb (a .number) 0) b a
 unfoldable pub fileFault : List ℕ → Fault
 fileFault f = orElse (blocksFault f 0 (blocksIn f)) (orElse (recordsFault [] 0 (fileRecords f)) (countsFault f))
 
+-- 2 for a file that is not of 1 to 86 blocks, then every check
+abbrev pub checkedFault : List ℕ → Fault
+checkedFault f = cond (fileLength f) (fileFault f) (fault badLength 0)
+
 -- what reading a file into a lent log answers and leaves; a refusal leaves the log, and zeros for the rest
 pub record ReadBack : Type 0 where
   pub number : ℕ
