@@ -1,7 +1,7 @@
 -- A run that a contract allows has the outcome that document 01 states.
 -- Assumes nothing.
 use Prim.Native.Nat.{ℕ}
-use mathlib.Core.Path.{_≡_, _∙_}
+use mathlib.Core.Path.{_≡_}
 use mathlib.Core.List.{List, []}
 use denote.Ref.{now}
 use Rattle.model.specs.Outcome.{Outcome, outcome, startOf, actOf, handOf, writeOf, takeOf, showOf}

@@ -4,15 +4,23 @@ use Prim.Native.Nat.{ℕ}
 use mathlib.Core.Path.{_≡_, sym, ap, subst, _∙_}
 use mathlib.Core.Bool.{true}
 use mathlib.Core.List.{List, _++_}
-use Rattle.model.specs.Outcome.{Outcome, showOf}
-use Rattle.machine.specs.Machine.{Call, starts, acts, handsOut, writes, takes, Bench, bare, heldVector, blockGiven, done, play, outcomes}
+use lib.ListN.{length}
+use borrow.Author.Tests.{eq-eqb}
+use Rattle.model.specs.Log.{recordsOf}
+use Rattle.model.specs.Replay.{replay}
+use Rattle.model.specs.Table.{tableBytes}
+use Rattle.model.specs.Outcome.{Outcome, outcome, showOf}
+use Rattle.encoding_laws.specs.Keeps.{Good}
+use Rattle.machine.specs.Machine.{Call, starts, acts, handsOut, writes, takes, Bench, bare, held, heldVector, blockGiven, done, play}
 use Rattle.machine.specs.Runs.{Runs}
 use Rattle.machine.specs.Claim.{distinct, Claim}
-use Rattle.machine.proofs.Runs.{runs-are}
+use Rattle.machine.proofs.Runs.{runs-are, runs-of}
+use Rattle.machine.proofs.Reach.{inv-bare, inv-play}
 use Rattle.machine.proofs.Demand.{demand}
 use Rattle.claims.specs.Ran.{RanShow}
-use Rattle.claims.specs.Whole.{Ran, Meets, CodeClaim, Demand3}
+use Rattle.claims.specs.Whole.{Ran, Shown, CodeClaim, Demand3}
 use Rattle.claims.proofs.Ran.{ran-start, ran-act, ran-hand-out, ran-write-file, ran-take, ran-show}
+use Rattle.claims.proofs.Exist.{start-runs, act-runs, hand-out-runs, write-file-runs, take-runs, show-runs}
 use Rattle.start.proofs.start.Met.{met as start-met}
 use Rattle.act.proofs.act.Met.{met as act-met}
 use Rattle.hand_out.proofs.hand_out.Met.{met as hand-out-met}
@@ -29,6 +37,30 @@ ran archive s (handsOut u v lent) o r = ran-hand-out archive u (s .logs u) v len
 ran archive s (writes u lent) o r = ran-write-file archive u (s .logs u) lent o r
 ran archive s (takes u n) o r = ran-take archive u (s .logs u) (blockGiven s n .bytes) o r
 
+-- and the machine's outcome is a run's
+has-run : (archive : ℕ) (s : Bench) (c : Call) → Ran archive s c (done archive s c)
+unfolding done
+has-run archive s (starts u) = start-runs u (s .logs u)
+has-run archive s (acts u w) = act-runs u (s .logs u) w
+has-run archive s (handsOut u v lent) = hand-out-runs archive u (s .logs u) v lent
+has-run archive s (writes u lent) = write-file-runs archive u (s .logs u) lent
+has-run archive s (takes u n) = take-runs archive u (s .logs u) (blockGiven s n .bytes)
+
+-- a good log is shown
+show-good : (log lent : List ℕ) → Good log → length lent ≡ 43012 → showOf log lent ≡ outcome 0 0 log (tableBytes (replay (recordsOf log))) 0
+unfolding showOf
+show-good log lent g n = rw (eq-eqb (length log) 40960 (g .long), eq-eqb (length lent) 43012 n, g .sound)
+
+shown-one : (t : Bench) (u : ℕ) (lent : List ℕ) (o : Outcome) → Good (t .logs u) → RanShow (t .logs u) lent o → Shown t u lent o
+unfolding held
+shown-one t u lent o g r =
+    let e = ran-show (t .logs u) lent o r in
+    record {
+      stated = e;
+      answered = λ n. ap (λ (x : Outcome). x .number) (e ∙ show-good (t .logs u) lent g n);
+      replayed = λ n. ap (λ (x : Outcome). x .lent) (e ∙ show-good (t .logs u) lent g n);
+    }
+
 code-claim : (archive : ℕ) (before cs : List Call) (os : List Outcome) (t : Bench) → Runs (Ran archive) bare (before ++ cs) os t → CodeClaim archive before cs os t
 code-claim archive before cs os t r =
     let (p, q) = runs-are archive (Ran archive) (ran archive) (before ++ cs) bare os t r in
@@ -37,7 +69,8 @@ code-claim archive before cs os t r =
       answers = p;
       bench = q;
       claim = claim;
-      shown = λ d u v lent o x e f g.
+      shown = λ u lent o r. shown-one t u lent o (subst (λ (s : Bench). Good (s .logs u)) (sym q) (inv-play archive (before ++ cs) bare (inv-bare archive) .good u)) r;
+      alike = λ d u v lent o x e f g.
           let s : Bench = play archive bare (before ++ cs) in
           let h : heldVector s u ≡ heldVector s v = rw q at e in
           let w : showOf (t .logs u) lent ≡ showOf (t .logs v) lent = rw q (claim d .converged u v .shown h lent) in
@@ -51,4 +84,6 @@ demand-3 =
     record {
       code = record { start = start-met; act = act-met; hand-out = hand-out-met; write-file = write-file-met; take = take-met; show-tree = show-tree-met };
       runs = code-claim;
+      exist = λ archive cs. runs-of archive (Ran archive) (has-run archive) cs bare;
+      show-exists = show-runs;
     }

@@ -1,12 +1,15 @@
 -- Demand 3 of the code: whatever the contracts of the entry points allow, over any list of calls, is what the plain machine does,
--- and the claim about the list holds of it.
+-- and the claim about the list holds of it. Every list has such runs.
 -- Assumes nothing.
 use Prim.Native.Nat.{ℕ}
 use mathlib.Core.Path.{_≡_}
 use mathlib.Core.Bool.{true}
 use mathlib.Core.List.{List, _++_}
-use Rattle.model.specs.Outcome.{Outcome}
-use Rattle.machine.specs.Machine.{Call, starts, acts, handsOut, writes, takes, Bench, bare, heldVector, blockGiven, play, outcomes}
+use lib.ListN.{length}
+use Rattle.model.specs.Replay.{replay}
+use Rattle.model.specs.Table.{tableBytes}
+use Rattle.model.specs.Outcome.{Outcome, showOf}
+use Rattle.machine.specs.Machine.{Call, starts, acts, handsOut, writes, takes, Bench, bare, held, heldVector, blockGiven, play, outcomes}
 use Rattle.machine.specs.Runs.{Runs}
 use Rattle.machine.specs.Claim.{distinct, Claim}
 use Rattle.claims.specs.Ran.{RanStart, RanAct, RanHandOut, RanWriteFile, RanTake, RanShow}
@@ -35,6 +38,13 @@ pub record Meets (M : Type 1) : Type 2 where
   pub take : TakeMeets M
   pub show-tree : ShowMeets M
 
+-- what a run of `show_tree` on the log of a unit, into a lent tree table, gives: document 01's outcome, and so in a table of
+-- its length the replay of the held records
+pub record Shown (t : Bench) (u : ℕ) (lent : List ℕ) (o : Outcome) : Type 0 where
+  pub stated : o ≡ showOf (t .logs u) lent
+  pub answered : length lent ≡ 43012 → o .number ≡ 0
+  pub replayed : length lent ≡ 43012 → o .lent ≡ tableBytes (replay (held t u))
+
 -- what runs of the code over a list of calls, from empty logs, come to
 pub record CodeClaim (archive : ℕ) (before cs : List Call) (os : List Outcome) (t : Bench) : Type 0 where
   -- D1: answers, logs and given bytes are the machine's
@@ -42,11 +52,16 @@ pub record CodeClaim (archive : ℕ) (before cs : List Call) (os : List Outcome)
   pub bench : t ≡ play archive bare (before ++ cs)
   -- D2, D3: the claim, where no number was used a second time by its unit
   pub claim : distinct (t .used) ≡ true → Claim archive before cs
-  -- and units with equal vectors are shown alike
-  pub shown : distinct (t .used) ≡ true → (u v : ℕ) (lent : List ℕ) (o p : Outcome) → heldVector t u ≡ heldVector t v
+  -- what each unit shows
+  pub shown : (u : ℕ) (lent : List ℕ) (o : Outcome) → RanShow (t .logs u) lent o → Shown t u lent o
+  -- so units with equal vectors are shown alike
+  pub alike : distinct (t .used) ≡ true → (u v : ℕ) (lent : List ℕ) (o p : Outcome) → heldVector t u ≡ heldVector t v
       → RanShow (t .logs u) lent o → RanShow (t .logs v) lent p → (o .number ≡ p .number) × (o .lent ≡ p .lent)
 
 -- the code meets its contracts, and whatever they allow keeps the claim
 pub record Demand3 (M : Type 1) : Type 2 where
   pub code : Meets M
   pub runs : (archive : ℕ) (before cs : List Call) (os : List Outcome) (t : Bench) → Runs (Ran archive) bare (before ++ cs) os t → CodeClaim archive before cs os t
+  -- D4: the claim is not empty. Every list of calls has runs, and so has showing
+  pub exist : (archive : ℕ) (cs : List Call) → Runs (Ran archive) bare cs (outcomes archive bare cs) (play archive bare cs)
+  pub show-exists : (log lent : List ℕ) → RanShow log lent (showOf log lent)

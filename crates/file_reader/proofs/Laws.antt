@@ -1,6 +1,7 @@
 -- Record i of a file, or zeros: each way out of `record_at`.
 -- Assumes nothing.
 use Prim.Native.Nat.{ℕ, _+_, _-_, _*_, _/_, _%_, _≤_, _<_}
+use native.Mathlib.Numerals.{add-one}
 use native.Mathlib.Omega.{arith}
 use mathlib.Core.Path.{_≡_, refl, sym, ap, _∙_}
 use mathlib.Core.List.{List}
@@ -10,7 +11,7 @@ use Rattle.model.specs.Bytes.{part, putAt}
 use Rattle.model.specs.File.{fileRecord}
 use Rattle.byte_slice.proofs.Parts.{part-is, part-length}
 use Rattle.byte_slice.proofs.PutAt.{put-whole}
-use Rattle.file_reader.specs.Walk.{recordOrZeros}
+use Rattle.file_reader.specs.Walk.{recordOrZeros, walkedTo}
 
 module _ (f : List ℕ) (i : ℕ) where
   pub too-high : 516 ≤ i → replicate 80 0 ≡ recordOrZeros f i
@@ -29,3 +30,17 @@ module _ (f : List ℕ) (i : ℕ) where
       let at : ℕ = 512 * (i / 6) + (28 + 80 * (i % 6)) in
       let n : length (part f at 80) ≡ length (replicate {A = ℕ} 80 0) = part-length f at 80 g in
       rw (lt-leb 516 i h, le-ltb (length f) (at + 80) g) (e ∙ ap (putAt (replicate 80 0) 0) (part-is f at 80) ∙ put-whole (replicate 80 0) (part f at 80) n)
+
+-- a record fits its place
+pub record-fits : (i : ℕ) (d s : List ℕ) → 80 * i + 80 ≤ length d → length s ≡ 80 → 80 * i + length s ≤ length d
+record-fits i d s h e = omega arith
+
+-- ---- a walk
+
+pub walked-none : (d f : List ℕ) → d ≡ walkedTo d f 0
+unfolding walkedTo
+walked-none d f = refl
+
+pub walked-more : (d f : List ℕ) (i : ℕ) → putAt (walkedTo d f i) (80 * i) (recordOrZeros f i) ≡ walkedTo d f (i + 1)
+unfolding walkedTo
+walked-more d f i = rw (add-one i)

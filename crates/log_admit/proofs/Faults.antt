@@ -53,6 +53,10 @@ module _ (r : Rec) (held places seens : List ℕ) where
         unfolding joinFault
         join-open x = rw (← a, ← b, eq-eqb n (suc (getD held u 0)) (omega arith), ← v, ← f, not-false t z, ← i, not-true o x)
 
+        pub join-quick : o ≡ true → 0 ≡ joinFault held places seens r
+        unfolding joinFault
+        join-quick x = rw (← a, ← b, eq-eqb n (suc (getD held u 0)) (omega arith), ← v, ← f, not-false t z, ← i, x)
+
         pub join-none : not o ≡ false → 0 ≡ joinFault held places seens r
         unfolding joinFault
         join-none x = rw (← a, ← b, eq-eqb n (suc (getD held u 0)) (omega arith), ← v, ← f, not-false t z, ← i, not-false o x)

@@ -7,6 +7,7 @@ ghost use Rattle.model.specs.Bytes.{putAt};
 ghost use Rattle.model.specs.Record.{seenVector, wellFormed};
 ghost use Rattle.model.specs.Log.{rank};
 ghost use Rattle.log_closure.specs.Tables.{slotOf, joinFault, faultBy, Placed, Spare, noted, admitOf};
+use log_closure::all_covered;
 use log_closure::is_closed;
 use log_closure::slot;
 use vector::Vector;
@@ -54,6 +55,9 @@ pub fn join_fault(rec: &[u8], s: Vector, held: Vector, places: &[u16], seens: &[
     }
     if !vector::covers(held, s) {
         return 8;
+    }
+    if all_covered(places, seens, s) {
+        return 0;
     }
     if !is_closed(places, seens, s) {
         return 9;

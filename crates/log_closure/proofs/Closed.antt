@@ -1,14 +1,14 @@
--- What the nested loops of `is_closed` are asked, over plain values.
+-- What `is_closed`, with its nested loops, and the quick test before it are asked, over plain values.
 -- Assumes nothing.
 use Prim.Native.Nat.{ℕ, zero, suc, _+_, _*_, _≤_, _<_}
 use native.Mathlib.Numerals.{add-one}
 use native.Mathlib.Omega.{arith}
 use mathlib.Core.Path.{_≡_, sym, _∙_}
 use mathlib.Core.Logic.{⊎-elim}
-use mathlib.Core.Bool.{Bool, true, false}
+use mathlib.Core.Bool.{Bool, true, false, not}
 use mathlib.Core.List.{List, [], _∷_}
 use lib.ListN.{getD, length}
-use borrow.Author.Tests.{eq-eqb, ne-eqb, le-leb}
+use borrow.Author.Tests.{eq-eqb, ne-eqb, le-leb, not-true, not-false}
 use Rattle.model.specs.Vector.{covers, coversTo}
 use Rattle.model.specs.Log.{allTo}
 use Rattle.byte_slice.proofs.Numbers.{lt-or-ge, and-wrong}
@@ -72,10 +72,24 @@ module _ (places seens s : List ℕ) where
       rw (← first, ← row-at p 1 (omega arith), ← row-at p 2 (omega arith), ← row-at p 3 (omega arith), ← row-at p 4 (omega arith), ← row-at p 5 (omega arith), ← row-at p 6 (omega arith), ← row-at p 7 (omega arith))
       (eight (rowAt seens p) (row-length p n h))
 
-  -- a unit whose last record seen is covered at once
-  pub row-covered : (u p : ℕ) (row : List ℕ) (t : Bool) → allTo u (unitClosed places seens s) ≡ true → (getD s u 0 ≡ 0 → ⊥) → p ≡ positionOf places u (getD s u 0)
-      → row ≡ rowAt seens p → t ≡ covers s row → t ≡ true → allTo (u + 1) (unitClosed places seens s) ≡ true
-  row-covered u p row t a e q r c h = all-next u (unitClosed places seens s) a (unit-is u e p q ∙ ((rw r at (sym c)) ∙ h))
+  -- one unit by itself
+  pub unit-none : (u : ℕ) → getD s u 0 ≡ 0 → true ≡ unitClosed places seens s u
+  unit-none u e = sym (zero-closed u e)
+
+  pub unit-row : (u p : ℕ) (row : List ℕ) (t : Bool) → (getD s u 0 ≡ 0 → ⊥) → p ≡ positionOf places u (getD s u 0) → row ≡ rowAt seens p → t ≡ covers s row → t ≡ unitClosed places seens s u
+  unit-row u p row t e q r c = (rw r at c) ∙ sym (unit-is u e p q)
+
+  -- the units one by one
+  pub units-next : (u : ℕ) (t : Bool) → allTo u (unitClosed places seens s) ≡ true → t ≡ unitClosed places seens s u → not t ≡ false → allTo (u + 1) (unitClosed places seens s) ≡ true
+  units-next u t a e h = all-next u (unitClosed places seens s) a (sym e ∙ not-false t h)
+
+  pub unit-open : (u : ℕ) (t : Bool) → u < 8 → t ≡ unitClosed places seens s u → not t ≡ true → false ≡ closedBy places seens s
+  unfolding closedBy
+  unit-open u t h e k = sym (all-false 8 (unitClosed places seens s) u h (sym e ∙ not-true t k))
+
+  pub units-all : (u : ℕ) → u ≤ 8 → 8 ≤ u → allTo u (unitClosed places seens s) ≡ true → true ≡ closedBy places seens s
+  unfolding closedBy
+  units-all u h k e = let n : u ≡ 8 = omega arith in sym (rw n at e)
 
   -- a unit whose last record seen is nowhere above
   pub none-above : (u p v : ℕ) → allTo u (unitClosed places seens s) ≡ true → (getD s u 0 ≡ 0 → ⊥) → p ≡ positionOf places u (getD s u 0)
@@ -89,5 +103,4 @@ module _ (places seens s : List ℕ) where
       sym (all-false 8 (unitClosed places seens s) u l (unit-is u e p q ∙ less-fails s (rowAt seens p) v h (rw (row-at p v h) k)))
 
   pub all-closed : (u : ℕ) (t : Bool) → u ≤ 8 → 8 ≤ u → t ≡ true → allTo u (unitClosed places seens s) ≡ true → t ≡ closedBy places seens s
-  unfolding closedBy
-  all-closed u t h k e a = let n : u ≡ 8 = omega arith in e ∙ sym (rw n at a)
+  all-closed u t h k e a = e ∙ units-all u h k a

@@ -2,7 +2,7 @@
 ghost use mathlib.Core.Path.{_≡_};
 ghost use Prim.Native.Nat.{_+_, _*_, _≤_, _<_};
 ghost use lib.ListN.{length};
-ghost use Rattle.log_closure.specs.Tables.{slotOf, positionOf, rowAt, closedBy, Placed};
+ghost use Rattle.log_closure.specs.Tables.{slotOf, positionOf, rowAt, unitClosed, closedBy, Placed};
 use vector::Vector;
 
 // A 16-bit number as an index.
@@ -49,8 +49,34 @@ fn row_at(seens: &[u16], p: usize) -> Vector
     }
 }
 
+// The seen of the record that s counts last of unit u is nowhere above s, its eight counts compared at once.
+fn unit_covered(places: &[u16], seens: &[u16], s: Vector, u: usize) -> bool
+    requires { ⌜ (length (now places) ≡ 4096) × (length (now seens) ≡ 4144) × Placed (s .counts) (now places) × (u < 8) ⌝ }
+    ensures { λ r. ⌜ r ≡ unitClosed (now (places .entry)) (now (seens .entry)) (s .counts) u ⌝ }
+{
+    let c = s.counts[u];
+    if c == 0 {
+        return true;
+    }
+    let p = position(places, u, c);
+    vector::covers(s, row_at(seens, p))
+}
+
+// A quick test before `is_closed`, which it spares where every row is covered.
+pub fn all_covered(places: &[u16], seens: &[u16], s: Vector) -> bool
+    requires { ⌜ (length (now places) ≡ 4096) × (length (now seens) ≡ 4144) × Placed (s .counts) (now places) ⌝ }
+    ensures { λ r. ⌜ r ≡ closedBy (now (places .entry)) (now (seens .entry)) (s .counts) ⌝ }
+{
+    for u in 0..8 {
+        if !unit_covered(places, seens, s, u) {
+            return false;
+        }
+    }
+    true
+}
+
 // For each unit u with count c above 0, the seen of record u.c is nowhere above s. Document 01 asks for this form: nested loops over units
-// and counts, left by a label at the first count that breaks closure. A row that s covers is passed over at once.
+// and counts, left by a label at the first count that breaks closure.
 pub fn is_closed(places: &[u16], seens: &[u16], s: Vector) -> bool
     requires { ⌜ (length (now places) ≡ 4096) × (length (now seens) ≡ 4144) × Placed (s .counts) (now places) ⌝ }
     ensures { λ r. ⌜ r ≡ closedBy (now (places .entry)) (now (seens .entry)) (s .counts) ⌝ }
@@ -62,9 +88,6 @@ pub fn is_closed(places: &[u16], seens: &[u16], s: Vector) -> bool
             continue 'units;
         }
         let p = position(places, u, c);
-        if vector::covers(s, row_at(seens, p)) {
-            continue 'units;
-        }
         for v in 0..8 {
             if s.counts[v] < seens[8 * p + v] {
                 closed = false;

@@ -6,5 +6,8 @@ pub mod Passing
 pub mod Demand
 pub mod Runs
 pub mod Meeting
+pub mod Careful
+pub mod Twice
+pub mod Full
 pub mod Quick
 pub mod Example

@@ -7,7 +7,7 @@ use mathlib.Core.Path.{_≡_, refl, sym, ap, _∙_, subst}
 use mathlib.Core.Logic.{_⊎_, inl, inr, ⊎-elim, _↔_}
 use mathlib.Core.Bool.{true}
 use mathlib.Core.List.{List, [], _∷_, _++_}
-use lib.ListN.{length, take, drop, replicate, take-append-drop, length-drop, drop-of-length-le}
+use lib.ListN.{length, getD, take, drop, replicate, take-append-drop, length-drop, drop-of-length-le}
 use lib.Seq.{drop-drop}
 use Rattle.model.specs.Record.{Rec, unit, num}
 use Rattle.model.specs.Log.{sumTo, rank, count, vectorOf, recordsOf, logBytes}
@@ -17,10 +17,10 @@ use Rattle.log_laws.specs.Sound.{SoundAfter, Sound}
 use Rattle.log_laws.proofs.Formed.{well-unit, well-own}
 use Rattle.log_laws.proofs.Sums.{sumTo-le}
 use Rattle.log_laws.proofs.Members.{has-append, append-has, has-drop}
-use Rattle.log_laws.proofs.Counts.{above-all, formed, number-held}
+use Rattle.log_laws.proofs.Counts.{above-all, formed, unit-of, number-held}
 use Rattle.log_laws.proofs.Same.{unique}
 use Rattle.log_laws.proofs.Take.{all-from}
-use Rattle.log_laws.proofs.Lacking.{lacking-cons, lacking-nil, has-lacking, lacking-beyond, absent-lacked, union-length}
+use Rattle.log_laws.proofs.Lacking.{lacking-cons, lacking-nil, has-lacking, lacking-has, lacking-beyond, absent-lacked, union-length}
 use Rattle.log_laws.proofs.Tests.{vectorOf-getD}
 use Rattle.encoding_laws.specs.Keeps.{Good}
 use Rattle.encoding_laws.proofs.Logs.{sound-proper, sound-records}
@@ -33,11 +33,11 @@ use Rattle.machine.proofs.Cover.{Way, way-all}
 
 -- ---- rising lists
 
-sound-rising : (pre l : List Rec) → SoundAfter pre l → Rising l
+pub sound-rising : (pre l : List Rec) → SoundAfter pre l → Rising l
 sound-rising pre [] h = tt
 sound-rising pre (r ∷ l) h = (λ s i. above-all (r ∷ pre) l r s (h .1) (inl refl) i, sound-rising (r ∷ pre) l (h .1))
 
-rising-lacking : (v : List ℕ) (l : List Rec) → Rising l → Rising (lacking v l)
+pub rising-lacking : (v : List ℕ) (l : List Rec) → Rising l → Rising (lacking v l)
 rising-lacking v [] h = rw (lacking-nil v) tt
 rising-lacking v (r ∷ l) h =
     ⊎-elim
@@ -75,7 +75,7 @@ rising-firsts acc (x ∷ rs) h = go (holds-cases acc x) (λ acc′. rising-first
     go (inr (e, d)) k = subst Rising (sym (firsts-keep acc x rs e)) (λ s i. h .0 s (has-firsts (x ∷ acc) rs s i), k (x ∷ acc))
 
 -- rising lists of the same records are the same
-rising-same : (l m : List Rec) → Rising l → Rising m → Sub l m → Sub m l → l ≡ m
+pub rising-same : (l m : List Rec) → Rising l → Rising m → Sub l m → Sub m l → l ≡ m
 rising-same [] [] h k f g = refl
 rising-same [] (y ∷ m) h k f g = absurd (g y (inl refl))
 rising-same (x ∷ l) [] h k f g = absurd (f x (inl refl))
@@ -93,20 +93,20 @@ rising-same (x ∷ l) (y ∷ m) h k f g =
 -- ---- one round, on records
 
 -- two logs that may meet
-record Pair (A B : List Rec) : Type 0 where
-  sA : Sound A
-  sB : Sound B
-  agree : Agree A B
-  fit : sumTo 8 (λ u. max (count u A) (count u B)) ≤ 512
+pub record Pair (A B : List Rec) : Type 0 where
+  pub sA : Sound A
+  pub sB : Sound B
+  pub agree : Agree A B
+  pub fit : sumTo 8 (λ u. max (count u A) (count u B)) ≤ 512
 
 module _ (A B : List Rec) (p : Pair A B) where
-  used : List Rec
+  pub used : List Rec
   used = A ++ B
 
   lack : List Rec
   lack = lacking (vectorOf B) A
 
-  all-agree : Agree used used
+  pub all-agree : Agree used used
   unfolding used
   all-agree r s i j u n = go (has-append A B r i) (has-append A B s j)
     where
@@ -116,7 +116,7 @@ module _ (A B : List Rec) (p : Pair A B) where
       go (inr x) (inl y) = sym (p .agree s r y x (sym u) (sym n))
       go (inr x) (inr y) = unique [] B (p .sB) r s x y u n
 
-  in-A : Sub A used
+  pub in-A : Sub A used
   unfolding used
   in-A r h = append-has A B r (inl h)
 
@@ -132,26 +132,28 @@ module _ (A B : List Rec) (p : Pair A B) where
   absent : (m : List Rec) → Sound m → (r : Rec) → Has r A → ((t : Rec) → Has t m → unit t ≡ unit r → num t ≡ num r → ⊥) → Has r (lacking (vectorOf m) A)
   absent m h r i d = let f = formed [] A r (p .sA) i in absent-lacked A m h r (well-unit r f) (omega (arith, well-own r f)) i d
 
-  abbrev W : List Rec → List Rec → List Rec → Type 0
+  abbrev pub W : List Rec → List Rec → List Rec → Type 0
   W = Way A B used (p .sA) all-agree in-A (p .fit)
 
-  begin : W B B lack
-  unfolding lack
-  begin =
+  -- what counts that are held lack may be taken
+  pub begin : (v : List ℕ) → ((u : ℕ) → u < 8 → getD v u 0 ≤ count u B) → W B B (lacking v A)
+  begin v held =
       record {
         sound = p .sB;
         in-acc = λ r h. h;
         of-acc = λ r h. h;
         from = in-B;
-        part = has-lacking (vectorOf B) A;
-        rising = rising-firsts B lack rising-lack;
+        part = has-lacking v A;
+        rising = rising-firsts B (lacking v A) (rising-lacking v A (sound-rising [] A (p .sA)));
         all = λ r i d. new r i d (holds-cases B r);
         room = λ u k. omega arith;
       }
     where
-      new : (r : Rec) → Has r A → (Has r B → ⊥) → Held B r → Has r lack
+      new : (r : Rec) → Has r A → (Has r B → ⊥) → Held B r → Has r (lacking v A)
       new r i d (inl (t, _, j, a, b)) = absurd (d (subst (λ (x : Rec). Has x B) (sym (p .agree r t i j (sym a) (sym b))) j))
-      new r i d (inr (_, f)) = absent B (p .sB) r i f
+      new r i d (inr (_, f)) =
+          let k = unit-of [] A r (p .sA) i in
+          lacking-has v A r i (omega (arith, held (unit r) k, vectorOf-getD B (unit r) k, lacking-beyond (vectorOf B) A r (absent B (p .sB) r i f)))
 
   -- a record that is lacked is not held
   lacked-absent : (m : List Rec) → Sound m → (r : Rec) → Has r (lacking (vectorOf m) A) → Has r m → ⊥
@@ -193,24 +195,30 @@ module _ (A B : List Rec) (p : Pair A B) where
           (all-from (take 6 lack) B m (p .sB) e .from r j)
 
   goes : (m : List Rec) × Round m
+  unfolding lack
   goes =
-      let (m, acc, e, w) = way-all A B used (p .sA) all-agree in-A (p .fit) (take 6 lack) (drop 6 lack) B B (subst (W B B) (sym (take-append-drop 6 lack)) begin) in
+      let k = begin (vectorOf B) (λ u b. omega (arith, vectorOf-getD B u b)) in
+      let (m, acc, e, w) = way-all A B used (p .sA) all-agree in-A (p .fit) (take 6 lack) (drop 6 lack) B B (subst (W B B) (sym (take-append-drop 6 lack)) k) in
       (m, after-round m acc e w)
 
 -- ---- one round, on bytes
 
+-- the block that is handed out to any vector
+pub handed-holds : (archive a : ℕ) (la v : List ℕ) → a < 8 → Good la
+    → (handOf archive a la v (replicate 512 0) .number ≡ 0) × Holds archive (handOf archive a la v (replicate 512 0) .lent) (take 6 (lacking v (recordsOf la)))
+unfolding handOf
+handed-holds archive a la v a8 ga =
+    let o : Outcome = outcome 0 0 la (handBlock archive a (recordsOf la) v) 0 in
+    let e : handOf archive a la v (replicate 512 0) ≡ o = guarded-passes a la (replicate 512 0) true o refl (omega arith) ga in (
+      ap (λ (x : Outcome). x .number) e,
+      subst (λ (x : Outcome). Holds archive (x .lent) (take 6 (lacking v (recordsOf la)))) (sym e)
+          (hand-holds archive a (recordsOf la) (omega arith) (sound-proper (recordsOf la) (sound-records la (ga .sound))) v),
+    )
+
 module _ (archive a b : ℕ) (la : List ℕ) (a8 : a < 8) (b8 : b < 8) (ga : Good la) where
-  -- the block that is handed out
   handed-is : (lb : List ℕ) → (handed archive a la lb .number ≡ 0) × Holds archive (handed archive a la lb .lent) (take 6 (lackedBy la lb))
-  unfolding handed lackedBy handOf
-  handed-is lb =
-      let v : List ℕ = vectorOf (recordsOf lb) in
-      let o : Outcome = outcome 0 0 la (handBlock archive a (recordsOf la) v) 0 in
-      let e : handOf archive a la v (replicate 512 0) ≡ o = guarded-passes a la (replicate 512 0) true o refl (omega arith) ga in (
-        ap (λ (x : Outcome). x .number) e,
-        subst (λ (x : Outcome). Holds archive (x .lent) (take 6 (lacking v (recordsOf la)))) (sym e)
-            (hand-holds archive a (recordsOf la) (omega arith) (sound-proper (recordsOf la) (sound-records la (ga .sound))) v),
-      )
+  unfolding handed lackedBy
+  handed-is lb = handed-holds archive a la (vectorOf (recordsOf lb)) a8 ga
 
   -- what the logs of a meeting have
   record Met (lb : List ℕ) : Type 0 where
@@ -254,7 +262,7 @@ module _ (archive a b : ℕ) (la : List ℕ) (a8 : a < 8) (b8 : b < 8) (ga : Goo
   continued n (suc m) lb = let e : n + suc m ≡ suc (n + m) = omega arith in rw e (ap (λ (l : List ℕ). round archive a b la l .log) (continued n m lb))
 
 -- nothing is left of a list behind n elements exactly if it has no more
-none-left : (l : List Rec) (n : ℕ) → (drop (6 * n) l ≡ []) ↔ ((length l + 5) / 6 ≤ n)
+pub none-left : (l : List Rec) (n : ℕ) → (drop (6 * n) l ≡ []) ↔ ((length l + 5) / 6 ≤ n)
 none-left l n = (
   λ e. let k : length (drop (6 * n) l) ≡ 0 = ap (λ (x : List Rec). length x) e in omega (arith, length-drop (6 * n) l),
   λ k. drop-of-length-le l {i = 6 * n} (omega arith),

@@ -169,6 +169,7 @@ module _ (archive a b n₀ : ℕ) (b8 : b < 8) (A B₀ used : List Rec) (sA : So
       ⊎-elim (λ k. absurd (d (sym (k .0)))) (λ k. k .1) (put-cases (s .logs) (unitOf c) (done archive s c .log) b) in
       record { zero′ = λ k. absurd (d k); acc = acc; way = rw (ap recordsOf q) (rw (flow-other b s c d) at w) }
 
+  -- the log that a take of b leaves is what the block of the flow leaves
   log-taken : (s : Bench) (k : ℕ) (m : List Rec) → takeOf archive b (s .logs b) (blockGiven s k .bytes) ≡ outcome 0 0 (logBytes m) [] 0
       → recordsOf (next archive s (takes b k) .logs b) ≡ recordsOf (logBytes m)
   unfolding next after done

@@ -14,7 +14,7 @@ use Rattle.model.specs.Record.{Rec}
 use Rattle.model.specs.Log.{recordsOf}
 use Rattle.model.specs.Block.{countIn, recordsFrom, blockRecords}
 use Rattle.model.specs.File.{blockCount, fileOf, blockAt}
-use Rattle.model.specs.Outcome.{Outcome, outcome, stamped, actOf, lacking, handBlock, handOf, writeOf, givenFault}
+use Rattle.model.specs.Outcome.{Outcome, outcome, stamped, actOf, lacking, handBlock, handOf, writeOf, givenFault, takeOf}
 use Rattle.byte_slice.proofs.Numbers.{lt-or-ge, eq-or-ne, cond-cases}
 use Rattle.log_laws.specs.Members.{Has, Sub, Agree}
 use Rattle.log_laws.proofs.Members.{All, all-map, all-append, all-at, has-append, append-has, has-take, has-drop}
@@ -44,7 +44,7 @@ call-keeps archive s (starts u) = start-keeps u (s .logs u)
 call-keeps archive s (acts u w) = act-keeps u (s .logs u) w
 call-keeps archive s (handsOut u v lent) = hand-keeps archive u (s .logs u) v lent
 call-keeps archive s (writes u lent) = write-keeps archive u (s .logs u) lent
-call-keeps archive s (takes u n) = take-keeps archive u (s .logs u) (blockGiven s n .bytes)
+call-keeps archive s (takes u n) = take-keeps archive u (s .logs u) _
 
 stays-good : (log lent : List ℕ) (o : Outcome) → Good log → Keeps log lent o → Good (o .log)
 stays-good log lent o g k = ⊎-elim (λ e. k .accepted e) (λ e. subst Good (sym (k .refused e .0)) g) (eq-or-ne (o .number) 0)
@@ -135,6 +135,16 @@ given-used archive s n i r h =
     (λ k. absurd (not-given r (subst (λ (g : Block). Has r (blockRecords (g .bytes))) (List·getD-eq-default (s .given) d {n = n} k) h)))
     (lt-or-ge n (length (s .given)))
 
+-- the records of the log that a take leaves were there or in the block
+logged-take : (archive u : ℕ) (log b : List ℕ) (used : List Rec) → Sub (recordsOf log) used → Sub (blockRecords b) used → Sub (recordsOf (takeOf archive u log b .log)) used
+logged-take archive u log b used f g r h =
+    ⊎-elim
+    (λ e. f r (subst (λ (x : List ℕ). Has r (recordsOf x)) e h))
+    (λ k.
+    let w = all-from (blockRecords b) (recordsOf log) (k .0) (sound-records log (k .3 .sound)) (k .1) in
+    ⊎-elim (f r) (g r) (w .from r (subst (Has r) (k .2) h)))
+    (take-cases archive u log b)
+
 -- the records of the log that a call leaves were there, or in the block taken, or are used by it
 logged-done : (archive : ℕ) (s : Bench) (c : Call) → Inv archive s → Sub (recordsOf (done archive s c .log)) (uses s c (done archive s c) ++ s .used)
 unfolding done uses held
@@ -158,16 +168,7 @@ logged-done archive s (acts u w) i r h =
     (act-cases u (s .logs u) w)
 logged-done archive s (handsOut u v lent) i r h = i .logged u r (subst (λ (b : List ℕ). Has r (recordsOf b)) (hand-log archive u (s .logs u) v lent) h)
 logged-done archive s (writes u lent) i r h = i .logged u r (subst (λ (b : List ℕ). Has r (recordsOf b)) (write-log archive u (s .logs u) lent) h)
-logged-done archive s (takes u n) i r h =
-    ⊎-elim
-    (λ e. i .logged u r (subst (λ (b : List ℕ). Has r (recordsOf b)) e h))
-    (λ k.
-    let g = all-from (blockRecords (blockGiven s n .bytes)) (recordsOf (s .logs u)) (k .0) (sound-records (s .logs u) (k .3 .sound)) (k .1) in
-    ⊎-elim
-    (λ j. i .logged u r j)
-    (λ j. given-used archive s n i r j)
-    (g .from r (subst (Has r) (k .2) h)))
-    (take-cases archive u (s .logs u) (blockGiven s n .bytes))
+logged-done archive s (takes u n) i r h = logged-take archive u (s .logs u) _ (s .used) (i .logged u) (given-used archive s _ i) r h
 
 -- ---- the bench after a call
 

@@ -2,3 +2,4 @@ pub mod Machine
 pub mod Claim
 pub mod Runs
 pub mod Meeting
+pub mod Careful

@@ -1,8 +1,9 @@
 -- A file without a fault becomes a log: its records, one behind another, and zeros behind them.
 -- Assumes nothing.
 use Prim.Native.Nat.{ℕ, zero, suc, _+_, _-_, _*_, _/_, _%_, _≤_, _<_}
+use native.Mathlib.Numerals.{add-one}
 use native.Mathlib.Omega.{arith}
-use mathlib.Core.Path.{_≡_, sym, ap, _∙_}
+use mathlib.Core.Path.{_≡_, refl, sym, ap, _∙_}
 use mathlib.Core.List.{List, [], _∷_, _++_, append-nil}
 use lib.ListN.{length, take, drop, replicate}
 use borrow.Author.Tests.{lt-leb, le-ltb}
@@ -17,7 +18,7 @@ use Rattle.encoding_laws.proofs.Logs.{empty-log}
 use Rattle.encoding_laws.proofs.Reading.{file-records}
 use Rattle.file_laws.proofs.Records.{length-fileRecords}
 use Rattle.file_laws.proofs.Rewritten.{no-fault}
-use Rattle.file_reader.specs.Walk.{recordOrZeros}
+use Rattle.file_reader.specs.Walk.{recordOrZeros, walkedTo}
 use Rattle.log_check.specs.declared.Layout.the-variants.{File}
 use Rattle.log_check.specs.Places.{offsetOf, laidAt}
 use Rattle.log_check.proofs.Lists.{listed-more}
@@ -47,9 +48,9 @@ module _ (f : List ℕ) (n : ℕ) (whole : length f ≡ 512 * n) where
   sized zero i h = tt
   sized (suc m) i h = (part-length f (512 * (i / 6) + (28 + 80 * (i % 6))) 80 (omega arith), sized m (suc i) (omega arith))
 
-  records-more : (i : ℕ) → fileRecordsFrom f 0 (i + 1) ≡ fileRecordsFrom f 0 i ++ (fileRecord f i ∷ [])
+  records-more : (i : ℕ) → fileRecordsFrom f 0 (suc i) ≡ fileRecordsFrom f 0 i ++ (fileRecord f i ∷ [])
   unfolding laidAt offsetOf fileRecord
-  records-more i = file-listed f 0 (i + 1) ∙ listed-more (laidAt File f) 0 i ∙ (let z : 0 + i ≡ i = omega arith in rw (z, file-listed f 0 i))
+  records-more i = rw (← add-one i) (file-listed f 0 (i + 1) ∙ listed-more (laidAt File f) 0 i ∙ (let z : 0 + i ≡ i = omega arith in rw (z, file-listed f 0 i)))
 
   record-is : (i : ℕ) → i < 6 * n → i < 512 → recordOrZeros f i ≡ fileRecord f i
   unfolding recordOrZeros
@@ -59,21 +60,26 @@ module _ (f : List ℕ) (n : ℕ) (whole : length f ≡ 512 * n) where
   unfolding fileRecordsFrom
   copied-none em e = e ∙ rw em (sym empty-log)
 
-  pub record-fits : (i : ℕ) {total : ℕ} (d s : List ℕ) → i < total → total ≤ 512 → length d ≡ 40960 → length s ≡ 80 → 80 * i + length s ≤ length d
-  record-fits i d s h k ed es = omega arith
+  pub walk-fits : (total : ℕ) (d : List ℕ) → total ≤ 512 → length d ≡ 40960 → 80 * total ≤ length d
+  walk-fits total d h e = omega arith
 
-  pub copied-more : (i : ℕ) {total : ℕ} {d s o : List ℕ} → o ≡ putAt d (80 * i) s → s ≡ recordOrZeros f i → d ≡ logBytes (fileRecordsFrom f 0 i) → total ≤ 6 * n → total ≤ 512 → i < total
-      → o ≡ logBytes (fileRecordsFrom f 0 (i + 1))
+  copied-more : (i : ℕ) → i < 6 * n → i < 512 → putAt (logBytes (fileRecordsFrom f 0 i)) (80 * i) (recordOrZeros f i) ≡ logBytes (fileRecordsFrom f 0 (suc i))
   unfolding logBytes joined
-  copied-more i eo es ed g k h =
+  copied-more i g k =
       let l = fileRecordsFrom f 0 i in
       let r = fileRecord f i in
       let n₀ : length (joined l) ≡ 80 * i = length-joined l (sized i 0 (omega arith)) ∙ ap (λ (x : ℕ). 80 * x) (length-fileRecords f 0 i) in
       let j : joined (l ++ (r ∷ [])) ≡ joined l ++ r = joined-append l (r ∷ []) ∙ rw append-nil in
-      eo ∙ rw (ed, es, record-is i (omega arith) (omega arith), records-more i, j) (rw n₀ at (put-padded 40960 (joined l) r))
+      rw (record-is i g k, records-more i, j) (rw n₀ at (put-padded 40960 (joined l) r))
 
-  pub copied-all : (i : ℕ) {total : ℕ} {d : List ℕ} → i ≤ total → total ≤ i → d ≡ logBytes (fileRecordsFrom f 0 i) → d ≡ logBytes (fileRecordsFrom f 0 total)
-  copied-all i {total} h g e = let q : i ≡ total = omega arith in rw q at e
+  -- a walk over a log of zeros
+  walked-is : (i : ℕ) → i ≤ 6 * n → i ≤ 512 → walkedTo (logBytes []) f i ≡ logBytes (fileRecordsFrom f 0 i)
+  unfolding walkedTo fileRecordsFrom
+  walked-is zero h k = refl
+  walked-is (suc i) h k = ap (λ (d : List ℕ). putAt d (80 * i) (recordOrZeros f i)) (walked-is i (omega arith) (omega arith)) ∙ copied-more i (omega arith) (omega arith)
+
+  pub copied-all : {total m : ℕ} {d o : List ℕ} → m ≡ 40960 → d ≡ replicate m 0 → o ≡ walkedTo d f total → total ≤ 6 * n → total ≤ 512 → o ≡ logBytes (fileRecordsFrom f 0 total)
+  copied-all {total} em ed eo h k = eo ∙ ap (λ (z : List ℕ). walkedTo z f total) (ed ∙ rw em (sym empty-log)) ∙ walked-is total h k
 
 -- ---- what `load` answers
 

@@ -9,8 +9,7 @@ use block_read::archive_in;
 use block_read::sender_in;
 use block_read::vector_in;
 use byte_slice::clear;
-use byte_slice::put;
-use file_reader::record_in;
+use file_reader::walk;
 use read_file_blocks::whole_blocks;
 use read_file_check::file_fault;
 use read_file_check::records_counted;
@@ -33,13 +32,7 @@ fn copy_records(log: &mut [u8], file: &[u8], n: usize, total: usize)
     ensures { λ _. ⌜ now (log .exit) ≡ logBytes (fileRecordsFrom (now (file .entry)) 0 total) ⌝ }
 {
     clear(log);
-    let mut i: usize = 0;
-    while i < total {
-        let r = record_in(file, i);
-        let bytes = r.bytes;
-        put(log, 80 * i, &bytes);
-        i += 1;
-    }
+    walk(file, log, total);
 }
 
 // A refused file.

@@ -1,9 +1,9 @@
-use Rattle.log_admit.proofs.Faults.{placed-within, unit-small, count-fits, join-number, join-above, join-open, join-none}
+use Rattle.log_admit.proofs.Faults.{placed-within, unit-small, count-fits, join-number, join-above, join-quick, join-open, join-none}
 use borrow.Author.Needs.{needs}
 use Rattle.log_admit.proofs.join_fault.Statement.{statement}
 use Rattle.log_admit.proofs.join_fault.Tie as tie
 
-ruleset ways = (join-number, join-above, join-open, join-none)
+ruleset ways = (join-number, join-above, join-quick, join-open, join-none)
 
 unit-of-requires : tie.Need-unit-of-requires
 unit-of-requires c κs = search needs
@@ -32,14 +32,20 @@ covers-requires c κs = search needs
 returns-2 : tie.Need-returns-2
 returns-2 c = search ways
 
-is-closed-requires : tie.Need-is-closed-requires
-is-closed-requires c κs = (search needs, search needs, search (placed-within))
+all-covered-requires : tie.Need-all-covered-requires
+all-covered-requires c κs = (search needs, search needs, search (placed-within))
 
 returns-3 : tie.Need-returns-3
 returns-3 c = search ways
 
+is-closed-requires : tie.Need-is-closed-requires
+is-closed-requires c κs = (search needs, search needs, search (placed-within))
+
 returns-4 : tie.Need-returns-4
 returns-4 c = search ways
+
+returns-5 : tie.Need-returns-5
+returns-5 c = search ways
 
 pub join-fault-spec : {M : Type 1} → statement M
 join-fault-spec =
@@ -54,6 +60,8 @@ join-fault-spec =
     returns
     covers-requires
     returns-2
-    is-closed-requires
+    all-covered-requires
     returns-3
-    returns-4)
+    is-closed-requires
+    returns-4
+    returns-5)

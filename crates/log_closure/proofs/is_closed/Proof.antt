@@ -4,7 +4,7 @@ use mathlib.Core.Bool.{true}
 use Rattle.model.specs.Vector.{coversTo}
 use Rattle.model.specs.Log.{allTo}
 use Rattle.log_closure.specs.Tables.{rowAt, unitClosed}
-use Rattle.log_closure.proofs.Closed.{few-seen, place-inside, row-next, none-counted, row-covered, none-above, one-above, all-closed}
+use Rattle.log_closure.proofs.Closed.{few-seen, place-inside, row-next, none-counted, none-above, one-above, all-closed}
 use borrow.Author.Needs.{needs}
 use native.Mathlib.Omega.{arith}
 use Rattle.log_closure.proofs.is_closed.Statement.{statement}
@@ -12,8 +12,6 @@ use Rattle.log_closure.proofs.is_closed.Tie as tie
 use Rattle.log_closure.proofs.is_closed.Reads as reads
 use Rattle.log_closure.proofs.is_closed.Lts as lts
 use Rattle.log_closure.proofs.position.Reads as position-reads
-use Rattle.log_closure.proofs.row_at.Reads as row-at-reads
-use Rattle.vector.proofs.covers.Reads as covers-reads
 
 abbrev Inv-loop : tie.InvT-loop
 Inv-loop places seens s closed₀ u c p v₀ closed v = (v ≤ 8) × (closed ≡ closed₀) × (p < 518) × (coversTo (s .counts) (rowAt seens p) v ≡ true)
@@ -49,50 +47,27 @@ units-again c = (omega arith, search needs, search (none-counted))
 position-requires : tie.Need-position-requires Inv-loop μ-loop Inv-units μ-units
 position-requires c κs = (search needs, search needs, omega arith, search (few-seen))
 
--- src/lib.rt:80:30
-row-at-requires : tie.Need-row-at-requires Inv-loop μ-loop Inv-units μ-units
-row-at-requires c κs = (search needs, search (place-inside))
-
--- src/lib.rt:80:12
-covers-requires : tie.Need-covers-requires Inv-loop μ-loop Inv-units μ-units
-covers-requires c κs = search needs
-
-add-u-2 : tie.Need-add-u-2 Inv-loop μ-loop Inv-units μ-units
-add-u-2 c = search needs
-
-units-less-2 : tie.Need-units-less-2 Inv-loop μ-loop Inv-units μ-units
-units-less-2 c = search needs
-
-units-again-2 : tie.Need-units-again-2 Inv-loop μ-loop Inv-units μ-units
-units-again-2 c = (omega arith, cc, search (row-covered))
-
 loop-holds : tie.Need-loop-holds Inv-loop μ-loop Inv-units μ-units
 unfolding coversTo
 loop-holds c = (omega arith, refl, search (place-inside), refl)
 
--- src/lib.rt:84:16
-mul-if3 : tie.Need-mul-if3 Inv-loop μ-loop Inv-units μ-units
-mul-if3 c = search needs
+mul-if2 : tie.Need-mul-if2 Inv-loop μ-loop Inv-units μ-units
+mul-if2 c = search needs
 
--- src/lib.rt:84:16
-element-copy-out-if3 : tie.Need-element-copy-out-if3 Inv-loop μ-loop Inv-units μ-units
-element-copy-out-if3 c = search needs
+element-copy-out-if2 : tie.Need-element-copy-out-if2 Inv-loop μ-loop Inv-units μ-units
+element-copy-out-if2 c = search needs
 
--- src/lib.rt:84:36
-mul-if3-2 : tie.Need-mul-if3-2 Inv-loop μ-loop Inv-units μ-units
-mul-if3-2 c = search needs
+mul-if2-2 : tie.Need-mul-if2-2 Inv-loop μ-loop Inv-units μ-units
+mul-if2-2 c = search needs
 
--- src/lib.rt:84:36
-add-if3 : tie.Need-add-if3 Inv-loop μ-loop Inv-units μ-units
-add-if3 c = search needs
+add-if2 : tie.Need-add-if2 Inv-loop μ-loop Inv-units μ-units
+add-if2 c = search needs
 
--- src/lib.rt:84:30
-mul-if3-3 : tie.Need-mul-if3-3 Inv-loop μ-loop Inv-units μ-units
-mul-if3-3 c = search needs
+mul-if2-3 : tie.Need-mul-if2-3 Inv-loop μ-loop Inv-units μ-units
+mul-if2-3 c = search needs
 
--- src/lib.rt:84:30
-shared-slice-read-if3 : tie.Need-shared-slice-read-if3 Inv-loop μ-loop Inv-units μ-units
-shared-slice-read-if3 c = search needs
+shared-slice-read-if2 : tie.Need-shared-slice-read-if2 Inv-loop μ-loop Inv-units μ-units
+shared-slice-read-if2 c = search needs
 
 add-v : tie.Need-add-v Inv-loop μ-loop Inv-units μ-units
 add-v c = search needs
@@ -103,17 +78,14 @@ loop-less c = search needs
 loop-again : tie.Need-loop-again Inv-loop μ-loop Inv-units μ-units
 loop-again c = (omega arith, search needs, search needs, search (row-next))
 
--- src/lib.rt:74:17
-add-u-3 : tie.Need-add-u-3 Inv-loop μ-loop Inv-units μ-units
-add-u-3 c = search needs
+add-u-2 : tie.Need-add-u-2 Inv-loop μ-loop Inv-units μ-units
+add-u-2 c = search needs
 
--- src/lib.rt:74:5
-units-less-3 : tie.Need-units-less-3 Inv-loop μ-loop Inv-units μ-units
-units-less-3 c = search needs
+units-less-2 : tie.Need-units-less-2 Inv-loop μ-loop Inv-units μ-units
+units-less-2 c = search needs
 
--- src/lib.rt:74:5
-units-again-3 : tie.Need-units-again-3 Inv-loop μ-loop Inv-units μ-units
-units-again-3 c = (omega arith, cc, search (none-above))
+units-again-2 : tie.Need-units-again-2 Inv-loop μ-loop Inv-units μ-units
+units-again-2 c = (omega arith, cc, search (none-above))
 
 returns : tie.Need-returns Inv-loop μ-loop Inv-units μ-units
 returns c = search (all-closed)
@@ -136,23 +108,18 @@ is-closed-spec =
     units-less
     units-again
     position-requires
-    row-at-requires
-    covers-requires
-    add-u-2
-    units-less-2
-    units-again-2
     loop-holds
-    mul-if3
-    element-copy-out-if3
-    mul-if3-2
-    add-if3
-    mul-if3-3
-    shared-slice-read-if3
+    mul-if2
+    element-copy-out-if2
+    mul-if2-2
+    add-if2
+    mul-if2-3
+    shared-slice-read-if2
     add-v
     loop-less
     loop-again
-    add-u-3
-    units-less-3
-    units-again-3
+    add-u-2
+    units-less-2
+    units-again-2
     returns
     returns-2)

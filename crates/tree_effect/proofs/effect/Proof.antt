@@ -1,9 +1,9 @@
 use native.Mathlib.Omega.{arith}
 use Rattle.tree_effect.proofs.Effects.{effect-make, effect-store, effect-remove, effect-rename, effect-settle}
-use Rattle.tree_effect.proofs.Registers.{make-turns, store-turns, remove-turns, rename-turns, settle-turns}
 use borrow.Author.Needs.{needs}
 use Rattle.tree_effect.proofs.effect.Statement.{statement}
 use Rattle.tree_effect.proofs.effect.Tie as tie
+use Rattle.tree_effect.proofs.Registers.{make-turns, store-turns, remove-turns, rename-turns, settle-turns}
 
 shared-slice-read-op : tie.Need-shared-slice-read-op
 shared-slice-read-op c = search needs
