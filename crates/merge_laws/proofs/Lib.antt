@@ -1,0 +1,5 @@
+pub mod Union
+pub mod Counts
+pub mod Faults
+pub mod Files
+pub mod Claims
