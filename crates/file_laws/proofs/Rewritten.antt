@@ -139,7 +139,7 @@ module _ (f : List ℕ) (a : fileLength f ≡ true) (e : fileFault f .number ≡
   abbrev n : ℕ
   n = blocksIn f
 
-  lengths : (length f ≡ 512 * n) × (1 ≤ n)
+  pub lengths : (length f ≡ 512 * n) × (1 ≤ n)
   unfolding fileLength blocksIn
   lengths =
       let (p, q) = and-true (eqb (length f % 512) 0) (leb 1 (length f / 512) && leb (length f / 512) 86) a in
@@ -152,7 +152,7 @@ module _ (f : List ℕ) (a : fileLength f ≡ true) (e : fileFault f .number ≡
       let (p, q) = no-fault (blocksFault f 0 n) (orElse (recordsFault [] 0 (fileRecords f)) (countsFault f)) e in
       (p, no-fault (recordsFault [] 0 (fileRecords f)) (countsFault f) q .1)
 
-  agreeing : (k : ℕ) → k < n → Agreeing f n k
+  pub agreeing : (k : ℕ) → k < n → Agreeing f n k
   agreeing k h = block-passed f k (blocks-passed f n 0 (faults .0) k (omega arith) (omega arith))
 
   abbrev count : ℕ → ℕ

@@ -1,40 +1,27 @@
--- K1: what one file out of two is. Its records are all of both and a sound log; it reads back; either way round it has the same records; a
--- file merged with itself is that file; merging is taking the second's records.
+-- K1 of the records: either way round the union is the same, with itself a log is itself, and 11 is answered exactly if it has no room.
 -- Assumes nothing.
-use Prim.Native.Nat.{ℕ, _+_, _-_, _*_, _≤_, _<_, max}
+use Prim.Native.Nat.{ℕ, _≤_}
 use native.Mathlib.Omega.{arith}
-use mathlib.Core.Path.{_≡_, refl, sym, ap, _∙_, subst}
-use mathlib.Core.Logic.{_⊎_, inl, inr, ⊎-elim, _↔_}
+use mathlib.Core.Path.{_≡_, sym}
+use mathlib.Core.Logic.{inl, inr, ⊎-elim, _↔_}
 use mathlib.Core.List.{List, []}
-use lib.ListN.{getD, length, take, replicate}
-use lib.Seq.{take-at}
-use Rattle.model.specs.Bytes.{padded}
+use lib.ListN.{length}
 use Rattle.model.specs.Record.{Rec}
-use Rattle.model.specs.Log.{count, vectorOf, recordsOf, logBytes}
-use Rattle.model.specs.Block.{archiveIn, senderIn}
-use Rattle.model.specs.File.{blockCount, fileOf, blocksIn, blockAt, fileRecords, fault, checkedFault, readOf}
-use Rattle.model.specs.Outcome.{lacking, taken, takeAll}
-use Rattle.model.specs.Merge.{union, roomFault, unionFault, merged, joinedFile, mergeOf}
-use Rattle.log_laws.specs.Members.{Has, Agree}
+use Rattle.model.specs.Log.{vectorOf}
+use Rattle.model.specs.File.{fault}
+use Rattle.model.specs.Merge.{union, roomFault}
+use Rattle.log_laws.specs.Members.{Agree}
 use Rattle.log_laws.specs.Sound.{Sound}
 use Rattle.log_laws.proofs.Claims.{order-fixed}
 use Rattle.log_laws.proofs.Same.{unique}
 use Rattle.log_laws.proofs.Tests.{means-sound}
-use Rattle.encoding_laws.specs.Keeps.{Good}
-use Rattle.encoding_laws.proofs.Calls.{log-good, sound-back}
-use Rattle.file_laws.proofs.Blocks.{Bytes}
-use Rattle.file_laws.proofs.Rewritten.{file-again, length-right, sender-right}
-use Rattle.file_laws.proofs.Written as Written
 use Rattle.merge_laws.specs.Both.{Both}
-use Rattle.merge_laws.proofs.Union.{union-both, union-taken}
-use Rattle.merge_laws.proofs.Counts.{union-longer, union-counts, union-length-exchanged}
+use Rattle.merge_laws.proofs.Union.{union-both}
+use Rattle.merge_laws.proofs.Counts.{union-longer}
 use Rattle.merge_laws.proofs.Faults.{room-left, left-room}
-use Rattle.merge_laws.proofs.Files.{checked-both, file-sound, file-few, archives-one, files-agree, files-room, files-faultless, Accepted, merge-accepted, accepted-merge, records-both, records-few}
 
--- ---- the records of two sound logs that agree
-
-exchanged : (a b : List Rec) → Agree a b → Agree b a
-exchanged a b g r s i j u n = sym (g s r j i (sym u) (sym n))
+pub agree-exchanged : (a b : List Rec) → Agree a b → Agree b a
+agree-exchanged a b g r s i j u n = sym (g s r j i (sym u) (sym n))
 
 same-records : (a b u v : List Rec) → Both a b u → Both a b v → u ≡ v
 same-records a b u v x y =
@@ -47,7 +34,7 @@ same-records a b u v x y =
 -- whichever is the first, the records of both are the same
 pub union-exchanged : (a b : List Rec) → Sound a → Sound b → Agree a b → union a b ≡ union b a
 union-exchanged a b sa sb g =
-    let w = union-both b a sb sa (exchanged a b g) in
+    let w = union-both b a sb sa (agree-exchanged a b g) in
     same-records a b (union a b) (union b a) (union-both a b sa sb g)
     (record { sound = w .sound; first = w .second; second = w .first; from = λ r i. ⊎-elim (λ j. inr j) (λ j. inl j) (w .from r i) })
 
@@ -64,96 +51,3 @@ full-exactly a b k = (
   λ z. omega (arith, room-left (vectorOf a) (length a) 0 b k z, union-longer a b),
   λ z. rw (left-room (vectorOf a) (length a) 0 b (omega (arith, union-longer a b))),
 )
-
--- ---- a merge that is accepted
-
-module _ (f g log lent : List ℕ) (z : mergeOf f g log lent .number ≡ 0) where
-  given : Accepted f g log lent
-  given = merge-accepted f g log lent z
-
-  sound : Sound (union (fileRecords f) (fileRecords g))
-  sound = records-both f g log lent given .sound
-
-  few : length (union (fileRecords f) (fileRecords g)) ≤ 512
-  few = records-few f g log lent given
-
-  result : mergeOf f g log lent ≡ joinedFile f (union (fileRecords f) (fileRecords g))
-  result = accepted-merge f g log lent given
-
-  -- the log that it leaves is good, and has the union of the two files' records
-  pub merged-sound : Good (mergeOf f g log lent .log) × (recordsOf (mergeOf f g log lent .log) ≡ union (fileRecords f) (fileRecords g))
-  unfolding joinedFile
-  merged-sound = rw result (log-good (union (fileRecords f) (fileRecords g)) sound few, sound-back (union (fileRecords f) (fileRecords g)) sound few)
-
-  -- these are exactly the records of both
-  pub merged-holds : (r : Rec) → Has r (recordsOf (mergeOf f g log lent .log)) ↔ (Has r (fileRecords f) ⊎ Has r (fileRecords g))
-  merged-holds r =
-      let w = records-both f g log lent given in
-      rw (merged-sound .1) (λ i. w .from r i, λ i. ⊎-elim (λ j. w .first r j) (λ j. w .second r j) i)
-
-  -- of each unit as many as the file has that has more of it
-  pub merged-counts : (u : ℕ) → u < 8 → count u (recordsOf (mergeOf f g log lent .log)) ≡ max (count u (fileRecords f)) (count u (fileRecords g))
-  merged-counts u k = rw (merged-sound .1) (union-counts (fileRecords f) (fileRecords g) (file-sound g (given .second)) u k)
-
-  -- the blocks written are a file of them, under the first file's archive and unit, which reads back as that log; zeros stand behind
-  pub merged-reads : (spare : List ℕ) → length spare ≡ 40960
-      → readOf spare (take (512 * (mergeOf f g log lent .blocks)) (mergeOf f g log lent .lent))
-      ≡ record {
-        number = 0;
-        place = 0;
-        archive = archiveIn (blockAt f 0);
-        sender = senderIn (blockAt f 0);
-        records = length (union (fileRecords f) (fileRecords g));
-        vector = vectorOf (union (fileRecords f) (fileRecords g));
-        log = mergeOf f g log lent .log;
-      }
-  unfolding joinedFile padded
-  merged-reads spare e =
-      let l : List Rec = union (fileRecords f) (fileRecords g) in
-      let a : ℕ = archiveIn (blockAt f 0) in
-      let u : ℕ = senderIn (blockAt f 0) in
-      let (x, y) = checked-both f (given .first) in
-      let k : u ≤ 7 = sender-right f x y in
-      rw (result, take-at (fileOf a u l) (replicate (44032 - length (fileOf a u l)) 0) (512 * blockCount (length l)) (Written.file-bytes a u l sound few k))
-      (Written.read-is a u l sound few k spare e)
-
-  -- the other way round it is accepted too, and leaves the same log
-  pub merge-either-way : (mergeOf g f log lent .number ≡ 0) × (mergeOf g f log lent .log ≡ mergeOf f g log lent .log)
-  unfolding joinedFile fault
-  merge-either-way =
-      let a : List Rec = fileRecords f in
-      let b : List Rec = fileRecords g in
-      let sa = file-sound f (given .first) in
-      let sb = file-sound g (given .second) in
-      let h = files-agree f g (given .together) (given .first) in
-      let n : length b + length (lacking (vectorOf b) a) ≤ 512 =
-      omega (arith, union-longer a b, union-longer b a, union-length-exchanged a b sa sb, few) in
-      let t : unionFault g f ≡ fault 0 0 = files-faultless g f (sym (archives-one f g (given .together))) (exchanged a b h) n in
-      let x : Accepted g f log lent =
-      record { log-long = given .log-long; lent-long = given .lent-long; first = given .second; second = given .first; together = ap (λ e. e .number) t } in
-      rw (accepted-merge g f log lent x, result) (refl, ap logBytes (sym (union-exchanged a b sa sb h)))
-
-  -- taking the second file's records into the first's gives the same records
-  pub merge-is-taking : takeAll (fileRecords f) (fileRecords g) ≡ taken (recordsOf (mergeOf f g log lent .log))
-  merge-is-taking =
-      rw (merged-sound .1)
-      (union-taken (fileRecords f) (fileRecords g) (file-sound f (given .first)) (file-sound g (given .second)) (files-agree f g (given .together) (given .first))
-      (files-room f g (given .together) (given .first)))
-
--- a good file with itself is that file
-pub merge-itself : (f log lent : List ℕ) → Bytes f → checkedFault f .number ≡ 0 → length log ≡ 40960 → length lent ≡ 44032
-    → mergeOf f f log lent ≡ merged 0 0 0 (blocksIn f) (logBytes (fileRecords f)) (padded 44032 f)
-unfolding joinedFile fault
-merge-itself f log lent g z el em =
-    let a : List Rec = fileRecords f in
-    let (x, y) = checked-both f z in
-    let s = file-sound f z in
-    let q : union a a ≡ a = union-itself a s in
-    let n : length a + length (lacking (vectorOf a) a) ≤ 512 = omega (arith, union-longer a a, ap (λ (l : List Rec). length l) q, file-few f z) in
-    let t = files-faultless f f refl (unique [] a s) n in
-    rw (
-      accepted-merge f f log lent (record { log-long = el; lent-long = em; first = z; second = z; together = ap (λ e. e .number) t }),
-      q,
-      length-right f x y,
-      file-again f x y g,
-    )

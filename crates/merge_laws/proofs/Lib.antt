@@ -1,5 +1,4 @@
 pub mod Union
 pub mod Counts
 pub mod Faults
-pub mod Files
 pub mod Claims

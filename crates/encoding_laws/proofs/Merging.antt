@@ -1,9 +1,10 @@
--- What an accepted merge of two files means: both are good, of one archive, and their records agree and have room together.
+-- An accepted merge of two files: both are good, of one archive, and their records agree and have room together; it leaves a good log. A
+-- refused one leaves every byte as it was.
 -- Assumes nothing.
 use Prim.Native.Nat.{ℕ, _+_, _≤_}
 use native.Mathlib.Omega.{arith}
-use mathlib.Core.Path.{_≡_, refl, _∙_}
-use mathlib.Core.Logic.{_⊎_, inl, inr, ⊎-elim}
+use mathlib.Core.Path.{_≡_, refl, sym, _∙_}
+use mathlib.Core.Logic.{⊎-elim}
 use mathlib.Core.Bool.{true, false, _&&_}
 use mathlib.Core.List.{List, []}
 use lib.Dec.{eqb}
@@ -19,12 +20,13 @@ use Rattle.byte_slice.proofs.Numbers.{bool-cases, and-true, true-and}
 use Rattle.log_laws.specs.Members.{Agree}
 use Rattle.log_laws.specs.Sound.{Sound}
 use Rattle.log_laws.proofs.Tests.{sound-means}
-use Rattle.encoding_laws.proofs.Reading.{file-records}
-use Rattle.file_laws.proofs.Rewritten.{no-fault}
 use Rattle.merge_laws.specs.Both.{Both}
 use Rattle.merge_laws.proofs.Union.{union-both}
 use Rattle.merge_laws.proofs.Counts.{union-longer}
 use Rattle.merge_laws.proofs.Faults.{agree-from, agree-bytes, room-left, left-room}
+use Rattle.encoding_laws.specs.Keeps.{Merges}
+use Rattle.encoding_laws.proofs.Calls.{log-good}
+use Rattle.encoding_laws.proofs.Reading.{no-fault, file-records}
 
 -- ---- one file
 
@@ -139,3 +141,37 @@ module _ (f g log lent : List ℕ) (x : Accepted f g log lent) where
 
   pub records-few : length (union (fileRecords f) (fileRecords g)) ≤ 512
   records-few = omega (arith, files-room f g (x .together) (x .first), union-longer (fileRecords f) (fileRecords g))
+
+-- ---- what it keeps
+
+-- a refusal leaves both buffers
+abbrev Leaves : List ℕ → List ℕ → Merged → Type 0
+Leaves log lent m = (m .number ≡ 0 → ⊥) → (m .log ≡ log) × (m .lent ≡ lent)
+
+unless-leaves : (e : Fault) (w : ℕ) (log lent : List ℕ) (o : Merged) → Leaves log lent o → Leaves log lent (unless e w log lent o)
+unfolding unless
+unless-leaves e w log lent o h =
+    ⊎-elim
+    (λ (t : eqb (e .number) 0 ≡ true). rw t h)
+    (λ (t : eqb (e .number) 0 ≡ false). rw t (λ _. (refl, refl)))
+    (bool-cases (eqb (e .number) 0))
+
+pub merge-keeps : (f g log lent : List ℕ) → Merges log lent (mergeOf f g log lent)
+unfolding mergeOf unlessAny joinedFile
+merge-keeps f g log lent =
+    record {
+      accepted = λ z.
+          let x = merge-accepted f g log lent z in
+          rw (accepted-merge f g log lent x)
+          (log-good (union (fileRecords f) (fileRecords g)) (records-both f g log lent x .sound) (records-few f g log lent x));
+      refused =
+          ⊎-elim
+          (λ (h : (eqb (length log) 40960 && eqb (length lent) 44032) ≡ true).
+          let o : Merged = joinedFile f (union (fileRecords f) (fileRecords g)) in
+          let both : Merged = unless (unionFault f g) 2 log lent o in
+          rw h
+          (unless-leaves (checkedFault f) 1 log lent (unless (checkedFault g) 2 log lent both)
+          (unless-leaves (checkedFault g) 2 log lent both (unless-leaves (unionFault f g) 2 log lent o (λ z. absurd (z refl))))))
+          (λ (h : (eqb (length log) 40960 && eqb (length lent) 44032) ≡ false). rw h (λ _. (refl, refl)))
+          (bool-cases (eqb (length log) 40960 && eqb (length lent) 44032));
+    }
