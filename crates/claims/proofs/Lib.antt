@@ -1,3 +1,5 @@
 pub mod Ran
 pub mod Exist
+pub mod Bytes
+pub mod Typed
 pub mod Whole

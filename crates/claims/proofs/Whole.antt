@@ -21,6 +21,7 @@ use Rattle.claims.specs.Ran.{RanShow}
 use Rattle.claims.specs.Whole.{Ran, Shown, CodeClaim, Demand3}
 use Rattle.claims.proofs.Ran.{ran-start, ran-act, ran-hand-out, ran-write-file, ran-take, ran-show}
 use Rattle.claims.proofs.Exist.{start-runs, act-runs, hand-out-runs, write-file-runs, take-runs, show-runs}
+use Rattle.claims.proofs.Typed.{fits-bare, runs-typed}
 use Rattle.start.proofs.start.Met.{met as start-met}
 use Rattle.act.proofs.act.Met.{met as act-met}
 use Rattle.hand_out.proofs.hand_out.Met.{met as hand-out-met}
@@ -85,5 +86,6 @@ demand-3 =
       code = record { start = start-met; act = act-met; hand-out = hand-out-met; write-file = write-file-met; take = take-met; show-tree = show-tree-met };
       runs = code-claim;
       exist = λ archive cs. runs-of archive (Ran archive) (has-run archive) cs bare;
+      typed = λ archive cs a e. runs-typed archive (Ran archive) (has-run archive) cs bare a (inv-bare archive) fits-bare e;
       show-exists = show-runs;
     }

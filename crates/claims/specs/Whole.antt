@@ -1,7 +1,7 @@
 -- Demand 3 of the code: whatever the contracts of the entry points allow, over any list of calls, is what the plain machine does,
 -- and the claim about the list holds of it. Every list has such runs.
 -- Assumes nothing.
-use Prim.Native.Nat.{ℕ}
+use Prim.Native.Nat.{ℕ, _<_}
 use mathlib.Core.Path.{_≡_}
 use mathlib.Core.Bool.{true}
 use mathlib.Core.List.{List, _++_}
@@ -11,7 +11,9 @@ use Rattle.model.specs.Table.{tableBytes}
 use Rattle.model.specs.Outcome.{Outcome, showOf}
 use Rattle.machine.specs.Machine.{Call, starts, acts, handsOut, writes, takes, Bench, bare, held, heldVector, blockGiven, play, outcomes}
 use Rattle.machine.specs.Runs.{Runs}
+use Rattle.machine.specs.Callable.{allCallable}
 use Rattle.machine.specs.Claim.{distinct, Claim}
+use Rattle.claims.specs.Typed.{Typed}
 use Rattle.claims.specs.Ran.{RanStart, RanAct, RanHandOut, RanWriteFile, RanTake, RanShow}
 use Rattle.start.proofs.start.Statement.{statement as StartMeets}
 use Rattle.act.proofs.act.Statement.{statement as ActMeets}
@@ -62,6 +64,9 @@ pub record CodeClaim (archive : ℕ) (before cs : List Call) (os : List Outcome)
 pub record Demand3 (M : Type 1) : Type 2 where
   pub code : Meets M
   pub runs : (archive : ℕ) (before cs : List Call) (os : List Outcome) (t : Bench) → Runs (Ran archive) bare (before ++ cs) os t → CodeClaim archive before cs os t
-  -- D4: the claim is not empty. Every list of calls has runs, and so has showing
+  -- D4: the claim is not empty. Every list of calls has runs, and so has showing. Where the types of the entry points can hold
+  -- what is asked, they hold all that is handed over and back
   pub exist : (archive : ℕ) (cs : List Call) → Runs (Ran archive) bare cs (outcomes archive bare cs) (play archive bare cs)
+  pub typed : (archive : ℕ) (cs : List Call) → archive < 4294967296 → allCallable cs ≡ true
+      → Runs (λ (s : Bench) (c : Call) (o : Outcome). Ran archive s c o × Typed archive s c o) bare cs (outcomes archive bare cs) (play archive bare cs)
   pub show-exists : (log lent : List ℕ) → RanShow log lent (showOf log lent)

@@ -1,4 +1,5 @@
 pub mod Machine
+pub mod Callable
 pub mod Claim
 pub mod Runs
 pub mod Meeting

@@ -1,12 +1,28 @@
 // readout: lists the archive file on standard input.
+ghost use mathlib.Core.Path.{_≡_};
+ghost use lib.ListN.{length};
+ghost use Rattle.model.specs.Listing.{outputOf};
+ghost use Rattle.line_text.specs.Written.{Wrote};
 
-// The listing is written at once.
-fn report(file: &[u8]) {
+// What is printed of the bytes that were read, written into the lent text: their listing, or nothing where a read failed. Answers its
+// length.
+fn output(failed: bool, file: &[u8], text: &mut [u8]) -> usize
+    requires { ⌜ length (now text) ≡ 76800 ⌝ }
+    ensures { λ r. ⌜ Wrote (now (text .entry)) (now (text .exit)) 0 r (outputOf failed (now (file .entry))) ⌝ }
+{
+    if failed {
+        return 0;
+    }
     let mut log = [0u8; 40960];
     let mut tree = [0u8; 43012];
+    let listed = listing::listing(file, &mut log, &mut tree, text);
+    listed.length as usize
+}
+
+// It is printed at once.
+fn report(failed: bool, file: &[u8]) {
     let mut text = [0u8; 76800];
-    let listed = listing::listing(file, &mut log, &mut tree, &mut text);
-    let n = listed.length as usize;
+    let n = output(failed, file, &mut text);
     io::write_all(1, &text[0..n]);
 }
 
@@ -16,8 +32,7 @@ fn main() {
     let got = input::read_into(0, &mut file);
     if got.failed {
         io::write_all(2, b"readout: standard input could not be read\n");
-        return;
     }
     let n = got.count;
-    report(&file[0..n]);
+    report(got.failed, &file[0..n]);
 }

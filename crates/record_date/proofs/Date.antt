@@ -2,7 +2,7 @@
 -- Assumes nothing.
 use Prim.Native.Nat.{ℕ, _%_, _≤_, _<_}
 use native.Mathlib.Omega.{arith}
-use mathlib.Core.Path.{_≡_, refl}
+use mathlib.Core.Path.{_≡_, refl, _∙_}
 use mathlib.Core.Bool.{Bool, true, false, cond, not, _&&_}
 use mathlib.Core.Logic.{_⊎_, inl, inr, ⊎-elim}
 use lib.Dec.{leb, eqb}
@@ -85,19 +85,34 @@ module _ (y m : ℕ) where
   pub july-august : (m ≡ 2 → ⊥) → (Short m → ⊥) → 1 ≤ m → m < 9 → 31 ≡ daysOf y m
   july-august n s lo hi = long-month n s lo (omega arith)
 
-  -- every month has 28 days
-  least-days : 1 ≤ m → m ≤ 12 → 28 ≤ daysOf y m
-  least-days lo hi =
-      ⊎-elim
-      (λ (e : m ≡ 2). ⊎-elim (λ l. omega (arith, february-leap e refl l)) (λ l. omega (arith, february e refl l)) (bool-cases (isLeap y)))
-      (λ (n : m ≡ 2 → ⊥). ⊎-elim (λ (k : Short m). omega (arith, short-month k)) (λ (k : Short m → ⊥). omega (arith, long-month n k lo hi)) (short-or-not m))
-      (eq-or-ne m 2)
-
   not-short-above : 12 < m → Short m → ⊥
   not-short-above h = ⊎-elim (λ e. omega arith) (⊎-elim (λ e. omega arith) (⊎-elim (λ e. omega arith) (λ e. omega arith)))
 
   after-months : 12 < m → 0 ≡ daysOf y m
   after-months h = rw (le-leb 1 m (omega arith), lt-leb m 12 h) at (other-month (omega arith) (not-short-above h))
+
+-- ---- the days of a month in a year that is not leap, as 1990
+
+common-year : isLeap 1990 ≡ false
+unfolding isLeap
+common-year = refl
+
+module _ (m : ℕ) where
+  pub common-february : m ≡ 2 → 28 ≡ daysOf 1990 m
+  common-february e = february 1990 m e refl common-year
+
+  any-year : (y : ℕ) → (m ≡ 2 → ⊥) → daysOf y m ≡ daysOf 1990 m
+  unfolding daysOf
+  any-year y n = rw (ne-eqb m 2 n)
+
+  -- a year has no fewer
+  no-fewer : (y : ℕ) → daysOf 1990 m ≤ daysOf y m
+  no-fewer y =
+      ⊎-elim
+      (λ (e : m ≡ 2).
+      ⊎-elim (λ l. omega (arith, common-february e, february-leap y m e refl l)) (λ l. omega (arith, common-february e, february y m e refl l)) (bool-cases (isLeap y)))
+      (λ (n : m ≡ 2 → ⊥). omega (arith, any-year y n))
+      (eq-or-ne m 2)
 
 -- ---- a date
 
@@ -110,25 +125,49 @@ module _ (y m d : ℕ) where
   unfolding isDate
   too-late a b = rw (le-leb 1990 y a, lt-leb y 2199 b)
 
+  no-days : 1990 ≤ y → y ≤ 2199 → 0 ≡ daysOf y m → false ≡ isDate y m d
+  unfolding isDate
+  no-days a b e = rw (le-leb 1990 y a, le-leb y 2199 b) (go (lt-or-ge d 1))
+    where
+      go : (d < 1) ⊎ (1 ≤ d) → false ≡ (leb 1 d && leb d (daysOf y m))
+      go (inl h) = rw (lt-leb 1 d h)
+      go (inr h) = rw (le-leb 1 d h, lt-leb d (daysOf y m) (omega arith))
+
+  pub month-below : 1990 ≤ y → y ≤ 2199 → m < 1 → false ≡ isDate y m d
+  month-below a b h = no-days a b (before-months y m h)
+
+  pub month-above : 1990 ≤ y → y ≤ 2199 → 12 < m → false ≡ isDate y m d
+  month-above a b h = no-days a b (after-months y m h)
+
   pub no-day : 1990 ≤ y → y ≤ 2199 → d < 1 → false ≡ isDate y m d
   unfolding isDate
   no-day a b e = rw (le-leb 1990 y a, le-leb y 2199 b, lt-leb 1 d e)
 
-  pub day-within : {n : ℕ} → 1990 ≤ y → y ≤ 2199 → 1 ≤ d → n ≡ daysOf y m → leb d n ≡ isDate y m d
-  unfolding isDate
-  day-within a b e f = rw (le-leb 1990 y a, le-leb y 2199 b, le-leb 1 d e, f)
-
-  -- of the first 28 days the month alone tells
   module _ (a : 1990 ≤ y) (b : y ≤ 2199) (e : 1 ≤ d) where
-    pub no-month : m < 1 → false ≡ isDate y m d
+    day-in : d ≤ daysOf y m → true ≡ isDate y m d
     unfolding isDate
-    no-month h = rw (le-leb 1990 y a, le-leb y 2199 b, le-leb 1 d e, lt-leb d (daysOf y m) (omega (arith, before-months y m h)))
+    day-in h = rw (le-leb 1990 y a, le-leb y 2199 b, le-leb 1 d e, le-leb d (daysOf y m) h)
 
-    pub month-tells : d < 29 → 1 ≤ m → leb m 12 ≡ isDate y m d
+    day-out : daysOf y m < d → false ≡ isDate y m d
     unfolding isDate
-    month-tells f lo =
-        rw (le-leb 1990 y a, le-leb y 2199 b, le-leb 1 d e)
-        (⊎-elim
-        (λ (h : 12 < m). rw (lt-leb m 12 h, lt-leb d (daysOf y m) (omega (arith, after-months y m h))))
-        (λ (h : m ≤ 12). rw (le-leb m 12 h, le-leb d (daysOf y m) (omega (arith, least-days y m lo h))))
-        (lt-or-ge 12 m))
+    day-out h = rw (le-leb 1990 y a, le-leb y 2199 b, le-leb 1 d e, lt-leb d (daysOf y m) h)
+
+    module _ (n : ℕ) (f : n ≡ daysOf 1990 m) where
+      pub day-within : d ≤ n → true ≡ isDate y m d
+      day-within h = day-in (omega (arith, no-fewer m y))
+
+      pub day-above : n < d → (m ≡ 2 → ⊥) → false ≡ isDate y m d
+      day-above h k = day-out (omega (arith, any-year m y k))
+
+      module _ (h : n < d) (k : m ≡ 2) where
+        pub february-above : (d ≡ 29 → ⊥) → false ≡ isDate y m d
+        february-above g =
+            let c = common-february m k in
+            ⊎-elim (λ l. day-out (omega (arith, february-leap y m k refl l))) (λ l. day-out (omega (arith, february y m k refl l))) (bool-cases (isLeap y))
+
+        pub leap-day : d ≡ 29 → (r : Bool) → r ≡ isLeap y → r ≡ isDate y m d
+        leap-day g r q =
+            ⊎-elim
+            (λ (l : isLeap y ≡ true). q ∙ l ∙ day-in (omega (arith, february-leap y m k refl l)))
+            (λ (l : isLeap y ≡ false). q ∙ l ∙ day-out (omega (arith, february y m k refl l)))
+            (bool-cases (isLeap y))

@@ -10,19 +10,20 @@ fn is_leap(y: u16) -> bool
     y % 4 == 0 && (y % 100 != 0 || y % 400 == 0)
 }
 
-// The days of a month; 0 where there is no such month.
-fn days(y: u16, m: u8) -> u8
-    ensures { λ r. ⌜ r ≡ daysOf y m ⌝ }
+// The days of a month in a year that is not leap, as 1990; 0 where there is no such month.
+fn days(m: u8) -> u8
+    ensures { λ r. ⌜ r ≡ daysOf 1990 m ⌝ }
 {
     match m {
-        2 => { if is_leap(y) { 29 } else { 28 } }
+        2 => 28,
         4 | 6 | 9 | 11 => 30,
         1..=12 => 31,
         _ => 0,
     }
 }
 
-// A real date of the years 1990 to 2199. Every month has 28 days, so the days of a month are seldom asked for.
+// A real date of the years 1990 to 2199. Months that there are not are refused first, so that the match looks up a number without a
+// branch; the 29th of February is left to the leap rule.
 pub fn is_date(y: u16, m: u8, d: u8) -> bool
     ensures { λ r. ⌜ r ≡ isDate y m d ⌝ }
 {
@@ -32,14 +33,23 @@ pub fn is_date(y: u16, m: u8, d: u8) -> bool
     if 2199 < y {
         return false;
     }
+    if m < 1 {
+        return false;
+    }
+    if 12 < m {
+        return false;
+    }
     if d < 1 {
         return false;
     }
-    if d < 29 {
-        if m < 1 {
-            return false;
-        }
-        return m <= 12;
+    if d <= days(m) {
+        return true;
     }
-    d <= days(y, m)
+    if m != 2 {
+        return false;
+    }
+    if d != 29 {
+        return false;
+    }
+    is_leap(y)
 }

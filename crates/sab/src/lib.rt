@@ -3,22 +3,18 @@ ghost use mathlib.Core.Path.{_≡_};
 ghost use mathlib.Core.List.{[]};
 ghost use Rattle.model.specs.Outcome.{startOf, actOf, takeOf, writeOf, showOf};
 ghost use Rattle.held_vector.specs.Held.{heldOf};
-ghost use Rattle.sab.specs.Called.{called, told, handedOf, loadedOf, comparedOf, printed, printedOf};
-use byte_slice::put32;
-use byte_slice::wide;
-use sab_words::narrow;
-use sab_words::pack;
-use sab_words::put_head;
-use vector::vector_at;
+ghost use Rattle.sab_words.specs.Called.{called, told};
+ghost use Rattle.sab_block.specs.Handed.{handedOf};
+ghost use Rattle.sab_file.specs.Loaded.{loadedOf};
+ghost use Rattle.sab_listing.specs.Printed.{printed, printedOf};
+ghost use Rattle.sab_vectors.specs.Compared.{comparedOf};
 
 // Starts a unit.
 #[no_mangle]
 pub extern "C" fn sab_start(log: &mut [u8], archive: u32, unit: u32) -> u32
     ensures { λ r. ⌜ called r (now (log .exit)) [] ≡ told (startOf unit (now (log .entry))) ⌝ }
 {
-    let own = narrow(unit);
-    let a = start::start(log, archive, own);
-    pack(a.number, a.place, 0)
+    sab_unit::start(log, archive, unit)
 }
 
 // Makes a record of the own unit.
@@ -26,9 +22,7 @@ pub extern "C" fn sab_start(log: &mut [u8], archive: u32, unit: u32) -> u32
 pub extern "C" fn sab_act(log: &mut [u8], archive: u32, unit: u32, wish: &[u8]) -> u32
     ensures { λ r. ⌜ called r (now (log .exit)) [] ≡ told (actOf unit (now (log .entry)) (now (wish .entry))) ⌝ }
 {
-    let own = narrow(unit);
-    let a = act::act(log, archive, own, wish);
-    pack(a.number, a.place, 0)
+    sab_unit::act(log, archive, unit, wish)
 }
 
 // Hands out a block of what the asked vector lacks.
@@ -42,13 +36,7 @@ pub extern "C" fn sab_hand_out(
 ) -> u32
     ensures { λ r. ⌜ called r (now (log .entry)) (now (block .exit)) ≡ handedOf archive unit (now (log .entry)) (now (asked .entry)) (now (block .entry)) ⌝ }
 {
-    if asked.len() != 16 {
-        return pack(1, 0, 0);
-    }
-    let v = vector_at(asked, 0);
-    let own = narrow(unit);
-    let a = hand_out::hand_out(log, archive, own, v, block);
-    pack(a.number, a.place, 0)
+    sab_block::hand_out(log, archive, unit, asked, block)
 }
 
 // Takes a block, wholly or not at all.
@@ -56,9 +44,7 @@ pub extern "C" fn sab_hand_out(
 pub extern "C" fn sab_take(log: &mut [u8], archive: u32, unit: u32, block: &[u8]) -> u32
     ensures { λ r. ⌜ called r (now (log .exit)) [] ≡ told (takeOf archive unit (now (log .entry)) (now (block .entry))) ⌝ }
 {
-    let own = narrow(unit);
-    let a = take::take(log, archive, own, block);
-    pack(a.number, a.place, 0)
+    sab_block::take(log, archive, unit, block)
 }
 
 // Writes the whole log as a file; the count is that of its blocks.
@@ -66,9 +52,7 @@ pub extern "C" fn sab_take(log: &mut [u8], archive: u32, unit: u32, block: &[u8]
 pub extern "C" fn sab_write_file(log: &[u8], archive: u32, unit: u32, file: &mut [u8]) -> u32
     ensures { λ r. ⌜ called r (now (log .entry)) (now (file .exit)) ≡ told (writeOf archive unit (now (log .entry)) (now (file .entry))) ⌝ }
 {
-    let own = narrow(unit);
-    let w = write_file::write_file(log, archive, own, file);
-    pack(w.number, w.place, wide(w.blocks))
+    sab_file::write_file(log, archive, unit, file)
 }
 
 // Reads a file into a lent log; the count is that of its records.
@@ -76,16 +60,7 @@ pub extern "C" fn sab_write_file(log: &[u8], archive: u32, unit: u32, file: &mut
 pub extern "C" fn sab_read_file(log: &mut [u8], file: &[u8], head: &mut [u8]) -> u32
     ensures { λ r. ⌜ called r (now (log .exit)) (now (head .exit)) ≡ loadedOf (now (log .entry)) (now (file .entry)) (now (head .entry)) ⌝ }
 {
-    if head.len() != 24 {
-        return pack(1, 0, 0);
-    }
-    let b = read_file::read_file(log, file);
-    if b.number != 0 {
-        return pack(b.number, b.place, b.records);
-    }
-    let v = b.vector;
-    put_head(head, b.archive, b.unit, b.records, v);
-    pack(b.number, b.place, b.records)
+    sab_file::read_file(log, file, head)
 }
 
 // Shows the tree of a log.
@@ -93,34 +68,7 @@ pub extern "C" fn sab_read_file(log: &mut [u8], file: &[u8], head: &mut [u8]) ->
 pub extern "C" fn sab_show(log: &[u8], tree: &mut [u8]) -> u32
     ensures { λ r. ⌜ called r (now (log .entry)) (now (tree .exit)) ≡ told (showOf (now (log .entry)) (now (tree .entry))) ⌝ }
 {
-    let a = show_tree::show_tree(log, tree);
-    pack(a.number, a.place, 0)
-}
-
-// Gives the held vector; the count is that of the records.
-#[no_mangle]
-pub extern "C" fn sab_vector(log: &[u8], vector: &mut [u8]) -> u32
-    ensures { λ r. ⌜ called r (now (log .entry)) (now (vector .exit)) ≡ told (heldOf (now (log .entry)) (now (vector .entry))) ⌝ }
-{
-    let h = held_vector::held_vector(log, vector);
-    pack(h.number, 0, h.records)
-}
-
-// Compares two vectors; the count is the answer.
-#[no_mangle]
-pub extern "C" fn sab_compare(first: &[u8], second: &[u8]) -> u32
-    ensures { λ r. ⌜ r ≡ comparedOf (now (first .entry)) (now (second .entry)) ⌝ }
-{
-    if first.len() != 16 {
-        return pack(1, 0, 0);
-    }
-    if second.len() != 16 {
-        return pack(1, 0, 0);
-    }
-    let a = vector_at(first, 0);
-    let b = vector_at(second, 0);
-    let c = vector_compare::compare(a, b);
-    pack(0, 0, wide(c.answer))
+    sab_tree::show(log, tree)
 }
 
 // Lists a file as text, by way of a lent log and tree table.
@@ -134,13 +82,21 @@ pub extern "C" fn sab_listing(
 ) -> u32
     ensures { λ r. ⌜ printed r (now (log .exit)) (now (tree .exit)) (now (out .exit)) (now (length .exit)) ≡ printedOf (now (file .entry)) (now (log .entry)) (now (tree .entry)) (now (out .entry)) (now (length .entry)) ⌝ }
 {
-    if length.len() != 4 {
-        return pack(1, 0, 0);
-    }
-    let l = listing::listing(file, log, tree, out);
-    if l.number == 1 {
-        return pack(l.number, l.place, 0);
-    }
-    put32(length, 0, l.length);
-    pack(l.number, l.place, 0)
+    sab_listing::listing(file, log, tree, out, length)
+}
+
+// Gives the held vector; the count is that of the records.
+#[no_mangle]
+pub extern "C" fn sab_vector(log: &[u8], vector: &mut [u8]) -> u32
+    ensures { λ r. ⌜ called r (now (log .entry)) (now (vector .exit)) ≡ told (heldOf (now (log .entry)) (now (vector .entry))) ⌝ }
+{
+    sab_vectors::vector(log, vector)
+}
+
+// Compares two vectors; the count is the answer.
+#[no_mangle]
+pub extern "C" fn sab_compare(first: &[u8], second: &[u8]) -> u32
+    ensures { λ r. ⌜ r ≡ comparedOf (now (first .entry)) (now (second .entry)) ⌝ }
+{
+    sab_vectors::compare(first, second)
 }

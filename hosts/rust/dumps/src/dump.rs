@@ -13,15 +13,32 @@ struct Dump<'a> {
 
 /// The listing and the dump of an example, as they stand in a page.
 pub fn page_part(example: &Example) -> String {
+    let mut dump = dump(&example.file);
+    if let Some(like) = &example.like {
+        dump = differing(&dump, &self::dump(like));
+    }
+    format!("```\n{}```\n\n```\n{dump}```\n", example.listing)
+}
+
+fn dump(file: &[u8]) -> String {
     let mut dump = Dump {
-        file: &example.file,
+        file,
         at: 0,
         text: String::new(),
     };
-    for block in 0..example.file.len() / 512 {
+    for block in 0..file.len() / 512 {
         dump.block(block);
     }
-    format!("```\n{}```\n\n```\n{}```\n", example.listing, dump.text)
+    dump.text
+}
+
+/// The lines of a text that are not those of another.
+fn differing(text: &str, other: &str) -> String {
+    text.lines()
+        .zip(other.lines())
+        .filter(|(line, other)| line != other)
+        .map(|(line, _)| format!("{line}\n"))
+        .collect()
 }
 
 fn get16(bytes: &[u8], at: usize) -> u16 {

@@ -1,13 +1,14 @@
 //! `dumps [--plain] [--check] PAGE..`: puts the listing and the dump of each
 //! example into its place in a page, between `<!-- NAME: begin -->` and
-//! `<!-- NAME: end -->`. With --check nothing is written: a place that holds
-//! anything else has failed.
+//! `<!-- NAME: end -->`; a page `NAME.sab` is the file of the example itself.
+//! With --check nothing is written: a place that holds anything else has failed.
 
 mod dump;
 mod examples;
 
 use library::Library;
 use std::fs;
+use std::path::Path;
 use std::process::ExitCode;
 
 #[derive(Default)]
@@ -37,9 +38,35 @@ fn renewed(library: &dyn Library, page: &str, tally: &mut Tally) -> Option<Strin
     Some(text + rest)
 }
 
+/// The file of the example by which a path is named.
+fn write_file(
+    library: &dyn Library,
+    check: bool,
+    path: &str,
+    tally: &mut Tally,
+) -> Result<(), String> {
+    let stem = Path::new(path).file_stem().and_then(|stem| stem.to_str());
+    let example = stem.and_then(|stem| examples::example(library, stem));
+    let due = example.ok_or(format!("{path}: no example"))?.file;
+    if fs::read(path).is_ok_and(|stands| stands == due) {
+        tally.passed += 1;
+        return Ok(());
+    }
+    tally.failed += 1;
+    println!("{path}: another file stood there");
+    if check {
+        return Ok(());
+    }
+    fs::write(path, due).map_err(|error| format!("{path}: {error}"))
+}
+
 fn run(library: &dyn Library, check: bool, pages: &[String]) -> Result<Tally, String> {
     let mut tally = Tally::default();
     for name in pages {
+        if name.ends_with(".sab") {
+            write_file(library, check, name, &mut tally)?;
+            continue;
+        }
         let page = fs::read_to_string(name).map_err(|error| format!("{name}: {error}"))?;
         let text = renewed(library, &page, &mut tally)
             .ok_or(format!("{name}: a place without an end, or no example"))?;

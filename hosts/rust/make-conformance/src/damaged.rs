@@ -4,7 +4,7 @@
 use crate::good::zero_sum;
 use crate::kit::{Case, changed, refused, sealed_at};
 use make_vectors::chain::{blocks_of_six, file_of, seal};
-use make_vectors::examples::{ROOT, record};
+use make_vectors::examples::{ROOT, not_closed, record};
 use plain::BLOCK;
 
 pub fn all() -> Vec<Case> {
@@ -558,6 +558,13 @@ fn unclosed() -> Vec<Case> {
             "unclosed-by-one",
             "the last record has seen a remove, but not the last record that the remove has seen",
             sealed_at(&file, 1, &in_record(5, &[(4, 7)])),
+        ),
+        refused(
+            9,
+            1,
+            "two-blocks",
+            "the worked example of docs/FORMAT.md: 2.2 has seen 0.5, but not 1.2, which 0.5 has seen",
+            file_of(&not_closed(), 305_419_896, 2),
         ),
     ]
 }

@@ -2,7 +2,7 @@
 
 use crate::kit::{Case, good};
 use make_vectors::chain::{Fields, blocks_of_six, file_of};
-use make_vectors::examples::{ROOT, operations, paper, reasons, record, removed};
+use make_vectors::examples::{ROOT, operations, paper, reasons, record, removed, two_blocks};
 use workload::{Mix, log_of};
 
 pub fn all() -> Vec<Case> {
@@ -16,6 +16,12 @@ pub fn all() -> Vec<Case> {
             "paper",
             "the worked example of docs/FORMAT.md: quotes in a label, a disputed trace",
             file_of(&paper(), 7, 0),
+        ),
+        good(
+            "two-blocks",
+            "the worked example of two blocks of docs/FORMAT.md: the bytes of an archive number, a \
+             backslash in a label, a store and a rename apart, a settled aside, a removed trace",
+            file_of(&two_blocks(), 305_419_896, 2),
         ),
         good(
             "operations",
@@ -295,6 +301,19 @@ fn trees() -> Vec<Case> {
                     record(0, &[2, 1], 4, (0, 1), "", 0, 4),
                     record(0, &[3, 1], 4, (0, 1), "", 0, 4),
                     record(0, &[4, 1], 3, (0, 3), "", 1, 4),
+                ],
+                7,
+                0,
+            ),
+        ),
+        good(
+            "acts-again",
+            "2.1 would stand aside beside 0.1; 1.1, which ranks between them, renames 0.1, so 2.1 acts",
+            file_of(
+                &[
+                    record(0, &[], 2, ROOT, "A", 1, 3),
+                    record(1, &[1], 5, (0, 1), "C", 0, 5),
+                    record(2, &[1], 2, ROOT, "A", 2, 4),
                 ],
                 7,
                 0,

@@ -1,4 +1,5 @@
-//! Records of small examples: how they come about stands in docs/EXAMPLES.md.
+//! Records of small examples: how they come about stands in docs/FORMAT.md and
+//! docs/EXAMPLES.md.
 
 use crate::chain::Fields;
 
@@ -34,6 +35,29 @@ pub fn paper() -> Vec<[u8; 80]> {
         record(0, &[1], 2, (0, 1), "Gain \"A\"", 0x11, 4),
         record(1, &[1], 2, (0, 1), "Gain \"A\"", 0x22, 5),
     ]
+}
+
+/// Two blocks: a store and a rename apart that both fit, a remove that stands
+/// aside and is settled, and one that acts.
+pub fn two_blocks() -> Vec<[u8; 80]> {
+    vec![
+        record(0, &[], 1, ROOT, "Van 3\\rear", 0, 3),
+        record(0, &[1], 2, (0, 1), "Noise floor", 0x11, 4),
+        record(0, &[2], 3, (0, 2), "", 0x33, 6),
+        record(1, &[2], 5, (0, 2), "Noise", 0, 5),
+        record(2, &[2], 4, (0, 2), "", 0, 5),
+        record(1, &[3, 1], 2, (0, 1), "Spare", 0x44, 7),
+        record(0, &[3, 2, 1], 6, (2, 1), "", 0, 8),
+        record(0, &[4, 2, 1], 4, (1, 2), "", 0, 8),
+        record(2, &[5, 2, 1], 1, ROOT, "Van 4", 0, 9),
+    ]
+}
+
+/// The same, but the last record has not seen 1.2, which 0.5 has seen.
+pub fn not_closed() -> Vec<[u8; 80]> {
+    let mut records = two_blocks();
+    records[8] = record(2, &[5, 1, 1], 1, ROOT, "Van 4", 0, 9);
+    records
 }
 
 /// Each operation once.

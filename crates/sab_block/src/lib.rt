@@ -1,0 +1,29 @@
+// Handing out and taking a block, as the static library calls them: the unit a 32-bit number, the answer in one word.
+ghost use mathlib.Core.Path.{_≡_};
+ghost use mathlib.Core.List.{[]};
+ghost use Rattle.model.specs.Outcome.{takeOf};
+ghost use Rattle.sab_words.specs.Called.{called, told};
+ghost use Rattle.sab_block.specs.Handed.{handedOf};
+use sab_words::narrow;
+use sab_words::pack;
+use vector::vector_at;
+
+// Hands out a block of what the asked vector lacks.
+pub fn hand_out(log: &[u8], archive: u32, unit: u32, asked: &[u8], block: &mut [u8]) -> u32
+    ensures { λ r. ⌜ called r (now (log .entry)) (now (block .exit)) ≡ handedOf archive unit (now (log .entry)) (now (asked .entry)) (now (block .entry)) ⌝ }
+{
+    if asked.len() != 16 {
+        return pack(1, 0, 0);
+    }
+    let v = vector_at(asked, 0);
+    let h = hand_out::hand_out(log, archive, narrow(unit), v, block);
+    pack(h.number, h.place, 0)
+}
+
+// Takes a block, wholly or not at all.
+pub fn take(log: &mut [u8], archive: u32, unit: u32, block: &[u8]) -> u32
+    ensures { λ r. ⌜ called r (now (log .exit)) [] ≡ told (takeOf archive unit (now (log .entry)) (now (block .entry))) ⌝ }
+{
+    let t = take::take(log, archive, narrow(unit), block);
+    pack(t.number, t.place, 0)
+}

@@ -1,0 +1,137 @@
+//! Archive files: read and judged by the library.
+
+use crate::failure::{Failure, Outcome, Refused, of_library};
+use crate::files::{self, Bytes, Held, Over};
+use crate::json::Object;
+use crate::numbers::Case;
+use crate::out::shown;
+use crate::system::System;
+use crate::why;
+use sab::{Answer, Log, Tree, Vector, raw};
+use std::path::{Path, PathBuf};
+
+/// A byte more than the longest file: who has read so many knows that it is
+/// refused.
+pub const LIMIT: usize = raw::FILE + 1;
+
+/// How many records a log holds.
+pub const ROOM: usize = 512;
+
+/// An archive file that was accepted.
+pub struct Archive {
+    /// Its name, as it was given.
+    pub name: PathBuf,
+    /// Its records.
+    pub log: Log,
+    /// How many records of each unit.
+    pub vector: Vector,
+    /// Which file it is, if it has a name.
+    pub id: Option<(u64, u64)>,
+}
+
+/// The library's answer to a file's bytes, with what was wrong with them.
+pub fn judge(name: &Path, bytes: &[u8], length: Option<u64>) -> Outcome<Log> {
+    Log::read_file(bytes).map_err(|refusal| {
+        let detail = why::of_file(bytes, length, refusal);
+        Failure::Refused(Refused::new(name, refusal, Case::File, detail))
+    })
+}
+
+impl Archive {
+    /// Of a log that was read from a file.
+    pub fn of(name: &Path, log: Log, id: Option<(u64, u64)>) -> Outcome<Archive> {
+        let vector = log.vector().map_err(of_library(name, Case::File))?;
+        Ok(Archive {
+            name: name.to_path_buf(),
+            log,
+            vector,
+            id,
+        })
+    }
+
+    /// Reads an archive file.
+    pub fn read(system: &dyn System, name: &Path) -> Outcome<Archive> {
+        let Bytes { bytes, length, id } = files::read(system, name, LIMIT)?;
+        let log = judge(name, &bytes, length)?;
+        Archive::of(name, log, id)
+    }
+
+    /// The tree of its records.
+    pub fn tree(&self) -> Outcome<Tree> {
+        self.log.show().map_err(of_library(&self.name, Case::File))
+    }
+
+    /// Its name for messages.
+    pub fn shown(&self) -> String {
+        shown(&self.name)
+    }
+
+    /// What `check` says of it, behind its name.
+    pub fn summary(&self) -> String {
+        format!(
+            "SAB1, archive {}, unit {}, {}, seen {}",
+            self.log.archive(),
+            self.log.unit(),
+            why::counted(self.log.records().len(), "record"),
+            self.vector
+        )
+    }
+
+    /// The object of an archive.
+    pub fn object(&self) -> Object {
+        Object::new("archive")
+            .text("file", self.shown())
+            .text("form", "SAB1")
+            .number("archive", self.log.archive())
+            .number("unit", self.log.unit().number())
+            .number("records", self.log.records().len() as u64)
+            .numbers("vector", self.vector.counts())
+    }
+}
+
+/// An archive file that this process has locked, to replace it.
+pub struct Own<'a> {
+    /// What it held when it was read.
+    pub archive: Archive,
+    held: Held<'a>,
+}
+
+impl<'a> Own<'a> {
+    /// Locks an archive file and reads it.
+    pub fn open(system: &'a dyn System, name: &Path) -> Outcome<Own<'a>> {
+        let held = Held::open(system, name, LIMIT)?;
+        let log = judge(name, held.bytes(), Some(held.length()))?;
+        let archive = Archive::of(name, log, Some(held.id()))?;
+        Ok(Own { archive, held })
+    }
+
+    /// Puts a log in the file's place. Nothing is written if nothing changed.
+    pub fn replace(&self, log: &Log, backup: bool) -> Outcome<()> {
+        if *log == self.archive.log {
+            return Ok(());
+        }
+        let file = written(log).map_err(of_library(self.held.name(), Case::File))?;
+        self.held
+            .replace(&file, &|back| reads_back(back, log), backup)?;
+        Ok(())
+    }
+}
+
+/// The file of a log.
+fn written(log: &Log) -> Answer<Vec<u8>> {
+    log.write_file()
+}
+
+/// Whether bytes are the file of a log, by the library.
+fn reads_back(bytes: &[u8], log: &Log) -> bool {
+    Log::read_file(bytes).as_ref() == Ok(log)
+}
+
+/// Writes a log as a new file.
+pub fn create(system: &dyn System, name: &Path, log: &Log) -> Outcome<()> {
+    let file = written(log).map_err(of_library(name, Case::File))?;
+    files::create(system, name, &file, Over::Never, &|back| {
+        reads_back(back, log)
+    })?;
+    Ok(())
+}

@@ -1,0 +1,137 @@
+//! `sab diff`: what two trees show differently.
+
+use super::{Command, Session};
+use crate::archive::Archive;
+use crate::args::flag;
+use crate::failure::{Outcome, of_library};
+use crate::json::Object;
+use crate::numbers::Case;
+use crate::out::{Ink, Status};
+
+/// `sab diff`.
+pub const COMMAND: Command = Command {
+    name: "diff",
+    usage: &["diff FILE FILE [--exit-code]"],
+    summary: "what the trees of two files show differently",
+    page: "\
+Prints the lines in which the listings of two files differ: - for a line that only
+the first has, + for one that only the second has. Entries come first, then asides.
+
+    $ sab diff card0.sab card1.sab
+    --- card0.sab: archive 12 unit 0 records 2
+    +++ card1.sab: archive 12 unit 1 records 2
+    -trace 0.2 in 0.1 \"Gain\" 2025-03-04 11111111111111111111111111111111
+    +trace 1.1 in 0.1 \"Gain\" 2025-03-05 22222222222222222222222222222222",
+    options: &[flag("exit-code", None, "status 1 if there is a difference")],
+    statuses: "0 printed; 1 with --exit-code, there is a difference; 3 a file cannot be read; 4 a file is refused",
+    run,
+};
+
+fn run(session: &mut Session) -> Outcome<Status> {
+    let names = session.args.files(2..=2, "two FILEs")?;
+    let first = Archive::read(session.system, &names[0])?;
+    let second = Archive::read(session.system, &names[1])?;
+    let (old, new) = (listing(&first)?, listing(&second)?);
+    let (old, new): (Vec<&str>, Vec<&str>) = (old.lines().collect(), new.lines().collect());
+    let (old_rest, new_rest) = (old.get(2..).unwrap_or(&[]), new.get(2..).unwrap_or(&[]));
+    let lines = differing(old_rest, new_rest);
+    session.out.object(|| first.object());
+    session.out.object(|| second.object());
+    if !lines.is_empty() {
+        let head = |lines: &[&str]| lines.first().copied().unwrap_or_default().to_string();
+        session
+            .out
+            .line(format_args!("--- {}: {}", first.shown(), head(&old)));
+        session
+            .out
+            .line(format_args!("+++ {}: {}", second.shown(), head(&new)));
+    }
+    for (sign, line) in &lines {
+        session.out.object(|| {
+            Object::new("difference")
+                .text("sign", sign)
+                .text("line", line)
+        });
+        let ink = if *sign == '-' { Ink::Alarm } else { Ink::Well };
+        let text = session.out.ink(ink, format_args!("{sign}{line}"));
+        session.out.line(text);
+    }
+    Ok(Status::no_if(
+        session.args.has("exit-code") && !lines.is_empty(),
+    ))
+}
+
+fn listing(archive: &Archive) -> Outcome<String> {
+    archive
+        .log
+        .listing()
+        .map_err(of_library(&archive.name, Case::File))
+}
+
+/// What a line is about: its first two words, kind and identity.
+fn key(line: &str) -> &str {
+    let end = line.match_indices(' ').nth(1).map(|(at, _)| at);
+    &line[..end.unwrap_or(line.len())]
+}
+
+/// The lines that differ. Both lists are in rank order, so lines about the same
+/// record stand in the same order in both.
+fn differing<'a>(old: &[&'a str], new: &[&'a str]) -> Vec<(char, &'a str)> {
+    let has = |lines: &[&str], line: &str| lines.iter().any(|one| key(one) == key(line));
+    let mut lines = Vec::new();
+    let (mut old, mut new) = (old, new);
+    loop {
+        match (old.split_first(), new.split_first()) {
+            (None, None) => return lines,
+            (Some((line, rest)), _) if !has(new, line) => {
+                lines.push(('-', *line));
+                old = rest;
+            }
+            (_, Some((line, rest))) if !has(old, line) => {
+                lines.push(('+', *line));
+                new = rest;
+            }
+            (Some((one, old_rest)), Some((other, new_rest))) => {
+                if one != other {
+                    lines.push(('-', one));
+                    lines.push(('+', other));
+                }
+                (old, new) = (old_rest, new_rest);
+            }
+            (Some((line, rest)), None) => {
+                lines.push(('-', *line));
+                old = rest;
+            }
+            (None, Some((line, rest))) => {
+                lines.push(('+', *line));
+                new = rest;
+            }
+        }
+    }
+}
+
+#[cfg(test)]
+mod tests {
+    use super::differing;
+
+    #[test]
+    fn lines_that_differ() {
+        let old = ["folder 0.1 a", "trace 0.2 a", "trace 0.3 a", "aside 1.1 a"];
+        let new = ["folder 0.1 a", "trace 0.3 b", "trace 1.2 a", "aside 1.1 a"];
+        assert_eq!(
+            differing(&old, &new),
+            [
+                ('-', "trace 0.2 a"),
+                ('-', "trace 0.3 a"),
+                ('+', "trace 0.3 b"),
+                ('+', "trace 1.2 a"),
+            ]
+        );
+        assert_eq!(differing(&[], &[]), []);
+        // A pair in another order, as two archives can have it, still ends.
+        assert_eq!(
+            differing(&["t 1.1 a", "t 0.1 a"], &["t 0.1 a", "t 1.1 a"]).len(),
+            4
+        );
+    }
+}

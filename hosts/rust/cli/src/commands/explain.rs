@@ -1,0 +1,91 @@
+//! `sab explain`: what a number means.
+
+use super::{Command, Session};
+use crate::args::{as_text, flag, number};
+use crate::failure::{Outcome, usage};
+use crate::help::wrapped;
+use crate::json::Object;
+use crate::numbers::{ROWS, Row, field_card, row, section};
+use crate::out::{Ink, Status};
+
+/// `sab explain`.
+pub const COMMAND: Command = Command {
+    name: "explain",
+    usage: &["explain N..", "explain --all"],
+    summary: "what a refusal's number or an aside's reason means, and what to do",
+    page: "\
+Prints what was found, whose fault it is and what to do next, for each number.
+With --all it prints the whole field card, docs/FIELD-CARD.md.
+
+    $ sab explain 15
+    15: the label is already in that folder
+        whose fault: wish
+        what to do: choose another label
+        of an aside: two people gave one label in one folder; sab asides tells what to do",
+    options: &[flag("all", None, "print the field card")],
+    statuses: "0 printed; 2 there is no such number",
+    run,
+};
+
+fn run(session: &mut Session) -> Outcome<Status> {
+    if session.args.has("all") {
+        session.out.bytes(field_card().as_bytes());
+        return Ok(Status::Yes);
+    }
+    let words = session.args.words();
+    if words.is_empty() {
+        return Err(usage("N wanted, 1 to 21"));
+    }
+    let numbers: Vec<u8> = words
+        .iter()
+        .map(|word| number(as_text(word, "N")?, 1..=ROWS.len() as u8, "N"))
+        .collect::<Result<_, _>>()?;
+    for row in numbers.into_iter().filter_map(row) {
+        tell(session, row);
+    }
+    Ok(Status::Yes)
+}
+
+/// What a reason means where it stands behind an aside.
+fn of_aside(number: u8) -> Option<&'static str> {
+    Some(match number {
+        12 => "the entry was removed, or its make stands aside",
+        13 => "the folder was removed, or its make stands aside",
+        14 => "a trace was used as a folder, or a folder stored to: made by other software",
+        15 => "two people gave one label in one folder",
+        16 => "a folder was removed while someone put an entry in it: it stays",
+        17 => "two people changed one entry",
+        18 => "a settle of something that does not stand aside, or no longer does",
+        _ => return None,
+    })
+}
+
+fn tell(session: &mut Session, row: &Row) {
+    session.out.object(|| {
+        Object::new("number")
+            .number("number", row.number)
+            .text("cause", row.cause.all())
+            .text("fault", row.fault)
+            .text("todo", row.advice.all())
+            .maybe("aside", of_aside(row.number))
+    });
+    let indent = " ".repeat(row.number.to_string().len() + 2);
+    let cause = session.out.ink(Ink::Strong, row.cause.all());
+    session.out.line(format_args!("{}: {cause}", row.number));
+    session
+        .out
+        .line(format_args!("{indent}whose fault: {}", row.fault));
+    session
+        .out
+        .line(format_args!("{indent}what to do: {}", row.advice.all()));
+    if let Some(aside) = of_aside(row.number) {
+        session.out.line(format_args!(
+            "{indent}of an aside: {aside}; sab asides tells what to do"
+        ));
+    }
+    if let Some(section) = section(row.number) {
+        session
+            .out
+            .line(format_args!("\n{}", wrapped(section.text, 80)));
+    }
+}

@@ -1,0 +1,29 @@
+//! The field engineers' command `sab`: archive files read, compared, met, mended
+//! and shown.
+//!
+//! It never judges. Every yes, no, number, tree and vector is the answer of a
+//! call of the proved library, through the crate `sab`; the program opens files,
+//! asks, writes files safely and puts the answers into words. Records and rows
+//! are decoded only to be printed.
+
+#![forbid(unsafe_code)]
+#![deny(missing_docs)]
+
+pub mod archive;
+pub mod args;
+pub mod blocks;
+pub mod change;
+pub mod commands;
+pub mod failure;
+pub mod files;
+pub mod help;
+pub mod html;
+pub mod json;
+pub mod meeting;
+pub mod numbers;
+pub mod out;
+pub mod records;
+pub mod system;
+pub mod why;
+
+pub use commands::run;

@@ -1,0 +1,464 @@
+//! The bytes behind a refusal, in words.
+//!
+//! The library has judged by then. Here the bytes are only looked at again to
+//! say which of them it was; where nothing is found, nothing is said.
+
+use sab::raw::{BLOCK, WISH};
+use sab::{Log, Refusal, Vector};
+
+/// A record's bytes.
+type Bytes = [u8; WISH];
+
+/// What was wrong with a file, of which so many bytes were read and which is
+/// so long.
+pub fn of_file(bytes: &[u8], length: Option<u64>, refusal: Refusal) -> Option<String> {
+    let place = usize::from(refusal.place);
+    match refusal.number {
+        2 => Some(length_text(bytes.len(), length)),
+        3..=5 => {
+            let block = block_at(bytes, place)?;
+            let found = block_text(block, refusal.number)?;
+            Some(format!("{}: {found}", place_text(place)))
+        }
+        20 => disagreement(bytes, place),
+        7 | 8 | 9 | 11 => {
+            let all = records(bytes);
+            let before: Vec<&Bytes> = all.iter().map(|(_, record)| *record).collect();
+            let mut here = all
+                .iter()
+                .enumerate()
+                .filter(|(_, (at, _))| at / BLOCK == place);
+            here.find_map(|(i, (at, record))| {
+                let fault = record_text(record, &before[..i], refusal.number)?;
+                Some(format!(
+                    "record {} in bytes {at} to {}: {fault}",
+                    identity(record),
+                    at + WISH - 1
+                ))
+            })
+        }
+        _ => None,
+    }
+}
+
+/// What was wrong with a block that a log was to take.
+pub fn of_block(block: &[u8], log: &Log, refusal: Refusal) -> Option<String> {
+    match refusal.number {
+        2 => Some(length_text(block.len(), None)),
+        3..=5 => block_text(block.try_into().ok()?, refusal.number),
+        6 => Some(format!(
+            "the block is of archive {}, the log of archive {}",
+            number32(block.get(4..8)?),
+            log.archive()
+        )),
+        7..=11 => {
+            let mut before: Vec<&Bytes> = log.records().map(sab::Record::as_bytes).collect();
+            for record in in_block(block) {
+                let held = before.iter().find(|held| same_identity(held, record));
+                let fault = match (refusal.number, held) {
+                    (10, Some(held)) if *held != record => Some(other_bytes(held, record)),
+                    (10, _) | (_, Some(_)) => None,
+                    (number, None) => record_text(record, &before, number),
+                };
+                if let Some(fault) = fault {
+                    return Some(format!("record {}: {fault}", identity(record)));
+                }
+                if held.is_none() {
+                    before.push(record);
+                }
+            }
+            None
+        }
+        _ => None,
+    }
+}
+
+/// What was wrong with a wish of a unit that holds this vector: the first fault
+/// of form.
+pub fn of_wish(wish: &Bytes, vector: &Vector) -> Option<String> {
+    let mut record = *wish;
+    let held = vector.counts().get(usize::from(wish[0]))?;
+    record[2..4].copy_from_slice(&held.checked_add(1)?.to_le_bytes());
+    record[4..20].copy_from_slice(&vector.to_bytes());
+    malformed(&record)
+}
+
+/// The block of a file that lies there.
+fn block_at(bytes: &[u8], place: usize) -> Option<&[u8; BLOCK]> {
+    let (blocks, _) = bytes.as_chunks();
+    blocks.get(place)
+}
+
+fn place_text(place: usize) -> String {
+    let first = place * BLOCK;
+    format!("block {place}, bytes {first} to {}", first + BLOCK - 1)
+}
+
+fn number16(bytes: &[u8]) -> u16 {
+    u16::from_le_bytes([bytes[0], bytes[1]])
+}
+
+fn number32(bytes: &[u8]) -> u32 {
+    u32::from_le_bytes([bytes[0], bytes[1], bytes[2], bytes[3]])
+}
+
+/// Bytes in hexadecimal.
+pub fn hex(bytes: &[u8]) -> String {
+    let digits: Vec<String> = bytes.iter().map(|byte| format!("{byte:02x}")).collect();
+    digits.join(" ")
+}
+
+/// A number with commas between the thousands.
+pub fn grouped(number: u64) -> String {
+    let digits = number.to_string();
+    let mut text = String::new();
+    for (at, digit) in digits.chars().enumerate() {
+        if at > 0 && (digits.len() - at).is_multiple_of(3) {
+            text.push(',');
+        }
+        text.push(digit);
+    }
+    text
+}
+
+/// One of a thing, or so many.
+pub fn counted(count: usize, one: &str) -> String {
+    let ending = if count == 1 { "" } else { "s" };
+    format!("{count} {one}{ending}")
+}
+
+fn length_text(read: usize, length: Option<u64>) -> String {
+    let length = length.unwrap_or(read as u64);
+    let (blocks, rest) = (length / BLOCK as u64, length % BLOCK as u64);
+    match (blocks, rest) {
+        (0, 0) => "it is empty".to_string(),
+        (0, _) => format!("{}, less than a block", counted(length as usize, "byte")),
+        (_, 0) => format!("{} bytes, {} blocks", grouped(length), grouped(blocks)),
+        (1, _) => format!(
+            "{length} bytes, 1 block and {}",
+            counted(rest as usize, "byte")
+        ),
+        _ => format!(
+            "{} bytes, {} blocks and {}",
+            grouped(length),
+            grouped(blocks),
+            counted(rest as usize, "byte")
+        ),
+    }
+}
+
+/// The two sums that are due.
+fn sums(block: &[u8; BLOCK]) -> (u16, u16) {
+    let (mut first, mut second) = (0u32, 0u32);
+    for word in block[..508].chunks(2) {
+        first = (first + u32::from(number16(word))) % 65_521;
+        second = (second + first) % 65_521;
+    }
+    (first as u16, second as u16)
+}
+
+/// What 3, 4 or 5 found in a block.
+fn block_text(block: &[u8; BLOCK], number: u8) -> Option<String> {
+    match number {
+        3 if block.iter().all(|byte| *byte == 0) => Some("it is all zeros".to_string()),
+        3 => Some(format!("it begins with {}", hex(&block[..4]))),
+        4 => {
+            let due = sums(block);
+            Some(format!(
+                "its sums are {} {}, due are {} {}",
+                number16(&block[508..]),
+                number16(&block[510..]),
+                due.0,
+                due.1
+            ))
+        }
+        _ if block[8] > 7 => Some(format!("unit {}", block[8])),
+        _ if block[9] > 6 => Some(format!("count {}", block[9])),
+        _ => {
+            let begin = 28 + WISH * usize::from(block[9]);
+            let at = begin + block[begin..508].iter().position(|byte| *byte != 0)?;
+            Some(format!(
+                "byte {at} of it is {:02x} behind {}",
+                block[at],
+                counted(block[9].into(), "record")
+            ))
+        }
+    }
+}
+
+/// The records of a block, as many as its count says.
+fn in_block(block: &[u8]) -> &[Bytes] {
+    let Some(places) = block.get(28..508) else {
+        return &[];
+    };
+    let (records, _) = places.as_chunks();
+    &records[..usize::from(block[9]).min(records.len())]
+}
+
+/// The records of a file, with their offsets.
+fn records(bytes: &[u8]) -> Vec<(usize, &Bytes)> {
+    let (blocks, _) = bytes.as_chunks::<BLOCK>();
+    let of_block = |(place, block)| {
+        let records: &[Bytes] = in_block(block);
+        let begin = BLOCK * place + 28;
+        let records = records.iter().enumerate();
+        records.map(move |(i, record)| (begin + WISH * i, record))
+    };
+    let blocks = blocks.iter().map(|block| block.as_slice());
+    blocks.enumerate().flat_map(of_block).collect()
+}
+
+fn identity(record: &Bytes) -> String {
+    format!("{}.{}", record[0], number16(&record[2..]))
+}
+
+fn same_identity(one: &Bytes, other: &Bytes) -> bool {
+    one[0] == other[0] && one[2..4] == other[2..4]
+}
+
+fn seen(record: &Bytes, unit: usize) -> u16 {
+    number16(&record[4 + 2 * unit..])
+}
+
+/// What 7, 8, 9 or 11 found in a record, beside those before it.
+fn record_text(record: &Bytes, before: &[&Bytes], number: u8) -> Option<String> {
+    match number {
+        7 => malformed(record),
+        8 => not_next(record, before),
+        9 => not_closed(record, before),
+        11 => (before.len() >= 512).then(|| "the log has 512".to_string()),
+        _ => None,
+    }
+}
+
+fn other_bytes(held: &Bytes, record: &Bytes) -> String {
+    let differing = |(one, other): (&u8, &u8)| one != other;
+    let count = held
+        .iter()
+        .zip(record)
+        .filter(|pair| differing(*pair))
+        .count();
+    format!("held with {} of 80 that differ", counted(count, "byte"))
+}
+
+fn count_of(before: &[&Bytes], unit: usize) -> usize {
+    let of_unit = |record: &&&Bytes| usize::from(record[0]) == unit;
+    before.iter().filter(of_unit).count()
+}
+
+fn not_next(record: &Bytes, before: &[&Bytes]) -> Option<String> {
+    let unit = usize::from(record[0]);
+    let number = usize::from(number16(&record[2..]));
+    let held = count_of(before, unit);
+    if number != held + 1 {
+        return Some(format!("the next of unit {unit} is {unit}.{}", held + 1));
+    }
+    (0..8).find_map(|unit| {
+        let (wanted, held) = (seen(record, unit), count_of(before, unit));
+        let above = usize::from(wanted) > held;
+        above.then(|| format!("it has seen {unit}.{wanted}, and {held} of unit {unit} are held"))
+    })
+}
+
+fn not_closed(record: &Bytes, before: &[&Bytes]) -> Option<String> {
+    (0..8).find_map(|unit| {
+        let last = seen(record, unit);
+        let one = before
+            .iter()
+            .find(|held| usize::from(held[0]) == unit && number16(&held[2..]) == last)?;
+        let other = (0..8).find(|other| seen(one, *other) > seen(record, *other))?;
+        Some(format!(
+            "it has seen {}, but not {other}.{}, which that one saw",
+            identity(one),
+            seen(one, other)
+        ))
+    })
+}
+
+/// The first fault of form of a record.
+fn malformed(record: &Bytes) -> Option<String> {
+    bad_head(record)
+        .or_else(|| bad_names(record))
+        .or_else(|| bad_date(&record[28..32]))
+        .or_else(|| bad_label(record))
+        .or_else(|| bad_mark(record))
+}
+
+fn bad_head(record: &Bytes) -> Option<String> {
+    let (unit, number) = (usize::from(record[0]), number16(&record[2..]));
+    if unit > 7 {
+        Some(format!("unit {unit}"))
+    } else if !(1..=6).contains(&record[1]) {
+        Some(format!("operation {}", record[1]))
+    } else if number == 0 {
+        Some("number 0".to_string())
+    } else if seen(record, unit) != number - 1 {
+        let own = seen(record, unit);
+        Some(format!(
+            "it has seen {own} of its own unit, not {}",
+            number - 1
+        ))
+    } else {
+        None
+    }
+}
+
+fn makes(record: &Bytes) -> bool {
+    record[1] <= 2
+}
+
+fn unused(field: &[u8], what: &str) -> Option<String> {
+    let set = field.iter().any(|byte| *byte != 0);
+    set.then(|| format!("{what}, which this operation does not use"))
+}
+
+fn bad_names(record: &Bytes) -> Option<String> {
+    let (object, folder) = (&record[20..24], &record[24..28]);
+    if makes(record) {
+        let root = folder == [0; 4];
+        let named = || {
+            if root {
+                None
+            } else {
+                unnamed(folder, record, "folder")
+            }
+        };
+        unused(object, "an object").or_else(named)
+    } else {
+        unused(folder, "a folder").or_else(|| unnamed(object, record, "object"))
+    }
+}
+
+/// What is wrong with an identity that a record names.
+fn unnamed(field: &[u8], record: &Bytes, what: &str) -> Option<String> {
+    let (unit, number) = (usize::from(field[0]), number16(&field[2..]));
+    let name = format!("{unit}.{number}");
+    if unit > 7 {
+        Some(format!("{what} {name}: a unit is 0 to 7"))
+    } else if field[1] != 0 {
+        Some(format!(
+            "{what}: the byte behind its unit is {:02x}",
+            field[1]
+        ))
+    } else if number == 0 {
+        Some(format!("{what} {name} is no record"))
+    } else if number > seen(record, unit) {
+        let held = seen(record, unit);
+        let held = counted(held.into(), "record");
+        Some(format!("{what} {name}: of unit {unit} {held} can be named"))
+    } else {
+        None
+    }
+}
+
+fn bad_date(field: &[u8]) -> Option<String> {
+    let (year, month, day) = (number16(field), field[2], field[3]);
+    let leap = year % 4 == 0 && (year % 100 != 0 || year % 400 == 0);
+    let days = match month {
+        1 | 3 | 5 | 7 | 8 | 10 | 12 => 31,
+        4 | 6 | 9 | 11 => 30,
+        2 if leap => 29,
+        2 => 28,
+        _ => 0,
+    };
+    let real = (1990..=2199).contains(&year) && (1..=days).contains(&day);
+    (!real).then(|| format!("{year:04}-{month:02}-{day:02} is no date from 1990 to 2199"))
+}
+
+fn bad_label(record: &Bytes) -> Option<String> {
+    let field = &record[32..64];
+    if !makes(record) && record[1] != 5 {
+        return unused(field, "a label");
+    }
+    let end = field.iter().position(|byte| *byte == 0).unwrap_or(32);
+    let (text, behind) = field.split_at(end);
+    if let Some(at) = text.iter().position(|byte| !(0x20..=0x7e).contains(byte)) {
+        return Some(format!(
+            "byte {:02x} in the label, letter {}: only plain ASCII (20 to 7e) is allowed",
+            text[at],
+            at + 1
+        ));
+    }
+    if behind.iter().any(|byte| *byte != 0) {
+        return Some("the label has bytes behind its end".to_string());
+    }
+    match (text.first(), text.last()) {
+        (None, _) => Some("the label is empty".to_string()),
+        (Some(b' '), _) => Some("the label begins with a space".to_string()),
+        (_, Some(b' ')) => Some("the label ends with a space".to_string()),
+        _ => None,
+    }
+}
+
+fn bad_mark(record: &Bytes) -> Option<String> {
+    match record[1] {
+        2 | 3 => None,
+        _ => unused(&record[64..], "a mark"),
+    }
+}
+
+/// A record's rank, as one number.
+fn rank(record: &Bytes) -> u32 {
+    let sum: u32 = (0..8).map(|unit| u32::from(seen(record, unit))).sum();
+    8 * sum + u32::from(record[0])
+}
+
+/// What 20 found at a block.
+fn disagreement(bytes: &[u8], place: usize) -> Option<String> {
+    let (first, block) = (block_at(bytes, 0)?, block_at(bytes, place)?);
+    let last = bytes.len() / BLOCK - 1;
+    let here = place_text(place);
+    let own_place = usize::from(number16(&block[10..]));
+    let count = block[9];
+    let fault = if own_place != place {
+        Some(format!("it says place {own_place}"))
+    } else if block[8] != first[8] {
+        Some(format!(
+            "it is of unit {}, block 0 of unit {}",
+            block[8], first[8]
+        ))
+    } else if block[4..8] != first[4..8] {
+        Some(format!(
+            "it is of archive {}, block 0 of archive {}",
+            number32(&block[4..]),
+            number32(&first[4..])
+        ))
+    } else if block[12..28] != first[12..28] {
+        Some("its vector is not that of block 0".to_string())
+    } else if count != 6 && place != last {
+        Some(format!(
+            "it has {} and is not the last",
+            counted(count.into(), "record")
+        ))
+    } else if count == 0 && place > 0 {
+        Some("it has no record".to_string())
+    } else {
+        rank_fault(bytes, place).or_else(|| count_fault(bytes, first))
+    };
+    fault.map(|fault| format!("{here}: {fault}"))
+}
+
+fn rank_fault(bytes: &[u8], place: usize) -> Option<String> {
+    records(bytes).windows(2).find_map(|pair| {
+        let [(_, last), (at, record)] = pair else {
+            return None;
+        };
+        let falls = at / BLOCK == place && rank(record) <= rank(last);
+        falls.then(|| {
+            format!(
+                "record {} does not rank above {}, which stands before it",
+                identity(record),
+                identity(last)
+            )
+        })
+    })
+}
+
+fn count_fault(bytes: &[u8], first: &[u8; BLOCK]) -> Option<String> {
+    let all: Vec<&Bytes> = records(bytes).iter().map(|(_, record)| *record).collect();
+    (0..8).find_map(|unit| {
+        let (says, has) = (number16(&first[12 + 2 * unit..]), count_of(&all, unit));
+        (usize::from(says) != has)
+            .then(|| format!("the header counts {says} of unit {unit}, the file has {has}"))
+    })
+}
