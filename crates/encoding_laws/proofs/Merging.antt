@@ -3,10 +3,10 @@
 -- Assumes nothing.
 use Prim.Native.Nat.{ℕ, _+_, _≤_}
 use native.Mathlib.Omega.{arith}
-use mathlib.Core.Path.{_≡_, refl, sym, _∙_}
+use mathlib.Core.Path.{_≡_, refl, _∙_}
 use mathlib.Core.Logic.{⊎-elim}
 use mathlib.Core.Bool.{true, false, _&&_}
-use mathlib.Core.List.{List, []}
+use mathlib.Core.List.{List}
 use lib.Dec.{eqb}
 use lib.ListN.{length}
 use borrow.Author.Tests.{eqb-true, eqb-false, eq-eqb}
@@ -15,7 +15,7 @@ use Rattle.model.specs.Log.{vectorOf}
 use Rattle.model.specs.Block.{archiveIn}
 use Rattle.model.specs.File.{Fault, fault, fileLength, blockAt, fileRecords, orElse, fileFault, checkedFault}
 use Rattle.model.specs.Outcome.{lacking}
-use Rattle.model.specs.Merge.{union, bytesFault, roomFault, recordsClash, archiveFault, unionFault, Merged, merged, unless, unlessAny, joinedFile, mergeOf}
+use Rattle.model.specs.Merge.{union, bytesFault, roomFault, recordsClash, archiveFault, unionFault, Merged, unless, unlessAny, joinedFile, mergeOf}
 use Rattle.byte_slice.proofs.Numbers.{bool-cases, and-true, true-and}
 use Rattle.log_laws.specs.Members.{Agree}
 use Rattle.log_laws.specs.Sound.{Sound}

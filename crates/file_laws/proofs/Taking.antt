@@ -2,21 +2,20 @@
 -- Assumes nothing.
 use Prim.Native.Nat.{ℕ, zero, suc, _+_, _-_, _*_, _≤_, _<_}
 use native.Mathlib.Omega.{arith}
-use mathlib.Core.Path.{_≡_, refl, sym, ap, _∙_, subst}
+use mathlib.Core.Path.{_≡_, refl, sym, ap, _∙_}
 use mathlib.Core.Bool.{true}
 use mathlib.Core.List.{List, [], _∷_, _++_}
 use lib.ListN.{length, take, drop, take-append-drop, drop-of-length-le}
 use lib.Seq.{drop-drop}
 use borrow.Author.Tests.{eq-eqb}
 use Rattle.model.specs.Record.{Rec}
-use Rattle.model.specs.Log.{recordsOf, logBytes}
-use Rattle.model.specs.Block.{archiveIn, blockRecords}
+use Rattle.model.specs.Log.{logBytes}
+use Rattle.model.specs.Block.{archiveIn}
 use Rattle.model.specs.File.{blockCount, fileLength, blocksIn, blockAt, fileRecords, fileFault}
-use Rattle.model.specs.Outcome.{Outcome, outcome, Took, refused, taken, takeOne, takeAll, givenFault, takeOf}
+use Rattle.model.specs.Outcome.{outcome, Took, refused, taken, takeOne, takeAll, givenFault, takeOf}
 use Rattle.byte_slice.proofs.Parts.{part-length}
 use Rattle.log_laws.specs.Sound.{Sound}
 use Rattle.log_laws.proofs.Take.{refused-taken, taken-same, takeAll-nil, takeAll-goes, takeAll-stops, all-from}
-use Rattle.encoding_laws.specs.Keeps.{Good}
 use Rattle.encoding_laws.proofs.Calls.{log-good, sound-back, take-done}
 use Rattle.file_laws.specs.Taking.{TakesBlocks}
 use Rattle.file_laws.proofs.Rewritten.{Agreeing, agreeing, lengths, length-right, records-right}
@@ -50,7 +49,7 @@ module _ (g : List ℕ) (a : fileLength g ≡ true) (e : fileFault g .number ≡
   unfolding blockCount
   blocks-taken zero k l m h s few t =
       let r : List Rec = fileRecords g in
-      let z : drop (6 * k) r ≡ [] = drop-of-length-le (6 * k) r (omega (arith, length-right g a e)) in
+      let z : drop (6 * k) r ≡ [] = drop-of-length-le r {i = 6 * k} (omega (arith, length-right g a e)) in
       ap logBytes (taken-same (sym (takeAll-nil l) ∙ ap (takeAll l) (sym z) ∙ t))
   blocks-taken (suc n) k l m h s few t =
       let r : List Rec = fileRecords g in
@@ -68,4 +67,4 @@ module _ (g : List ℕ) (a : fileLength g ≡ true) (e : fileFault g .number ≡
 
   -- a log takes the blocks of the file as it takes its records
   pub file-taken : (l m : List Rec) → Sound l → length l ≤ 512 → takeAll l (fileRecords g) ≡ taken m → TakesBlocks archive u g 0 (blocksIn g) (logBytes l) (logBytes m)
-  file-taken l m s few t = blocks-taken (blocksIn g) 0 l m refl s few t
+  file-taken l m s few t = blocks-taken (blocksIn g) 0 l m (omega arith) s few t

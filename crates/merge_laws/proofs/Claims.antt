@@ -1,6 +1,6 @@
 -- K1 of the records: either way round the union is the same, with itself a log is itself, and 11 is answered exactly if it has no room.
 -- Assumes nothing.
-use Prim.Native.Nat.{ℕ, _≤_}
+use Prim.Native.Nat.{_≤_}
 use native.Mathlib.Omega.{arith}
 use mathlib.Core.Path.{_≡_, sym}
 use mathlib.Core.Logic.{inl, inr, ⊎-elim, _↔_}

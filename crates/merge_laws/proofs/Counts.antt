@@ -1,13 +1,13 @@
 -- How many records a union has, of each unit and in all; and that what a vector lacks of a sound log rises in rank.
 -- Assumes nothing.
-use Prim.Native.Nat.{ℕ, zero, suc, _+_, _≤_, _<_, max}
+use Prim.Native.Nat.{ℕ, zero, suc, _+_, _<_, max}
 use native.Mathlib.Omega.{arith}
 use mathlib.Core.Path.{_≡_, refl, sym, ap, subst}
 use mathlib.Core.Logic.{inl, inr, ⊎-elim}
 use mathlib.Core.List.{List, [], _∷_}
 use lib.ListN.{getD, length}
 use Rattle.model.specs.Record.{Rec}
-use Rattle.model.specs.Log.{rank, count, insert, vectorOf, sumTo}
+use Rattle.model.specs.Log.{rank, count, insert, vectorOf}
 use Rattle.model.specs.Outcome.{lacking}
 use Rattle.model.specs.Merge.{insertAll, union}
 use Rattle.log_laws.specs.Members.{Has}

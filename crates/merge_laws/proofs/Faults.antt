@@ -1,8 +1,8 @@
 -- What the checks 10 and 11 of two logs decide: 10 holds of none exactly if they agree, 11 exactly if the union has at most 512 records.
 -- Assumes nothing.
-use Prim.Native.Nat.{ℕ, zero, suc, _+_, _/_, _≤_, _<_}
+use Prim.Native.Nat.{ℕ, suc, _+_, _/_, _≤_, _<_}
 use native.Mathlib.Omega.{arith}
-use mathlib.Core.Path.{_≡_, refl, sym, ap, _∙_, subst}
+use mathlib.Core.Path.{_≡_, refl, sym, ap, _∙_}
 use mathlib.Core.Logic.{_⊎_, inl, inr, ⊎-elim}
 use mathlib.Core.Bool.{Bool, true, false, not}
 use mathlib.Core.Option.{Option, none, some}
@@ -12,12 +12,12 @@ use borrow.Author.Tests.{lt-ltb, le-ltb}
 use Rattle.model.specs.Bytes.{sameBytes}
 use Rattle.model.specs.Record.{Rec, unit, num}
 use Rattle.model.specs.Log.{byId}
-use Rattle.model.specs.File.{Fault, fault}
+use Rattle.model.specs.File.{fault}
 use Rattle.model.specs.Outcome.{lacking}
 use Rattle.model.specs.Merge.{differs, bytesFault, roomFault}
 use Rattle.byte_slice.proofs.Numbers.{lt-or-ge, cond-cases}
 use Rattle.byte_slice.proofs.Compare.{same-eq, same-refl}
-use Rattle.log_laws.specs.Members.{Has, Agree}
+use Rattle.log_laws.specs.Members.{Agree}
 use Rattle.log_laws.specs.Sound.{Sound}
 use Rattle.log_laws.proofs.Ids.{held-byId, byId-some}
 use Rattle.log_laws.proofs.Lacking.{lacking-cons, lacking-nil}

@@ -1,7 +1,7 @@
 -- The records of two sound logs that agree, put together by rank, are sound, and they are all of both; taking the second's comes to the
 -- same.
 -- Assumes nothing.
-use Prim.Native.Nat.{ℕ, zero, suc, _+_, _≤_, _<_}
+use Prim.Native.Nat.{ℕ, suc, _+_, _≤_, _<_}
 use native.Mathlib.Omega.{arith}
 use mathlib.Core.Path.{_≡_, refl, sym, ap, _∙_, subst}
 use mathlib.Core.Logic.{_⊎_, inl, inr, ⊎-elim}
@@ -9,8 +9,8 @@ use mathlib.Core.Bool.{true}
 use mathlib.Core.List.{List, [], _∷_}
 use lib.ListN.{getD, length}
 use Rattle.model.specs.Record.{Rec, unit, num, seen, wellFormed}
-use Rattle.model.specs.Log.{rank, count, byId, insert, vectorOf}
-use Rattle.model.specs.Outcome.{lacking, Took, taken, takeOne, takeAll}
+use Rattle.model.specs.Log.{rank, count, insert, vectorOf}
+use Rattle.model.specs.Outcome.{lacking, taken, takeOne, takeAll}
 use Rattle.model.specs.Merge.{insertAll, union}
 use Rattle.byte_slice.proofs.Numbers.{lt-or-ge}
 use Rattle.log_laws.specs.Members.{Has, Sub, Agree}
