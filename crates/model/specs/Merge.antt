@@ -8,6 +8,7 @@ use mathlib.Core.List.{List, [], _∷_}
 use lib.Dec.{ltb, eqb}
 use lib.ListN.{getD, length}
 use Rattle.model.specs.Numbers.{badBuffer, otherArchive, otherBytes, fullLog}
+use Rattle.model.specs.Lengths.{logSize, fileSize, logPlaces}
 use Rattle.model.specs.Bytes.{sameBytes, padded}
 use Rattle.model.specs.Record.{Rec, unit, num}
 use Rattle.model.specs.Log.{insert, byId, vectorOf, logBytes}
@@ -43,7 +44,7 @@ unfoldable pub roomFault : List ℕ → ℕ → ℕ → List Rec → Fault
 roomFault v n i [] = fault 0 0
 roomFault v n i (r ∷ m) =
     cond (ltb (getD v (unit r) 0) (num r))
-    (cond (ltb n 512) (roomFault v (suc n) (suc i) m) (fault fullLog (i / 6)))
+    (cond (ltb n logPlaces) (roomFault v (suc n) (suc i) m) (fault fullLog (i / 6)))
     (roomFault v n (suc i) m)
 
 -- of the records l, n of them, and m: 10 wholly before 11 [F86]
@@ -86,11 +87,11 @@ unlessAny a b c log lent o = unless a 1 log lent (unless b 2 log lent (unless c 
 -- the file of the records l, with the archive and the unit of the file f [F90]
 unfoldable pub joinedFile : List ℕ → List Rec → Merged
 joinedFile f l =
-    merged 0 0 0 (blockCount (length l)) (logBytes l) (padded 44032 (fileOf (archiveIn (blockAt f 0)) (senderIn (blockAt f 0)) l))
+    merged 0 0 0 (blockCount (length l)) (logBytes l) (padded fileSize (fileOf (archiveIn (blockAt f 0)) (senderIn (blockAt f 0)) l))
 
 -- 1, then all of the first file, all of the second, then 6, 10, 11 [F86]
 unfoldable pub mergeOf : List ℕ → List ℕ → List ℕ → List ℕ → Merged
 mergeOf f g log lent =
-    cond (eqb (length log) 40960 && eqb (length lent) 44032)
+    cond (eqb (length log) logSize && eqb (length lent) fileSize)
     (unlessAny (checkedFault f) (checkedFault g) (unionFault f g) log lent (joinedFile f (union (fileRecords f) (fileRecords g))))
     (merged badBuffer 0 0 0 log lent)
