@@ -16,7 +16,7 @@ use Rattle.model.specs.Table.{identityBytes}
 use Rattle.model.specs.Block.{bodyBytes, archiveIn, senderIn, vectorIn}
 use Rattle.model.specs.File.{Fault, fault, blockCount, headerOf, blockAt}
 use Rattle.model.specs.Outcome.{Took, refused, taken, takeAll}
-use Rattle.model.specs.Merge.{Merged, merged, union, recordsClash, unionFault, unlessAny, joinedFile, mergeOf}
+use Rattle.model.specs.Merge.{Merged, merged, union, recordsClash, unionFault, unlessAny, joinedBoth, mergeOf}
 use Rattle.model.specs.Listing.{decimal, headLine, seenLine}
 
 infix 90 _·_
@@ -169,8 +169,8 @@ pub data Row : Type 0 where
   blames : Fault → Fault → Fault → Fault → ℕ → Row
   -- how many bytes are lent for the log and the file, and the number and file at fault when both files are of no bytes
   lends : ℕ → ℕ → ℕ → ℕ → Row
-  -- archive and unit of a first file, the records of both, and archive, unit and vector of their file
-  joins : ℕ → ℕ → List Rec → ℕ → ℕ → List ℕ → Row
+  -- unit and records of a file of archive 7, of another, and unit and vector of the file of both
+  joins : ℕ → List Rec → ℕ → List Rec → ℕ → List ℕ → Row
 
 unfoldable pub showsTaken : Took → List Shown → List Standing → Bool
 showsTaken (refused n) es ss = false
@@ -221,7 +221,7 @@ right (clashes l n m e) = soundAfter [] l && (soundAfter [] m && sameFault (reco
 right (parts a l b m e) = sameFault (unionFault (unsealed a 0 l) (unsealed b 1 m)) e
 right (blames a b c e w) = answers (unlessAny a b c [] [] (merged 0 0 0 1 [] [])) e w
 right (lends n k e w) = answers (mergeOf [] [] (replicate n 0) (replicate k 0)) (fault e 0) w
-right (joins a u l archive sender v) = heads (joinedFile (unsealed a u []) l .lent) archive sender v
+right (joins u l w m sender v) = heads (joinedBoth (unsealed 7 u l) (unsealed 7 w m) .lent) 7 sender v
 
 unfoldable pub allRight : List Row → Bool
 allRight [] = true
@@ -444,7 +444,8 @@ merges =
     ∷ lends 40959 44032 1 0
     ∷ lends 40960 44032 2 1
     -- archive and unit of the first file, the counts of both
-    ∷ joins 7 2 (firstsTo 3) 7 2 (1 ∷ 1 ∷ 1 ∷ 0 ∷ 0 ∷ 0 ∷ 0 ∷ 0 ∷ [])
+    ∷ joins 2 (firstsTo 1) 5 (firstsTo 3) 2 (1 ∷ 1 ∷ 1 ∷ 0 ∷ 0 ∷ 0 ∷ 0 ∷ 0 ∷ [])
+    ∷ joins 5 (firstsTo 3) 2 (firstsTo 1) 5 (1 ∷ 1 ∷ 1 ∷ 0 ∷ 0 ∷ 0 ∷ 0 ∷ 0 ∷ [])
     ∷ []
 
 unfoldable pub table : List Row

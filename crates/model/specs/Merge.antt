@@ -89,9 +89,13 @@ unfoldable pub joinedFile : List ℕ → List Rec → Merged
 joinedFile f l =
     merged 0 0 0 (blockCount (length l)) (logBytes l) (padded fileSize (fileOf (archiveIn (blockAt f 0)) (senderIn (blockAt f 0)) l))
 
+-- the file of all records of both, as the first says of itself [F90]
+abbrev pub joinedBoth : List ℕ → List ℕ → Merged
+joinedBoth f g = joinedFile f (union (fileRecords f) (fileRecords g))
+
 -- 1, then all of the first file, all of the second, then 6, 10, 11 [F86]
 unfoldable pub mergeOf : List ℕ → List ℕ → List ℕ → List ℕ → Merged
 mergeOf f g log lent =
     cond (eqb (length log) logSize && eqb (length lent) fileSize)
-    (unlessAny (checkedFault f) (checkedFault g) (unionFault f g) log lent (joinedFile f (union (fileRecords f) (fileRecords g))))
+    (unlessAny (checkedFault f) (checkedFault g) (unionFault f g) log lent (joinedBoth f g))
     (merged badBuffer 0 0 0 log lent)
