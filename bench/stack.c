@@ -67,6 +67,12 @@ static void run_read_file(void)
     result = sab_read_file(log_bytes, sizeof log_bytes, file, file_length, head, sizeof head);
 }
 
+static void run_merge(void)
+{
+    result = sab_merge(file, file_length, file, file_length, log_bytes, sizeof log_bytes, out_file,
+                       sizeof out_file);
+}
+
 static void run_show(void)
 {
     result = sab_show(log_bytes, sizeof log_bytes, tree, sizeof tree);
@@ -88,7 +94,8 @@ static const struct entry ENTRIES[] = {
     {"sab_start", run_start},           {"sab_act", run_act},
     {"sab_hand_out", run_hand_out},     {"sab_take", run_take},
     {"sab_write_file", run_write_file}, {"sab_read_file", run_read_file},
-    {"sab_show", run_show},             {"sab_listing", run_listing},
+    {"sab_merge", run_merge},           {"sab_show", run_show},
+    {"sab_listing", run_listing},
 };
 
 static void fail(const char *what)

@@ -47,8 +47,8 @@
  * - The sums of a block find every changed single byte and nearly all other
  *   damage, not all: two changed bytes can cancel. They are no protection
  *   against a person who wants to deceive.
- * - The archive number is compared by sab_take and nowhere else. The log does
- *   not hold it.
+ * - The archive number is compared by sab_take and sab_merge and nowhere else.
+ *   The log does not hold it.
  * - A log holds 512 records and does not get smaller. A full one refuses new
  *   records (11). A block is taken wholly or not at all, so takes may stop at 507
  *   records or more: two units with 300 of their own stop at 510 each, and each
@@ -71,11 +71,14 @@
  *
  *     SAB_NUMBER(r)   0 for success, else the number of the refusal, below
  *     SAB_PLACE(r)    the block at fault, counted from 0. The numbers 2 to 11 and
- *                     20 have a place; only sab_read_file and sab_listing give
- *                     another than 0. For the other numbers it says nothing
+ *                     20 have a place; only sab_read_file, sab_listing and
+ *                     sab_merge give another than 0. For the other numbers it
+ *                     says nothing
  *     SAB_COUNT(r)    what a successful call counted: the blocks written
- *                     (sab_write_file), the records read (sab_read_file) or held
- *                     (sab_vector), the answer of sab_compare; else 0
+ *                     (sab_write_file, sab_merge), the records read
+ *                     (sab_read_file) or held (sab_vector), the answer of
+ *                     sab_compare; of a refused sab_merge, which file is at
+ *                     fault; else 0
  *
  * A refused call leaves every byte of every lent buffer as it was.
  * (sab_listing, whose output tells of the refusal, says what it leaves.)
@@ -179,9 +182,9 @@ extern "C" {
 /* ---- The version of this header and of its calls ---- */
 
 #define SAB_VERSION_MAJOR 1
-#define SAB_VERSION_MINOR 0
+#define SAB_VERSION_MINOR 1
 #define SAB_VERSION_PATCH 0
-#define SAB_VERSION "1.0.0"
+#define SAB_VERSION "1.1.0"
 
 /* ---- Lengths in bytes ---- */
 
@@ -213,7 +216,7 @@ extern "C" {
 #define SAB_BAD_SUM 4u        /* P a sum of a block differs: damaged */
 #define SAB_BAD_HEADER 5u     /* P a header's unit is above 7 or its count above
                                    6, or an unused record place is not zero */
-#define SAB_OTHER_ARCHIVE 6u  /* P the block is of another archive */
+#define SAB_OTHER_ARCHIVE 6u  /* P the block or file is of another archive */
 #define SAB_MALFORMED 7u      /* P a record or a wish is not well formed */
 #define SAB_NOT_NEXT 8u       /* P a record's number is not its unit's next, or
                                    it has seen records that are not held: others
@@ -411,6 +414,38 @@ uint32_t sab_write_file(const uint8_t *log, size_t log_len, uint32_t archive,
  */
 uint32_t sab_read_file(uint8_t *log, size_t log_len, const uint8_t *file,
                        size_t file_len, uint8_t *head, size_t head_len);
+
+/* Makes one file of all records of two: the last file of an analyser that is
+ * retired and its successor's, say. Both files must be good and of one archive.
+ *
+ * first    a file, 512 to 44,032 bytes, only read; the result has its unit
+ * second   a file, 512 to 44,032 bytes, only read
+ * log      40,960 bytes, work space, whose old bytes are not judged; on 0 it
+ *          holds the records of both, in rank order
+ * file     44,032 bytes; on 0 every byte is written: SAB_COUNT blocks of 512,
+ *          which are the file, then zeros, which are not part of it. The file
+ *          has the first's archive and unit, all records of both, those that
+ *          both have once, and the vector of these
+ *
+ * Which file comes first decides nothing but the unit. A file merged with itself
+ * is that file.
+ *
+ * Returns 0, and SAB_COUNT is the count of blocks, 1 to 86; else SAB_COUNT is
+ * the file at fault, 1 or 2:
+ *    1 log or file not of its length; SAB_COUNT is 0, for neither;
+ *   then all numbers of sab_read_file but 1, for the first file;
+ *   then the same for the second;
+ *   then, for the second,
+ *    6 another archive than the first's, place 0;
+ *   10 a record that the first has with other bytes: a number was used twice;
+ *   11 the two have more than 512 records.
+ * The place says which block of that file: of 10 the block of the first such
+ * record, of 11 that of the first record that is one too many behind the first
+ * file's. All records are compared, 10, before they are counted, 11.
+ */
+uint32_t sab_merge(const uint8_t *first, size_t first_len,
+                   const uint8_t *second, size_t second_len, uint8_t *log,
+                   size_t log_len, uint8_t *file, size_t file_len);
 
 /* Shows the tree of a log: the replay of its records in rank order.
  *

@@ -1,5 +1,6 @@
 //! One case for each entry point and size of log.
 
+use crate::exchange::Pair;
 use crate::times::clock;
 use library::Library;
 use plain::{BLOCK, FILE, LOG, RECORD, TREE};
@@ -42,8 +43,9 @@ fn new_trace() -> [u8; 80] {
 }
 
 /// The cases on the first 0, 64, 256 and 512 records of a full log. An act and a
-/// take of six on the full one are timed on all but what they add.
-pub fn cases(log: &[u8]) -> Vec<Case> {
+/// take of six on the full one are timed on all but what they add. Files that are
+/// merged have so many records together: both the same, or each unit's half.
+pub fn cases(log: &[u8], pair: &Pair) -> Vec<Case> {
     let mut cases = Vec::new();
     for size in SIZES {
         let mut case = |name: &str, run: Run| {
@@ -66,6 +68,9 @@ pub fn cases(log: &[u8]) -> Vec<Case> {
         );
         case("write a file", write_file(lent.clone()));
         case("read a file", read_file(&lent));
+        case("merge, the same file", merge([&lent, &lent]));
+        let [one, other] = pair.logs().map(|log| first(log, size / 2));
+        case("merge, halves", merge([&one, &other]));
         case("show the tree", show(lent.clone()));
         case("listing", listing(&lent));
     }
@@ -160,6 +165,18 @@ fn read_file(log: &[u8]) -> Run {
     Box::new(move |library| {
         Some(clock(|| {
             library.read_file(&mut lent, black_box(&file)).unwrap()
+        }))
+    })
+}
+
+fn merge(logs: [&[u8]; 2]) -> Run {
+    let [one, other] = logs.map(file_of);
+    let (mut log, mut file) = (vec![0; LOG], vec![0; FILE]);
+    Box::new(move |library| {
+        Some(clock(|| {
+            library
+                .merge(black_box(&one), black_box(&other), &mut log, &mut file)
+                .unwrap()
         }))
     })
 }

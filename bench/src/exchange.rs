@@ -30,6 +30,11 @@ impl Pair {
         }
     }
 
+    /// Each unit's log, all of its own making.
+    pub fn logs(&self) -> [&[u8]; 2] {
+        [0, 1].map(|unit| &self.logs[unit][..])
+    }
+
     /// What each unit made.
     #[cfg(feature = "sqlite")]
     pub fn records(&self) -> [&[[u8; 80]]; 2] {

@@ -56,7 +56,8 @@ fn main() {
     let mut file = vec![0; plain::FILE];
     plain::write_file(&log, 7, 0, &mut file).expect("a sound log");
 
-    let mut cases = calls::cases(&log);
+    let pair = exchange::Pair::new();
+    let mut cases = calls::cases(&log, &pair);
     let mut yard = Times::default();
     let mut times = vec![vec![Times::default(); libraries.len()]; cases.len()];
     for (case, times) in cases.iter_mut().zip(&mut times) {
@@ -80,7 +81,6 @@ fn main() {
         times::row(&case.name, times, &yard);
     }
 
-    let pair = exchange::Pair::new();
     let mut times = vec![Times::default(); libraries.len()];
     for _ in 0..options.rounds.div_ceil(20) {
         for ((_, library), times) in libraries.iter().zip(&mut times) {

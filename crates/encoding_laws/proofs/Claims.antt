@@ -15,9 +15,11 @@ use Rattle.model.specs.Outcome.{Outcome, outcome, startOf, actOf, handOf, write
 use Rattle.log_laws.specs.Sound.{Sound}
 use Rattle.log_laws.proofs.Tests.{sound-means, means-sound}
 use Rattle.log_laws.proofs.Take.{all-from, take-again}
-use Rattle.encoding_laws.specs.Keeps.{Good, Keeps, Reads}
+use Rattle.model.specs.Merge.{mergeOf}
+use Rattle.encoding_laws.specs.Keeps.{Good, Keeps, Reads, Merges}
 use Rattle.encoding_laws.proofs.Logs.{Proper, records-back, sound-bytes, sound-records, sound-few, log-sound}
 use Rattle.encoding_laws.proofs.Reading.{read-keeps}
+use Rattle.encoding_laws.proofs.Merging.{merge-keeps}
 use Rattle.encoding_laws.proofs.Calls.{Guarded, guarded-cases, guarded-passes, log-good, sound-back, take-done, start-keeps, act-keeps, hand-keeps, write-keeps, take-keeps, show-keeps}
 
 -- L2: the records of a good log are sound, and it is the bytes of these records and of no other sound ones
@@ -43,10 +45,11 @@ pub record EveryCallKeeps : Type 0 where
   pub taking : (archive u : ℕ) (log b : List ℕ) → Keeps log [] (takeOf archive u log b)
   pub showing : (log lent : List ℕ) → Keeps log lent (showOf log lent)
   pub reading : (log f : List ℕ) → Reads log (readOf log f)
+  pub merging : (f g log lent : List ℕ) → Merges log lent (mergeOf f g log lent)
 
 pub every-call-keeps : EveryCallKeeps
 every-call-keeps =
-    record { starting = start-keeps; acting = act-keeps; handing-out = hand-keeps; writing = write-keeps; taking = take-keeps; showing = show-keeps; reading = read-keeps }
+    record { starting = start-keeps; acting = act-keeps; handing-out = hand-keeps; writing = write-keeps; taking = take-keeps; showing = show-keeps; reading = read-keeps; merging = merge-keeps }
 
 -- B4: a block that was taken is taken again with 0 and changes nothing
 pub taken-again : (archive u : ℕ) (log b : List ℕ) → takeOf archive u log b .number ≡ 0

@@ -34,7 +34,7 @@ faultless-records (r ∷ l) pre i k e =
     full (inr a) b f = let z : _≡_ {A = ℕ} 11 0 = rw a at e in absurd (omega arith)
 
 -- the first of two faults is none if there is none
-no-fault : (a b : Fault) → orElse a b .number ≡ 0 → (a .number ≡ 0) × (b .number ≡ 0)
+pub no-fault : (a b : Fault) → orElse a b .number ≡ 0 → (a .number ≡ 0) × (b .number ≡ 0)
 unfolding orElse
 no-fault a b e = go (bool-cases (eqb (a .number) 0))
   where

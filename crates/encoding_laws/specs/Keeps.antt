@@ -8,6 +8,7 @@ use lib.ListN.{length}
 use Rattle.model.specs.Log.{soundLog}
 use Rattle.model.specs.File.{ReadBack}
 use Rattle.model.specs.Outcome.{Outcome}
+use Rattle.model.specs.Merge.{Merged}
 
 -- a sound log of its stated length
 pub record Good (log : List ℕ) : Type 0 where
@@ -23,3 +24,8 @@ pub record Keeps (log lent : List ℕ) (o : Outcome) : Type 0 where
 pub record Reads (log : List ℕ) (o : ReadBack) : Type 0 where
   pub accepted : o .number ≡ 0 → Good (o .log)
   pub refused : (o .number ≡ 0 → ⊥) → o .log ≡ log
+
+-- and so does merging two files, with the log and the file that are lent
+pub record Merges (log lent : List ℕ) (o : Merged) : Type 0 where
+  pub accepted : o .number ≡ 0 → Good (o .log)
+  pub refused : (o .number ≡ 0 → ⊥) → (o .log ≡ log) × (o .lent ≡ lent)

@@ -57,7 +57,7 @@ written-then-read archive u l log s h k e = Written.read-is archive u l (sound-m
 pub read-then-written : (log f : List ℕ) → ((j : ℕ) → getD f j 0 < 256) → readOf log f .number ≡ 0
     → fileOf (readOf log f .archive) (readOf log f .sender) (fileRecords f) ≡ f
 unfolding readBack
-read-then-written log f g e = let (a, b, c) = read-accepted log f e in rw c (file-again f g a b)
+read-then-written log f g e = let (a, b, c) = read-accepted log f e in rw c (file-again f a b g)
 
 -- and the log left is that of its records, and sound
 pub accepted-file-leaves-its-records : (log f : List ℕ) → readOf log f .number ≡ 0 → (readOf log f .log ≡ logBytes (fileRecords f)) × Good (readOf log f .log)
@@ -98,6 +98,6 @@ call-read-then-written spare f lent g z e =
     let (s, m) = file-records f b in
     let l : List Rec = fileRecords f in
     let h : Sound l = sound-means l s in
-    rw (c, sound-back l h m, file-again f g a b, length-right f g a b)
+    rw (c, sound-back l h m, file-again f a b g, length-right f a b)
     (guarded-passes (senderIn (blockAt f 0)) (logBytes l) lent (eqb (length lent) 44032) (outcome 0 0 (logBytes l) (padded 44032 f) (blocksIn f))
-    (eq-eqb (length lent) 44032 e) (sender-right f g a b) (log-good l h m))
+    (eq-eqb (length lent) 44032 e) (sender-right f a b) (log-good l h m))

@@ -3,3 +3,5 @@ pub mod Written
 pub mod Blocks
 pub mod Rewritten
 pub mod Claims
+pub mod Taking
+pub mod Merged

@@ -132,11 +132,11 @@ take-six f i m =
 
 -- ---- the file
 
-module _ (f : List ℕ) (g : Bytes f) (a : fileLength f ≡ true) (e : fileFault f .number ≡ 0) where
+module _ (f : List ℕ) (a : fileLength f ≡ true) (e : fileFault f .number ≡ 0) where
   abbrev n : ℕ
   n = blocksIn f
 
-  lengths : (length f ≡ 512 * n) × (1 ≤ n)
+  pub lengths : (length f ≡ 512 * n) × (1 ≤ n)
   unfolding fileLength blocksIn
   lengths =
       let (p, q) = and-true (eqb (length f % 512) 0) (leb 1 (length f / 512) && leb (length f / 512) 86) a in
@@ -149,7 +149,7 @@ module _ (f : List ℕ) (g : Bytes f) (a : fileLength f ≡ true) (e : fileFault
       let (p, q) = no-fault (blocksFault f 0 n) (orElse (recordsFault [] 0 (fileRecords f)) (countsFault f)) e in
       (p, no-fault (recordsFault [] 0 (fileRecords f)) (countsFault f) q .1)
 
-  agreeing : (k : ℕ) → k < n → Agreeing f n k
+  pub agreeing : (k : ℕ) → k < n → Agreeing f n k
   agreeing k h = block-passed f k (blocks-passed f n 0 (faults .0) k (omega arith) (omega arith))
 
   abbrev count : ℕ → ℕ
@@ -158,7 +158,7 @@ module _ (f : List ℕ) (g : Bytes f) (a : fileLength f ≡ true) (e : fileFault
   few : (k : ℕ) → k < n → count k ≤ 6
   few k h = stored-header (blockAt f k) (header-right (blockAt f k) (agreeing k h .good)) .1
 
-  vector-right : vectorIn (blockAt f 0) ≡ vectorOf (fileRecords f)
+  pub vector-right : vectorIn (blockAt f 0) ≡ vectorOf (fileRecords f)
   unfolding countsFault fault
   vector-right =
       let d : countsFault f .number ≡ 0 = faults .1 in
@@ -168,7 +168,7 @@ module _ (f : List ℕ) (g : Bytes f) (a : fileLength f ≡ true) (e : fileFault
       (bool-cases (sameBytes (vectorIn (blockAt f 0)) (vectorOf (fileRecords f))))
 
   -- the records of block k
-  records-right : (k : ℕ) → k < n → take 6 (drop (6 * k) (fileRecords f)) ≡ blockRecords (blockAt f k)
+  pub records-right : (k : ℕ) → k < n → take 6 (drop (6 * k) (fileRecords f)) ≡ blockRecords (blockAt f k)
   unfolding fileRecords recordsCounted blockRecords
   records-right k h =
       let N : ℕ = 6 * (n - 1) + count (n - 1) in
@@ -193,29 +193,30 @@ module _ (f : List ℕ) (g : Bytes f) (a : fileLength f ≡ true) (e : fileFault
   pub sender-right : senderIn (blockAt f 0) ≤ 7
   sender-right = stored-header (blockAt f 0) (header-right (blockAt f 0) (agreeing 0 (lengths .1) .good)) .0
 
-  block-right : (k : ℕ) → k < n → fileBlock archive sender (fileRecords f) k ≡ blockAt f k
-  unfolding fileBlock headerOf headerIn blockAt
-  block-right k h =
-      let b : List ℕ = blockAt f k in
-      let w : 512 * k + 512 ≤ length f = omega (arith, lengths .0) in
-      let A : Agreeing f n k = agreeing k h in
-      let H : headerOf archive sender k (fileRecords f) ≡ headerIn b =
-      λ i. record {
-        archive = sym (A .archived) i;
-        sender = sym (A .sent) i;
-        place = sym (A .placed) i;
-        vector = (sym vector-right ∙ sym (A .vectored)) i;
-      } in
-      (λ i. blockOf (H i) (records-right k h i))
-      ∙ block-again b (part-length f (512 * k) 512 w) (bytes-part f (512 * k) 512 w g) (A .good)
+  module _ (g : Bytes f) where
+    block-right : (k : ℕ) → k < n → fileBlock archive sender (fileRecords f) k ≡ blockAt f k
+    unfolding fileBlock headerOf headerIn blockAt
+    block-right k h =
+        let b : List ℕ = blockAt f k in
+        let w : 512 * k + 512 ≤ length f = omega (arith, lengths .0) in
+        let A : Agreeing f n k = agreeing k h in
+        let H : headerOf archive sender k (fileRecords f) ≡ headerIn b =
+        λ i. record {
+          archive = sym (A .archived) i;
+          sender = sym (A .sent) i;
+          place = sym (A .placed) i;
+          vector = (sym vector-right ∙ sym (A .vectored)) i;
+        } in
+        (λ i. blockOf (H i) (records-right k h i))
+        ∙ block-again b (part-length f (512 * k) 512 w) (bytes-part f (512 * k) 512 w g) (A .good)
 
-  front-right : (m : ℕ) → m ≤ n → fileTo archive sender (fileRecords f) m ≡ take (512 * m) f
-  unfolding fileTo blockAt part
-  front-right zero h = refl
-  front-right (suc m) h =
-      let q : 512 * suc m ≡ 512 * m + 512 = omega arith in
-      rw (q, take-add (512 * m) 512 f) (λ i. front-right m (omega arith) i ++ block-right m (omega arith) i)
+    front-right : (m : ℕ) → m ≤ n → fileTo archive sender (fileRecords f) m ≡ take (512 * m) f
+    unfolding fileTo blockAt part
+    front-right zero h = refl
+    front-right (suc m) h =
+        let q : 512 * suc m ≡ 512 * m + 512 = omega arith in
+        rw (q, take-add (512 * m) 512 f) (λ i. front-right m (omega arith) i ++ block-right m (omega arith) i)
 
-  pub file-again : fileOf (archiveIn (blockAt f 0)) (senderIn (blockAt f 0)) (fileRecords f) ≡ f
-  unfolding fileOf
-  file-again = rw length-right (front-right n (omega arith) ∙ take-all (512 * n) f (omega (arith, lengths .0)))
+    pub file-again : fileOf (archiveIn (blockAt f 0)) (senderIn (blockAt f 0)) (fileRecords f) ≡ f
+    unfolding fileOf
+    file-again = rw length-right (front-right n (omega arith) ∙ take-all (512 * n) f (omega (arith, lengths .0)))

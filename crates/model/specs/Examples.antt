@@ -1,7 +1,7 @@
 -- The bench examples of document 01, and some of the same kind, as rows of one table.
--- Document 01, "Bench examples".
+-- Document 01, "Bench examples"; document 02, K1.
 -- Assumes nothing.
-use Prim.Native.Nat.{ℕ}
+use Prim.Native.Nat.{ℕ, zero, suc}
 use mathlib.Core.Bool.{Bool, true, false, cond, not, _&&_, _||_}
 use mathlib.Core.List.{List, [], _∷_, _++_}
 use lib.Dec.{leb, eqb}
@@ -13,8 +13,10 @@ use Rattle.model.specs.Record.{Rec, identity, unitOf, numberOf, root, we
 use Rattle.model.specs.Log.{recordFault, soundAfter}
 use Rattle.model.specs.Replay.{Entry, Aside, Tree, replay, presentOnes, isDisputed}
 use Rattle.model.specs.Table.{identityBytes}
-use Rattle.model.specs.File.{blockCount}
+use Rattle.model.specs.Block.{bodyBytes, archiveIn, senderIn, vectorIn}
+use Rattle.model.specs.File.{Fault, fault, blockCount, headerOf, blockAt}
 use Rattle.model.specs.Outcome.{Took, refused, taken, takeAll}
+use Rattle.model.specs.Merge.{Merged, merged, union, recordsClash, unionFault, unlessAny, joinedBoth, mergeOf}
 use Rattle.model.specs.Listing.{decimal, headLine, seenLine}
 
 infix 90 _·_
@@ -157,6 +159,18 @@ pub data Row : Type 0 where
   faulty : List Rec → Rec → ℕ → Row
   -- a text of the listing, and its bytes
   prints : List ℕ → List ℕ → Row
+  -- the records of two files, and those of both, whichever file comes first
+  unites : List Rec → List Rec → List Rec → Row
+  -- records of a first file, how many it has in all, those of a second, and the fault of the two
+  clashes : List Rec → ℕ → List Rec → Fault → Row
+  -- the archive and the records of a file, of another, and the fault of the two
+  parts : ℕ → List Rec → ℕ → List Rec → Fault → Row
+  -- a fault of the first file, of the second, of the two together; the one that is answered, and the file at fault
+  blames : Fault → Fault → Fault → Fault → ℕ → Row
+  -- how many bytes are lent for the log and the file, and the number and file at fault when both files are of no bytes
+  lends : ℕ → ℕ → ℕ → ℕ → Row
+  -- unit and records of a file of archive 7, of another, and unit and vector of the file of both
+  joins : ℕ → List Rec → ℕ → List Rec → ℕ → List ℕ → Row
 
 unfoldable pub showsTaken : Took → List Shown → List Standing → Bool
 showsTaken (refused n) es ss = false
@@ -165,6 +179,28 @@ showsTaken (taken m) es ss = shows m es ss
 unfoldable pub isRefused : Took → ℕ → Bool
 isRefused (refused n) k = eqb n k
 isRefused (taken m) k = false
+
+-- the same records in the same order
+unfoldable pub sameRecords : List Rec → List Rec → Bool
+sameRecords [] [] = true
+sameRecords [] (s ∷ m) = false
+sameRecords (r ∷ l) [] = false
+sameRecords (r ∷ l) (s ∷ m) = sameBytes r s && sameRecords l m
+
+unfoldable pub sameFault : Fault → Fault → Bool
+sameFault a b = eqb (a .number) (b .number) && eqb (a .place) (b .place)
+
+-- a file of one block, its sums left out
+unfoldable pub unsealed : ℕ → ℕ → List Rec → List ℕ
+unsealed archive u l = padded 512 (bodyBytes (headerOf archive u 0 l) l)
+
+-- the answer names this fault and this file
+unfoldable pub answers : Merged → Fault → ℕ → Bool
+answers m e w = sameFault (fault (m .number) (m .place)) e && eqb (m .which) w
+
+-- the file written says this of itself
+unfoldable pub heads : List ℕ → ℕ → ℕ → List ℕ → Bool
+heads f a u v = eqb (archiveIn (blockAt f 0)) a && (eqb (senderIn (blockAt f 0)) u && sameBytes (vectorIn (blockAt f 0)) v)
 
 unfoldable pub right : Row → Bool
 right (vectors a b n) = eqb (compareOf a b) n
@@ -179,6 +215,13 @@ right (refuses l rs n) = soundAfter [] l && isRefused (takeAll l rs) n
 right (blocks n k) = eqb (blockCount n) k
 right (faulty l r n) = eqb (recordFault l r) n
 right (prints t b) = sameBytes t b
+right (unites l m u) =
+    soundAfter [] l && (soundAfter [] m && (soundAfter [] u && (sameRecords (union l m) u && sameRecords (union m l) u)))
+right (clashes l n m e) = soundAfter [] l && (soundAfter [] m && sameFault (recordsClash l n m) e)
+right (parts a l b m e) = sameFault (unionFault (unsealed a 0 l) (unsealed b 1 m)) e
+right (blames a b c e w) = answers (unlessAny a b c [] [] (merged 0 0 0 1 [] [])) e w
+right (lends n k e w) = answers (mergeOf [] [] (replicate n 0) (replicate k 0)) (fault e 0) w
+right (joins u l w m sender v) = heads (joinedBoth (unsealed 7 u l) (unsealed 7 w m) .lent) 7 sender v
 
 unfoldable pub allRight : List Row → Bool
 allRight [] = true
@@ -195,6 +238,11 @@ B = 66 ∷ []
 
 abbrev pub C : List ℕ
 C = 67 ∷ []
+
+-- 0.1, 1.1 and on, of n units: traces "A"
+unfoldable pub firstsTo : ℕ → List Rec
+firstsTo zero = []
+firstsTo (suc n) = firstsTo n ++ (makesTrace 3 (n · 1) [] root A ∷ [])
 
 -- the rows that document 01 stars
 unfoldable pub starred : List Row
@@ -360,5 +408,45 @@ further =
     (115 ∷ 101 ∷ 101 ∷ 110 ∷ 32 ∷ 50 ∷ 32 ∷ 49 ∷ 32 ∷ 48 ∷ 32 ∷ 48 ∷ 32 ∷ 48 ∷ 32 ∷ 48 ∷ 32 ∷ 48 ∷ 32 ∷ 48 ∷ 10 ∷ [])
     ∷ []
 
+-- one file out of two
+unfoldable pub merges : List Row
+merges =
+    -- 0.1 is common; 1.1 ranks behind 0.2, and 2.1 before both
+    unites (makesTrace 3 (0 · 1) [] root A ∷ stores 3 (0 · 2) (1 ∷ []) (0 · 1) ∷ [])
+    (makesTrace 3 (0 · 1) [] root A ∷ makesTrace 3 (2 · 1) [] root C ∷ makesTrace 3 (1 · 1) (1 ∷ []) root B ∷ [])
+    (makesTrace 3 (0 · 1) [] root A ∷ makesTrace 3 (2 · 1) [] root C ∷ stores 3 (0 · 2) (1 ∷ []) (0 · 1) ∷ makesTrace 3 (1 · 1) (1 ∷ []) root B ∷ [])
+    ∷ unites [] (firstsTo 2) (firstsTo 2)
+    ∷ unites (firstsTo 2) (firstsTo 2) (firstsTo 2)
+    -- 7.1 of another day: in the first file it stands first, in the second it is the eighth
+    ∷ clashes (makesTrace 3 (7 · 1) [] root A ∷ []) 1 (firstsTo 7 ++ (makesTrace 4 (7 · 1) [] root A ∷ [])) (fault 10 1)
+    ∷ clashes (firstsTo 8) 8 (firstsTo 8) (fault 0 0)
+    -- of eight new records the eighth is the 513th behind 505, in the second block; behind 504 all have room
+    ∷ clashes [] 505 (firstsTo 8) (fault 11 1)
+    ∷ clashes [] 504 (firstsTo 8) (fault 0 0)
+    -- common records need no room
+    ∷ clashes (firstsTo 2) 512 (firstsTo 2) (fault 0 0)
+    ∷ clashes (firstsTo 2) 511 (firstsTo 4) (fault 11 0)
+    -- one too many, and a clash behind it: 10
+    ∷ clashes (makesTrace 3 (0 · 1) [] root A ∷ makesTrace 3 (1 · 1) (1 ∷ []) root A ∷ []) 512
+    (makesTrace 3 (0 · 1) [] root A ∷ makesTrace 3 (0 · 2) (1 ∷ []) root B ∷ makesTrace 4 (1 · 1) (1 ∷ []) root A ∷ [])
+    (fault 10 0)
+    -- another archive, and a clash: 6
+    ∷ parts 7 (makesTrace 3 (0 · 1) [] root A ∷ []) 8 (makesTrace 4 (0 · 1) [] root A ∷ []) (fault 6 0)
+    ∷ parts 7 (makesTrace 3 (0 · 1) [] root A ∷ []) 7 (makesTrace 4 (0 · 1) [] root A ∷ []) (fault 10 0)
+    ∷ parts 7 (firstsTo 1) 7 (firstsTo 2) (fault 0 0)
+    -- the first file wholly before the second, both before what they are together
+    ∷ blames (fault 20 1) (fault 2 0) (fault 6 0) (fault 20 1) 1
+    ∷ blames (fault 0 0) (fault 7 3) (fault 6 0) (fault 7 3) 2
+    ∷ blames (fault 0 0) (fault 0 0) (fault 10 4) (fault 10 4) 2
+    ∷ blames (fault 0 0) (fault 0 0) (fault 0 0) (fault 0 0) 0
+    -- 1 names neither file and comes before the first's 2
+    ∷ lends 40960 44031 1 0
+    ∷ lends 40959 44032 1 0
+    ∷ lends 40960 44032 2 1
+    -- archive and unit of the first file, the counts of both
+    ∷ joins 2 (firstsTo 1) 5 (firstsTo 3) 2 (1 ∷ 1 ∷ 1 ∷ 0 ∷ 0 ∷ 0 ∷ 0 ∷ 0 ∷ [])
+    ∷ joins 5 (firstsTo 3) 2 (firstsTo 1) 5 (1 ∷ 1 ∷ 1 ∷ 0 ∷ 0 ∷ 0 ∷ 0 ∷ 0 ∷ [])
+    ∷ []
+
 unfoldable pub table : List Row
-table = starred ++ further
+table = starred ++ (further ++ merges)

@@ -2,10 +2,12 @@
 ghost use mathlib.Core.Path.{_≡_};
 ghost use mathlib.Core.List.{[]};
 ghost use Rattle.model.specs.Outcome.{startOf, actOf, takeOf, writeOf, showOf};
+ghost use Rattle.model.specs.Merge.{mergeOf};
 ghost use Rattle.held_vector.specs.Held.{heldOf};
 ghost use Rattle.sab_words.specs.Called.{called, told};
 ghost use Rattle.sab_block.specs.Handed.{handedOf};
 ghost use Rattle.sab_file.specs.Loaded.{loadedOf};
+ghost use Rattle.sab_merge.specs.Joined.{joined};
 ghost use Rattle.sab_listing.specs.Printed.{printed, printedOf};
 ghost use Rattle.sab_vectors.specs.Compared.{comparedOf};
 
@@ -61,6 +63,14 @@ pub extern "C" fn sab_read_file(log: &mut [u8], file: &[u8], head: &mut [u8]) ->
     ensures { λ r. ⌜ called r (now (log .exit)) (now (head .exit)) ≡ loadedOf (now (log .entry)) (now (file .entry)) (now (head .entry)) ⌝ }
 {
     sab_file::read_file(log, file, head)
+}
+
+// Makes one file of two, by way of a lent log; the count is that of its blocks, or the file at fault.
+#[no_mangle]
+pub extern "C" fn sab_merge(first: &[u8], second: &[u8], log: &mut [u8], file: &mut [u8]) -> u32
+    ensures { λ r. ⌜ called r (now (log .exit)) (now (file .exit)) ≡ joined (mergeOf (now (first .entry)) (now (second .entry)) (now (log .entry)) (now (file .entry))) ⌝ }
+{
+    sab_merge::merge(first, second, log, file)
 }
 
 // Shows the tree of a log.

@@ -33,7 +33,7 @@ fn clear_behind(file: &mut [u8], n: usize)
 }
 
 // Block after block is written, then zeros; the count of blocks is returned.
-fn write_blocks(
+pub fn write_blocks(
     log: &[u8],
     used: usize,
     held: Vector,

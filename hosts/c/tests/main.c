@@ -28,6 +28,7 @@ int main(void)
     test_take();
     test_write_file();
     test_read_file();
+    test_merge();
     test_show();
     test_listing();
     printf("%d passed, %d failed\n", passed, failed);

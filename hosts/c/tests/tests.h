@@ -11,6 +11,7 @@ void test_hand_out(void);
 void test_take(void);
 void test_write_file(void);
 void test_read_file(void);
+void test_merge(void);
 void test_show(void);
 void test_listing(void);
 

@@ -126,7 +126,11 @@ pub const ROWS: &[Row] = &[
         number: 6,
         cause: Always("another archive"),
         fault: "peer",
-        advice: Always("two vans of different archives met: nothing was taken, part them"),
+        advice: By {
+            file: Some("two cards of different archives cannot become one file"),
+            taking: Some("two vans of different archives met: nothing was taken, part them"),
+            act: None,
+        },
     },
     Row {
         number: 7,
@@ -352,6 +356,8 @@ pub fn field_card() -> String {
             section.number, section.title, section.text
         );
     }
+    card += "\n";
+    card += include_str!("card/merge.md");
     card += "\n";
     card + include_str!("card/example.md")
 }

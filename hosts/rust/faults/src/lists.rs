@@ -103,7 +103,8 @@ impl Calls<'_> {
             88..91 => self.read_file(),
             91..94 => self.show(slot),
             94..96 => self.vector(slot),
-            96..98 => self.listing(),
+            96 => self.listing(),
+            97..99 => self.merge(),
             _ => self.compare(),
         }
     }
@@ -340,6 +341,24 @@ impl Calls<'_> {
             library.read_file(&mut lent[0], &file)
         })
         .compared("read a file")
+    }
+
+    /// Two files that were written, mostly unharmed, so that they often go
+    /// together.
+    fn merge(&mut self) -> End {
+        let files = [0, 1].map(|_| {
+            if self.files.is_empty() || self.chance.one_in(4) {
+                self.file()
+            } else {
+                self.chance.pick(&self.files).clone()
+            }
+        });
+        let (log, file) = (self.lent(LOG), self.lent(FILE));
+        Both::run(self.library, &[&log, &file], |library, lent| {
+            let [log, file] = lent else { unreachable!() };
+            library.merge(&files[0], &files[1], log, file)
+        })
+        .compared("merge")
     }
 
     fn show(&mut self, slot: usize) -> End {

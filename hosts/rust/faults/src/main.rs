@@ -5,6 +5,7 @@
 //! length of the run; the time bounds it all the same.
 
 mod bytes;
+mod cards;
 mod cuts;
 mod lists;
 mod orders;
@@ -20,7 +21,7 @@ use study::{Plan, Tally};
 
 type Study = fn(&dyn Library, &Plan) -> Tally;
 
-const STUDIES: [(&str, Study); 10] = [
+const STUDIES: [(&str, Study); 14] = [
     ("meetings, no fault", cuts::none),
     ("changed byte, block", bytes::blocks),
     ("changed byte, file", bytes::files),
@@ -30,6 +31,10 @@ const STUDIES: [(&str, Study); 10] = [
     ("orders of meetings", orders::all),
     ("power lost", power::lost),
     ("file half stored", power::half_stored),
+    ("two cards, no fault", cards::whole),
+    ("two cards, changed byte", cards::changed),
+    ("two cards, number used twice", cards::used_twice),
+    ("two cards, too many records", cards::too_many),
     ("call lists", lists::all),
 ];
 

@@ -1,6 +1,6 @@
 //! A call on both implementations.
 
-use library::{Answer, Library, Plain, Static};
+use library::{Library, Plain, Refusal, Static};
 use std::fmt::Debug;
 
 /// Counters that the fuzzer reads besides the coverage: an answer that is new is
@@ -18,11 +18,15 @@ fn note(call: u8, number: u8, place: u8) {
 
 /// Runs a call on both, each with its own copy of the lent bytes, and compares
 /// answers and bytes. Returns the answer and the bytes.
-pub fn both<T: PartialEq + Debug>(
+pub fn both<T, E>(
     call: u8,
     lent: &[&[u8]],
-    run: impl Fn(&dyn Library, &mut [Vec<u8>]) -> Answer<T>,
-) -> (Answer<T>, Vec<Vec<u8>>) {
+    run: impl Fn(&dyn Library, &mut [Vec<u8>]) -> Result<T, E>,
+) -> (Result<T, E>, Vec<Vec<u8>>)
+where
+    T: PartialEq + Debug,
+    E: PartialEq + Debug + Copy + Into<Refusal>,
+{
     let copy = || lent.iter().map(|bytes| bytes.to_vec()).collect::<Vec<_>>();
     let (mut ours, mut plain) = (copy(), copy());
     let answer = run(&Static, &mut ours);
@@ -31,7 +35,10 @@ pub fn both<T: PartialEq + Debug>(
     assert!(ours == plain, "{answer:?}: the bytes differ");
     match &answer {
         Ok(_) => note(call, 0, 0),
-        Err(refusal) => note(call, refusal.number, refusal.place),
+        Err(refused) => {
+            let refusal: Refusal = (*refused).into();
+            note(call, refusal.number, refusal.place);
+        }
     }
     (answer, ours)
 }

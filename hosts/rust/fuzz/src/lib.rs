@@ -6,10 +6,12 @@ mod act;
 mod compare;
 mod input;
 mod life;
+mod merge;
 mod read_file;
 mod take;
 
 pub use act::act;
+pub use merge::merge;
 pub use read_file::read_file;
 pub use take::take;
 
@@ -38,3 +40,4 @@ macro_rules! harness {
 harness!(fuzz_take, take::take);
 harness!(fuzz_read_file, read_file::read_file);
 harness!(fuzz_act, act::act);
+harness!(fuzz_merge, merge::merge);

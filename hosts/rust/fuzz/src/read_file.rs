@@ -6,7 +6,7 @@ use crate::life::{ARCHIVE, Life, held, seal};
 use library::{LISTING, Refusal};
 use plain::{BLOCK, FILE, LOG, RECORD};
 
-fn file_of(log: &[u8]) -> Vec<u8> {
+pub fn file_of(log: &[u8]) -> Vec<u8> {
     let mut file = vec![0; FILE];
     let blocks = plain::write_file(log, ARCHIVE, 2, &mut file).map_or(1, |blocks| blocks as usize);
     file.truncate(BLOCK * blocks);
@@ -15,7 +15,7 @@ fn file_of(log: &[u8]) -> Vec<u8> {
 
 /// Changes some bytes of a block, or the same bytes of all; then mostly puts the
 /// sums right.
-fn patch(input: &mut Input, file: &mut [u8]) {
+pub fn patch(input: &mut Input, file: &mut [u8]) {
     let blocks = file.len() / BLOCK;
     let sealed = !input.one_in(8);
     let (at, byte) = (input.below(BLOCK), input.byte());

@@ -25,3 +25,8 @@ fn files() {
 fn acts() {
     run(fuzz::act, 3);
 }
+
+#[test]
+fn merges() {
+    run(fuzz::merge, 4);
+}

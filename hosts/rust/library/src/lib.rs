@@ -13,6 +13,19 @@ pub struct Refusal {
 
 pub type Answer<T> = Result<T, Refusal>;
 
+/// A merge's no, with the file at fault: 1, 2, or 0 for neither.
+#[derive(Clone, Copy, Debug, PartialEq, Eq)]
+pub struct MergeRefusal {
+    pub refusal: Refusal,
+    pub file: u8,
+}
+
+impl From<MergeRefusal> for Refusal {
+    fn from(merging: MergeRefusal) -> Refusal {
+        merging.refusal
+    }
+}
+
 /// What a file says of itself.
 #[derive(Clone, Copy, Debug, PartialEq, Eq)]
 pub struct Head {
@@ -44,6 +57,13 @@ pub trait Library {
     fn show(&self, log: &[u8], tree: &mut [u8]) -> Answer<()>;
     fn compare(&self, first: &[u16; 8], second: &[u16; 8]) -> u8;
     fn vector(&self, log: &[u8]) -> Answer<[u16; 8]>;
+    fn merge(
+        &self,
+        first: &[u8],
+        second: &[u8],
+        log: &mut [u8],
+        file: &mut [u8],
+    ) -> Result<u16, MergeRefusal>;
 
     /// Writes a file's listing or its line of refusal; its length.
     fn listing_into(&self, _file: &[u8], _out: &mut [u8]) -> Option<usize> {
@@ -111,12 +131,24 @@ macro_rules! entry_points {
         fn vector(&self, log: &[u8]) -> Answer<[u16; 8]> {
             $library::vector(log).map_err(refusal)
         }
+        fn merge(
+            &self,
+            first: &[u8],
+            second: &[u8],
+            log: &mut [u8],
+            file: &mut [u8],
+        ) -> Result<u16, MergeRefusal> {
+            $library::merge(first, second, log, file).map_err(|merging| MergeRefusal {
+                refusal: refusal(merging.refusal),
+                file: merging.file,
+            })
+        }
     };
 }
 
 /// The plain Rust implementation.
 mod plain_rust {
-    use super::{Answer, Head, Library, Refusal};
+    use super::{Answer, Head, Library, MergeRefusal, Refusal};
 
     pub struct Plain;
 
@@ -154,7 +186,7 @@ mod plain_rust {
 /// The static library.
 #[cfg(feature = "static")]
 mod static_library {
-    use super::{Answer, Head, Library, Refusal};
+    use super::{Answer, Head, Library, MergeRefusal, Refusal};
     use sab::raw;
     use std::cell::RefCell;
 

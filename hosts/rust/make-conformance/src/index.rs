@@ -12,8 +12,9 @@ Cases for a program that reads or writes the format of docs/FORMAT.md, with the 
     readout/NAME.out   its listing, byte for byte
     lists/NAME.txt     calls, one a line, with what each must answer and leave
     tables.txt         small functions, one call a line
+    merge.txt          merges of two files, one a line
 
-The form of a line is told in vectors/README.md. In the lists and tables a line that begins with `#` says what the next line shows.
+The form of a line is told in vectors/README.md. In the lists, tables and merges a line that begins with `#` says what the next line shows.
 
 A reader only needs the files: give it each `.in` and compare what it prints with the `.out`. In this repository
 
@@ -28,7 +29,7 @@ runs all cases on the static library; with `-- --plain` in place of `--` they ar
     cd hosts/rust && cargo run --release -p make-conformance -- ../../conformance
 ";
 
-pub fn page(good: &[Case], damaged: &[Case], lists: &[Written], tables: &Written) -> String {
+pub fn page(good: &[Case], damaged: &[Case], lists: &[Written], lines: &[Written]) -> String {
     let mut page = HEAD.to_string();
     page += "\n## Good files\n\n| file | bytes | what it shows |\n|---|---|---|\n";
     for case in good {
@@ -45,8 +46,11 @@ pub fn page(good: &[Case], damaged: &[Case], lists: &[Written], tables: &Written
         page += &format!("\n## lists/{}.txt: {}\n\n", list.name, list.about);
         page += &rows(&list.cases);
     }
-    page += &format!("\n## tables.txt: {}\n\n", tables.about);
-    page + &rows(&tables.cases)
+    for lines in lines {
+        page += &format!("\n## {}.txt: {}\n\n", lines.name, lines.about);
+        page += &rows(&lines.cases);
+    }
+    page
 }
 
 /// The cases of a list, by number where they come one after the other.

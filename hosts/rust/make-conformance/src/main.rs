@@ -1,5 +1,5 @@
 //! `make-conformance DIR`: writes the conformance kit into a directory, the same
-//! bytes each time: files with their listings, call lists, tables, and an index
+//! bytes each time: files with their listings, call lists, tables, merges, and an index
 //! that says what each case shows. Each case names its answer, and that the plain
 //! implementation gives it is checked here.
 
@@ -10,6 +10,7 @@ mod damaged;
 mod good;
 mod index;
 mod kit;
+mod merges;
 mod tables;
 
 use kit::{Case, Written};
@@ -26,7 +27,7 @@ fn write(directory: &Path) -> io::Result<()> {
         calls::meeting(),
         calls::full(),
     ];
-    let tables = tables::all();
+    let (tables, merges) = (tables::all(), merges::all());
 
     fs::create_dir_all(directory.join("lists"))?;
     fs::create_dir_all(directory.join("readout"))?;
@@ -41,10 +42,12 @@ fn write(directory: &Path) -> io::Result<()> {
             &list.text,
         )?;
     }
-    fs::write(directory.join("tables.txt"), &tables.text)?;
+    for lines in [&tables, &merges] {
+        fs::write(directory.join(format!("{}.txt", lines.name)), &lines.text)?;
+    }
     fs::write(
         directory.join("README.md"),
-        index::page(&good, &damaged, &lists, &tables),
+        index::page(&good, &damaged, &lists, &[tables, merges]),
     )
 }
 

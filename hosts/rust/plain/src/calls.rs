@@ -269,16 +269,22 @@ pub fn write_file(log: &[u8], archive: u32, unit: u8, file: &mut [u8]) -> Answer
         unit,
         vector: held.vector,
     };
+    Ok(lay_file(&records[..held.all], &header, file))
+}
+
+/// Lays records in the blocks of a lent file, and zeros behind them; the count of
+/// blocks.
+pub fn lay_file(records: &[Record], header: &Header, file: &mut [u8]) -> u16 {
     let (blocks, _) = file.as_chunks_mut::<BLOCK>();
-    let used = held.all.div_ceil(PER_BLOCK).max(1);
+    let used = records.len().div_ceil(PER_BLOCK).max(1);
     for (place, block) in blocks[..used].iter_mut().enumerate() {
         let first = place * PER_BLOCK;
-        let count = (held.all - first).min(PER_BLOCK);
+        let count = (records.len() - first).min(PER_BLOCK);
         block::put_records(block, &records[first..first + count]);
-        block::finish(block, &header, count, place);
+        block::finish(block, header, count, place);
     }
     blocks[used..].as_flattened_mut().fill(0);
-    Ok(used as u16)
+    used as u16
 }
 
 /// The blocks of a file, as they keep its records.

@@ -13,6 +13,7 @@ mod bytes;
 mod calls;
 mod held;
 mod listing;
+mod merge;
 mod record;
 mod replay;
 mod table;
@@ -21,6 +22,7 @@ mod vector;
 pub use block::sums;
 pub use calls::{Head, act, hand_out, read_file, show, sound, start, take, vector, write_file};
 pub use listing::{LISTING, listing};
+pub use merge::{MergeRefusal, merge};
 pub use record::{is_date, well_formed};
 pub use vector::compare;
 

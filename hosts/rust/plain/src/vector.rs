@@ -46,6 +46,13 @@ impl Vector {
         (word >> (16 * (unit & 3))) as u16
     }
 
+    /// The higher count of each unit.
+    pub fn higher(self, other: Vector) -> Vector {
+        Vector::of(&core::array::from_fn(|unit| {
+            self.count(unit).max(other.count(unit))
+        }))
+    }
+
     /// One record of a unit more.
     #[inline(always)]
     pub fn and_one_of(self, unit: usize) -> Vector {

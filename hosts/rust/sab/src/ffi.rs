@@ -1,7 +1,8 @@
 //! The static library's functions as its header declares them.
 //!
 //! A result's low byte is the number, its next byte the place, its upper 16
-//! bits the count where a call returns one. `include/sab.h` is the manual.
+//! bits the count where a call returns one, or the file at fault of a merge.
+//! `include/sab.h` is the manual.
 
 #![allow(unsafe_code)]
 
@@ -53,6 +54,17 @@ unsafe extern "C" {
         file_len: usize,
         head: *mut u8,
         head_len: usize,
+    ) -> u32;
+
+    pub fn sab_merge(
+        first: *const u8,
+        first_len: usize,
+        second: *const u8,
+        second_len: usize,
+        log: *mut u8,
+        log_len: usize,
+        file: *mut u8,
+        file_len: usize,
     ) -> u32;
 
     pub fn sab_show(log: *const u8, log_len: usize, tree: *mut u8, tree_len: usize) -> u32;

@@ -7,7 +7,7 @@
 
 #![allow(unsafe_code)]
 
-use crate::{Answer, Refusal, ffi};
+use crate::{Answer, MergeRefusal, Refusal, ffi};
 
 /// Bytes of the lent log.
 pub const LOG: usize = 40_960;
@@ -155,6 +155,34 @@ pub fn read_file(log: &mut [u8], file: &[u8]) -> Answer<Head> {
         unit: head[4],
         records: u16::from_le_bytes([head[6], head[7]]),
         vector: vector_of(&vector),
+    })
+}
+
+/// Makes one file of all records of two, under the archive and unit of the first;
+/// answers its count of blocks. The lent log, whose old bytes are not judged, then
+/// holds the same records. Refuses 1, for `log` or `file`; then what reading the
+/// first file refuses, then the second; then 6, 10, 11.
+pub fn merge(
+    first: &[u8],
+    second: &[u8],
+    log: &mut [u8],
+    file: &mut [u8],
+) -> Result<u16, MergeRefusal> {
+    let result = unsafe {
+        ffi::sab_merge(
+            first.as_ptr(),
+            first.len(),
+            second.as_ptr(),
+            second.len(),
+            log.as_mut_ptr(),
+            log.len(),
+            file.as_mut_ptr(),
+            file.len(),
+        )
+    };
+    answer(result).map_err(|refusal| MergeRefusal {
+        refusal,
+        file: (result >> 16) as u8,
     })
 }
 

@@ -16,7 +16,7 @@ impl Slots {
 }
 
 /// The number and the place as they are written: only these have a place.
-fn answer<T>(answer: &Answer<T>) -> [String; 2] {
+pub fn answer<T>(answer: &Answer<T>) -> [String; 2] {
     match answer {
         Ok(_) => ["0".to_string(), "-".to_string()],
         Err(refusal) => {
@@ -30,7 +30,7 @@ fn answer<T>(answer: &Answer<T>) -> [String; 2] {
 }
 
 /// The lent bytes are as they were.
-fn kept(what: &str, after: &[u8], before: &[u8]) -> Result<(), Fault> {
+pub fn kept(what: &str, after: &[u8], before: &[u8]) -> Result<(), Fault> {
     if after == before {
         Ok(())
     } else {

@@ -1,9 +1,10 @@
-//! `vectors [--plain] DIR`: runs the call lists, tables and readout cases of a
-//! directory against the static library, or against the plain implementation,
-//! and says how many passed and failed. Any failure, also a directory without a
-//! case, gives an exit status other than 0.
+//! `vectors [--plain] DIR`: runs the call lists, tables, merges and readout cases
+//! of a directory against the static library, or against the plain
+//! implementation, and says how many passed and failed. Any failure, also a
+//! directory without a case, gives an exit status other than 0.
 
 mod lists;
+mod merges;
 mod readout;
 mod tables;
 mod tree;
@@ -69,15 +70,21 @@ fn run_list(
     Ok(())
 }
 
-fn run_tables(
+/// Files whose lines are cases by themselves, and what runs a line.
+const TABLES: [(&str, Row); 2] = [("tables.txt", tables::row), ("merge.txt", merges::row)];
+
+type Row = fn(&dyn Library, &str) -> Result<(), Fault>;
+
+fn run_table(
     library: &dyn Library,
+    row: Row,
     path: &Path,
     text: &str,
     tally: &mut Tally,
 ) -> Result<(), Fault> {
     for (at, line) in lines(text)?.iter().enumerate() {
         if !line.starts_with('#') {
-            let outcome = tables::row(library, line);
+            let outcome = row(library, line);
             tally.count(|| format!("{}:{}", path.display(), at + 1), outcome);
         }
     }
@@ -116,9 +123,12 @@ fn run(library: &dyn Library, directory: &Path) -> Tally {
             tally.count(|| path.display().to_string(), whole);
         }
     }
-    let path = directory.join("tables.txt");
-    if path.exists() {
-        let whole = text(&path).and_then(|text| run_tables(library, &path, &text, &mut tally));
+    for (name, row) in TABLES {
+        let path = directory.join(name);
+        if !path.exists() {
+            continue;
+        }
+        let whole = text(&path).and_then(|text| run_table(library, row, &path, &text, &mut tally));
         if whole.is_err() {
             tally.count(|| path.display().to_string(), whole);
         }

@@ -9,6 +9,7 @@ mod explain;
 mod list;
 mod log;
 mod meet;
+mod merge;
 mod new;
 mod pack;
 mod page;
@@ -89,6 +90,7 @@ pub const GROUPS: &[(&str, &[&Command])] = &[
             &pass::COMMAND,
             &pack::COMMAND,
             &take::COMMAND,
+            &merge::COMMAND,
         ],
     ),
     ("damaged cards", &[&salvage::COMMAND]),

@@ -1,0 +1,4 @@
+pub mod Union
+pub mod Counts
+pub mod Faults
+pub mod Claims
