@@ -20,7 +20,8 @@
  *
  * - A pointer given with the length that is stated for it points to that many
  *   bytes, which nothing else reads or writes during the call.
- * - Buffers of one call do not overlap. A call does not notice if they do.
+ * - A buffer that a call writes overlaps no other of that call. The call does not
+ *   notice if it does.
  * - Storage and links. The library keeps nothing between calls: no heap, no
  *   static data. The log is what the last call left in the lent bytes. STORAGE,
  *   below, says how to keep it.
@@ -427,8 +428,9 @@ uint32_t sab_read_file(uint8_t *log, size_t log_len, const uint8_t *file,
  *          has the first's archive and unit, all records of both, those that
  *          both have once, and the vector of these
  *
- * Which file comes first decides nothing but the unit. A file merged with itself
- * is that file.
+ * If two files merge, they do so either way round, with the same records; only
+ * the unit is the first's. Why a merge is refused may depend on which comes
+ * first. A good file merged with itself is that file; both may be the same bytes.
  *
  * Returns 0, and SAB_COUNT is the count of blocks, 1 to 86; else SAB_COUNT is
  * the file at fault, 1 or 2:
