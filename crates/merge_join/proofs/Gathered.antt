@@ -2,17 +2,17 @@
 -- Assumes nothing.
 use Prim.Native.Nat.{ℕ, _+_, _-_, _*_, _≤_, _<_, max}
 use native.Mathlib.Omega.{arith}
-use mathlib.Core.Path.{_≡_, refl, ap, _∙_}
+use mathlib.Core.Path.{_≡_, sym, ap, _∙_}
 use mathlib.Core.Bool.{Bool, true, false, cond, not}
-use mathlib.Core.List.{List, [], _∷_, _++_, append-nil, append-assoc}
+use mathlib.Core.List.{List, [], _∷_, _++_, append-nil}
 use lib.Dec.{ltb}
 use lib.ListN.{getD, length, take, drop, length-append}
-use lib.Seq.{take-at, length-take-le}
 use borrow.Author.Tests.{not-true, not-false}
 use Rattle.model.specs.Bytes.{joined, putAt}
 use Rattle.model.specs.Record.{Rec, unit, num}
 use Rattle.model.specs.Outcome.{lacking}
 use Rattle.byte_slice.proofs.Parts.{lent-length}
+use Rattle.byte_slice.proofs.PutAt.{put-nil, put-more}
 use Rattle.block_laws.proofs.Fields.{joined-append}
 use Rattle.log_check.specs.declared.Layout.the-variants.{File}
 use Rattle.log_check.specs.Places.{offsetOf, laidAt, Laid}
@@ -41,12 +41,6 @@ joined-one : (r : Rec) → joined (r ∷ []) ≡ r
 unfolding joined
 joined-one r = append-nil r
 
-put-longer : (d s : List ℕ) (at n : ℕ) → at + length s ≡ n → n ≤ length d → take n (putAt d at s) ≡ take at d ++ s
-unfolding putAt
-put-longer d s at n e h =
-    let m : length (take at d ++ s) ≡ n = omega (arith, length-append (take at d) s, length-take-le at d (omega arith)) in
-    rw (← append-assoc (take at d) s (drop (at + length s) d)) (take-at (take at d ++ s) (drop (at + length s) d) n m)
-
 module _ (v g : List ℕ) (total i : ℕ) (h : i < total) (at : ℕ) (ea : at ≡ offsetOf File i) (t : Bool)
     (d : t ≡ ltb (getD v (unit (take (at + 80 - at) (drop at g))) 0) (num (take (at + 80 - at) (drop at g)))) where
   more : lacking v (listed (laidAt File g) 0 (i + 1)) ≡ lacking v (listed (laidAt File g) 0 i) ++ cond t (laidAt File g i ∷ []) []
@@ -64,30 +58,39 @@ module _ (v g : List ℕ) (total i : ℕ) (h : i < total) (at : ℕ) (ea : at �
     pub skips-count : not t ≡ true → k ≡ length (lacking v (listed (laidAt File g) 0 i)) → k ≡ length (lacking v (listed (laidAt File g) 0 (i + 1)))
     skips-count z c = rw (skipped z) c
 
-    pub skips-laid : (o : List ℕ) → not t ≡ true → take (80 * k) o ≡ joined (lacking v (listed (laidAt File g) 0 i)) → take (80 * k) o ≡ joined (lacking v (listed (laidAt File g) 0 (i + 1)))
-    skips-laid o z c = rw (skipped z) c
+    pub skips-long : not t ≡ true → length (joined (lacking v (listed (laidAt File g) 0 i))) ≡ 80 * k → length (joined (lacking v (listed (laidAt File g) 0 (i + 1)))) ≡ 80 * k
+    skips-long z c = rw (skipped z) c
+
+    pub skips-laid : (o b : List ℕ) → not t ≡ true → o ≡ putAt b 0 (joined (lacking v (listed (laidAt File g) 0 i))) → o ≡ putAt b 0 (joined (lacking v (listed (laidAt File g) 0 (i + 1))))
+    skips-laid o b z c = rw (skipped z) c
 
     pub adds-count : not t ≡ false → k ≡ length (lacking v (listed (laidAt File g) 0 i)) → k + 1 ≡ length (lacking v (listed (laidAt File g) 0 (i + 1)))
     adds-count z c = omega (arith, ap (λ (l : List Rec). length l) (added z), length-append (lacking v (listed (laidAt File g) 0 i)) (laidAt File g i ∷ []))
 
-    pub adds-laid : (o b : List ℕ) → not t ≡ false → Laid File g total → total ≤ 512 → k ≤ i → length b ≡ 44032 → take (80 * k) b ≡ joined (lacking v (listed (laidAt File g) 0 i))
-        → o ≡ putAt b (80 * k) (take (at + 80 - at) (drop at g)) → take (80 * (k + 1)) o ≡ joined (lacking v (listed (laidAt File g) 0 (i + 1)))
-    adds-laid o b z l few w m c e =
-        let r = laidAt File g i in
-        let inside : at + 80 ≤ length g = rw ea (l .inside i h) in
-        let s : length r ≡ 80 = rw (← lent-is g i at ea) (lent-length g at 80 inside) in
-        let j : joined (lacking v (listed (laidAt File g) 0 (i + 1))) ≡ joined (lacking v (listed (laidAt File g) 0 i)) ++ r =
-        rw (added z) (joined-append (lacking v (listed (laidAt File g) 0 i)) (r ∷ []) ∙ rw (joined-one r)) in
-        let a : 80 * k + length r ≡ 80 * (k + 1) = omega arith in
-        rw (e, lent-is g i at ea, j, ← c) (put-longer b r (80 * k) (80 * (k + 1)) a (omega arith))
+    module _ (z : not t ≡ false) (l : Laid File g total) (c : length (joined (lacking v (listed (laidAt File g) 0 i))) ≡ 80 * k) where
+      long : length (laidAt File g i) ≡ 80
+      long = rw (← lent-is g i at ea) (lent-length g at 80 (rw ea (l .inside i h)))
 
-pub gathers-none : (v g o : List ℕ) → take (80 * 0) o ≡ joined (lacking v (listed (laidAt File g) 0 0))
+      added-bytes : joined (lacking v (listed (laidAt File g) 0 (i + 1))) ≡ joined (lacking v (listed (laidAt File g) 0 i)) ++ laidAt File g i
+      added-bytes = rw (added z) (joined-append (lacking v (listed (laidAt File g) 0 i)) (laidAt File g i ∷ []) ∙ rw (joined-one (laidAt File g i)))
+
+      pub adds-long : length (joined (lacking v (listed (laidAt File g) 0 (i + 1)))) ≡ 80 * (k + 1)
+      adds-long = rw added-bytes (omega (arith, length-append (joined (lacking v (listed (laidAt File g) 0 i))) (laidAt File g i), long))
+
+      pub adds-laid : (o m b : List ℕ) → total ≤ 512 → k ≤ i → length b ≡ 44032 → m ≡ putAt b 0 (joined (lacking v (listed (laidAt File g) 0 i)))
+          → o ≡ putAt m (80 * k) (take (at + 80 - at) (drop at g)) → o ≡ putAt b 0 (joined (lacking v (listed (laidAt File g) 0 (i + 1))))
+      adds-laid o m b few w n q e =
+          let j : List ℕ = joined (lacking v (listed (laidAt File g) 0 i)) in
+          let y : 80 * k ≡ 0 + length j = omega arith in
+          rw (e, q, lent-is g i at ea, y, added-bytes) (put-more b 0 j (laidAt File g i) (omega arith))
+
+pub gathers-none : (v g o : List ℕ) → o ≡ putAt o 0 (joined (lacking v (listed (laidAt File g) 0 0)))
 unfolding lacking listed joined
-gathers-none v g o = refl
+gathers-none v g o = sym (put-nil o 0)
 
 module _ (v g : List ℕ) (total i k : ℕ) (h : i ≤ total) (m : total ≤ i) where
   pub gathered-count : k ≡ length (lacking v (listed (laidAt File g) 0 i)) → k ≡ length (lacking v (listed (laidAt File g) 0 total))
   gathered-count c = let e : i ≡ total = omega arith in rw e at c
 
-  pub gathered-laid : (o : List ℕ) → take (80 * k) o ≡ joined (lacking v (listed (laidAt File g) 0 i)) → take (80 * k) o ≡ joined (lacking v (listed (laidAt File g) 0 total))
-  gathered-laid o c = let e : i ≡ total = omega arith in rw e at c
+  pub gathered-laid : (o b : List ℕ) → o ≡ putAt b 0 (joined (lacking v (listed (laidAt File g) 0 i))) → o ≡ putAt b 0 (joined (lacking v (listed (laidAt File g) 0 total)))
+  gathered-laid o b c = let e : i ≡ total = omega arith in rw e at c

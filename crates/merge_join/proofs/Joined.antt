@@ -8,7 +8,8 @@ use mathlib.Core.Path.{_≡_, refl, sym, ap, _∙_, subst}
 use mathlib.Core.Bool.{true}
 use mathlib.Core.List.{List, [], _∷_, _++_, append-nil}
 use lib.ListN.{getD, length, take, drop}
-use Rattle.model.specs.Bytes.{joined, padded}
+use lib.Seq.{take-at}
+use Rattle.model.specs.Bytes.{joined, padded, putAt}
 use Rattle.model.specs.Record.{Rec}
 use Rattle.model.specs.Log.{insert, vectorOf, recordsOf, soundLog, logBytes}
 use Rattle.model.specs.Block.{archiveIn, senderIn}
@@ -112,18 +113,25 @@ module _ (f g : List ℕ) (used total : ℕ) (a : Fine f used) (b : Fine g total
     pub new-total : used + k ≡ length (union (fileRecords f) (fileRecords g))
     new-total = omega (arith, new-count, a .counted, union-longer (fileRecords f) (fileRecords g))
 
-    module _ (file : List ℕ) (ef : take (80 * k) file ≡ joined (lacking held (listed (laidAt File g) 0 total))) where
-      laid-news : take (80 * k) file ≡ joined (lacking (vectorOf (fileRecords f)) (fileRecords g))
-      laid-news = rw (b .records, ← eh) ef
-
+    module _ (file lent : List ℕ) (ef : file ≡ putAt lent 0 (joined (lacking held (listed (laidAt File g) 0 total)))) where
       news-sized : Sized (lacking (vectorOf (fileRecords f)) (fileRecords g))
       news-sized = sized-lacking (vectorOf (fileRecords f)) (fileRecords g) (file-sound g (b .right))
+
+      news-long : length (joined (lacking (vectorOf (fileRecords f)) (fileRecords g))) ≡ 80 * k
+      news-long = omega (arith, length-joined (lacking (vectorOf (fileRecords f)) (fileRecords g)) news-sized, new-count)
+
+      laid-news : take (80 * k) file ≡ joined (lacking (vectorOf (fileRecords f)) (fileRecords g))
+      unfolding putAt
+      laid-news =
+          let s : List ℕ = joined (lacking (vectorOf (fileRecords f)) (fileRecords g)) in
+          let q : file ≡ putAt lent 0 s = rw (b .records, ← eh) ef in
+          rw q (take-at s (drop (0 + length s) lent) (80 * k) news-long)
 
       lent-news : take (80 * k - 0) (drop 0 file) ≡ joined (lacking (vectorOf (fileRecords f)) (fileRecords g))
       lent-news = rw (sub-zero (80 * k)) laid-news
 
       pub new-length : length (take (80 * k - 0) (drop 0 file)) ≡ 80 * k
-      new-length = rw lent-news (omega (arith, length-joined (lacking (vectorOf (fileRecords f)) (fileRecords g)) news-sized, new-count))
+      new-length = rw lent-news news-long
 
       new-at : (j : ℕ) → j < k → laidAt Log (take (80 * k - 0) (drop 0 file)) j ≡ getD (lacking (vectorOf (fileRecords f)) (fileRecords g)) j []
       unfolding laidAt offsetOf

@@ -1,9 +1,9 @@
 // Two files that go together become one: the records of both by rank in a lent log, and the file of them.
 ghost use mathlib.Core.Path.{_≡_};
 ghost use Prim.Native.Nat.{_+_, _*_, _≤_, max};
-ghost use lib.ListN.{length, take};
+ghost use lib.ListN.{length};
 ghost use Rattle.model.specs.Lengths.{logSize, fileSize, logPlaces};
-ghost use Rattle.model.specs.Bytes.{joined};
+ghost use Rattle.model.specs.Bytes.{joined, putAt};
 ghost use Rattle.model.specs.Log.{vectorOf, logBytes};
 ghost use Rattle.model.specs.Block.{senderIn};
 ghost use Rattle.model.specs.File.{fileRecords, blockAt, recordsCounted};
@@ -29,7 +29,7 @@ use write_file::write_blocks;
 fn gather_new(second: &[u8], total: usize, held: Vector, recs: &mut [u8]) -> usize
     requires { ⌜ (total ≤ logPlaces) × (length (now recs) ≡ fileSize) × Laid File (now second) total × AllFormed (laidAt File (now second)) total ⌝ }
     ensures counted { λ r. ⌜ (r ≡ length (lacking (held .counts) (listed (laidAt File (now (second .entry))) 0 total))) × (r ≤ total) ⌝ }
-    ensures laid { λ r. ⌜ take (80 * r) (now (recs .exit)) ≡ joined (lacking (held .counts) (listed (laidAt File (now (second .entry))) 0 total)) ⌝ }
+    ensures laid { λ r. ⌜ now (recs .exit) ≡ putAt (now (recs .entry)) 0 (joined (lacking (held .counts) (listed (laidAt File (now (second .entry))) 0 total))) ⌝ }
 {
     let mut k: usize = 0;
     let mut i: usize = 0;

@@ -1,14 +1,14 @@
 use Prim.Native.Nat.{_≤_, _-_, _*_}
 use mathlib.Core.Path.{_≡_, refl}
-use lib.ListN.{length, take}
-use Rattle.model.specs.Bytes.{joined}
+use lib.ListN.{length}
+use Rattle.model.specs.Bytes.{joined, putAt}
 use Rattle.model.specs.Outcome.{lacking}
 use Rattle.log_check.specs.declared.Layout.the-variants.{File}
 use Rattle.log_check.specs.Places.{laidAt}
 use Rattle.log_check.specs.InOrder.{listed}
 use Rattle.log_check.proofs.Scans.{laid-inside}
 use Rattle.merge_check.proofs.Loops.{lent-unit}
-use Rattle.merge_join.proofs.Gathered.{gathers-none, skips-count, skips-laid, adds-count, adds-laid, gathered-count, gathered-laid}
+use Rattle.merge_join.proofs.Gathered.{gathers-none, skips-count, skips-long, skips-laid, adds-count, adds-long, adds-laid, gathered-count, gathered-laid}
 use borrow.Author.Needs.{needs}
 use native.Mathlib.Omega.{arith}
 use Rattle.merge_join.proofs.gather_new.Statement.{statement}
@@ -20,14 +20,21 @@ use Rattle.log_check.proofs.offset.Reads as offset-reads
 use Rattle.byte_slice.proofs.put.Reads as put-reads
 
 abbrev Inv-loop : tie.InvT-loop
-Inv-loop second total held recs₀ k₀ i₀ recs k i = (i ≤ total) × (k ≤ i) × (length recs ≡ 44032) × (k ≡ length (lacking (held .counts) (listed (laidAt File second) 0 i))) × (take (80 * k) recs ≡ joined (lacking (held .counts) (listed (laidAt File second) 0 i)))
+Inv-loop second total held recs₀ k₀ i₀ recs k i =
+    (i ≤ total)
+    × (k ≤ i)
+    × (length recs ≡ 44032)
+    × (length recs₀ ≡ 44032)
+    × (k ≡ length (lacking (held .counts) (listed (laidAt File second) 0 i)))
+    × (length (joined (lacking (held .counts) (listed (laidAt File second) 0 i))) ≡ 80 * k)
+    × (recs ≡ putAt recs₀ 0 (joined (lacking (held .counts) (listed (laidAt File second) 0 i))))
 
 abbrev μ-loop : tie.MeasureT-loop
 μ-loop second total held recs₀ k₀ i₀ recs k i = total - i
 
 loop-holds : tie.Need-loop-holds Inv-loop μ-loop
-unfolding lacking listed
-loop-holds c = (omega arith, omega arith, search needs, refl, search (gathers-none))
+unfolding lacking listed joined
+loop-holds c = (omega arith, omega arith, search needs, search needs, refl, refl, search (gathers-none))
 
 offset-requires : tie.Need-offset-requires Inv-loop μ-loop
 offset-requires c κs = search needs
@@ -54,7 +61,7 @@ loop-less : tie.Need-loop-less Inv-loop μ-loop
 loop-less c = search needs
 
 loop-again : tie.Need-loop-again Inv-loop μ-loop
-loop-again c = (omega arith, omega arith, search needs, search (skips-count), search (skips-laid))
+loop-again c = (omega arith, omega arith, search needs, search needs, search (skips-count), search (skips-long), search (skips-laid))
 
 mul-put : tie.Need-mul-put Inv-loop μ-loop
 mul-put c = search needs
@@ -81,7 +88,7 @@ loop-less-2 : tie.Need-loop-less-2 Inv-loop μ-loop
 loop-less-2 c = search needs
 
 loop-again-2 : tie.Need-loop-again-2 Inv-loop μ-loop
-loop-again-2 c = (omega arith, omega arith, search needs, search (adds-count), search (adds-laid))
+loop-again-2 c = (omega arith, omega arith, search needs, search needs, search (adds-count), search (adds-long), search (adds-laid))
 
 same-length : tie.Need-same-length Inv-loop μ-loop
 same-length c = search needs
