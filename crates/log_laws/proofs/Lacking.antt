@@ -79,7 +79,7 @@ absent-lacked a b h r k p i d =
     (lt-or-ge (count (unit r) b) (num r)))
 
 -- how many of a unit are lacked
-count-lacking : (v : List ℕ) (u : ℕ) (pre l : List Rec) → SoundAfter pre l → count u (lacking v l) + max (count u pre) (getD v u 0) ≡ max (count u pre + count u l) (getD v u 0)
+pub count-lacking : (v : List ℕ) (u : ℕ) (pre l : List Rec) → SoundAfter pre l → count u (lacking v l) + max (count u pre) (getD v u 0) ≡ max (count u pre + count u l) (getD v u 0)
 count-lacking v u pre [] h = omega (arith, ap (count u) (lacking-nil v), count-nil u)
 count-lacking v u pre (r ∷ l) h =
     let ih = count-lacking v u (r ∷ pre) l (h .1) in

@@ -3,13 +3,14 @@
 use Prim.Native.Nat.{ℕ, zero, suc, _+_, _≤_, _<_}
 use native.Mathlib.Omega.{arith}
 use mathlib.Core.Path.{_≡_, refl, sym, _∙_}
-use mathlib.Core.Logic.{⊎-elim}
+use mathlib.Core.Logic.{⊎-elim, _↔_}
 use mathlib.Core.Bool.{true, false}
 use mathlib.Core.List.{List, [], _∷_}
 use lib.ListN.{getD, length}
-use Rattle.model.specs.Vector.{covers, compareOf}
+use Rattle.model.specs.Vector.{covers, compareOf, comparisonOf}
 use Rattle.byte_slice.proofs.Numbers.{bool-cases, test-false, not-both}
 use Rattle.vector.proofs.Dominance.{covers-at, all-covers, covers-refl, covers-trans, covers-antisym, covers-same}
+use Rattle.vector.proofs.Distances.{covers-exactly}
 use Rattle.vector_compare.specs.Raised.{raised}
 use Rattle.vector_compare.proofs.Answers.{answer-is, said-0, said-1, said-2, said-3}
 
@@ -79,3 +80,15 @@ covers-raised a b m n = ⊎-elim holds fails (bool-cases (covers a b))
 pub start-irrelevant : (a b : List ℕ) → length a ≡ 8 → length b ≡ 8 → compareOf (raised a) (raised b) ≡ compareOf a b
 unfolding compareOf
 start-irrelevant a b m n = rw (covers-raised a b m n, covers-raised b a n m)
+
+-- ---- how far behind [F91]
+
+-- exchanged arguments exchange the two numbers
+pub lacks-exchanged : (a b : List ℕ) → (comparisonOf a b .first ≡ comparisonOf b a .second) × (comparisonOf a b .second ≡ comparisonOf b a .first)
+unfolding comparisonOf
+lacks-exchanged a b = (refl, refl)
+
+-- the first lacks nothing exactly if it covers the second
+pub first-covers : (a b : List ℕ) → (covers a b ≡ true) ↔ (comparisonOf a b .first ≡ 0)
+unfolding comparisonOf
+first-covers a b = covers-exactly a b
