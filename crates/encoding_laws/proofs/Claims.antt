@@ -1,6 +1,6 @@
 -- Claims L2, L3 and B4: a log has one reading; a call leaves a sound log or every byte as it was; a block taken again.
 -- Assumes nothing.
-use Prim.Native.Nat.{ℕ, zero, suc, _≤_, min}
+use Prim.Native.Nat.{ℕ, zero, suc, _≤_}
 use native.Mathlib.Omega.{arith}
 use mathlib.Core.Path.{_≡_, refl, sym, ap, _∙_, subst}
 use mathlib.Core.Logic.{inl, inr, _↔_}
@@ -8,7 +8,7 @@ use mathlib.Core.Bool.{true}
 use mathlib.Core.List.{List, []}
 use lib.Dec.{eqb}
 use lib.ListN.{length, take}
-use Rattle.model.specs.Vector.{lacksOf}
+use Rattle.model.specs.Vector.{handedCount}
 use Rattle.model.specs.Record.{Rec}
 use Rattle.model.specs.Log.{recordsOf, soundAfter, soundLog, logBytes, vectorOf}
 use Rattle.model.specs.Block.{blockRecords, countIn}
@@ -78,16 +78,16 @@ taken-again archive u log b z = checks (guarded-cases u log [] true (tookBlock l
     checks (inl (a, k, g, e)) =
         subst Again (sym e) (blocks k g (givenFault archive b) refl) z
 
--- K2: the block that is handed out counts the lesser of 6 and what the asked vector lacks against the held one [F91]
+-- the block that is handed out counts the lesser of 6 and what the asked vector lacks against the held one [F93]
 pub hand-out-counts : (archive u : ℕ) (log v lent : List ℕ) → handOf archive u log v lent .number ≡ 0
-    → countIn (handOf archive u log v lent .lent) ≡ min 6 (lacksOf v (vectorOf (recordsOf log)))
+    → countIn (handOf archive u log v lent .lent) ≡ handedCount v (vectorOf (recordsOf log))
 unfolding handOf handBlock
 hand-out-counts archive u log v lent z = go (guarded-cases u log lent (eqb (length lent) 512) done)
   where
     done : Outcome
     done = outcome 0 0 log (handBlock archive u (recordsOf log) v) 0
 
-    go : Guarded u log lent (eqb (length lent) 512) done → countIn (guarded u log lent (eqb (length lent) 512) done .lent) ≡ min 6 (lacksOf v (vectorOf (recordsOf log)))
+    go : Guarded u log lent (eqb (length lent) 512) done → countIn (guarded u log lent (eqb (length lent) 512) done .lent) ≡ handedCount v (vectorOf (recordsOf log))
     go (inr (n, e)) = absurd (omega (arith, sym (ap (λ (o : Outcome). o .number) e) ∙ z))
     go (inl (a, k, g, e)) =
         rw e

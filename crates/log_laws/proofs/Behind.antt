@@ -5,7 +5,7 @@ use native.Mathlib.Omega.{arith}
 use mathlib.Core.Path.{_≡_, refl, sym, ap, _∙_}
 use mathlib.Core.List.{List, []}
 use lib.ListN.{getD, length, take, length-take}
-use Rattle.model.specs.Vector.{lacksTo, lacksOf}
+use Rattle.model.specs.Vector.{lacksTo, lacksOf, handedCount}
 use Rattle.model.specs.Record.{Rec}
 use Rattle.model.specs.Log.{sumTo, count, vectorOf}
 use Rattle.model.specs.Outcome.{lacking}
@@ -20,6 +20,7 @@ unfolding lacksTo
 lacks-sum a b zero = refl
 lacks-sum a b (suc n) = ap (λ (x : ℕ). x + (getD b n 0 - getD a n 0)) (lacks-sum a b n)
 
+-- of a sound log
 pub lacking-length : (v : List ℕ) (l : List Rec) → Sound l → length (lacking v l) ≡ lacksOf v (vectorOf l)
 unfolding lacksOf
 lacking-length v l h =
@@ -29,6 +30,7 @@ lacking-length v l h =
     (λ u k. omega (arith, count-lacking v u [] l h, vectorOf-getD l u k, count-nil u))
     ∙ sym (lacks-sum v (vectorOf l) 8)
 
--- so of a sound log the lesser of 6 and what is lacked is handed out
-pub handed-count : (v : List ℕ) (l : List Rec) → Sound l → length (take 6 (lacking v l)) ≡ min 6 (lacksOf v (vectorOf l))
+-- so the lesser of 6 and what is lacked is handed out
+pub handed-count : (v : List ℕ) (l : List Rec) → Sound l → length (take 6 (lacking v l)) ≡ handedCount v (vectorOf l)
+unfolding handedCount
 handed-count v l h = length-take 6 (lacking v l) ∙ ap (min 6) (lacking-length v l h)

@@ -103,7 +103,7 @@ unfoldable pub zeros : ℕ → ℕ → Bench → List Call → Bool
 zeros archive b s [] = true
 zeros archive b s (c ∷ cs) = (not (eqb (unitOf c) b) || eqb (done archive s c .number) 0) && zeros archive b (next archive s c) cs
 
--- each of those takes answers 0, and of the two vectors, the taking unit's named first, the first lacks nothing [F91]
+-- each of those takes answers 0, and of the two vectors, the taking unit's named first, the first lacks nothing [F92]
 pub record Covered (archive a b : ℕ) (s : Bench) (cs : List Call) : Type 0 where
   pub answers : zeros archive b s cs ≡ true
   pub covering : comparisonOf (heldVector (play archive s cs) b) (heldVector (play archive s cs) a) .first ≡ 0

@@ -1,4 +1,4 @@
--- What a comparison answers, by the two tests whether one vector covers the other.
+-- What a comparison answers: by the two tests whether one vector covers the other, and by the two numbers of records lacked.
 -- Assumes nothing.
 use Prim.Native.Nat.{ℕ}
 use native.Mathlib.Omega.{arith}
@@ -20,8 +20,7 @@ module _ (a b : List ℕ) where
   answer-is g l p q = rw (p, q)
 
 -- from the two numbers, as the code has them
-pub told : (a b : List ℕ) (n f s : ℕ) → f ≡ lacksOf a b → s ≡ lacksOf b a → n ≡ cond (eqb f 0) (cond (eqb s 0) 0 1) (cond (eqb s 0) 2 3)
-    → compared n f s ≡ comparisonOf a b
+pub told : (a b : List ℕ) (n f s : ℕ) → f ≡ lacksOf a b → s ≡ lacksOf b a → n ≡ answer (eqb f 0) (eqb s 0) → compared n f s ≡ comparisonOf a b
 unfolding comparisonOf
 told a b n f s p q e = rw (answer-by-distances a b, e, p, q)
 
