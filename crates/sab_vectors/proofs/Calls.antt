@@ -13,11 +13,13 @@ use Rattle.sab_words.specs.Words.{packed}
 use Rattle.sab_words.specs.Called.{called, wrongBuffer}
 use Rattle.sab_vectors.specs.Compared.{lacksSize, toldCompared, comparedOf}
 
--- two numbers written one behind the other
-pub two-written : (d : List ℕ) (m n : ℕ) {e g : List ℕ} → length d ≡ lacksSize → e ≡ putAt d 0 (four m) → g ≡ putAt e 4 (four n) → g ≡ four m ++ four n
-two-written d m n h p q =
-    let w : putAt (putAt d 0 (four m)) 4 (four n) ≡ putAt d 0 (four m ++ four n) = put-more d 0 (four m) (four n) (omega arith) in
-    rw (q, p, w) (put-whole d (four m ++ four n) (omega arith))
+-- the two numbers written one behind the other, the answer in the word
+pub tells-both : (d : List ℕ) (n f s : ℕ) {e g : List ℕ} {k r : ℕ} → length d ≡ lacksSize → e ≡ putAt d 0 (four f) → g ≡ putAt e 4 (four s)
+    → k ≡ n → r ≡ packed 0 0 k → called r [] g ≡ toldCompared (compared n f s)
+unfolding toldCompared
+tells-both d n f s h p q i w =
+    let t : putAt (putAt d 0 (four f)) 4 (four s) ≡ putAt d 0 (four f ++ four s) = put-more d 0 (four f) (four s) (omega arith) in
+    rw (w, i, q, p, t, put-whole d (four f ++ four s) (omega arith))
 
 module _ {r : ℕ} (a b d : List ℕ) where
   pub first-wrong : (length a ≡ 16 → ⊥) → r ≡ packed 1 0 0 → called r [] d ≡ comparedOf a b d
@@ -32,7 +34,7 @@ module _ {r : ℕ} (a b d : List ℕ) where
   unfolding comparedOf wrongBuffer
   lent-wrong h g f w = rw (eq-eqb (length a) 16 h, eq-eqb (length b) 16 g, ne-eqb (length d) lacksSize f, w)
 
-  pub compares : {x y e : List ℕ} {m f s k : ℕ} → length a ≡ 16 → length b ≡ 16 → length d ≡ lacksSize → x ≡ vectorAt a 0 → y ≡ vectorAt b 0
-      → compared m f s ≡ comparisonOf x y → e ≡ four f ++ four s → k ≡ m → r ≡ packed 0 0 k → called r [] e ≡ comparedOf a b d
-  unfolding comparedOf toldCompared
-  compares h g n p q c t i w = rw (eq-eqb (length a) 16 h, eq-eqb (length b) 16 g, eq-eqb (length d) lacksSize n, w, i, t, ← p, ← q, ← c)
+  pub compares : {x y e : List ℕ} {m f s : ℕ} → length a ≡ 16 → length b ≡ 16 → length d ≡ lacksSize → x ≡ vectorAt a 0 → y ≡ vectorAt b 0
+      → compared m f s ≡ comparisonOf x y → called r [] e ≡ toldCompared (compared m f s) → called r [] e ≡ comparedOf a b d
+  unfolding comparedOf
+  compares h g n p q c t = rw (eq-eqb (length a) 16 h, eq-eqb (length b) 16 g, eq-eqb (length d) lacksSize n, t, c, p, q)

@@ -1,15 +1,16 @@
 // The held vector and the comparison of two, as the static library calls them: vectors in 16 bytes, the answer in one word.
 ghost use mathlib.Core.Path.{_≡_};
-ghost use mathlib.Core.List.{[], _++_};
+ghost use mathlib.Core.List.{[]};
 ghost use lib.ListN.{length};
-ghost use Rattle.model.specs.Bytes.{four};
+ghost use Rattle.model.specs.Vector.{compared};
 ghost use Rattle.held_vector.specs.Held.{heldOf};
 ghost use Rattle.sab_words.specs.Called.{called, told};
-ghost use Rattle.sab_vectors.specs.Compared.{comparedOf, lacksSize};
+ghost use Rattle.sab_vectors.specs.Compared.{lacksSize, toldCompared, comparedOf};
 use byte_slice::put32;
 use byte_slice::wide;
 use sab_words::pack;
 use vector::vector_at;
+use vector_compare::Comparison;
 
 // The bytes lent for the two numbers of a comparison.
 pub const LACKS_BYTES: usize = 8;
@@ -22,13 +23,14 @@ pub fn vector(log: &[u8], vector: &mut [u8]) -> u32
     pack(h.number, 0, h.records)
 }
 
-// How many records the first lacks, and how many the second, are written one behind the other.
-fn put_lacks(lacks: &mut [u8], first: u32, second: u32)
+// What a comparison says is told: the answer as the count, the two numbers one behind the other in the lent bytes.
+fn tell(c: Comparison, lacks: &mut [u8]) -> u32
     requires { ⌜ length (now lacks) ≡ lacksSize ⌝ }
-    ensures { λ _. ⌜ now (lacks .exit) ≡ four first ++ four second ⌝ }
+    ensures { λ r. ⌜ called r [] (now (lacks .exit)) ≡ toldCompared (compared (c .answer) (c .first) (c .second)) ⌝ }
 {
-    put32(lacks, 0, first);
-    put32(lacks, 4, second);
+    put32(lacks, 0, c.first);
+    put32(lacks, 4, c.second);
+    pack(0, 0, wide(c.answer))
 }
 
 // Compares two vectors; the count is the answer. What each lacks is written into the 8 lent bytes.
@@ -47,6 +49,5 @@ pub fn compare(first: &[u8], second: &[u8], lacks: &mut [u8]) -> u32
     let a = vector_at(first, 0);
     let b = vector_at(second, 0);
     let c = vector_compare::compare(a, b);
-    put_lacks(lacks, c.first, c.second);
-    pack(0, 0, wide(c.answer))
+    tell(c, lacks)
 }

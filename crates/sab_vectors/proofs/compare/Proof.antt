@@ -4,65 +4,56 @@ use Rattle.sab_vectors.proofs.compare.Statement.{statement}
 use Rattle.sab_vectors.proofs.compare.Tie as tie
 use Rattle.sab_vectors.proofs.compare.Reads as reads
 use Rattle.sab_vectors.proofs.compare.Lts as lts
-use Rattle.byte_slice.proofs.wide.Reads as wide-reads
-use Rattle.sab_vectors.proofs.put_lacks.Reads as put-lacks-reads
+use Rattle.sab_vectors.proofs.tell.Reads as tell-reads
 use Rattle.sab_words.proofs.pack.Reads as pack-reads
 use Rattle.vector.proofs.vector_at.Reads as vector-at-reads
 use Rattle.vector_compare.proofs.compare.Reads as compare-reads
 
--- src/lib.rt:39:9
+-- src/lib.rt:41:9
 pack-requires : tie.Need-pack-requires
 pack-requires c κs = search needs
 
--- src/lib.rt:39:9
+-- src/lib.rt:41:9
 returns : tie.Need-returns
 returns c = search (first-wrong)
 
--- src/lib.rt:42:9
+-- src/lib.rt:44:9
 pack-requires-2 : tie.Need-pack-requires-2
 pack-requires-2 c κs = search needs
 
--- src/lib.rt:42:9
+-- src/lib.rt:44:9
 returns-2 : tie.Need-returns-2
 returns-2 c = search (second-wrong)
 
--- src/lib.rt:45:9
+-- src/lib.rt:47:9
 pack-requires-3 : tie.Need-pack-requires-3
 pack-requires-3 c κs = search needs
 
--- src/lib.rt:45:9
+-- src/lib.rt:47:9
 returns-3 : tie.Need-returns-3
 returns-3 c = search (lent-wrong)
 
--- src/lib.rt:47:9
+-- src/lib.rt:49:9
 vector-at-requires : tie.Need-vector-at-requires
 vector-at-requires c κs = search needs
 
--- src/lib.rt:48:9
+-- src/lib.rt:50:9
 vector-at-requires-2 : tie.Need-vector-at-requires-2
 vector-at-requires-2 c κs = search needs
 
--- src/lib.rt:49:9
+-- src/lib.rt:51:9
 compare-requires : tie.Need-compare-requires
 compare-requires c κs = search needs
 
--- src/lib.rt:50:5
-put-lacks-requires : tie.Need-put-lacks-requires
-put-lacks-requires c κs = search needs
+-- src/lib.rt:52:5
+tell-requires : tie.Need-tell-requires
+tell-requires c κs = search needs
 
--- src/lib.rt:51:16
-wide-requires : tie.Need-wide-requires
-wide-requires c κs = search needs
-
--- src/lib.rt:51:5
-pack-requires-4 : tie.Need-pack-requires-4
-pack-requires-4 c κs = search needs
-
--- src/lib.rt:35:1
+-- src/lib.rt:37:1
 same-length : tie.Need-same-length
 same-length c = search needs
 
--- src/lib.rt:35:1
+-- src/lib.rt:37:1
 returns-4 : tie.Need-returns-4
 returns-4 c = search (compares)
 
@@ -79,8 +70,6 @@ compare-spec =
     vector-at-requires
     vector-at-requires-2
     compare-requires
-    put-lacks-requires
-    wide-requires
-    pack-requires-4
+    tell-requires
     same-length
     returns-4)
