@@ -22,7 +22,7 @@ pub use block::sums;
 pub use calls::{Head, act, hand_out, read_file, show, sound, start, take, vector, write_file};
 pub use listing::{LISTING, listing};
 pub use record::{is_date, well_formed};
-pub use vector::compare;
+pub use vector::{Compared, compare};
 
 /// Bytes of a record.
 pub const RECORD: usize = 80;
