@@ -178,10 +178,10 @@ extern "C" {
 
 /* ---- The version of this header and of its calls ---- */
 
-#define SAB_VERSION_MAJOR 1
+#define SAB_VERSION_MAJOR 2
 #define SAB_VERSION_MINOR 0
 #define SAB_VERSION_PATCH 0
-#define SAB_VERSION "1.0.0"
+#define SAB_VERSION "2.0.0"
 
 /* ---- Lengths in bytes ---- */
 
