@@ -22,13 +22,13 @@ static uint8_t log_bytes[SAB_LOG_BYTES], full[SAB_LOG_BYTES], shorter[SAB_LOG_BY
     block[SAB_BLOCK_BYTES], file[SAB_FILE_BYTES], out_file[SAB_FILE_BYTES],
     tree[SAB_TREE_BYTES], listing[SAB_LISTING_BYTES], length[SAB_LENGTH_BYTES],
     head[SAB_HEAD_BYTES], asked[SAB_VECTOR_BYTES], held[SAB_VECTOR_BYTES],
-    wish[SAB_RECORD_BYTES];
+    lacks[SAB_LACKS_BYTES], wish[SAB_RECORD_BYTES];
 static size_t file_length;
 static uint32_t result;
 
 static void run_compare(void)
 {
-    result = sab_compare(asked, sizeof asked, held, sizeof held);
+    result = sab_compare(asked, sizeof asked, held, sizeof held, lacks, sizeof lacks);
 }
 
 static void run_vector(void)

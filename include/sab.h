@@ -182,10 +182,10 @@ extern "C" {
 
 /* ---- The version of this header and of its calls ---- */
 
-#define SAB_VERSION_MAJOR 1
-#define SAB_VERSION_MINOR 1
+#define SAB_VERSION_MAJOR 2
+#define SAB_VERSION_MINOR 0
 #define SAB_VERSION_PATCH 0
-#define SAB_VERSION "1.1.0"
+#define SAB_VERSION "2.0.0"
 
 /* ---- Lengths in bytes ---- */
 
@@ -195,6 +195,7 @@ extern "C" {
 #define SAB_FILE_BYTES 44032     /* lent for writing a file: 86 blocks */
 #define SAB_TREE_BYTES 43012     /* the tree table */
 #define SAB_VECTOR_BYTES 16      /* a vector: eight 16-bit counts, unit 0 first */
+#define SAB_LACKS_BYTES 8        /* how far two vectors are apart: two numbers */
 #define SAB_HEAD_BYTES 24        /* what a file says of itself */
 #define SAB_LISTING_BYTES 76800  /* lent for a listing; none is longer */
 #define SAB_LENGTH_BYTES 4       /* the length of a listing */
@@ -257,16 +258,24 @@ extern "C" {
  * a wider number is not to be cut before the call.
  */
 
-/* Compares two vectors, of any counts.
+/* Compares two vectors, of any counts, and says how far each is behind.
  *
  * first, second   16 bytes each; only read
+ * lacks           8 bytes; on 0 every byte is written: two 32-bit numbers,
+ *                 little-endian. Bytes 0 to 3 say how many records the first
+ *                 lacks, the sum, over the units, of what the second counts more;
+ *                 bytes 4 to 7 how many the second lacks. Each is at most 524,280
  *
  * Returns 0, and SAB_COUNT is
- *   0 identical,
- *   1 the first dominates: every count at least the second's, not identical,
+ *   0 identical: neither lacks a record,
+ *   1 the first dominates: it lacks none, and the second some,
  *   2 the second dominates,
- *   3 both are ahead: each has records that the other lacks.
- * Returns 1 if a vector is not of 16 bytes.
+ *   3 both are ahead: each lacks records that the other has.
+ * Returns 1 if a vector is not of 16 bytes or lacks not of 8. No counts are
+ * refused.
+ *
+ * To bring n records takes n / 6 blocks, rounded up: a block that is handed out
+ * to an asked vector has 6 records, or as many as that lacks of those held.
  */
 #define SAB_IDENTICAL 0u
 #define SAB_FIRST_AHEAD 1u
@@ -274,7 +283,8 @@ extern "C" {
 #define SAB_BOTH_AHEAD 3u
 
 uint32_t sab_compare(const uint8_t *first, size_t first_len,
-                     const uint8_t *second, size_t second_len);
+                     const uint8_t *second, size_t second_len, uint8_t *lacks,
+                     size_t lacks_len);
 
 /* Gives the vector of a log: how many records of each unit it holds.
  *

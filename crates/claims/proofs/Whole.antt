@@ -11,8 +11,10 @@ use borrow.Author.Tests.{eq-eqb}
 use Rattle.model.specs.Log.{recordsOf}
 use Rattle.model.specs.Replay.{replay}
 use Rattle.model.specs.Table.{tableBytes}
+use Rattle.model.specs.Block.{countIn}
 use Rattle.model.specs.Outcome.{Outcome, outcome, showOf}
 use Rattle.encoding_laws.specs.Keeps.{Good}
+use Rattle.encoding_laws.proofs.Claims.{hand-out-counts}
 use Rattle.encoding_laws.proofs.Calls.{guarded-passes}
 use Rattle.machine.specs.Machine.{Call, starts, acts, handsOut, writes, takes, Bench, bare, held, heldVector, blockGiven, done, play}
 use Rattle.machine.specs.Runs.{Runs}
@@ -90,5 +92,8 @@ demand-3 =
       runs = code-claim;
       exist = λ archive cs. runs-of archive (Ran archive) (has-run archive) cs bare;
       typed = λ archive cs a e. runs-typed archive (Ran archive) (has-run archive) cs bare a (inv-bare archive) fits-bare e;
+      handed = λ archive u log v lent o r z.
+          let e = ran-hand-out archive u log v lent o r in
+          ap (λ (x : Outcome). countIn (x .lent)) e ∙ hand-out-counts archive u log v lent (sym (ap (λ (x : Outcome). x .number) e) ∙ z);
       show-exists = show-runs;
     }

@@ -6,8 +6,11 @@ use mathlib.Core.Path.{_≡_}
 use mathlib.Core.Bool.{true}
 use mathlib.Core.List.{List, _++_}
 use lib.ListN.{length}
+use Rattle.model.specs.Vector.{handedCount}
+use Rattle.model.specs.Log.{recordsOf, vectorOf}
 use Rattle.model.specs.Replay.{replay}
 use Rattle.model.specs.Table.{tableBytes}
+use Rattle.model.specs.Block.{countIn}
 use Rattle.model.specs.Outcome.{Outcome, showOf}
 use Rattle.machine.specs.Machine.{Call, starts, acts, handsOut, writes, takes, Bench, bare, held, heldVector, blockGiven, play, outcomes}
 use Rattle.machine.specs.Runs.{Runs}
@@ -69,4 +72,7 @@ pub record Demand3 (M : Type 1) : Type 2 where
   pub exist : (archive : ℕ) (cs : List Call) → Runs (Ran archive) bare cs (outcomes archive bare cs) (play archive bare cs)
   pub typed : (archive : ℕ) (cs : List Call) → archive < 4294967296 → allCallable cs ≡ true
       → Runs (λ (s : Bench) (c : Call) (o : Outcome). Ran archive s c o × Typed archive s c o) bare cs (outcomes archive bare cs) (play archive bare cs)
+  -- whatever `hand_out` is run on: a block that it gives counts the lesser of 6 and what the asked vector lacks against the held one [F93]
+  pub handed : (archive u : ℕ) (log v lent : List ℕ) (o : Outcome) → RanHandOut archive u log v lent o → o .number ≡ 0
+      → countIn (o .lent) ≡ handedCount v (vectorOf (recordsOf log))
   pub show-exists : (log lent : List ℕ) → RanShow log lent (showOf log lent)

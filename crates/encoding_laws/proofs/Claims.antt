@@ -6,14 +6,18 @@ use mathlib.Core.Path.{_≡_, refl, sym, ap, _∙_, subst}
 use mathlib.Core.Logic.{inl, inr, _↔_}
 use mathlib.Core.Bool.{true}
 use mathlib.Core.List.{List, []}
-use lib.ListN.{length}
+use lib.Dec.{eqb}
+use lib.ListN.{length, take}
+use Rattle.model.specs.Vector.{handedCount}
 use Rattle.model.specs.Record.{Rec}
-use Rattle.model.specs.Log.{recordsOf, soundAfter, soundLog, logBytes}
-use Rattle.model.specs.Block.{blockRecords}
-use Rattle.model.specs.File.{readOf}
-use Rattle.model.specs.Outcome.{Outcome, outcome, startOf, actOf, handOf, writeOf, Took, refused, taken, takeAll, givenFault, tookAll, tookBlock, takeOf, showOf}
+use Rattle.model.specs.Log.{recordsOf, soundAfter, soundLog, logBytes, vectorOf}
+use Rattle.model.specs.Block.{blockRecords, countIn}
+use Rattle.model.specs.File.{readOf, headerOf}
+use Rattle.model.specs.Outcome.{Outcome, outcome, guarded, startOf, actOf, lacking, handBlock, handOf, writeOf, Took, refused, taken, takeAll, givenFault, tookAll, tookBlock, takeOf, showOf}
 use Rattle.log_laws.specs.Sound.{Sound}
 use Rattle.log_laws.proofs.Tests.{sound-means, means-sound}
+use Rattle.block_laws.proofs.ReadBack.{count-back}
+use Rattle.log_laws.proofs.Behind.{handed-count}
 use Rattle.log_laws.proofs.Take.{all-from, take-again}
 use Rattle.model.specs.Merge.{mergeOf}
 use Rattle.encoding_laws.specs.Keeps.{Good, Keeps, Reads, Merges}
@@ -76,3 +80,19 @@ taken-again archive u log b z = checks (guarded-cases u log [] true (tookBlock l
     checks (inr (n, e)) = absurd (omega (arith, sym (ap (λ (o : Outcome). o .number) e) ∙ z))
     checks (inl (a, k, g, e)) =
         subst Again (sym e) (blocks k g (givenFault archive b) refl) z
+
+-- the block that is handed out counts the lesser of 6 and what the asked vector lacks against the held one [F93]
+pub hand-out-counts : (archive u : ℕ) (log v lent : List ℕ) → handOf archive u log v lent .number ≡ 0
+    → countIn (handOf archive u log v lent .lent) ≡ handedCount v (vectorOf (recordsOf log))
+unfolding handOf handBlock
+hand-out-counts archive u log v lent z = go (guarded-cases u log lent (eqb (length lent) 512) done)
+  where
+    done : Outcome
+    done = outcome 0 0 log (handBlock archive u (recordsOf log) v) 0
+
+    go : Guarded u log lent (eqb (length lent) 512) done → countIn (guarded u log lent (eqb (length lent) 512) done .lent) ≡ handedCount v (vectorOf (recordsOf log))
+    go (inr (n, e)) = absurd (omega (arith, sym (ap (λ (o : Outcome). o .number) e) ∙ z))
+    go (inl (a, k, g, e)) =
+        rw e
+        (count-back (headerOf archive u 0 (recordsOf log)) (take 6 (lacking v (recordsOf log)))
+        ∙ handed-count v (recordsOf log) (sound-records log (g .sound)))

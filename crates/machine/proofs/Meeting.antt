@@ -9,6 +9,7 @@ use mathlib.Core.Bool.{true}
 use mathlib.Core.List.{List, [], _∷_, _++_}
 use lib.ListN.{length, getD, take, drop, replicate, take-append-drop, length-drop, drop-of-length-le}
 use lib.Seq.{drop-drop}
+use Rattle.model.specs.Vector.{lacksOf, comparisonOf, blocksFor}
 use Rattle.model.specs.Record.{Rec, unit, num}
 use Rattle.model.specs.Log.{sumTo, rank, count, vectorOf, recordsOf, logBytes}
 use Rattle.model.specs.Outcome.{Outcome, outcome, lacking, handBlock, handOf, taken, takeAll, takeOf}
@@ -21,6 +22,7 @@ use Rattle.log_laws.proofs.Counts.{above-all, formed, unit-of, number-held}
 use Rattle.log_laws.proofs.Same.{unique}
 use Rattle.log_laws.proofs.Take.{all-from}
 use Rattle.log_laws.proofs.Lacking.{lacking-cons, lacking-nil, has-lacking, lacking-has, lacking-beyond, absent-lacked, union-length}
+use Rattle.log_laws.proofs.Behind.{lacking-length}
 use Rattle.log_laws.proofs.Tests.{vectorOf-getD}
 use Rattle.encoding_laws.specs.Keeps.{Good}
 use Rattle.encoding_laws.proofs.Logs.{sound-proper, sound-records}
@@ -268,19 +270,33 @@ none-left l n = (
   λ k. drop-of-length-le l {i = 6 * n} (omega arith),
 )
 
+-- so counted by how far the vectors are apart
+blocks-needed : (l : List Rec) (n d e : ℕ) → length l ≡ d → length (drop (6 * n) l) ≡ e → (e ≡ 0) ↔ (blocksFor d ≤ n)
+unfolding blocksFor
+blocks-needed l n d e p q = (
+  λ z. let k = length-drop (6 * n) l in omega arith,
+  λ h. let k = length-drop (6 * n) l in omega arith,
+)
+
 pub every-meeting : EveryMeeting
-unfolding lackedBy
+unfolding lackedBy comparisonOf
 every-meeting archive a b la lb a8 b8 ga gb ag fit =
     let A : List Rec = recordsOf la in
     let B : List Rec = recordsOf lb in
     let sA = sound-records la (ga .sound) in
     let sB = sound-records lb (gb .sound) in
+    let apart : (l : List ℕ) → length (lacking (vectorOf (recordsOf l)) A) ≡ lacksOf (vectorOf (recordsOf l)) (vectorOf A) = λ l. lacking-length (vectorOf (recordsOf l)) A sA in
     let start : Met archive a b la a8 b8 ga lb = record { good = gb; pair = record { sA = sA; sB = sB; agree = ag; fit = omega (arith, union-length A B sA sB) } } in
     record {
       handing = λ n. handed-is archive a b la a8 b8 ga (meet archive a b la lb n) .0;
       taking = λ n. rounds archive a b la a8 b8 ga (meet archive a b la lb n) (meets archive a b la a8 b8 ga n lb start .0) .number;
       left = λ n. meets archive a b la a8 b8 ga n lb start .1;
       exactly = λ n. rw (meets archive a b la a8 b8 ga n lb start .1) (none-left (lackedBy la lb) n);
+      behind = λ n. apart (meet archive a b la lb n);
+      blocks = λ n.
+          blocks-needed (lackedBy la lb) n (lacksOf (vectorOf B) (vectorOf A)) (lacksOf (vectorOf (recordsOf (meet archive a b la lb n))) (vectorOf A))
+          (apart lb)
+          (ap (λ (l : List Rec). length l) (sym (meets archive a b la a8 b8 ga n lb start .1)) ∙ apart (meet archive a b la lb n));
       sound = λ n. meets archive a b la a8 b8 ga n lb start .0 .good;
       later = λ n m. continued archive a b la a8 b8 ga n m lb;
     }

@@ -15,6 +15,7 @@ use Rattle.model.specs.Log.{sumTo, count, vectorOf, recordsOf, logBytes}
 use Rattle.model.specs.Block.{blockRecords}
 use Rattle.model.specs.Outcome.{Outcome, outcome, lacking, givenFault, takeOf}
 use Rattle.byte_slice.proofs.Numbers.{eq-or-ne, and-true, true-and}
+use Rattle.vector.proofs.Distances.{lacks-none}
 use Rattle.log_laws.specs.Members.{Has, Sub, Agree}
 use Rattle.log_laws.specs.Sound.{Sound}
 use Rattle.log_laws.proofs.Formed.{well-unit, well-own}
@@ -254,4 +255,4 @@ cover archive cs s a b b8 i d p =
       room = λ u k. omega arith;
     } in
     let (x, y) = goes archive a b n b8 A B used sA agree (inU a) fit cs s B i src (p .calls) w in
-    record { answers = x; covering = counts-cover (held (play archive s cs) a) (held (play archive s cs) b) (λ u _. y u) }
+    record { answers = x; covering = lacks-none (heldVector (play archive s cs) b) (heldVector (play archive s cs) a) (counts-cover (held (play archive s cs) a) (held (play archive s cs) b) (λ u _. y u)) }

@@ -8,7 +8,7 @@ use mathlib.Core.Option.{Option, none, some}
 use mathlib.Core.List.{List, [], _∷_, _++_}
 use lib.Dec.{ltb, leb, eqb}
 use lib.ListN.{length}
-use Rattle.model.specs.Vector.{covers}
+use Rattle.model.specs.Vector.{comparisonOf}
 use Rattle.model.specs.Record.{Rec, unit, num}
 use Rattle.model.specs.Log.{rank, byId}
 use Rattle.model.specs.Replay.{replay}
@@ -103,10 +103,10 @@ unfoldable pub zeros : ℕ → ℕ → Bench → List Call → Bool
 zeros archive b s [] = true
 zeros archive b s (c ∷ cs) = (not (eqb (unitOf c) b) || eqb (done archive s c .number) 0) && zeros archive b (next archive s c) cs
 
--- each of those takes answers 0, and b covers a
+-- each of those takes answers 0, and of the two vectors, the taking unit's named first, the first lacks nothing [F92]
 pub record Covered (archive a b : ℕ) (s : Bench) (cs : List Call) : Type 0 where
   pub answers : zeros archive b s cs ≡ true
-  pub covering : covers (heldVector (play archive s cs) b) (heldVector (play archive s cs) a) ≡ true
+  pub covering : comparisonOf (heldVector (play archive s cs) b) (heldVector (play archive s cs) a) .first ≡ 0
 
 -- ---- the claim
 

@@ -5,6 +5,7 @@ use mathlib.Core.Path.{_≡_}
 use mathlib.Core.Logic.{_↔_}
 use mathlib.Core.List.{List, []}
 use lib.ListN.{length, drop, replicate}
+use Rattle.model.specs.Vector.{lacksOf, comparisonOf, blocksFor}
 use Rattle.model.specs.Record.{Rec}
 use Rattle.model.specs.Log.{vectorOf, recordsOf}
 use Rattle.model.specs.Outcome.{Outcome, lacking, handOf, takeOf}
@@ -36,6 +37,11 @@ pub record Meets (archive a b : ℕ) (la lb : List ℕ) : Type 0 where
   pub left : (n : ℕ) → lackedBy la (meet archive a b la lb n) ≡ drop (6 * n) (lackedBy la lb)
   -- for k lacking, k divided by 6 and rounded up blocks pass all, and no fewer
   pub exactly : (n : ℕ) → (lackedBy la (meet archive a b la lb n) ≡ []) ↔ ((length (lackedBy la lb) + 5) / 6 ≤ n)
+  -- as many are lacking as the taking unit's vector is behind [F91]
+  pub behind : (n : ℕ) → length (lackedBy la (meet archive a b la lb n)) ≡ lacksOf (vectorOf (recordsOf (meet archive a b la lb n))) (vectorOf (recordsOf la))
+  -- so a sixth of that, rounded up, is how many blocks are needed: named first, the taking unit lacks nothing then, and not before [F93]
+  pub blocks : (n : ℕ) → (comparisonOf (vectorOf (recordsOf (meet archive a b la lb n))) (vectorOf (recordsOf la)) .first ≡ 0)
+      ↔ (blocksFor (lacksOf (vectorOf (recordsOf lb)) (vectorOf (recordsOf la))) ≤ n)
   -- cut between blocks, it leaves a sound log, and a later meeting ends where the uncut one does
   pub sound : (n : ℕ) → Good (meet archive a b la lb n)
   pub later : (n m : ℕ) → meet archive a b la lb (n + m) ≡ meet archive a b la (meet archive a b la lb n) m

@@ -5,17 +5,17 @@ use Prim.Native.Nat.{ℕ, zero, suc}
 use mathlib.Core.Bool.{Bool, true, false, cond, not, _&&_, _||_}
 use mathlib.Core.List.{List, [], _∷_, _++_}
 use lib.Dec.{leb, eqb}
-use lib.ListN.{length, replicate}
+use lib.ListN.{length, take, replicate}
 use Rattle.model.specs.Bytes.{two, sameBytes, padded}
-use Rattle.model.specs.Vector.{compareOf, vectorBytes}
+use Rattle.model.specs.Vector.{Compared, compareOf, comparisonOf, handedCount, blocksFor, vectorBytes}
 use Rattle.model.specs.Date.{isDate}
 use Rattle.model.specs.Record.{Rec, identity, unitOf, numberOf, root, wellFormed}
-use Rattle.model.specs.Log.{recordFault, soundAfter}
+use Rattle.model.specs.Log.{recordFault, soundAfter, vectorOf}
 use Rattle.model.specs.Replay.{Entry, Aside, Tree, replay, presentOnes, isDisputed}
 use Rattle.model.specs.Table.{identityBytes}
 use Rattle.model.specs.Block.{bodyBytes, archiveIn, senderIn, vectorIn}
 use Rattle.model.specs.File.{Fault, fault, blockCount, headerOf, blockAt}
-use Rattle.model.specs.Outcome.{Took, refused, taken, takeAll}
+use Rattle.model.specs.Outcome.{lacking, Took, refused, taken, takeAll}
 use Rattle.model.specs.Merge.{Merged, merged, union, recordsClash, unionFault, unlessAny, joinedBoth, mergeOf}
 use Rattle.model.specs.Listing.{decimal, headLine, seenLine}
 
@@ -141,6 +141,12 @@ shows l es ss =
 pub data Row : Type 0 where
   -- two vectors, and the answer of their comparison
   vectors : List ℕ → List ℕ → ℕ → Row
+  -- two vectors, the answer of their comparison, how many records the first lacks, and how many the second
+  behind : List ℕ → List ℕ → ℕ → ℕ → ℕ → Row
+  -- the records of a log, an asked vector, and how many records the block has that is handed out
+  hands : List Rec → List ℕ → ℕ → Row
+  -- how many records are lacked, and how many blocks bring them
+  brings : ℕ → ℕ → Row
   -- year, month, day, and whether this is a date
   date : ℕ → ℕ → ℕ → Bool → Row
   -- a record, and whether it is well formed
@@ -180,6 +186,9 @@ unfoldable pub isRefused : Took → ℕ → Bool
 isRefused (refused n) k = eqb n k
 isRefused (taken m) k = false
 
+unfoldable pub says : Compared → ℕ → ℕ → ℕ → Bool
+says c n a b = eqb (c .answer) n && (eqb (c .first) a && eqb (c .second) b)
+
 -- the same records in the same order
 unfoldable pub sameRecords : List Rec → List Rec → Bool
 sameRecords [] [] = true
@@ -204,6 +213,9 @@ heads f a u v = eqb (archiveIn (blockAt f 0)) a && (eqb (senderIn (blockAt f 0))
 
 unfoldable pub right : Row → Bool
 right (vectors a b n) = eqb (compareOf a b) n
+right (behind a b n f s) = says (comparisonOf a b) n f s
+right (hands l v n) = soundAfter [] l && (eqb (handedCount v (vectorOf l)) n && eqb (length (take 6 (lacking v l))) n)
+right (brings n k) = eqb (blocksFor n) k
 right (whole l es ss) =
     soundAfter [] l
     && (showsWhole (replay l .asides) (presentOnes (replay l .entries)) es && showsAsides (replay l .asides) ss)
@@ -282,7 +294,33 @@ starred =
 -- more of the rules, one by one
 unfoldable pub further : List Row
 further =
-    date 1989 12 31 false
+    -- each lacks what the other has more of a unit, and a lead of one unit makes up for nothing
+    behind (2 ∷ 1 ∷ 0 ∷ 0 ∷ 0 ∷ 0 ∷ 0 ∷ 0 ∷ []) (1 ∷ 4 ∷ 0 ∷ 0 ∷ 0 ∷ 0 ∷ 0 ∷ 2 ∷ []) 3 5 1
+    ∷ behind (1 ∷ 4 ∷ 0 ∷ 0 ∷ 0 ∷ 0 ∷ 0 ∷ 2 ∷ []) (2 ∷ 1 ∷ 0 ∷ 0 ∷ 0 ∷ 0 ∷ 0 ∷ 0 ∷ []) 3 1 5
+    ∷ behind (3 ∷ 1 ∷ 0 ∷ 0 ∷ 0 ∷ 0 ∷ 0 ∷ 0 ∷ []) (1 ∷ 1 ∷ 0 ∷ 0 ∷ 0 ∷ 0 ∷ 0 ∷ 0 ∷ []) 1 0 2
+    ∷ behind (2 ∷ 2 ∷ 2 ∷ 0 ∷ 0 ∷ 0 ∷ 0 ∷ 0 ∷ []) (2 ∷ 2 ∷ 2 ∷ 0 ∷ 0 ∷ 0 ∷ 0 ∷ 0 ∷ []) 0 0 0
+    -- the greatest distance: more than 16 bits hold
+    ∷ behind (replicate 8 0) (replicate 8 65535) 2 524280 0
+    -- a block for a vector that lacks one of unit 0 and is ahead of unit 1; for one that lacks nothing; for one that lacks seven
+    ∷ hands (makesTrace 3 (0 · 1) [] root A ∷ stores 4 (0 · 2) (1 ∷ []) (0 · 1) ∷ []) (1 ∷ 5 ∷ 0 ∷ 0 ∷ 0 ∷ 0 ∷ 0 ∷ 0 ∷ []) 1
+    ∷ hands (makesTrace 3 (0 · 1) [] root A ∷ []) (1 ∷ 0 ∷ 0 ∷ 0 ∷ 0 ∷ 0 ∷ 0 ∷ 0 ∷ []) 0
+    ∷ hands
+    (makesTrace 3 (0 · 1) [] root A
+    ∷ makesTrace 3 (1 · 1) [] root A
+    ∷ makesTrace 3 (2 · 1) [] root A
+    ∷ makesTrace 3 (3 · 1) [] root A
+    ∷ makesTrace 3 (4 · 1) [] root A
+    ∷ makesTrace 3 (5 · 1) [] root A
+    ∷ makesTrace 3 (6 · 1) [] root A
+    ∷ [])
+    (replicate 8 0)
+    6
+    ∷ brings 0 0
+    ∷ brings 1 1
+    ∷ brings 6 1
+    ∷ brings 7 2
+    ∷ brings 512 86
+    ∷ date 1989 12 31 false
     ∷ date 1990 1 1 true
     ∷ date 2199 12 31 true
     ∷ date 2200 1 1 false

@@ -103,10 +103,10 @@ pub extern "C" fn sab_vector(log: &[u8], vector: &mut [u8]) -> u32
     sab_vectors::vector(log, vector)
 }
 
-// Compares two vectors; the count is the answer.
+// Compares two vectors; the count is the answer. What each lacks is written into the 8 lent bytes.
 #[no_mangle]
-pub extern "C" fn sab_compare(first: &[u8], second: &[u8]) -> u32
-    ensures { λ r. ⌜ r ≡ comparedOf (now (first .entry)) (now (second .entry)) ⌝ }
+pub extern "C" fn sab_compare(first: &[u8], second: &[u8], lacks: &mut [u8]) -> u32
+    ensures { λ r. ⌜ called r [] (now (lacks .exit)) ≡ comparedOf (now (first .entry)) (now (second .entry)) (now (lacks .entry)) ⌝ }
 {
-    sab_vectors::compare(first, second)
+    sab_vectors::compare(first, second, lacks)
 }

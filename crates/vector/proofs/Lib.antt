@@ -1,3 +1,4 @@
+pub mod Distances
 pub mod Dominance
 pub mod Higher
 pub mod InBytes

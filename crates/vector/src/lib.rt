@@ -1,10 +1,10 @@
 // Version vectors: eight counts, one for each unit.
 ghost use mathlib.Core.Path.{_≡_};
 ghost use mathlib.Core.Bool.{true, cond};
-ghost use Prim.Native.Nat.{_+_, _≤_, _<_};
+ghost use Prim.Native.Nat.{_+_, _-_, _≤_, _<_};
 ghost use lib.ListN.{length, getD, set, replicate};
 ghost use Rattle.model.specs.Bytes.{putAt};
-ghost use Rattle.model.specs.Vector.{covers, vectorAt, vectorBytes};
+ghost use Rattle.model.specs.Vector.{covers, lacksOf, vectorAt, vectorBytes};
 use byte_slice::le16;
 use byte_slice::put16;
 
@@ -23,6 +23,29 @@ pub fn covers(a: Vector, b: Vector) -> bool
         u += 1;
     }
     covered
+}
+
+// What the second count has more than the first.
+fn more(a: u16, b: u16) -> u32
+    ensures { λ r. ⌜ (r ≡ b - a) × (r ≤ 65535) ⌝ }
+{
+    if a < b {
+        return (b - a) as u32;
+    }
+    0
+}
+
+// How many records a lacks against b: of each unit what b has more.
+pub fn lacks(a: Vector, b: Vector) -> u32
+    ensures { λ r. ⌜ (r ≡ lacksOf (a .counts) (b .counts)) × (r < 524281) ⌝ }
+{
+    let mut sum: u32 = 0;
+    let mut u: usize = 0;
+    while u < 8 {
+        sum += more(a.counts[u], b.counts[u]);
+        u += 1;
+    }
+    sum
 }
 
 // The vector that stands at a place.

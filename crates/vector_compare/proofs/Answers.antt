@@ -1,11 +1,14 @@
--- What a comparison answers, by the two tests whether one vector covers the other.
+-- What a comparison answers: by the two tests whether one vector covers the other, and by the two numbers of records lacked.
 -- Assumes nothing.
 use Prim.Native.Nat.{ℕ}
 use native.Mathlib.Omega.{arith}
 use mathlib.Core.Path.{_≡_, refl, sym, _∙_}
 use mathlib.Core.Bool.{Bool, true, false, cond}
 use mathlib.Core.List.{List}
-use Rattle.model.specs.Vector.{covers, compareOf}
+use lib.Dec.{eqb}
+use borrow.Author.Tests.{ne-eqb}
+use Rattle.model.specs.Vector.{covers, compareOf, lacksOf, compared, comparisonOf}
+use Rattle.vector.proofs.Distances.{answer-by-distances}
 
 -- the answer to what the two tests say
 abbrev pub answer : Bool → Bool → ℕ
@@ -16,18 +19,23 @@ module _ (a b : List ℕ) where
   unfolding compareOf
   answer-is g l p q = rw (p, q)
 
-  -- from the two tests, as the code has them
-  pub identical : (g l : Bool) → g ≡ covers a b → l ≡ covers b a → g ≡ true → l ≡ true → 0 ≡ compareOf a b
-  identical g l p q e f = sym (answer-is true true (sym p ∙ e) (sym q ∙ f))
+-- from the two numbers, as the code has them
+pub told : (a b : List ℕ) (n f s : ℕ) → f ≡ lacksOf a b → s ≡ lacksOf b a → n ≡ answer (eqb f 0) (eqb s 0) → compared n f s ≡ comparisonOf a b
+unfolding comparisonOf
+told a b n f s p q e = rw (answer-by-distances a b, e, p, q)
 
-  pub first : (g l : Bool) → g ≡ covers a b → l ≡ covers b a → g ≡ true → l ≡ false → 1 ≡ compareOf a b
-  first g l p q e f = sym (answer-is true false (sym p ∙ e) (sym q ∙ f))
+module _ (f s : ℕ) where
+  pub neither-lacks : f ≡ 0 → s ≡ 0 → 0 ≡ answer (eqb f 0) (eqb s 0)
+  neither-lacks p q = rw (p, q)
 
-  pub second : (g l : Bool) → g ≡ covers a b → l ≡ covers b a → g ≡ false → l ≡ true → 2 ≡ compareOf a b
-  second g l p q e f = sym (answer-is false true (sym p ∙ e) (sym q ∙ f))
+  pub second-lacks : f ≡ 0 → (s ≡ 0 → ⊥) → 1 ≡ answer (eqb f 0) (eqb s 0)
+  second-lacks p q = rw (p, ne-eqb s 0 q)
 
-  pub neither : (g l : Bool) → g ≡ covers a b → l ≡ covers b a → g ≡ false → l ≡ false → 3 ≡ compareOf a b
-  neither g l p q e f = sym (answer-is false false (sym p ∙ e) (sym q ∙ f))
+  pub first-lacks : (f ≡ 0 → ⊥) → s ≡ 0 → 2 ≡ answer (eqb f 0) (eqb s 0)
+  first-lacks p q = rw (ne-eqb f 0 p, q)
+
+  pub both-lack : (f ≡ 0 → ⊥) → (s ≡ 0 → ⊥) → 3 ≡ answer (eqb f 0) (eqb s 0)
+  both-lack p q = rw (ne-eqb f 0 p, ne-eqb s 0 q)
 
 -- an answer tells both tests
 read-0 : (g l : Bool) → answer g l ≡ 0 → (g ≡ true) × (l ≡ true)

@@ -1,17 +1,20 @@
--- Claim V2: the comparison follows Kumar's version vectors.
+-- Claim V2: the comparison follows Kumar's version vectors. And how its answer and its two numbers hang together.
 -- Assumes nothing.
 use Prim.Native.Nat.{ℕ, zero, suc, _+_, _≤_, _<_}
 use native.Mathlib.Omega.{arith}
 use mathlib.Core.Path.{_≡_, refl, sym, _∙_}
-use mathlib.Core.Logic.{⊎-elim}
+use mathlib.Core.Logic.{⊎-elim, _↔_}
 use mathlib.Core.Bool.{true, false}
 use mathlib.Core.List.{List, [], _∷_}
+use lib.Dec.{eqb}
 use lib.ListN.{getD, length}
-use Rattle.model.specs.Vector.{covers, compareOf}
-use Rattle.byte_slice.proofs.Numbers.{bool-cases, test-false, not-both}
+use Rattle.model.specs.Vector.{covers, compareOf, lacksOf, compared, comparisonOf}
+use Rattle.byte_slice.proofs.Numbers.{eq-or-ne, bool-cases, test-false, not-both}
 use Rattle.vector.proofs.Dominance.{covers-at, all-covers, covers-refl, covers-trans, covers-antisym, covers-same}
+use Rattle.vector.proofs.Distances.{covers-exactly, answer-by-distances}
 use Rattle.vector_compare.specs.Raised.{raised}
-use Rattle.vector_compare.proofs.Answers.{answer-is, said-0, said-1, said-2, said-3}
+use Rattle.vector_compare.specs.Ties.{Ties}
+use Rattle.vector_compare.proofs.Answers.{answer, answer-is, neither-lacks, second-lacks, first-lacks, both-lack, said-0, said-1, said-2, said-3}
 
 -- ---- exchanged arguments exchange 1 and 2, and keep 0 and 3
 
@@ -79,3 +82,64 @@ covers-raised a b m n = ⊎-elim holds fails (bool-cases (covers a b))
 pub start-irrelevant : (a b : List ℕ) → length a ≡ 8 → length b ≡ 8 → compareOf (raised a) (raised b) ≡ compareOf a b
 unfolding compareOf
 start-irrelevant a b m n = rw (covers-raised a b m n, covers-raised b a n m)
+
+-- ---- how far behind
+
+module _ (n f s : ℕ) where
+  ties-0 : n ≡ 0 → f ≡ 0 → s ≡ 0 → Ties (compared n f s)
+  ties-0 e p q =
+      record {
+        identical = (λ _. (p, q), λ _. e);
+        first-dominates = (λ d. absurd (omega arith), λ x. absurd (x .1 q));
+        second-dominates = (λ d. absurd (omega arith), λ x. absurd (x .0 p));
+        both-ahead = (λ d. absurd (omega arith), λ x. absurd (x .0 p));
+      }
+
+  ties-1 : n ≡ 1 → f ≡ 0 → (s ≡ 0 → ⊥) → Ties (compared n f s)
+  ties-1 e p q =
+      record {
+        identical = (λ d. absurd (omega arith), λ x. absurd (q (x .1)));
+        first-dominates = (λ _. (p, q), λ _. e);
+        second-dominates = (λ d. absurd (omega arith), λ x. absurd (x .0 p));
+        both-ahead = (λ d. absurd (omega arith), λ x. absurd (x .0 p));
+      }
+
+  ties-2 : n ≡ 2 → (f ≡ 0 → ⊥) → s ≡ 0 → Ties (compared n f s)
+  ties-2 e p q =
+      record {
+        identical = (λ d. absurd (omega arith), λ x. absurd (p (x .0)));
+        first-dominates = (λ d. absurd (omega arith), λ x. absurd (x .1 q));
+        second-dominates = (λ _. (p, q), λ _. e);
+        both-ahead = (λ d. absurd (omega arith), λ x. absurd (x .1 q));
+      }
+
+  ties-3 : n ≡ 3 → (f ≡ 0 → ⊥) → (s ≡ 0 → ⊥) → Ties (compared n f s)
+  ties-3 e p q =
+      record {
+        identical = (λ d. absurd (omega arith), λ x. absurd (p (x .0)));
+        first-dominates = (λ d. absurd (omega arith), λ x. absurd (p (x .0)));
+        second-dominates = (λ d. absurd (omega arith), λ x. absurd (q (x .1)));
+        both-ahead = (λ _. (p, q), λ _. e);
+      }
+
+  ties : n ≡ answer (eqb f 0) (eqb s 0) → Ties (compared n f s)
+  ties e =
+      ⊎-elim
+      (λ (p : f ≡ 0). ⊎-elim (λ q. ties-0 (e ∙ sym (neither-lacks f s p q)) p q) (λ q. ties-1 (e ∙ sym (second-lacks f s p q)) p q) (eq-or-ne s 0))
+      (λ (p : f ≡ 0 → ⊥). ⊎-elim (λ q. ties-2 (e ∙ sym (first-lacks f s p q)) p q) (λ q. ties-3 (e ∙ sym (both-lack f s p q)) p q) (eq-or-ne s 0))
+      (eq-or-ne f 0)
+
+-- the answer is 0, 1, 2 or 3 exactly by which of the two numbers are 0
+pub answer-ties : (a b : List ℕ) → Ties (comparisonOf a b)
+unfolding comparisonOf
+answer-ties a b = ties (compareOf a b) (lacksOf a b) (lacksOf b a) (answer-by-distances a b)
+
+-- exchanged arguments exchange the two numbers
+pub lacks-exchanged : (a b : List ℕ) → (comparisonOf a b .first ≡ comparisonOf b a .second) × (comparisonOf a b .second ≡ comparisonOf b a .first)
+unfolding comparisonOf
+lacks-exchanged a b = (refl, refl)
+
+-- the first lacks nothing exactly if it covers the second
+pub first-covers : (a b : List ℕ) → (covers a b ≡ true) ↔ (comparisonOf a b .first ≡ 0)
+unfolding comparisonOf
+first-covers a b = covers-exactly a b

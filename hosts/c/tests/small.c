@@ -15,6 +15,23 @@ static void put_vector(uint8_t *vector, const unsigned *counts)
         put16(vector + 2 * u, counts[u]);
 }
 
+/* How many records the first lacks: the sum, over the units, of what the second
+ * has more. */
+static unsigned long lacked(const unsigned *first, const unsigned *second)
+{
+    unsigned long sum = 0;
+    int u;
+    for (u = 0; u < 8; u++)
+        sum += second[u] > first[u] ? second[u] - first[u] : 0;
+    return sum;
+}
+
+static unsigned long get32(const uint8_t *bytes)
+{
+    return bytes[0] | (unsigned long)bytes[1] << 8 | (unsigned long)bytes[2] << 16 |
+           (unsigned long)bytes[3] << 24;
+}
+
 /* The answer by the words of the paper. */
 static unsigned answer(const unsigned *first, const unsigned *second)
 {
@@ -26,10 +43,17 @@ static unsigned answer(const unsigned *first, const unsigned *second)
     return (unsigned)(first_ahead + 2 * second_ahead);
 }
 
+static uint32_t compared(struct lent first, struct lent second, struct lent lacks)
+{
+    return sab_compare(first.bytes, SAB_VECTOR_BYTES, second.bytes, SAB_VECTOR_BYTES, lacks.bytes,
+                       SAB_LACKS_BYTES);
+}
+
 void test_compare(void)
 {
     static const unsigned edges[6] = {0, 1, 2, 255, 256, 65535};
     struct lent first = lend(SAB_VECTOR_BYTES), second = lend_low(SAB_VECTOR_BYTES);
+    struct lent lacks = lend(SAB_LACKS_BYTES);
     unsigned a[8], b[8];
     int i, u, seed = 1;
     for (i = 0; i < 2000; i++) {
@@ -42,8 +66,10 @@ void test_compare(void)
         put_vector(second.bytes, b);
         only_read(first, 1);
         only_read(second, 1);
-        CHECK(sab_compare(first.bytes, SAB_VECTOR_BYTES, second.bytes, SAB_VECTOR_BYTES) ==
-              answer(a, b) << 16);
+        fill(lacks);
+        CHECK(compared(first, second, lacks) == answer(a, b) << 16);
+        CHECK(get32(lacks.bytes) == lacked(a, b));
+        CHECK(get32(lacks.bytes + 4) == lacked(b, a));
         only_read(first, 0);
         only_read(second, 0);
     }
@@ -51,11 +77,20 @@ void test_compare(void)
     CHECK(SAB_NUMBER(0x00021405u) == 5 && SAB_PLACE(0x00021405u) == 20);
     for (i = 0; i < WRONG_LENGTHS; i++) {
         size_t wrong = wrong_length(SAB_VECTOR_BYTES, i);
-        CHECK(sab_compare(nowhere(), wrong, second.bytes, SAB_VECTOR_BYTES) == SAB_BAD_BUFFER);
-        CHECK(sab_compare(first.bytes, SAB_VECTOR_BYTES, nowhere(), wrong) == SAB_BAD_BUFFER);
-        CHECK(sab_compare(nowhere(), wrong, nowhere(), wrong) == SAB_BAD_BUFFER);
+        fill(lacks);
+        note(lacks);
+        CHECK(sab_compare(nowhere(), wrong, second.bytes, SAB_VECTOR_BYTES, lacks.bytes,
+                          SAB_LACKS_BYTES) == SAB_BAD_BUFFER);
+        CHECK(sab_compare(first.bytes, SAB_VECTOR_BYTES, nowhere(), wrong, lacks.bytes,
+                          SAB_LACKS_BYTES) == SAB_BAD_BUFFER);
+        CHECK(sab_compare(nowhere(), wrong, nowhere(), wrong, lacks.bytes, SAB_LACKS_BYTES) ==
+              SAB_BAD_BUFFER);
+        CHECK(kept(lacks));
+        wrong = wrong_length(SAB_LACKS_BYTES, i);
+        CHECK(sab_compare(first.bytes, SAB_VECTOR_BYTES, second.bytes, SAB_VECTOR_BYTES,
+                          nowhere(), wrong) == SAB_BAD_BUFFER);
     }
-    CHECK(sab_compare(NULL, 0, NULL, 0) == SAB_BAD_BUFFER);
+    CHECK(sab_compare(NULL, 0, NULL, 0, NULL, 0) == SAB_BAD_BUFFER);
 }
 
 static uint32_t vector_of(struct lent log, struct lent vector)

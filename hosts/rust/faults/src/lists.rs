@@ -223,7 +223,12 @@ impl Calls<'_> {
             library.hand_out(log, archive, unit, &asked, block)
         });
         if both.answers[0].is_ok() {
-            self.blocks.push(both.lent[0][0].clone());
+            let block = &both.lent[0][0];
+            let (count, lacks) = (block[9], self.library.compare(&asked, &vector_of(&log)));
+            if u32::from(count) != lacks.first_lacks.min(6) {
+                return incorrect(format!("hand out: {count} records, {lacks:?}"));
+            }
+            self.blocks.push(block.clone());
         }
         both.compared("hand out")
     }
@@ -388,6 +393,7 @@ impl Calls<'_> {
         .compared("listing")
     }
 
+    /// Two vectors, of logs or with any count.
     fn compare(&mut self) -> End {
         let one = vector_of(&self.logs[self.chance.below(8)]);
         let mut other = vector_of(&self.logs[self.chance.below(8)]);

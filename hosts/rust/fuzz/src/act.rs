@@ -1,4 +1,5 @@
-//! An act on a log that is mostly sound, then a hand-out and a file of it.
+//! An act on a log that is mostly sound, then a hand-out and a file of it; the
+//! asked vector compared with the held one.
 
 use crate::compare::{both, show};
 use crate::input::Input;
@@ -43,9 +44,15 @@ pub fn act(data: &[u8]) {
         let of_unit = input.below(8);
         asked[of_unit] = asked[of_unit].wrapping_sub(input.byte() as u16);
     }
-    let _ = both(5, &[&[0xa5; BLOCK]], |library, lent| {
+    let (handed, block) = both(5, &[&[0xa5; BLOCK]], |library, lent| {
         library.hand_out(log, ARCHIVE, unit, &asked, &mut lent[0])
     });
+    let held = vector_of(log);
+    let (said, _) = both(2, &[], |library, _| Ok(library.compare(&asked, &held)));
+    if let (Ok(()), Ok(said)) = (handed, said) {
+        let count = u32::from(block[0][9]);
+        assert_eq!(count, said.first_lacks.min(6), "count and distance differ");
+    }
     let _ = both(6, &[&[0xa5; FILE]], |library, lent| {
         library.write_file(log, ARCHIVE, unit, &mut lent[0])
     });

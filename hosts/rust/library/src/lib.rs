@@ -35,6 +35,14 @@ pub struct Head {
     pub vector: [u16; 8],
 }
 
+/// What comparing two vectors answers: 0 to 3, and how many records each lacks.
+#[derive(Clone, Copy, Debug, PartialEq, Eq)]
+pub struct Compared {
+    pub answer: u8,
+    pub first_lacks: u32,
+    pub second_lacks: u32,
+}
+
 /// Bytes lent for a listing; none is longer.
 pub const LISTING: usize = 76_800;
 
@@ -55,7 +63,7 @@ pub trait Library {
     fn write_file(&self, log: &[u8], archive: u32, unit: u32, file: &mut [u8]) -> Answer<u16>;
     fn read_file(&self, log: &mut [u8], file: &[u8]) -> Answer<Head>;
     fn show(&self, log: &[u8], tree: &mut [u8]) -> Answer<()>;
-    fn compare(&self, first: &[u16; 8], second: &[u16; 8]) -> u8;
+    fn compare(&self, first: &[u16; 8], second: &[u16; 8]) -> Compared;
     fn vector(&self, log: &[u8]) -> Answer<[u16; 8]>;
     fn merge(
         &self,
@@ -125,8 +133,17 @@ macro_rules! entry_points {
         fn show(&self, log: &[u8], tree: &mut [u8]) -> Answer<()> {
             $library::show(log, tree).map_err(refusal)
         }
-        fn compare(&self, first: &[u16; 8], second: &[u16; 8]) -> u8 {
-            $library::compare(first, second)
+        fn compare(&self, first: &[u16; 8], second: &[u16; 8]) -> Compared {
+            let $library::Compared {
+                answer,
+                first_lacks,
+                second_lacks,
+            } = $library::compare(first, second);
+            Compared {
+                answer,
+                first_lacks,
+                second_lacks,
+            }
         }
         fn vector(&self, log: &[u8]) -> Answer<[u16; 8]> {
             $library::vector(log).map_err(refusal)
@@ -148,7 +165,7 @@ macro_rules! entry_points {
 
 /// The plain Rust implementation.
 mod plain_rust {
-    use super::{Answer, Head, Library, MergeRefusal, Refusal};
+    use super::{Answer, Compared, Head, Library, MergeRefusal, Refusal};
 
     pub struct Plain;
 
@@ -186,7 +203,7 @@ mod plain_rust {
 /// The static library.
 #[cfg(feature = "static")]
 mod static_library {
-    use super::{Answer, Head, Library, MergeRefusal, Refusal};
+    use super::{Answer, Compared, Head, Library, MergeRefusal, Refusal};
     use sab::raw;
     use std::cell::RefCell;
 

@@ -5,7 +5,7 @@ use crate::damaged::MALFORMED;
 use crate::kit::{Shown, Written, changed, log_of};
 use make_vectors::chain::blocks_of_six;
 use make_vectors::examples::paper;
-use make_vectors::text::{bytes, vector};
+use make_vectors::text::{bytes, compared, vector};
 use plain::LOG;
 
 struct Tables {
@@ -33,6 +33,8 @@ pub fn all() -> Written {
     records(&mut tables);
     sums(&mut tables);
     logs(&mut tables);
+    distances(&mut tables);
+    counts(&mut tables);
     Written {
         name: "tables",
         about: "the small functions",
@@ -41,38 +43,88 @@ pub fn all() -> Written {
     }
 }
 
-fn compares(tables: &mut Tables) {
-    let mut row = |answer: u8, shows: &str, first: [u16; 8], second: [u16; 8]| {
-        assert_eq!(plain::compare(&first, &second), answer, "{shows}");
+impl Tables {
+    fn compare(&mut self, answer: &str, shows: &str, first: [u16; 8], second: [u16; 8]) {
+        let said = compared(&plain::compare(&first, &second));
+        assert_eq!(said, answer, "{shows}");
         let row = format!("compare {} {}", vector(&first), vector(&second));
-        tables.row(&format!("compare: {shows}"), row, answer.to_string());
-    };
-    row(0, "zeros", [0; 8], [0; 8]);
-    row(0, "the greatest counts", [65_535; 8], [65_535; 8]);
+        self.row(&format!("compare: {shows}"), row, said);
+    }
+}
+
+fn compares(tables: &mut Tables) {
+    let mut row =
+        |answer: &str, shows: &str, first, second| tables.compare(answer, shows, first, second);
+    row("0 0 0", "zeros", [0; 8], [0; 8]);
+    row("0 0 0", "the greatest counts", [65_535; 8], [65_535; 8]);
     row(
-        1,
+        "1 0 1",
         "the first is ahead at the last unit",
         [2, 2, 2, 0, 0, 0, 0, 1],
         [2, 2, 2, 0, 0, 0, 0, 0],
     );
     row(
-        1,
+        "1 0 1",
         "256 against 255: the high byte decides",
         [256, 0, 0, 0, 0, 0, 0, 0],
         [255, 0, 0, 0, 0, 0, 0, 0],
     );
     row(
-        2,
+        "2 2 0",
         "the second is ahead at two units",
         [1, 1, 0, 0, 0, 0, 0, 0],
         [2, 1, 0, 1, 0, 0, 0, 0],
     );
     row(
-        3,
+        "3 1 1",
         "both are ahead",
         [2, 1, 1, 0, 0, 0, 0, 0],
         [1, 2, 1, 0, 0, 0, 0, 0],
     );
+}
+
+fn distances(tables: &mut Tables) {
+    let mut row =
+        |answer: &str, shows: &str, first, second| tables.compare(answer, shows, first, second);
+    row(
+        "3 5 1",
+        "a lead of one unit makes up for nothing, and the last unit counts",
+        [2, 1, 0, 0, 0, 0, 0, 0],
+        [1, 4, 0, 0, 0, 0, 0, 2],
+    );
+    row(
+        "3 1 5",
+        "the same, exchanged",
+        [1, 4, 0, 0, 0, 0, 0, 2],
+        [2, 1, 0, 0, 0, 0, 0, 0],
+    );
+    row(
+        "2 65536 0",
+        "a number above 16 bits",
+        [0; 8],
+        [65_535, 1, 0, 0, 0, 0, 0, 0],
+    );
+    row("2 524280 0", "the greatest number", [0; 8], [65_535; 8]);
+}
+
+fn counts(tables: &mut Tables) {
+    let mut row = |answer: u32, shows: &str, held: [u16; 8], asked: [u16; 8]| {
+        let count = plain::compare(&asked, &held).first_lacks.min(6);
+        assert_eq!(count, answer, "{shows}");
+        let row = format!("count {} {}", vector(&held), vector(&asked));
+        tables.row(&format!("count: {shows}"), row, count.to_string());
+    };
+    let held = [4, 0, 3, 0, 0, 0, 0, 2];
+    row(0, "nothing is lacked", held, held);
+    row(0, "the asked vector is ahead", held, [9; 8]);
+    row(
+        5,
+        "five are lacked, and unit 1 is ahead",
+        held,
+        [1, 7, 3, 0, 0, 0, 0, 0],
+    );
+    row(6, "six are lacked", held, [1, 0, 0, 0, 0, 0, 0, 2]);
+    row(6, "nine are lacked", held, [0; 8]);
 }
 
 fn dates(tables: &mut Tables) {

@@ -1,7 +1,7 @@
 //! Tables of the small functions.
 
 use crate::chain::blocks_of_six;
-use crate::text::{bytes, vector};
+use crate::text::{bytes, compared, vector};
 use plain::LOG;
 use workload::{Chance, Mix, log_of};
 
@@ -13,6 +13,7 @@ pub fn all() -> String {
     records(&mut chance, &mut text);
     sums(&mut chance, &mut text);
     logs(&mut chance, &mut text);
+    counts(&mut chance, &mut text);
     text
 }
 
@@ -24,12 +25,26 @@ fn compares(chance: &mut Chance, text: &mut String) {
         for _ in 0..i % 4 {
             second[chance.below(8)] = *chance.pick(&edges);
         }
-        let answer = plain::compare(&first, &second);
-        *text += &format!(
-            "compare {} {} = {answer}\n",
-            vector(&first),
-            vector(&second)
-        );
+        let said = compared(&plain::compare(&first, &second));
+        let (first, second) = (vector(&first), vector(&second));
+        *text += &format!("compare {first} {second} = {said}\n");
+    }
+}
+
+/// What a block counts that is handed out: of logs, and of vectors that no log has.
+fn counts(chance: &mut Chance, text: &mut String) {
+    for i in 0..32 {
+        let most = if i % 2 == 0 { 20 } else { 65_535 };
+        let held: [u16; 8] = std::array::from_fn(|_| chance.below(most + 1) as u16);
+        let mut asked = held;
+        for _ in 0..i % 4 {
+            let unit = chance.below(8);
+            asked[unit] = asked[unit]
+                .saturating_add(chance.below(5) as u16)
+                .saturating_sub(3);
+        }
+        let count = plain::compare(&asked, &held).first_lacks.min(6);
+        *text += &format!("count {} {} = {count}\n", vector(&held), vector(&asked));
     }
 }
 

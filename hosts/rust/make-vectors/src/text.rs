@@ -18,6 +18,11 @@ pub fn vector(counts: &[u16; 8]) -> String {
     counts.map(|count| count.to_string()).join(",")
 }
 
+/// What a comparison answers: 0 to 3, and how many records each lacks.
+pub fn compared(said: &plain::Compared) -> String {
+    format!("{} {} {}", said.answer, said.first_lacks, said.second_lacks)
+}
+
 /// FNV-1a of 64 bits.
 pub fn hash(bytes: &[u8]) -> String {
     let hash = bytes.iter().fold(0xcbf2_9ce4_8422_2325u64, |hash, byte| {

@@ -24,7 +24,7 @@ pub use calls::{Head, act, hand_out, read_file, show, sound, start, take, vector
 pub use listing::{LISTING, listing};
 pub use merge::{MergeRefusal, merge};
 pub use record::{is_date, well_formed};
-pub use vector::compare;
+pub use vector::{Compared, compare};
 
 /// Bytes of a record.
 pub const RECORD: usize = 80;

@@ -122,14 +122,35 @@ impl Vector {
     }
 }
 
-/// Compares two vectors: 0 identical, 1 the first dominates, 2 the second
-/// dominates, 3 both ahead.
-pub fn compare(first: &[u16; 8], second: &[u16; 8]) -> u8 {
-    let (first, second) = (Vector::of(first), Vector::of(second));
-    match (second.within(first), first.within(second)) {
-        (true, true) => 0,
-        (true, false) => 1,
-        (false, true) => 2,
-        (false, false) => 3,
+/// What comparing two vectors answers.
+#[derive(Clone, Copy, Debug, PartialEq, Eq)]
+pub struct Compared {
+    /// 0 identical, 1 the first dominates, 2 the second dominates, 3 both ahead.
+    pub answer: u8,
+    /// How many records the first lacks.
+    pub first_lacks: u32,
+    /// How many records the second lacks.
+    pub second_lacks: u32,
+}
+
+/// Compares two vectors, of any counts.
+pub fn compare(first: &[u16; 8], second: &[u16; 8]) -> Compared {
+    let lacks = |own: &[u16; 8], other: &[u16; 8]| -> u32 {
+        let more = own
+            .iter()
+            .zip(other)
+            .map(|(own, other)| other.saturating_sub(*own));
+        more.map(u32::from).sum()
+    };
+    let (one, other) = (Vector::of(first), Vector::of(second));
+    Compared {
+        answer: match (other.within(one), one.within(other)) {
+            (true, true) => 0,
+            (true, false) => 1,
+            (false, true) => 2,
+            (false, false) => 3,
+        },
+        first_lacks: lacks(first, second),
+        second_lacks: lacks(second, first),
     }
 }

@@ -64,11 +64,22 @@ fn vectors_compare() {
         vector[..first.len()].copy_from_slice(first);
         vector
     };
-    assert_eq!(compare(&vector(&[2, 1, 1]), &vector(&[1, 2, 1])), 3);
-    assert_eq!(compare(&vector(&[2, 2, 2]), &vector(&[2, 2, 2])), 0);
-    assert_eq!(compare(&vector(&[2, 1]), &vector(&[1, 1])), 1);
-    assert_eq!(compare(&vector(&[1, 1]), &vector(&[2, 1])), 2);
-    assert_eq!(compare(&[65_535; 8], &[32_768; 8]), 1);
+    let compared = |first: &[u16; 8], second: &[u16; 8]| {
+        let said = compare(first, second);
+        (said.answer, said.first_lacks, said.second_lacks)
+    };
+    assert_eq!(
+        compared(&vector(&[2, 1, 1]), &vector(&[1, 2, 1])),
+        (3, 1, 1)
+    );
+    assert_eq!(
+        compared(&vector(&[2, 2, 2]), &vector(&[2, 2, 2])),
+        (0, 0, 0)
+    );
+    assert_eq!(compared(&vector(&[2, 1]), &vector(&[1, 1])), (1, 0, 1));
+    assert_eq!(compared(&vector(&[1, 1]), &vector(&[2, 1])), (2, 1, 0));
+    assert_eq!(compared(&[65_535; 8], &[32_768; 8]), (1, 0, 8 * 32_767));
+    assert_eq!(compared(&[0; 8], &[65_535; 8]), (2, 524_280, 0));
 }
 
 #[test]

@@ -76,6 +76,8 @@ unsafe extern "C" {
         first_len: usize,
         second: *const u8,
         second_len: usize,
+        lacks: *mut u8,
+        lacks_len: usize,
     ) -> u32;
 
     pub fn sab_listing(

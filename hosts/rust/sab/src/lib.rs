@@ -80,5 +80,5 @@ pub use record::{Record, Records};
 pub use refusal::{Answer, Refusal, Unreadable, in_words};
 pub use tree::{Aside, Entry, Kind, Tree};
 pub use unit::{Identity, Unit};
-pub use vector::{Comparison, Vector};
+pub use vector::{Comparison, Distance, Vector, blocks_for};
 pub use wish::Wish;

@@ -26,6 +26,7 @@ pub const LISTING: usize = 76_800;
 pub const VECTOR: usize = 16;
 
 const HEAD: usize = 24;
+const LACKS: usize = 8;
 
 /// What a file says of itself.
 #[derive(Clone, Copy, Debug, PartialEq, Eq)]
@@ -201,13 +202,38 @@ pub fn vector(log: &[u8]) -> Answer<[u16; 8]> {
     Ok(vector_of(&vector))
 }
 
-/// Compares two vectors: 0 identical, 1 the first dominates, 2 the second
-/// dominates, 3 both ahead.
-pub fn compare(first: &[u16; 8], second: &[u16; 8]) -> u8 {
+/// What comparing two vectors answers.
+#[derive(Clone, Copy, Debug, PartialEq, Eq)]
+pub struct Compared {
+    /// 0 identical, 1 the first dominates, 2 the second dominates, 3 both ahead.
+    pub answer: u8,
+    /// How many records the first lacks: the sum, over the units, of what the
+    /// second has more.
+    pub first_lacks: u32,
+    /// How many records the second lacks.
+    pub second_lacks: u32,
+}
+
+/// Compares two vectors, of any counts. It is never refused.
+pub fn compare(first: &[u16; 8], second: &[u16; 8]) -> Compared {
     let (first, second) = (vector_bytes(first), vector_bytes(second));
-    let result =
-        unsafe { ffi::sab_compare(first.as_ptr(), first.len(), second.as_ptr(), second.len()) };
-    (result >> 16) as u8
+    let mut lacks = [0; LACKS];
+    let result = unsafe {
+        ffi::sab_compare(
+            first.as_ptr(),
+            first.len(),
+            second.as_ptr(),
+            second.len(),
+            lacks.as_mut_ptr(),
+            lacks.len(),
+        )
+    };
+    let [a, b, c, d, e, f, g, h] = lacks;
+    Compared {
+        answer: (result >> 16) as u8,
+        first_lacks: u32::from_le_bytes([a, b, c, d]),
+        second_lacks: u32::from_le_bytes([e, f, g, h]),
+    }
 }
 
 /// What listing a file answers: the length of the text at the beginning of `out`,

@@ -12,6 +12,7 @@ use std::str::FromStr;
 /// let one = Vector::from([2, 1, 1, 0, 0, 0, 0, 0]);
 /// let other: Vector = "1 2 1 0 0 0 0 0".parse()?;
 /// assert_eq!(one.compare(&other), Comparison::BothAhead);
+/// assert_eq!(one.distance(&other).first_lacks, 1);
 /// assert!(!one.covers(&other));
 /// assert_eq!(one[Unit::ALL[0]], 2);
 /// assert_eq!(one.to_string(), "2 1 1 0 0 0 0 0");
@@ -33,6 +34,23 @@ pub enum Comparison {
     BothAhead,
 }
 
+/// How far two vectors are apart.
+#[derive(Clone, Copy, Debug, PartialEq, Eq, Hash)]
+pub struct Distance {
+    /// How they stand to each other.
+    pub comparison: Comparison,
+    /// How many records the first lacks: the sum, over the units, of what the
+    /// second counts more.
+    pub first_lacks: u32,
+    /// How many records the second lacks.
+    pub second_lacks: u32,
+}
+
+/// How many blocks bring so many records: six pass with each.
+pub const fn blocks_for(records: u32) -> u32 {
+    records.div_ceil(6)
+}
+
 impl Vector {
     /// The eight counts, unit 0 first.
     pub const fn counts(&self) -> &[u16; 8] {
@@ -46,11 +64,21 @@ impl Vector {
 
     /// How it stands to another, by the library.
     pub fn compare(&self, other: &Vector) -> Comparison {
-        match raw::compare(&self.0, &other.0) {
-            0 => Comparison::Identical,
-            1 => Comparison::FirstAhead,
-            2 => Comparison::SecondAhead,
-            _ => Comparison::BothAhead,
+        self.distance(other).comparison
+    }
+
+    /// How it stands to another, and how many records each lacks, by the library.
+    pub fn distance(&self, other: &Vector) -> Distance {
+        let compared = raw::compare(&self.0, &other.0);
+        Distance {
+            comparison: match compared.answer {
+                0 => Comparison::Identical,
+                1 => Comparison::FirstAhead,
+                2 => Comparison::SecondAhead,
+                _ => Comparison::BothAhead,
+            },
+            first_lacks: compared.first_lacks,
+            second_lacks: compared.second_lacks,
         }
     }
 

@@ -324,8 +324,16 @@ fn held_vectors() {
 #[test]
 fn comparing() {
     let [low, high] = [[1, 2, 3, 4, 5, 6, 7, 8], [1, 2, 3, 4, 5, 6, 7, 65_535]];
-    assert_eq!(raw::compare(&low, &low), 0);
-    assert_eq!(raw::compare(&high, &low), 1);
-    assert_eq!(raw::compare(&low, &high), 2);
-    assert_eq!(raw::compare(&[9, 0, 0, 0, 0, 0, 0, 0], &high), 3);
+    let compared = |first, second| {
+        let said = raw::compare(first, second);
+        (said.answer, said.first_lacks, said.second_lacks)
+    };
+    assert_eq!(compared(&low, &low), (0, 0, 0));
+    assert_eq!(compared(&high, &low), (1, 0, 65_527));
+    assert_eq!(compared(&low, &high), (2, 65_527, 0));
+    // What the first has more of unit 0 makes up for nothing.
+    let ahead = [9, 0, 0, 0, 0, 0, 0, 0];
+    assert_eq!(compared(&ahead, &high), (3, 27 + 65_535, 8));
+    // More than 16 bits hold.
+    assert_eq!(compared(&[0; 8], &[65_535; 8]), (2, 524_280, 0));
 }

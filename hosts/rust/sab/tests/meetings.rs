@@ -67,6 +67,8 @@ fn meetings_pass_all() {
         let (mut one, mut other) = (logs.swap_remove(0), logs.swap_remove(0));
         let (new, again) = (lacking(&one, &other), compared(&one, &other));
         let back = lacking(&other, &one);
+        let apart = one.vector().unwrap().distance(&other.vector().unwrap());
+        assert_eq!((apart.second_lacks, apart.first_lacks), (new, back));
         let joined = one.vector().unwrap().joined(&other.vector().unwrap());
         let meeting = meet(&mut one, &mut other);
         assert!(meeting.is_complete(), "{meeting}");

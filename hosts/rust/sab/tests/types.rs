@@ -2,8 +2,8 @@
 //! iterators show, against the listing of the library itself.
 
 use sab::{
-    Comparison, Date, Identity, Kind, Log, Mark, Operation, Refusal, Unit, Vector, Wish, in_words,
-    raw,
+    Comparison, Date, Identity, Kind, Log, Mark, Operation, Refusal, Unit, Vector, Wish,
+    blocks_for, in_words, raw,
 };
 use std::error::Error;
 use workload::{Mix, log_of};
@@ -60,6 +60,10 @@ fn vectors() {
     assert_eq!(high.compare(&low), Comparison::FirstAhead);
     assert_eq!(low.compare(&high), Comparison::SecondAhead);
     assert_eq!(low.compare(&other), Comparison::BothAhead);
+    let distance = low.distance(&other);
+    assert_eq!(distance.comparison, Comparison::BothAhead);
+    assert_eq!((distance.first_lacks, distance.second_lacks), (8, 35));
+    assert_eq!([0, 1, 6, 7, 512].map(blocks_for), [0, 1, 1, 2, 86]);
     assert!(low.covers(&low) && high.covers(&low));
     assert!(!low.covers(&high) && !low.covers(&other));
     assert_eq!(low.joined(&other).counts(), &[9, 2, 3, 4, 5, 6, 7, 8]);

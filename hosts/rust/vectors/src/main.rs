@@ -71,7 +71,11 @@ fn run_list(
 }
 
 /// Files whose lines are cases by themselves, and what runs a line.
-const TABLES: [(&str, Row); 2] = [("tables.txt", tables::row), ("merge.txt", merges::row)];
+const TABLES: [(&str, Row); 3] = [
+    ("tables.txt", tables::row),
+    ("compare.txt", tables::row),
+    ("merge.txt", merges::row),
+];
 
 type Row = fn(&dyn Library, &str) -> Result<(), Fault>;
 

@@ -14,7 +14,18 @@ pub fn row(library: &dyn Library, line: &str) -> Result<(), Fault> {
         "compare" => {
             let (first, second) = (words.vector()?, words.vector()?);
             words.equals()?;
-            words.expect(&[library.compare(&first, &second).to_string()])
+            let said = library.compare(&first, &second);
+            let numbers = [said.answer.into(), said.first_lacks, said.second_lacks];
+            // The answer alone, or what each lacks too.
+            let told = if words.word_ahead(1).is_ok() { 3 } else { 1 };
+            words.expect(&numbers.map(|number| number.to_string())[..told])
+        }
+        "count" => {
+            let (held, asked) = (words.vector()?, words.vector()?);
+            words.equals()?;
+            let lacked = library.compare(&asked, &held).first_lacks.min(6);
+            same(lacked, count_by_hand_out(library, &held, &asked))?;
+            words.expect(&[lacked.to_string()])
         }
         "date" => {
             let (year, month, day) = (words.number()?, words.number()?, words.number()?);
@@ -48,6 +59,29 @@ fn same<T: PartialEq + std::fmt::Debug>(asked: T, offered: Option<T>) -> Result<
         Some(offered) if offered != asked => Err(format!("{offered:?}, but {asked:?} by a call")),
         _ => Ok(()),
     }
+}
+
+/// The count of the block that a log with a vector hands out, where such a log
+/// fits its bytes: the units make folders, one after the other.
+fn count_by_hand_out(library: &dyn Library, held: &[u16; 8], asked: &[u16; 8]) -> Option<u32> {
+    if held.iter().map(|count| u32::from(*count)).sum::<u32>() > 512 {
+        return None;
+    }
+    let mut log = [0; LOG];
+    for (unit, count) in (0..).zip(held) {
+        for number in 1..=*count {
+            let mut wish = [0; 80];
+            wish[0] = unit;
+            wish[1] = 1;
+            wish[28..32].copy_from_slice(&[0xe9, 7, 3, 3]);
+            let label = format!("{unit}.{number}");
+            wish[32..32 + label.len()].copy_from_slice(label.as_bytes());
+            library.act(&mut log, 0, unit.into(), &wish).ok()?;
+        }
+    }
+    let mut block = [0; 512];
+    library.hand_out(&log, 0, 0, asked, &mut block).ok()?;
+    Some(block[9].into())
 }
 
 /// A wish with the date is accepted by an empty log.

@@ -154,7 +154,14 @@ fn vectors_count_by_count() {
             (false, true) => 2,
             (false, false) => 3,
         };
-        assert_eq!(plain::compare(&first, &second), expected);
+        let lacks = |a: &[u16; 8], b: &[u16; 8]| -> i64 {
+            let more = a.iter().zip(b).map(|(a, b)| i64::from(*b) - i64::from(*a));
+            more.filter(|more| *more > 0).sum()
+        };
+        let compared = plain::compare(&first, &second);
+        assert_eq!(compared.answer, expected);
+        assert_eq!(i64::from(compared.first_lacks), lacks(&first, &second));
+        assert_eq!(i64::from(compared.second_lacks), lacks(&second, &first));
     }
 }
 

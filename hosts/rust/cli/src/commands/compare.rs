@@ -7,7 +7,8 @@ use crate::json::Object;
 use crate::meeting::{deny_other_archive, held_otherwise, twice_words};
 use crate::numbers::{Case, advice};
 use crate::out::{Ink, Status, for_shell};
-use sab::Comparison;
+use crate::why::counted;
+use sab::{Comparison, blocks_for};
 
 /// `sab compare`.
 pub const COMMAND: Command = Command {
@@ -16,12 +17,13 @@ pub const COMMAND: Command = Command {
     summary: "which file lacks records of another? (checklist B)",
     page: "\
 Prints the vector of each file, and for each two files how they stand to each
-other: identical, the one or the other ahead, or both ahead, and what to do.
+other: identical, the one or the other ahead, or both ahead; how many records each
+lacks, and in how many blocks they come; and what to do.
 
     $ sab compare card0.sab card1.sab
     card0.sab: seen 2 0 0 0 0 0 0 0
     card1.sab: seen 1 1 0 0 0 0 0 0
-    card0.sab, card1.sab: both ahead: each lacks records of the other
+    card0.sab, card1.sab: both ahead: card0.sab lacks 1, card1.sab lacks 1 record (1 block, 1 block)
       sab meet card0.sab card1.sab
 
 Vectors only count. Where both files hold a record of one identity, its bytes are
@@ -62,13 +64,16 @@ fn pair(session: &mut Session, first: &Archive, second: &Archive) -> Status {
         refused.tell(&mut session.out);
         return Status::Refused;
     }
-    let answer = first.vector.compare(&second.vector);
+    let apart = first.vector.distance(&second.vector);
+    let answer = apart.comparison;
     let twice = held_otherwise(&first.log, &second.log);
     session.out.object(|| {
         Object::new("comparison")
             .text("first", first.shown())
             .text("second", second.shown())
             .number("answer", number(answer))
+            .number("first_lacks", apart.first_lacks)
+            .number("second_lacks", apart.second_lacks)
             .texts("held_otherwise", &twice)
     });
     let (one, other) = (first.shown(), second.shown());
@@ -94,15 +99,27 @@ fn pair(session: &mut Session, first: &Archive, second: &Archive) -> Status {
             (format!("{words}: the same records, byte for byte"), None)
         }
         Comparison::FirstAhead => (
-            format!("{one} is ahead: {other} lacks records"),
+            format!(
+                "{one} is ahead: {other} lacks {}",
+                lacked(apart.second_lacks)
+            ),
             Some(("pass", first, second)),
         ),
         Comparison::SecondAhead => (
-            format!("{other} is ahead: {one} lacks records"),
+            format!(
+                "{other} is ahead: {one} lacks {}",
+                lacked(apart.first_lacks)
+            ),
             Some(("pass", second, first)),
         ),
         Comparison::BothAhead => (
-            "both ahead: each lacks records of the other".to_string(),
+            format!(
+                "both ahead: {one} lacks {}, {other} lacks {} ({}, {})",
+                apart.first_lacks,
+                counted(apart.second_lacks as usize, "record"),
+                blocks(apart.first_lacks),
+                blocks(apart.second_lacks)
+            ),
             Some(("meet", first, second)),
         ),
     };
@@ -114,6 +131,19 @@ fn pair(session: &mut Session, first: &Archive, second: &Archive) -> Status {
             .line(format_args!("  sab {command} {from} {to}"));
     }
     Status::no_if(answer != Comparison::Identical)
+}
+
+/// So many records, and the blocks that bring them.
+fn lacked(records: u32) -> String {
+    format!(
+        "{} ({})",
+        counted(records as usize, "record"),
+        blocks(records)
+    )
+}
+
+fn blocks(records: u32) -> String {
+    counted(blocks_for(records) as usize, "block")
 }
 
 /// The library's number of an answer.
