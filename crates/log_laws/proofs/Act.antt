@@ -13,7 +13,7 @@ use borrow.Author.Tests.{eqb-true, ltb-true}
 use Rattle.model.specs.Numbers.{malformed, fullLog, strokeInLabel}
 use Rattle.model.specs.Bytes.{word, two, blank, part}
 use Rattle.model.specs.Vector.{vectorBytes}
-use Rattle.model.specs.Record.{Rec, unit, num, seen, labelOf, wellFormed}
+use Rattle.model.specs.Record.{Rec, unit, op, num, seen, labelOf, wellFormed}
 use Rattle.model.specs.Log.{sumTo, rank, insert, count, vectorOf}
 use Rattle.model.specs.Replay.{judge, replay}
 use Rattle.model.specs.Outcome.{stamped, wishFits, hasStroke, wishNumber, reasonOf, actNumber}
@@ -49,6 +49,11 @@ module _ (u : ℕ) (l : List Rec) (w : List ℕ) (n : length w ≡ 80) where
   unfolding stamped unit
   stamped-unit =
       List·getD-append (take 2 w) (two (suc (count u l)) ++ (vectorBytes (vectorOf l) ++ drop 20 w)) 0 0 (omega (arith, two-long)) ∙ getD-take 2 w 0 0 (omega arith)
+
+  pub stamped-op : op (stamped u l w) ≡ getD w 1 0
+  unfolding stamped op
+  stamped-op =
+      List·getD-append (take 2 w) (two (suc (count u l)) ++ (vectorBytes (vectorOf l) ++ drop 20 w)) 0 1 (omega (arith, two-long)) ∙ getD-take 2 w 1 0 (omega arith)
 
   pub stamped-num : num (stamped u l w) ≡ suc (count u l)
   unfolding stamped num
