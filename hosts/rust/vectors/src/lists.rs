@@ -16,12 +16,12 @@ impl Slots {
 }
 
 /// The number and the place as they are written: only these have a place.
-fn answer<T>(answer: &Answer<T>) -> [String; 2] {
+pub fn answer<T>(answer: &Answer<T>) -> [String; 2] {
     match answer {
         Ok(_) => ["0".to_string(), "-".to_string()],
         Err(refusal) => {
             let place = match refusal.number {
-                2..=11 | 20 => refusal.place.to_string(),
+                2..=11 | 20 | 24 => refusal.place.to_string(),
                 _ => "-".to_string(),
             };
             [refusal.number.to_string(), place]
@@ -30,7 +30,7 @@ fn answer<T>(answer: &Answer<T>) -> [String; 2] {
 }
 
 /// The lent bytes are as they were.
-fn kept(what: &str, after: &[u8], before: &[u8]) -> Result<(), Fault> {
+pub fn kept(what: &str, after: &[u8], before: &[u8]) -> Result<(), Fault> {
     if after == before {
         Ok(())
     } else {

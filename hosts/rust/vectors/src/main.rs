@@ -116,8 +116,10 @@ fn run(library: &dyn Library, directory: &Path) -> Tally {
             tally.count(|| path.display().to_string(), whole);
         }
     }
-    let path = directory.join("tables.txt");
-    if path.exists() {
+    for path in ["tables.txt", "wishes.txt"].map(|name| directory.join(name)) {
+        if !path.exists() {
+            continue;
+        }
         let whole = text(&path).and_then(|text| run_tables(library, &path, &text, &mut tally));
         if whole.is_err() {
             tally.count(|| path.display().to_string(), whole);
