@@ -116,8 +116,7 @@ wish-fits u l w e =
 -- a well-formed wish without a stroke passes the checks of a wish
 pub wish-zero : (u : ℕ) (l : List Rec) (w : List ℕ) → wishNumber u l w ≡ 0 → (wishFits u l w ≡ true) × (hasStroke (labelOf w) ≡ false)
 wish-zero u l w e =
-    let (a, b) = first-zero (cond (wishFits u l w) 0 malformed) (cond (hasStroke (labelOf w)) strokeInLabel 0) e in
-    (
+    let (a, b) = first-zero (cond (wishFits u l w) 0 malformed) (cond (hasStroke (labelOf w)) strokeInLabel 0) e in (
       ⊎-elim (λ x. x .0) (λ x. absurd (omega (arith, sym (x .1) ∙ a))) (cond-cases (wishFits u l w) 0 malformed),
       ⊎-elim (λ x. absurd (omega (arith, sym (x .1) ∙ b))) (λ x. x .0) (cond-cases (hasStroke (labelOf w)) strokeInLabel 0),
     )
