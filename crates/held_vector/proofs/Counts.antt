@@ -1,45 +1,37 @@
--- What the call for the held vector answers and leaves: one law for each way out, over plain values.
+-- What the call for the held vector answers and leaves, over plain values.
 -- Assumes nothing.
-use Prim.Native.Nat.{ℕ, _≤_, _<_}
+use Prim.Native.Nat.{ℕ, _+_, _≤_, _<_}
 use native.Mathlib.Omega.{arith}
 use mathlib.Core.Path.{_≡_, sym, _∙_}
-use mathlib.Core.Bool.{Bool, true, false, not}
+use mathlib.Core.Bool.{true}
 use mathlib.Core.List.{List}
+use lib.Dec.{eqb}
 use lib.ListN.{length}
-use borrow.Author.Tests.{eq-eqb, ne-eqb, not-true, not-false}
 use Rattle.model.specs.Bytes.{putAt}
 use Rattle.model.specs.Vector.{vectorBytes}
-use Rattle.model.specs.Log.{recordsOf, vectorOf, soundLog}
+use Rattle.model.specs.Log.{recordsOf, vectorOf}
 use Rattle.model.specs.Outcome.{outcome}
 use Rattle.byte_slice.proofs.PutAt.{put-whole}
 use Rattle.vector.proofs.InBytes.{vectorBytes-length}
 use Rattle.encoding_laws.proofs.Logs.{sound-few}
-use Rattle.log_check.specs.InOrder.{heldOf as checkedHeld}
-use Rattle.log_check.proofs.Sound.{known-held}
+use Rattle.call_guard.specs.Opened.{opened, openOf}
+use Rattle.call_guard.proofs.Opening.{open-used, open-held, open-buffer, call-passes}
 use Rattle.held_vector.specs.Held.{heldOf}
 
--- the records of a log are few
-pub few-used : (b : List ℕ) {used : ℕ} → used ≡ length (recordsOf b) → used < 65536
-few-used b e = omega (arith, e, sound-few b)
+module _ (log lent : List ℕ) {n used : ℕ} {held : List ℕ} (e : opened n held used ≡ openOf 0 log (eqb (length lent) 16) true) (z : n ≡ 0) where
+  long : length lent ≡ 16
+  long = open-buffer 0 log true lent 16 e z
 
-module _ (log lent : List ℕ) where
-  pub bad-log : (length log ≡ 40960 → ⊥) → outcome 1 0 log lent 0 ≡ heldOf log lent
+  pub vector-fits : 0 + 16 ≤ length lent
+  vector-fits = omega (arith, long)
+
+  -- the records of a log are few
+  pub few-used : used < 65536
+  few-used = omega (arith, open-used 0 log (eqb (length lent) 16) true e z, sound-few log)
+
+  pub counted : {lent′ : List ℕ} → lent′ ≡ putAt lent 0 (vectorBytes held) → outcome 0 0 log lent′ used ≡ heldOf log lent
   unfolding heldOf
-  bad-log h = rw (ne-eqb (length log) 40960 h)
-
-  module _ (h : length log ≡ 40960) where
-    pub bad-vector : (length lent ≡ 16 → ⊥) → outcome 1 0 log lent 0 ≡ heldOf log lent
-    unfolding heldOf
-    bad-vector g = rw (eq-eqb (length log) 40960 h, ne-eqb (length lent) 16 g)
-
-    module _ (g : length lent ≡ 16) (s : Bool) (e : s ≡ soundLog log) where
-      pub unsound : not s ≡ true → outcome 19 0 log lent 0 ≡ heldOf log lent
-      unfolding heldOf
-      unsound f = rw (eq-eqb (length log) 40960 h, eq-eqb (length lent) 16 g, ← e, not-true s f)
-
-      pub counted : {held lent′ : List ℕ} {used : ℕ} → not s ≡ false → used ≡ length (recordsOf log) → held ≡ checkedHeld log
-          → lent′ ≡ putAt lent 0 (vectorBytes held) → outcome 0 0 log lent′ used ≡ heldOf log lent
-      unfolding heldOf
-      counted {held} {lent′} f u v p =
-          let w : lent′ ≡ vectorBytes held = p ∙ put-whole lent (vectorBytes held) (omega (arith, vectorBytes-length held)) in
-          rw (eq-eqb (length log) 40960 h, eq-eqb (length lent) 16 g, ← e, not-false s f, w, u, known-held log e f v)
+  counted {lent′} p =
+      let w : lent′ ≡ vectorBytes held = p ∙ put-whole lent (vectorBytes held) (vectorBytes-length held ∙ sym long) in
+      (rw (w, open-held 0 log (eqb (length lent) 16) true e z, open-used 0 log (eqb (length lent) 16) true e z))
+      ∙ call-passes 0 log lent (eqb (length lent) 16) e (outcome 0 0 log (vectorBytes (vectorOf (recordsOf log))) (length (recordsOf log))) z

@@ -2,7 +2,7 @@
 ghost use mathlib.Core.Path.{_≡_};
 ghost use Rattle.model.specs.Outcome.{outcome};
 ghost use Rattle.held_vector.specs.Held.{heldOf};
-use log_check::check;
+use call_guard::open;
 use vector::put_vector;
 
 // What the call answers: the number, 0 for success, and how many records the log holds.
@@ -15,28 +15,16 @@ pub struct Held {
 pub fn held_vector(log: &[u8], vector: &mut [u8]) -> Held
     ensures { λ r. ⌜ outcome (r .number) 0 (now (log .entry)) (now (vector .exit)) (r .records) ≡ heldOf (now (log .entry)) (now (vector .entry)) ⌝ }
 {
-    if log.len() != 40960 {
+    let o = open(log, 0, vector.len() == 16, true);
+    if o.number != 0 {
         return Held {
-            number: 1,
+            number: o.number,
             records: 0,
         };
     }
-    if vector.len() != 16 {
-        return Held {
-            number: 1,
-            records: 0,
-        };
-    }
-    let c = check(log);
-    if !c.sound {
-        return Held {
-            number: 19,
-            records: 0,
-        };
-    }
-    let held = c.held;
+    let held = o.held;
     put_vector(vector, 0, held);
-    let used = c.used;
+    let used = o.used;
     Held {
         number: 0,
         records: used as u16,

@@ -3,7 +3,7 @@
 use Prim.Native.Nat.{ℕ, _≤_, _<_}
 use native.Mathlib.Omega.{arith}
 use mathlib.Core.Path.{_≡_, refl}
-use mathlib.Core.Bool.{Bool, true, false}
+use mathlib.Core.Bool.{Bool, true, false, _&&_}
 use mathlib.Core.List.{List, []}
 use lib.Dec.{leb, eqb}
 use lib.ListN.{length}
@@ -32,9 +32,13 @@ module _ (u : ℕ) (log lent : List ℕ) where
   unfolding narrowed guarded
   guarded-alike ok f = on (leb u 7) refl
     where
+      refused : leb u 7 ≡ false → (t : Bool) → (eqb (length log) 40960 && ok) ≡ t → guarded (narrowed u) log lent ok (f (narrowed u)) ≡ guarded u log lent ok (f u)
+      refused e true x = let n : narrowed u ≡ 255 = rw e in rw (n, e, x)
+      refused e false x = let n : narrowed u ≡ 255 = rw e in rw (n, e, x)
+
       on : (b : Bool) → leb u 7 ≡ b → guarded (narrowed u) log lent ok (f (narrowed u)) ≡ guarded u log lent ok (f u)
       on true e = let n : narrowed u ≡ u = rw e in rw n
-      on false e = let n : narrowed u ≡ 255 = rw e in rw (n, e)
+      on false e = refused e (eqb (length log) 40960 && ok) refl
 
 module _ (u : ℕ) (log : List ℕ) where
   pub start-alike : startOf (narrowed u) log ≡ startOf u log
