@@ -276,8 +276,9 @@ extern "C" {
  * Returns 1 if a vector is not of 16 bytes or lacks not of 8. No counts are
  * refused.
  *
- * To bring n records takes n / 6 blocks, rounded up: a block that is handed out
- * to an asked vector has 6 records, or as many as that lacks of those held.
+ * To bring n records takes n / 6 blocks, rounded up, where the logs agree and all
+ * fits: a block that is handed out to an asked vector has the lesser of 6 and
+ * what that vector lacks against the held one.
  */
 #define SAB_IDENTICAL 0u
 #define SAB_FIRST_AHEAD 1u

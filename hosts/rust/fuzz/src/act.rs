@@ -4,6 +4,7 @@
 use crate::compare::{both, show};
 use crate::input::Input;
 use crate::life::{ARCHIVE, Life, fill_in, held};
+use library::Refusal;
 use plain::{BLOCK, FILE, RECORD};
 use workload::vector_of;
 
@@ -48,7 +49,9 @@ pub fn act(data: &[u8]) {
         library.hand_out(log, ARCHIVE, unit, &asked, &mut lent[0])
     });
     let held = vector_of(log);
-    let (said, _) = both(2, &[], |library, _| Ok(library.compare(&asked, &held)));
+    let (said, _) = both(2, &[], |library, _| {
+        Ok::<_, Refusal>(library.compare(&asked, &held))
+    });
     if let (Ok(()), Ok(said)) = (handed, said) {
         let count = u32::from(block[0][9]);
         assert_eq!(count, said.first_lacks.min(6), "count and distance differ");
