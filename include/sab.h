@@ -71,8 +71,8 @@
  * Every function returns one 32-bit word:
  *
  *     SAB_NUMBER(r)   0 for success, else the number of the refusal, below
- *     SAB_PLACE(r)    the block at fault, counted from 0. The numbers 2 to 11 and
- *                     20 have a place; only sab_read_file, sab_listing and
+ *     SAB_PLACE(r)    the block at fault, counted from 0. The numbers marked P
+ *                     below have a place; only sab_read_file, sab_listing and
  *                     sab_merge give another than 0. For the other numbers it
  *                     says nothing
  *     SAB_COUNT(r)    what a successful call counted: the blocks written
@@ -326,8 +326,8 @@ uint32_t sab_start(uint8_t *log, size_t log_len, uint32_t archive,
  *                zero;
  *             28-29 year 1990 to 2199, 30 month, 31 day: a real date, in every
  *                operation;
- *             32-63 label: 1 to 32 bytes of hexadecimal 20 to 7E but 2F, no
- *                space first or last, then zeros;
+ *             32-63 label: 1 to 32 bytes of hexadecimal 20 to 7E, no space first
+ *                or last, then zeros; a new one without a stroke (2F): see 24;
  *             64-79 mark of the trace file, any bytes;
  *           fields that the operation does not use are zero
  *
@@ -337,8 +337,8 @@ uint32_t sab_start(uint8_t *log, size_t log_len, uint32_t archive,
  *   19 log not sound;
  *    7 wish of another unit, with number or seen, or malformed; an identity that
  *      this unit has not seen is malformed too;
- *   24 make, rename: well formed, but the label has a stroke (2F). A record that
- *      was made elsewhere with one is well formed: it is taken, read and shown;
+ *   24 make, rename: well formed, but the label has a stroke (2F). Records that
+ *      hold one, old ones of this unit too, are taken, read and shown;
  *   11 the log is full;
  *   12 store, remove, rename: the object is not in the tree;
  *   13 make: the folder is not in the tree;
