@@ -26,6 +26,6 @@ pub record Reads (log : List ℕ) (o : ReadBack) : Type 0 where
   pub refused : (o .number ≡ 0 → ⊥) → o .log ≡ log
 
 -- and so does merging two files, with the log and the file that are lent
-pub record Merges (log lent : List ℕ) (o : Merged) : Type 0 where
-  pub accepted : o .number ≡ 0 → Good (o .log)
-  pub refused : (o .number ≡ 0 → ⊥) → (o .log ≡ log) × (o .lent ≡ lent)
+pub record Merges (log lent : List ℕ) (m : Merged) : Type 0 where
+  pub accepted : m .number ≡ 0 → Good (m .log)
+  pub refused : (m .number ≡ 0 → ⊥) → (m .log ≡ log) × (m .lent ≡ lent)

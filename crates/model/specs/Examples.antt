@@ -5,8 +5,8 @@ use Prim.Native.Nat.{ℕ, zero, suc}
 use mathlib.Core.Bool.{Bool, true, false, cond, not, _&&_, _||_}
 use mathlib.Core.List.{List, [], _∷_, _++_}
 use lib.Dec.{leb, eqb}
-use lib.ListN.{length, take, replicate}
-use Rattle.model.specs.Bytes.{two, sameBytes, padded}
+use lib.ListN.{length, take, drop, replicate}
+use Rattle.model.specs.Bytes.{two, sameBytes, padded, joined}
 use Rattle.model.specs.Vector.{Compared, compareOf, comparisonOf, handedCount, blocksFor, vectorBytes}
 use Rattle.model.specs.Date.{isDate}
 use Rattle.model.specs.Record.{Rec, identity, unitOf, numberOf, root, wellFormed}
@@ -16,7 +16,7 @@ use Rattle.model.specs.Table.{identityBytes}
 use Rattle.model.specs.Block.{bodyBytes, archiveIn, senderIn, vectorIn}
 use Rattle.model.specs.File.{Fault, fault, blockCount, headerOf, blockAt}
 use Rattle.model.specs.Outcome.{lacking, Took, refused, taken, takeAll, actNumber}
-use Rattle.model.specs.Merge.{Merged, merged, union, recordsClash, unionFault, unlessAny, joinedBoth, mergeOf}
+use Rattle.model.specs.Merge.{Merged, merged, union, recordsClash, unlessAny, mergeFiles, mergeOf}
 use Rattle.model.specs.Listing.{decimal, headLine, seenLine}
 
 infix 90 _·_
@@ -175,10 +175,12 @@ pub data Row : Type 0 where
   parts : ℕ → List Rec → ℕ → List Rec → Fault → Row
   -- a fault of the first file, of the second, of the two together; the one that is answered, and the file at fault
   blames : Fault → Fault → Fault → Fault → ℕ → Row
-  -- how many bytes are lent for the log and the file, and the number and file at fault when both files are of no bytes
+  -- how many bytes are lent for the log and the file, and the number and file at fault when the first file is of no bytes
   lends : ℕ → ℕ → ℕ → ℕ → Row
-  -- unit and records of a file of archive 7, of another, and unit and vector of the file of both
-  joins : ℕ → List Rec → ℕ → List Rec → ℕ → List ℕ → Row
+  -- unit and records of a file of archive 7, of another, and unit and records of the file of both
+  joins : ℕ → List Rec → ℕ → List Rec → ℕ → List Rec → Row
+  -- two files, the fault that is answered, and the file at fault
+  checks : List ℕ → List ℕ → Fault → ℕ → Row
 
 unfoldable pub showsTaken : Took → List Shown → List Standing → Bool
 showsTaken (refused n) es ss = false
@@ -201,13 +203,35 @@ sameRecords (r ∷ l) (s ∷ m) = sameBytes r s && sameRecords l m
 unfoldable pub sameFault : Fault → Fault → Bool
 sameFault a b = eqb (a .number) (b .number) && eqb (a .place) (b .place)
 
--- a file of one block, its sums left out
+-- a file of one block or two, its sums left out
 unfoldable pub unsealed : ℕ → ℕ → List Rec → List ℕ
-unsealed archive u l = padded 512 (bodyBytes (headerOf archive u 0 l) l)
+unsealed archive u l =
+    padded 512 (bodyBytes (headerOf archive u 0 l) (take 6 l))
+    ++ cond (leb (length l) 6) [] (padded 512 (bodyBytes (headerOf archive u 1 l) (drop 6 l)))
+
+-- the labels "A", "B" and "C"
+abbrev pub A : List ℕ
+A = 65 ∷ []
+
+abbrev pub B : List ℕ
+B = 66 ∷ []
+
+abbrev pub C : List ℕ
+C = 67 ∷ []
 
 -- the answer names this fault and this file
 unfoldable pub answers : Merged → Fault → ℕ → Bool
 answers m e w = sameFault (fault (m .number) (m .place)) e && eqb (m .which) w
+
+-- and a refusal leaves the log and the file that were lent, "A" and "B", and counts no block
+unfoldable pub keeps : Merged → Fault → ℕ → Bool
+keeps m e w = answers m e w && (eqb (e .number) 0 || (sameBytes (m .log) A && (sameBytes (m .lent) B && eqb (m .blocks) 0)))
+
+-- one block is written, the log begins with these records, and log and file are as long as they are to be
+unfoldable pub fills : Merged → List Rec → Bool
+fills m l =
+    eqb (m .blocks) 1
+    && (sameBytes (take 480 (m .log)) (padded 480 (joined l)) && (eqb (length (m .log)) 40960 && eqb (length (m .lent)) 44032))
 
 -- the file written says this of itself
 unfoldable pub heads : List ℕ → ℕ → ℕ → List ℕ → Bool
@@ -233,26 +257,20 @@ right (prints t b) = sameBytes t b
 right (unites l m u) =
     soundAfter [] l && (soundAfter [] m && (soundAfter [] u && (sameRecords (union l m) u && sameRecords (union m l) u)))
 right (clashes l n m e) = soundAfter [] l && (soundAfter [] m && sameFault (recordsClash l n m) e)
-right (parts a l b m e) = sameFault (unionFault (unsealed a 0 l) (unsealed b 1 m)) e
-right (blames a b c e w) = answers (unlessAny a b c [] [] (merged 0 0 0 1 [] [])) e w
-right (lends n k e w) = answers (mergeOf [] [] (replicate n 0) (replicate k 0)) (fault e 0) w
-right (joins u l w m sender v) = heads (joinedBoth (unsealed 7 u l) (unsealed 7 w m) .lent) 7 sender v
+right (parts a l b m e) =
+    keeps (mergeFiles (fault 0 0) (fault 0 0) (unsealed a 0 l) (unsealed b 1 m) A B) e (cond (eqb (e .number) 0) 0 2)
+right (blames a b c e w) = keeps (unlessAny a b c A B (merged 0 0 0 1 C C)) e w
+right (lends n k e w) = answers (mergeOf [] (replicate 512 0) (replicate n 0) (replicate k 0)) (fault e 0) w
+right (joins u l w m sender all) =
+    heads (mergeFiles (fault 0 0) (fault 0 0) (unsealed 7 u l) (unsealed 7 w m) A B .lent) 7 sender (vectorOf all)
+    && fills (mergeFiles (fault 0 0) (fault 0 0) (unsealed 7 u l) (unsealed 7 w m) A B) all
+right (checks f g e w) = answers (mergeOf f g (replicate 40960 0) (replicate 44032 0)) e w
 
 unfoldable pub allRight : List Row → Bool
 allRight [] = true
 allRight (r ∷ l) = right r && allRight l
 
 -- ---- the table
-
--- the labels "A", "B" and "C"
-abbrev pub A : List ℕ
-A = 65 ∷ []
-
-abbrev pub B : List ℕ
-B = 66 ∷ []
-
-abbrev pub C : List ℕ
-C = 67 ∷ []
 
 -- 0.1, 1.1 and on, of n units: traces "A"
 unfoldable pub firstsTo : ℕ → List Rec
@@ -484,12 +502,19 @@ merges =
     -- 7.1 of another day: in the first file it stands first, in the second it is the eighth
     ∷ clashes (makesTrace 3 (7 · 1) [] root A ∷ []) 1 (firstsTo 7 ++ (makesTrace 4 (7 · 1) [] root A ∷ [])) (fault 10 1)
     ∷ clashes (firstsTo 8) 8 (firstsTo 8) (fault 0 0)
+    -- the sixth record is the last of block 0, the seventh the first of block 1
+    ∷ clashes (makesTrace 3 (5 · 1) [] root A ∷ []) 1 (firstsTo 5 ++ (makesTrace 4 (5 · 1) [] root A ∷ [])) (fault 10 0)
+    ∷ clashes (makesTrace 3 (6 · 1) [] root A ∷ []) 1 (firstsTo 6 ++ (makesTrace 4 (6 · 1) [] root A ∷ [])) (fault 10 1)
+    ∷ clashes [] 507 (firstsTo 8) (fault 11 0)
+    ∷ clashes [] 506 (firstsTo 8) (fault 11 1)
     -- of eight new records the eighth is the 513th behind 505, in the second block; behind 504 all have room
     ∷ clashes [] 505 (firstsTo 8) (fault 11 1)
     ∷ clashes [] 504 (firstsTo 8) (fault 0 0)
     -- common records need no room
     ∷ clashes (firstsTo 2) 512 (firstsTo 2) (fault 0 0)
     ∷ clashes (firstsTo 2) 511 (firstsTo 4) (fault 11 0)
+    -- and stand in their blocks all the same
+    ∷ clashes (firstsTo 4) 510 (firstsTo 8) (fault 11 1)
     -- one too many, and a clash behind it: 10
     ∷ clashes (makesTrace 3 (0 · 1) [] root A ∷ makesTrace 3 (1 · 1) (1 ∷ []) root A ∷ []) 512
     (makesTrace 3 (0 · 1) [] root A ∷ makesTrace 3 (0 · 2) (1 ∷ []) root B ∷ makesTrace 4 (1 · 1) (1 ∷ []) root A ∷ [])
@@ -498,6 +523,9 @@ merges =
     ∷ parts 7 (makesTrace 3 (0 · 1) [] root A ∷ []) 8 (makesTrace 4 (0 · 1) [] root A ∷ []) (fault 6 0)
     ∷ parts 7 (makesTrace 3 (0 · 1) [] root A ∷ []) 7 (makesTrace 4 (0 · 1) [] root A ∷ []) (fault 10 0)
     ∷ parts 7 (firstsTo 1) 7 (firstsTo 2) (fault 0 0)
+    -- the place is of the second file
+    ∷ parts 7 (makesTrace 3 (7 · 1) [] root A ∷ []) 7 (firstsTo 7 ++ (makesTrace 4 (7 · 1) [] root A ∷ [])) (fault 10 1)
+    ∷ parts 7 (firstsTo 7 ++ (makesTrace 4 (7 · 1) [] root A ∷ [])) 7 (makesTrace 3 (7 · 1) [] root A ∷ []) (fault 10 0)
     -- the first file wholly before the second, both before what they are together
     ∷ blames (fault 20 1) (fault 2 0) (fault 6 0) (fault 20 1) 1
     ∷ blames (fault 0 0) (fault 7 3) (fault 6 0) (fault 7 3) 2
@@ -507,9 +535,12 @@ merges =
     ∷ lends 40960 44031 1 0
     ∷ lends 40959 44032 1 0
     ∷ lends 40960 44032 2 1
-    -- archive and unit of the first file, the counts of both
-    ∷ joins 2 (firstsTo 1) 5 (firstsTo 3) 2 (1 ∷ 1 ∷ 1 ∷ 0 ∷ 0 ∷ 0 ∷ 0 ∷ 0 ∷ [])
-    ∷ joins 5 (firstsTo 3) 2 (firstsTo 1) 5 (1 ∷ 1 ∷ 1 ∷ 0 ∷ 0 ∷ 0 ∷ 0 ∷ 0 ∷ [])
+    -- the first file is checked first: no bytes, or a block that does not begin with the letters
+    ∷ checks [] (replicate 512 0) (fault 2 0) 1
+    ∷ checks (replicate 512 0) [] (fault 3 0) 1
+    -- archive and unit of the first file, the records of both
+    ∷ joins 2 (firstsTo 1) 5 (firstsTo 3) 2 (firstsTo 3)
+    ∷ joins 5 (firstsTo 3) 2 (firstsTo 1) 5 (firstsTo 3)
     ∷ []
 
 unfoldable pub table : List Row

@@ -93,9 +93,13 @@ joinedFile f l =
 abbrev pub joinedBoth : List ℕ → List ℕ → Merged
 joinedBoth f g = joinedFile f (union (fileRecords f) (fileRecords g))
 
--- 1, then all of the first file, all of the second, then 6, 10, 11 [F86]
+-- of two files with these faults: theirs, then 6, 10, 11 [F86]
+abbrev pub mergeFiles : Fault → Fault → List ℕ → List ℕ → List ℕ → List ℕ → Merged
+mergeFiles a b f g log lent = unlessAny a b (unionFault f g) log lent (joinedBoth f g)
+
+-- 1, then all of the first file, all of the second, then the two together [F86]
 unfoldable pub mergeOf : List ℕ → List ℕ → List ℕ → List ℕ → Merged
 mergeOf f g log lent =
     cond (eqb (length log) logSize && eqb (length lent) fileSize)
-    (unlessAny (checkedFault f) (checkedFault g) (unionFault f g) log lent (joinedBoth f g))
+    (mergeFiles (checkedFault f) (checkedFault g) f g log lent)
     (merged badBuffer 0 0 0 log lent)

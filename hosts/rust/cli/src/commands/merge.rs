@@ -22,7 +22,7 @@ pub const COMMAND: Command = Command {
     page: "\
 Writes a new file OUT with all records of two cards of one archive, those that both
 have once: the last card of an analyser that is retired and its successor's, say.
-OUT has the unit of FIRST; otherwise their order decides nothing.
+OUT has the unit of FIRST; else the order decides nothing of what is written.
 
     $ sab merge card1.sab card0.sab -o both.sab
     both.sab: SAB1, archive 12, unit 1, 3 records, seen 2 1 0 0 0 0 0 0
