@@ -322,9 +322,11 @@ further =
     ∷ behind (2 ∷ 2 ∷ 2 ∷ 0 ∷ 0 ∷ 0 ∷ 0 ∷ 0 ∷ []) (2 ∷ 2 ∷ 2 ∷ 0 ∷ 0 ∷ 0 ∷ 0 ∷ 0 ∷ []) 0 0 0
     -- the greatest distance: more than 16 bits hold
     ∷ behind (replicate 8 0) (replicate 8 65535) 2 524280 0
+    ∷ behind (replicate 8 65535) (replicate 8 0) 1 0 524280
     -- a block for a vector that lacks one of unit 0 and is ahead of unit 1; for one that lacks nothing; for one that lacks seven
     ∷ hands (makesTrace 3 (0 · 1) [] root A ∷ stores 4 (0 · 2) (1 ∷ []) (0 · 1) ∷ []) (1 ∷ 5 ∷ 0 ∷ 0 ∷ 0 ∷ 0 ∷ 0 ∷ 0 ∷ []) 1
     ∷ hands (makesTrace 3 (0 · 1) [] root A ∷ []) (1 ∷ 0 ∷ 0 ∷ 0 ∷ 0 ∷ 0 ∷ 0 ∷ 0 ∷ []) 0
+    ∷ hands (makesTrace 3 (7 · 1) [] root A ∷ []) (replicate 8 0) 1
     ∷ hands
     (makesTrace 3 (0 · 1) [] root A
     ∷ makesTrace 3 (1 · 1) [] root A
