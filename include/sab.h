@@ -71,8 +71,8 @@
  * Every function returns one 32-bit word:
  *
  *     SAB_NUMBER(r)   0 for success, else the number of the refusal, below
- *     SAB_PLACE(r)    the block at fault, counted from 0. The numbers 2 to 11 and
- *                     20 have a place; only sab_read_file, sab_listing and
+ *     SAB_PLACE(r)    the block at fault, counted from 0. The numbers marked P
+ *                     below have a place; only sab_read_file, sab_listing and
  *                     sab_merge give another than 0. For the other numbers it
  *                     says nothing
  *     SAB_COUNT(r)    what a successful call counted: the blocks written
@@ -183,9 +183,9 @@ extern "C" {
 /* ---- The version of this header and of its calls ---- */
 
 #define SAB_VERSION_MAJOR 2
-#define SAB_VERSION_MINOR 0
+#define SAB_VERSION_MINOR 1
 #define SAB_VERSION_PATCH 0
-#define SAB_VERSION "2.0.0"
+#define SAB_VERSION "2.1.0"
 
 /* ---- Lengths in bytes ---- */
 
@@ -242,6 +242,8 @@ extern "C" {
 #define SAB_BAD_FILE 20u      /* P a file's blocks disagree, its ranks do not
                                    rise, or its vector is not its counts */
 #define SAB_BAD_UNIT 21u      /*   the call's own unit is above 7 */
+#define SAB_STROKE_IN_LABEL 24u /* P the label of a make or rename wish has a
+                                     stroke; the place is 0 */
 
 /* ---- Operations of a record, byte 1 ---- */
 
@@ -325,7 +327,7 @@ uint32_t sab_start(uint8_t *log, size_t log_len, uint32_t archive,
  *             28-29 year 1990 to 2199, 30 month, 31 day: a real date, in every
  *                operation;
  *             32-63 label: 1 to 32 bytes of hexadecimal 20 to 7E, no space first
- *                or last, then zeros;
+ *                or last, then zeros; a new one without a stroke (2F): see 24;
  *             64-79 mark of the trace file, any bytes;
  *           fields that the operation does not use are zero
  *
@@ -335,6 +337,8 @@ uint32_t sab_start(uint8_t *log, size_t log_len, uint32_t archive,
  *   19 log not sound;
  *    7 wish of another unit, with number or seen, or malformed; an identity that
  *      this unit has not seen is malformed too;
+ *   24 make, rename: well formed, but the label has a stroke (2F). Records that
+ *      hold one, old ones of this unit too, are taken, read and shown;
  *   11 the log is full;
  *   12 store, remove, rename: the object is not in the tree;
  *   13 make: the folder is not in the tree;

@@ -64,17 +64,17 @@ module _ (u : ℕ) (log w : List ℕ) {h : List ℕ} (low : u < 8) (held : h ≡
       let l : List Rec = recordsOf log in
       rw (held, vectorOf-getD l u low) (omega (arith, count-few u l, sound-few log))
 
-  module _ {r : Rec} {m : ℕ} (own : r ≡ stampedBy (getD h u 0 + 1) h w) (told : m ≡ numberAs u w r) where
+  module _ {r : Rec} {m : ℕ} (wide : length w ≡ 80) (own : r ≡ stampedBy (getD h u 0 + 1) h w) (told : m ≡ numberAs u w r) where
     record-is : r ≡ stamped u (recordsOf log) w
     record-is = own ∙ stamped-is u (recordsOf log) w low held
 
     wish-is : m ≡ wishNumber u (recordsOf log) w
-    wish-is = told ∙ number-is u (recordsOf log) w record-is
+    wish-is = told ∙ number-is u (recordsOf log) w wide record-is
 
-    pub stamped-asks : length w ≡ 80 → m ≡ 0 → Asks r
-    stamped-asks wide z =
+    pub stamped-asks : m ≡ 0 → Asks r
+    stamped-asks z =
         let l : List Rec = recordsOf log in
-        let (a, b) = wish-fits u l w (wish-zero u l w (sym wish-is ∙ z)) in
+        let (a, b) = wish-fits u l w (wish-zero u l w (sym wish-is ∙ z) .0) in
         rw record-is (formed-asks (stamped u l w) b (λ v k. omega (arith, stamped-seen u l w wide v k, count-few v l, sound-few log)))
 
     -- ---- its ways out

@@ -1,21 +1,23 @@
 -- A wish that is stamped, and whether it may be acted on, over plain values.
 -- Assumes nothing.
-use Prim.Native.Nat.{ℕ, _+_, _-_, _<_}
+use Prim.Native.Nat.{ℕ, _+_, _-_, _≤_, _<_}
 use native.Mathlib.Numerals.{add-one}
 use native.Mathlib.Omega.{arith}
 use mathlib.Core.Path.{_≡_, sym, _∙_}
 use mathlib.Core.Bool.{Bool, true, false, not}
 use mathlib.Core.List.{List, _++_, append-assoc}
-use lib.ListN.{getD, length, take, drop, replicate, length-append, length-replicate}
+use lib.ListN.{getD, length, take, drop, replicate, length-append, length-replicate, drop-of-length-le}
+use lib.Seq.{drop-cons}
 use borrow.Author.Tests.{eq-eqb, ne-eqb, not-true, not-false}
 use Rattle.model.specs.Bytes.{two, blank, part, putAt}
 use Rattle.model.specs.Vector.{vectorBytes}
-use Rattle.model.specs.Record.{Rec, wellFormed}
+use Rattle.model.specs.Record.{Rec, labelOf, wellFormed}
 use Rattle.model.specs.Log.{count, vectorOf}
-use Rattle.model.specs.Outcome.{stamped, wishFits, wishNumber}
+use Rattle.model.specs.Outcome.{stamped, wishFits, hasStroke, wishNumber}
 use Rattle.byte_slice.proofs.PutAt.{put-whole, put-more}
 use Rattle.vector.proofs.InBytes.{vectorBytes-length}
 use Rattle.log_laws.proofs.Tests.{vectorOf-getD}
+use Rattle.log_laws.proofs.Act.{stamped-label}
 use Rattle.act_wish.specs.Stamp.{stampedBy, fitsAs, numberAs}
 
 -- ---- the three writings
@@ -37,9 +39,24 @@ pub stamped-is : (u : ℕ) (l : List Rec) (w : List ℕ) {v : List ℕ} → u < 
 unfolding stampedBy stamped
 stamped-is u l w h e = rw (e, vectorOf-getD l u h, add-one (count u l))
 
-pub number-is : (u : ℕ) (l : List Rec) (w : List ℕ) {r : Rec} → r ≡ stamped u l w → numberAs u w r ≡ wishNumber u l w
+pub number-is : (u : ℕ) (l : List Rec) (w : List ℕ) {r : Rec} → length w ≡ 80 → r ≡ stamped u l w → numberAs u w r ≡ wishNumber u l w
 unfolding numberAs fitsAs wishFits
-number-is u l w e = rw e
+number-is u l w n e = rw (e, stamped-label u l w n)
+
+-- ---- what `has_stroke` is asked
+
+module _ (t : List ℕ) (i : ℕ) (e : hasStroke (drop i t) ≡ hasStroke t) where
+  pub stroke-found : i < length t → getD t i 0 ≡ 47 → true ≡ hasStroke t
+  unfolding hasStroke
+  stroke-found h k = rw (drop-cons t i 0 h, eq-eqb (getD t i 0) 47 k) at e
+
+  pub stroke-next : i < length t → (getD t i 0 ≡ 47 → ⊥) → hasStroke (drop (i + 1) t) ≡ hasStroke t
+  unfolding hasStroke
+  stroke-next h k = rw (add-one i) (rw (drop-cons t i 0 h, ne-eqb (getD t i 0) 47 k) at e)
+
+  pub stroke-none : length t ≤ i → false ≡ hasStroke t
+  unfolding hasStroke
+  stroke-none h = rw (drop-of-length-le t {i = i} h) at e
 
 -- ---- the ways out of `wish_number`
 
@@ -58,6 +75,11 @@ module _ (u : ℕ) (w : List ℕ) (r : Rec) where
       unfolding numberAs fitsAs part
       not-formed k = rw (eq-eqb (getD w 0 0) u a, ← e, not-false b h, ← g, not-true f k)
 
-      pub wish-fits : not f ≡ false → 0 ≡ numberAs u w r
-      unfolding numberAs fitsAs part
-      wish-fits k = rw (eq-eqb (getD w 0 0) u a, ← e, not-false b h, ← g, not-false f k)
+      module _ (k : not f ≡ false) {x : Bool} (z : x ≡ hasStroke (take (64 - 32) (drop 32 r))) where
+        pub label-stroke : x ≡ true → 24 ≡ numberAs u w r
+        unfolding numberAs fitsAs labelOf part
+        label-stroke y = rw (eq-eqb (getD w 0 0) u a, ← e, not-false b h, ← g, not-false f k, ← z, y)
+
+        pub wish-fits : x ≡ false → 0 ≡ numberAs u w r
+        unfolding numberAs fitsAs labelOf part
+        wish-fits y = rw (eq-eqb (getD w 0 0) u a, ← e, not-false b h, ← g, not-false f k, ← z, y)

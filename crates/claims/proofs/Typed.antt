@@ -13,12 +13,12 @@ use borrow.Author.Tests.{eqb-true, ltb-true, lt-ltb}
 use Rattle.model.specs.Numbers.{badBuffer, badUnit}
 use Rattle.model.specs.Bytes.{two, padded, sameBytes}
 use Rattle.model.specs.Vector.{vectorBytes}
-use Rattle.model.specs.Record.{Rec, unit, num, wellFormed}
+use Rattle.model.specs.Record.{Rec, unit, num, labelOf, wellFormed}
 use Rattle.model.specs.Log.{count, vectorOf, recordsOf, logBytes, byId, isNext, isWithin, isClosed}
 use Rattle.model.specs.Replay.{Verdict, fits, aside, judge, replay}
 use Rattle.model.specs.Block.{sumsHold, headerHolds, blockFault, archiveIn, blockRecords, letters}
 use Rattle.model.specs.File.{blockCount, fileOf, blockAt}
-use Rattle.model.specs.Outcome.{Outcome, outcome, refusal, firstOf, startOf, stamped, wishFits, wishNumber, reasonOf, actNumber, acted, actOf, lacking, handBlock, handOf, writeOf, Took, refused, taken, takeNew, takeHeld, takeOne, takeAll, givenFault, tookAll, tookBlock, takeOf}
+use Rattle.model.specs.Outcome.{Outcome, outcome, refusal, firstOf, startOf, stamped, wishFits, hasStroke, wishNumber, reasonOf, actNumber, acted, actOf, lacking, handBlock, handOf, writeOf, Took, refused, taken, takeNew, takeHeld, takeOne, takeAll, givenFault, tookAll, tookBlock, takeOf}
 use Rattle.byte_slice.proofs.Numbers.{bool-cases, lt-or-ge, eq-or-ne, and-true, true-and, cond-cases}
 use Rattle.log_laws.proofs.Members.{All, all-append, all-map, all-at, has-append, has-take}
 use Rattle.log_laws.proofs.Lacking.{has-lacking}
@@ -60,7 +60,7 @@ act-few : (u : ℕ) (l : List Rec) (w : List ℕ) → actNumber u l w < 256
 unfolding actNumber
 act-few u l w =
     first-few (wishNumber u l w) (cond (ltb (length l) 512) (reasonOf (judge (stamped u l w) (replay l))) 11)
-    (number-cond (wishFits u l w) 0 7 (omega arith) (omega arith))
+    (first-few (cond (wishFits u l w) 0 7) (cond (hasStroke (labelOf w)) 24 0) (number-cond (wishFits u l w) 0 7 (omega arith) (omega arith)) (number-cond (hasStroke (labelOf w)) 24 0 (omega arith) (omega arith)))
     (number-cond (ltb (length l) 512) (reasonOf (judge (stamped u l w) (replay l))) 11 (reason-few (stamped u l w) l) (omega arith))
 
 given-few : (archive : ℕ) (b : List ℕ) → givenFault archive b < 256

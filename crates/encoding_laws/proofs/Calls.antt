@@ -108,7 +108,7 @@ act-good : (u : ℕ) (log w : List ℕ) → length w ≡ 80 → Good log → act
     → Sound (recordsOf log ++ (stamped u (recordsOf log) w ∷ [])) × (length (recordsOf log ++ (stamped u (recordsOf log) w ∷ [])) ≤ 512)
 act-good u log w n g e =
     let l : List Rec = recordsOf log in
-    let (a, b) = act-zero u l w e in
+    let (a, _, b) = act-zero u l w e in
     let (c, d) = wish-fits u l w a in
     (act-sound u l w n c d (sound-records log (g .sound)), omega (arith, length-append l (stamped u l w ∷ [])))
 

@@ -15,7 +15,7 @@ use Rattle.model.specs.Replay.{Entry, Aside, Tree, replay, presentOnes, 
 use Rattle.model.specs.Table.{identityBytes}
 use Rattle.model.specs.Block.{bodyBytes, archiveIn, senderIn, vectorIn}
 use Rattle.model.specs.File.{Fault, fault, blockCount, headerOf, blockAt}
-use Rattle.model.specs.Outcome.{lacking, Took, refused, taken, takeAll}
+use Rattle.model.specs.Outcome.{lacking, Took, refused, taken, takeAll, actNumber, acted, actOf}
 use Rattle.model.specs.Merge.{Merged, merged, union, recordsClash, unlessAny, mergeFiles, mergeOf}
 use Rattle.model.specs.Listing.{decimal, headLine, seenLine}
 
@@ -159,6 +159,12 @@ pub data Row : Type 0 where
   takes : List Rec → List Rec → List Shown → List Standing → Row
   -- the records of a log, those of a block, and the number under which the block is refused
   refuses : List Rec → List Rec → ℕ → Row
+  -- the own unit, the records of a log, a wish, and the number that the act answers
+  wishes : ℕ → List Rec → List ℕ → ℕ → Row
+  -- the length of a log of zeros, the own unit, a wish, and the number that is answered before the log is judged
+  guards : ℕ → ℕ → List ℕ → ℕ → Row
+  -- a number with which a wish is refused: at place 0, and the log is left
+  turnsAway : ℕ → Row
   -- how many records, and how many blocks their file has
   blocks : ℕ → ℕ → Row
   -- the records of a file before a record, last first, that record, and its fault
@@ -248,6 +254,10 @@ right (formed r b) = sameFlag (wellFormed r) b
 right (tree l es ss) = shows l es ss
 right (takes l rs es ss) = soundAfter [] l && showsTaken (takeAll l rs) es ss
 right (refuses l rs n) = soundAfter [] l && isRefused (takeAll l rs) n
+right (wishes u l w n) = eqb (actNumber u l w) n
+right (guards n u w e) = eqb (actOf u (replicate n 0) w .number) e
+right (turnsAway n) =
+    eqb (acted 0 A A n .number) n && (eqb (acted 0 A A n .place) 0 && sameBytes (acted 0 A A n .log) A)
 right (blocks n k) = eqb (blockCount n) k
 right (faulty l r n) = eqb (recordFault l r) n
 right (prints t b) = sameBytes t b
@@ -454,6 +464,43 @@ further =
     ∷ faulty (makesTrace 3 (1 · 1) [] root A ∷ []) (makesTrace 3 (0 · 1) [] root B) 20
     ∷ faulty (makesTrace 3 (0 · 1) [] root A ∷ []) (makesTrace 3 (0 · 3) (2 ∷ []) root B) 8
     ∷ faulty (makesTrace 3 (1 · 1) (1 ∷ []) root B ∷ makesTrace 3 (0 · 1) [] root A ∷ []) (makesTrace 3 (2 · 1) (0 ∷ 1 ∷ []) root C) 9
+    -- a record with a stroke is well formed, is taken, and its entry can be renamed
+    ∷ formed (march 3 1 (0 · 1) [] root root (65 ∷ 47 ∷ []) []) true
+    ∷ takes [] (makesTrace 3 (0 · 1) [] root (47 ∷ []) ∷ []) ((0 · 1, 47 ∷ [], 0 · 1, 0 · 1, false) ∷ []) []
+    ∷ wishes 1 (makesTrace 3 (0 · 1) [] root (65 ∷ 47 ∷ []) ∷ []) (renames 3 (1 · 0) [] (0 · 1) B) 0
+    -- a wish with a stroke first, in the middle, last, and of nothing else: make folder, make trace, rename
+    ∷ wishes 0 [] (makesFolder 3 (0 · 0) [] root (47 ∷ 65 ∷ [])) 24
+    ∷ wishes 0 [] (makesTrace 3 (0 · 0) [] root (65 ∷ 47 ∷ 66 ∷ [])) 24
+    ∷ wishes 1 (makesTrace 3 (0 · 1) [] root A ∷ []) (renames 3 (1 · 0) [] (0 · 1) (65 ∷ 47 ∷ [])) 24
+    ∷ wishes 0 [] (makesTrace 3 (0 · 0) [] root (replicate 31 65 ++ (47 ∷ []))) 24
+    ∷ wishes 0 [] (makesTrace 3 (0 · 0) [] root (replicate 32 47)) 24
+    -- the bytes on its two sides and a backslash; strokes in a mark
+    ∷ wishes 0 [] (makesTrace 3 (0 · 0) [] root (46 ∷ 48 ∷ 92 ∷ [])) 0
+    ∷ wishes 0 [] (march 3 2 (0 · 0) [] root root A (replicate 16 47)) 0
+    -- 2F in another field: the year 2095
+    ∷ wishes 0 []
+    (encode (record { self = 0 · 0; does = 2; saw = []; object = root; folder = root; year = 2095; month = 3; day = 3; text = A; mark = [] }))
+    0
+    -- a stroke and another fault of form: 7F in the label, a space last, the 32nd of March, bytes where no label is used
+    ∷ wishes 0 [] (makesTrace 3 (0 · 0) [] root (65 ∷ 47 ∷ 127 ∷ [])) 7
+    ∷ wishes 0 [] (makesTrace 3 (0 · 0) [] root (47 ∷ 32 ∷ [])) 7
+    ∷ wishes 0 [] (makesTrace 32 (0 · 0) [] root (47 ∷ [])) 7
+    ∷ wishes 1 (makesTrace 3 (0 · 1) [] root A ∷ []) (march 3 3 (1 · 0) [] (0 · 1) root (47 ∷ []) []) 7
+    -- a stroke comes before the reason under which the record would stand aside, and before the full log
+    ∷ wishes 0 (makesTrace 3 (0 · 1) [] root A ∷ []) (makesTrace 3 (0 · 0) [] (0 · 1) B) 14
+    ∷ wishes 0 (makesTrace 3 (0 · 1) [] root A ∷ []) (makesTrace 3 (0 · 0) [] (0 · 1) (47 ∷ [])) 24
+    ∷ wishes 0 (replicate 512 (makesTrace 3 (0 · 1) [] root A)) (makesTrace 3 (0 · 0) [] root B) 11
+    ∷ wishes 0 (replicate 512 (makesTrace 3 (0 · 1) [] root A)) (makesTrace 3 (0 · 0) [] root (47 ∷ [])) 24
+    -- 1 and 21 come before it; its place is 0, and the log is left
+    ∷ guards 40959 0 (makesTrace 3 (0 · 0) [] root (47 ∷ [])) 1
+    ∷ guards 40960 8 (makesTrace 3 (0 · 0) [] root (47 ∷ [])) 21
+    ∷ turnsAway 24
+    ∷ turnsAway 7
+    -- a taken rename or folder may have a stroke
+    ∷ takes (makesTrace 3 (0 · 1) [] root A ∷ []) (renames 4 (0 · 2) (1 ∷ []) (0 · 1) (65 ∷ 47 ∷ []) ∷ [])
+    ((0 · 1, 65 ∷ 47 ∷ [], 0 · 1, 0 · 2, false) ∷ [])
+    []
+    ∷ takes [] (makesFolder 3 (0 · 1) [] root (47 ∷ []) ∷ []) ((0 · 1, 47 ∷ [], 0 · 1, 0 · 1, false) ∷ []) []
     -- 0, 10 and 4294967295
     ∷ prints (decimal 0) (48 ∷ [])
     ∷ prints (decimal 10) (49 ∷ 48 ∷ [])

@@ -86,3 +86,7 @@ badFile = 20
 -- a call's own unit is above 7
 abbrev pub badUnit : ℕ
 badUnit = 21
+
+-- the label of a make or rename wish has a stroke
+abbrev pub strokeInLabel : ℕ
+strokeInLabel = 24

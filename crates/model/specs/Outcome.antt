@@ -2,16 +2,16 @@
 -- Document 01, "Log, blocks and file"; the order of the checks, "When a call says no".
 -- Assumes nothing.
 use Prim.Native.Nat.{ℕ, zero, suc, _+_, _-_, _*_}
-use mathlib.Core.Bool.{Bool, true, false, cond, _&&_}
+use mathlib.Core.Bool.{Bool, true, false, cond, _&&_, _||_}
 use mathlib.Core.Option.{Option, none, some}
 use mathlib.Core.List.{List, [], _∷_, _++_}
 use lib.Dec.{ltb, leb, eqb}
 use lib.ListN.{getD, length, take, drop, replicate}
-use Rattle.model.specs.Numbers.{badBuffer, badLength, otherArchive, malformed, notNext, notClosed, otherBytes, fullLog, unsoundLog, badUnit}
+use Rattle.model.specs.Numbers.{badBuffer, badLength, otherArchive, malformed, notNext, notClosed, otherBytes, fullLog, unsoundLog, badUnit, strokeInLabel}
 use Rattle.model.specs.Lengths.{recordSize, blockSize, logSize, fileSize, treeSize, logPlaces}
 use Rattle.model.specs.Bytes.{two, blank, sameBytes, part, padded}
 use Rattle.model.specs.Vector.{vectorBytes}
-use Rattle.model.specs.Record.{Rec, unit, num, wellFormed}
+use Rattle.model.specs.Record.{Rec, unit, num, labelOf, wellFormed}
 use Rattle.model.specs.Log.{insert, count, vectorOf, byId, isNext, isWithin, isClosed, recordsOf, soundLog, logBytes}
 use Rattle.model.specs.Replay.{Verdict, fits, aside, judge, replay}
 use Rattle.model.specs.Table.{tableBytes}
@@ -78,9 +78,14 @@ unfoldable pub reasonOf : Verdict → ℕ
 reasonOf fits = 0
 reasonOf (aside n k) = n
 
--- 7, or 0
+-- a stroke, hexadecimal 2F, stands in a text [F94]
+unfoldable pub hasStroke : List ℕ → Bool
+hasStroke [] = false
+hasStroke (x ∷ t) = eqb x 47 || hasStroke t
+
+-- the checks of a wish in their order: 7, 24; or 0. A well-formed wish without a label has zeros there [F95]
 abbrev pub wishNumber : ℕ → List Rec → List ℕ → ℕ
-wishNumber u l w = cond (wishFits u l w) 0 malformed
+wishNumber u l w = firstOf (cond (wishFits u l w) 0 malformed) (cond (hasStroke (labelOf w)) strokeInLabel 0)
 
 -- that of the wish, 11, then the reason under which the record would stand aside; 0 if it fits [F68]
 unfoldable pub actNumber : ℕ → List Rec → List ℕ → ℕ

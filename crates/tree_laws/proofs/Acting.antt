@@ -16,7 +16,7 @@ use Rattle.model.specs.Numbers.{fullLog, malformed}
 use Rattle.model.specs.Record.{Rec, identity, unit, num, selfOf, objectOf, labelOf}
 use Rattle.model.specs.Log.{count}
 use Rattle.model.specs.Replay.{Entry, Tree, Verdict, fits, aside, isPresent, entryOf, unseen, judgeMake, judgeStore, judgeRemove, judgeRename, judgeSettle, judge, newEntry, stored, renamed, removed, changed, hasEntries, holderOf, step, emptyTree, replayFrom, replay}
-use Rattle.model.specs.Outcome.{stamped, wishFits, reasonOf, actNumber}
+use Rattle.model.specs.Outcome.{stamped, wishFits, hasStroke, reasonOf, actNumber}
 use Rattle.log_laws.specs.Members.{Has as Member}
 use Rattle.log_laws.specs.Sound.{SoundAfter, Sound}
 use Rattle.log_laws.proofs.Formed.{well-unit}
@@ -168,23 +168,24 @@ unfolding reasonOf
 reason-zero fits h e = refl
 reason-zero (aside n k) h e = absurd (omega arith)
 
+-- an act is accepted exactly when its wish passes the checks of a wish, a place is free and its record fits
 pub act-accepted : (u : ℕ) (l : List Rec) (w : List ℕ)
-    → (actNumber u l w ≡ 0) ↔ ((wishFits u l w ≡ true) × (length l < 512) × (judge (stamped u l w) (replay l) ≡ fits))
+    → (actNumber u l w ≡ 0) ↔ ((wishFits u l w ≡ true) × (hasStroke (labelOf w) ≡ false) × (length l < 512) × (judge (stamped u l w) (replay l) ≡ fits))
 unfolding actNumber reasonOf
 act-accepted u l w = (
   λ e.
-      let (a, b) = act-zero u l w e in
-      let q : reasonOf (judge (stamped u l w) (replay l)) ≡ 0 = rw (a, lt-ltb (length l) 512 b) at e in
-      (a, b, reason-zero (judge (stamped u l w) (replay l)) (reason-range (stamped u l w) (replay l)) q),
-  λ (a, b, c). rw (a, lt-ltb (length l) 512 b, c),
+      let (a, s, b) = act-zero u l w e in
+      let q : reasonOf (judge (stamped u l w) (replay l)) ≡ 0 = rw (a, s, lt-ltb (length l) 512 b) at e in
+      (a, s, b, reason-zero (judge (stamped u l w) (replay l)) (reason-range (stamped u l w) (replay l)) q),
+  λ (a, s, b, c). rw (a, s, lt-ltb (length l) 512 b, c),
 )
 
 pub act-answers-never-17 : (u : ℕ) (l : List Rec) (w : List ℕ) → length w ≡ 80 → Sound l → actNumber u l w ≡ 17 → ⊥
 unfolding reasonOf
 act-answers-never-17 u l w n h e =
     ⊎-elim
-    (λ a. not-17 (judge (stamped u l w) (replay l)) (act-never-17 u l w n h) (sym (a .2) ∙ e))
-    (⊎-elim (λ a. omega (arith, sym a ∙ e)) (λ a. omega (arith, sym a ∙ e)))
+    (λ a. not-17 (judge (stamped u l w) (replay l)) (act-never-17 u l w n h) (sym (a .3) ∙ e))
+    (⊎-elim (λ a. omega (arith, sym (a .2) ∙ e)) (⊎-elim (λ a. omega (arith, sym a ∙ e)) (λ a. omega (arith, sym a ∙ e))))
     (act-numbers u l w)
   where
     not-17 : (v : Verdict) → Under Not17 v → reasonOf v ≡ 17 → ⊥

@@ -7,12 +7,12 @@ use mathlib.Core.Bool.{true, false, not}
 use mathlib.Core.Option.{some}
 use mathlib.Core.List.{List, [], _∷_, _++_}
 use native.Mathlib.Omega.{arith}
-use lib.ListN.{length}
-use Rattle.model.specs.Record.{Rec, op, selfOf, objectOf}
+use lib.ListN.{getD, length}
+use Rattle.model.specs.Record.{Rec, op, selfOf, objectOf, labelOf, usesLabel}
 use Rattle.model.specs.Log.{soundAfter}
 use Rattle.model.specs.Replay.{Entry, Aside, Tree, Verdict, fits, aside, isPresent, entryOf, judge, standsAside, holderOf, isDisputed, step, emptyTree, replay}
 use Rattle.model.specs.Table.{tableBytes}
-use Rattle.model.specs.Outcome.{stamped, wishFits, actNumber, taken, takeAll}
+use Rattle.model.specs.Outcome.{stamped, wishFits, hasStroke, actNumber, taken, takeAll}
 use Rattle.log_laws.specs.Members.{Has as Member}
 use Rattle.log_laws.proofs.Formed.{well-length}
 use Rattle.log_laws.proofs.Counts.{formed}
@@ -29,6 +29,7 @@ use Rattle.tree_laws.proofs.Tables.{table-hidden, filled-replay, entrie
 use Rattle.tree_laws.proofs.Arrival.{takeAll-append}
 use Rattle.tree_laws.proofs.Settling as Settling
 use Rattle.tree_laws.proofs.Acting as Acting
+use Rattle.tree_laws.proofs.Strokes as Strokes
 
 -- ---- P2: each record acts or stands aside under one reason
 
@@ -150,10 +151,22 @@ disputed-while-open = Settling.disputed-open
 
 -- ---- A1: acting
 
--- an act is accepted exactly when its wish is well formed, a place is free and its record fits
+-- an act is accepted exactly when its wish is well formed, its label has no stroke, a place is free and its record fits
 pub accepted-exactly : (u : ℕ) (l : List Rec) (w : List ℕ)
-    → (actNumber u l w ≡ 0) ↔ ((wishFits u l w ≡ true) × (length l < 512) × (judge (stamped u l w) (replay l) ≡ fits))
+    → (actNumber u l w ≡ 0) ↔ ((wishFits u l w ≡ true) × (hasStroke (labelOf w) ≡ false) × (length l < 512) × (judge (stamped u l w) (replay l) ≡ fits))
 accepted-exactly = Acting.act-accepted
+
+-- it is refused by 24 exactly when its wish is well formed and its label has a stroke
+pub stroke-exactly : (u : ℕ) (l : List Rec) (w : List ℕ) → (actNumber u l w ≡ 24) ↔ ((wishFits u l w ≡ true) × (hasStroke (labelOf w) ≡ true))
+stroke-exactly = Strokes.act-stroke
+
+-- a text has a stroke exactly when one of its bytes is hexadecimal 2F
+pub stroke-in-a-text : (t : List ℕ) → (hasStroke t ≡ true) ↔ ((i : ℕ) × (i < length t) × (getD t i 0 ≡ 47))
+stroke-in-a-text = Strokes.stroke-exact
+
+-- 24 is answered to makes and renames alone
+pub stroke-of-a-label : (u : ℕ) (l : List Rec) (w : List ℕ) → length w ≡ 80 → actNumber u l w ≡ 24 → usesLabel (getD w 1 0) ≡ true
+stroke-of-a-label = Strokes.stroke-of-a-label
 
 -- its refusal is never 17
 pub never-17 : (u : ℕ) (l : List Rec) (w : List ℕ) → length w ≡ 80 → soundAfter [] l ≡ true → actNumber u l w ≡ 17 → ⊥

@@ -5,6 +5,7 @@ pub mod Labels
 pub mod Settling
 pub mod Dates
 pub mod Acting
+pub mod Strokes
 pub mod Tables
 pub mod Arrival
 pub mod Claims

@@ -82,6 +82,19 @@ static void test_operations(struct lent log, struct lent wish)
     CHECK(held(log.bytes) == 10);
 }
 
+/* A stroke at every byte of a label, and with a bad date. */
+static void test_strokes(struct lent log, struct lent wish)
+{
+    size_t i;
+    for (i = 0; i < 32; i++) {
+        wish_make(wish.bytes, 0, SAB_MAKE_FOLDER, id_of(0, 0), "12345678901234567890123456789012");
+        wish.bytes[32 + i] = '/';
+        CHECK(act_on(log, 0, wish) == SAB_STROKE_IN_LABEL);
+        wish.bytes[30] = 13;
+        CHECK(act_on(log, 0, wish) == SAB_MALFORMED);
+    }
+}
+
 /* A byte of a good make that makes it malformed. */
 static void test_malformed(struct lent log, struct lent wish)
 {
@@ -148,6 +161,7 @@ void test_act(void)
     bench_logs(apart, log.bytes);
     test_reasons(log, wish);
     test_malformed(log, wish);
+    test_strokes(log, wish);
     test_order_of_checks(log, wish);
     test_operations(log, wish);
     full_log(log.bytes);

@@ -1,4 +1,4 @@
-use Rattle.act_wish.proofs.Stamping.{other-unit, not-zero, not-formed, wish-fits}
+use Rattle.act_wish.proofs.Stamping.{other-unit, not-zero, not-formed, label-stroke, wish-fits}
 use borrow.Author.Needs.{needs}
 use Rattle.act_wish.proofs.wish_number.Statement.{statement}
 use Rattle.act_wish.proofs.wish_number.Tie as tie
@@ -30,8 +30,23 @@ well-formed-requires c κs = search needs
 returns-3 : tie.Need-returns-3
 returns-3 c = search (not-formed)
 
+sub-has-stroke : tie.Need-sub-has-stroke
+sub-has-stroke c = search needs
+
+part-has-stroke-start : tie.Need-part-has-stroke-start
+part-has-stroke-start c = search needs
+
+part-has-stroke-end : tie.Need-part-has-stroke-end
+part-has-stroke-end c = search needs
+
+has-stroke-requires : tie.Need-has-stroke-requires
+has-stroke-requires c κs = search needs
+
 returns-4 : tie.Need-returns-4
-returns-4 c = search (wish-fits)
+returns-4 c = search (label-stroke)
+
+returns-5 : tie.Need-returns-5
+returns-5 c = search (wish-fits)
 
 pub wish-number-spec : {M : Type 1} → statement M
 wish-number-spec =
@@ -46,4 +61,9 @@ wish-number-spec =
     returns-2
     well-formed-requires
     returns-3
-    returns-4)
+    sub-has-stroke
+    part-has-stroke-start
+    part-has-stroke-end
+    has-stroke-requires
+    returns-4
+    returns-5)

@@ -267,6 +267,14 @@ pub const ROWS: &[Row] = &[
         fault: "the calling program",
         advice: Always("set the unit to 0 to 7"),
     },
+    Row {
+        number: 24,
+        cause: Always("the label of a new record has a stroke, /"),
+        fault: "wish",
+        advice: Always(
+            "choose a label without a stroke: office machines part folder from name there",
+        ),
+    },
 ];
 
 /// The row of a number.

@@ -83,6 +83,12 @@ pub fn of_wish(wish: &Bytes, vector: &Vector) -> Option<String> {
     malformed(&record)
 }
 
+/// Which byte of a wish's label is a stroke.
+pub fn of_stroke(wish: &Bytes) -> Option<String> {
+    let at = wish[32..64].iter().position(|byte| *byte == b'/')?;
+    Some(format!("byte 2f in the label, letter {}", at + 1))
+}
+
 /// The block of a file that lies there.
 fn block_at(bytes: &[u8], place: usize) -> Option<&[u8; BLOCK]> {
     let (blocks, _) = bytes.as_chunks();

@@ -205,7 +205,7 @@ impl Calls<'_> {
     fn odd_byte(&mut self) -> u8 {
         let any = self.chance.number() as u8;
         *self.chance.pick(&[
-            0, 1, 2, 3, 5, 6, 7, 8, 0x1f, 0x20, 0x41, 0x7e, 0x7f, 0xff, any,
+            0, 1, 2, 3, 5, 6, 7, 8, 0x1f, 0x20, 0x2f, 0x41, 0x7e, 0x7f, 0xff, any,
         ])
     }
 

@@ -32,13 +32,14 @@ fn rank(record: &[u8; RECORD]) -> (u32, u8) {
     (sum, record[0])
 }
 
-const LABELS: [&[u8]; 6] = [
+const LABELS: [&[u8]; 7] = [
     b"A",
     b"B",
     b"Gain \"A\"",
     b"\\",
     b"12345678901234567890123456789012",
     b"C",
+    b"A/B",
 ];
 
 impl Life {

@@ -2,7 +2,7 @@
 
 use crate::blocks::unsound_logs;
 use crate::damaged::MALFORMED;
-use crate::kit::{Calls, Written, lent, log_of};
+use crate::kit::{Calls, Written, block_of, lent, log_of};
 use make_vectors::chain::blocks_of_six;
 use make_vectors::examples::{ROOT, record};
 use make_vectors::list::{Lent, List};
@@ -13,6 +13,7 @@ pub fn list() -> Written {
     lengths(&mut calls);
     malformed(&mut calls);
     refused(&mut calls);
+    strokes(&mut calls);
     accepted(&mut calls);
     calls.written("acts", "wishes given to an act")
 }
@@ -155,6 +156,73 @@ fn refused(calls: &mut Calls) {
         "a settle of a settle that fitted",
         wish(0, 6, (2, 1), "", 0),
     );
+}
+
+/// Labels with strokes: refused in a wish, taken in a record.
+fn strokes(calls: &mut Calls) {
+    let log = held();
+    let most = "/".repeat(32);
+    let last = format!("{}/", "A".repeat(31));
+    let mut call = |number, shows, wish: [u8; 80]| calls.call(number, shows, act(&log, &wish));
+    call(24, "a stroke first in a label", wish(0, 1, ROOT, "/A", 0));
+    call(24, "a stroke in the middle", wish(0, 2, (0, 1), "A/B", 1));
+    call(24, "a stroke last", wish(0, 5, (0, 2), "A/", 0));
+    call(24, "a stroke alone", wish(0, 2, ROOT, "/", 1));
+    call(
+        24,
+        "a stroke as the 32nd byte",
+        wish(0, 1, (0, 1), &last, 0),
+    );
+    call(24, "32 strokes", wish(0, 5, (0, 1), &most, 0));
+    call(
+        24,
+        "a stroke and a folder that is a trace: 24, not 14",
+        wish(0, 1, (0, 2), "A/B", 0),
+    );
+    call(
+        24,
+        "a stroke and an object that is no make: 24, not 12",
+        wish(0, 5, (0, 4), "A/B", 0),
+    );
+    let bad = |at: usize, byte: u8| {
+        let mut wish = wish(0, 1, ROOT, "A/B", 0);
+        wish[at] = byte;
+        wish
+    };
+    call(7, "a stroke and month 13: 7, not 24", bad(30, 13));
+    call(7, "a stroke and the byte 7F behind it: 7", bad(34, 0x7f));
+    call(7, "a stroke and a space first: 7", bad(32, 0x20));
+    call(7, "a stroke and another unit: 7", bad(0, 1));
+    call(7, "a stroke and a number: 7", bad(2, 5));
+    call(
+        7,
+        "a stroke and a byte of a mark that is not used: 7",
+        bad(64, 1),
+    );
+    call(
+        7,
+        "a stroke in the label field of a store, which has no label: 7",
+        wish(0, 3, (0, 2), "/", 1),
+    );
+    call(
+        0,
+        "a full stop, a zero and a backslash",
+        wish(0, 1, ROOT, ".0\\", 0),
+    );
+    call(0, "a mark of strokes", wish(0, 2, ROOT, "A", b'/'));
+    let made = record(5, &[], 2, ROOT, "A/B", 1, 3);
+    calls.call(0, "a record whose label has a stroke is taken", |list| {
+        list.take(5, Lent::Own, 7, 5, &block_of(&[made]))
+    });
+    calls.call(0, "and shown", |list| list.show(5, Lent::Own));
+    calls.call(
+        24,
+        "its entry is not renamed to a label with another stroke",
+        |list| list.act(5, Lent::Own, 7, 5, &wish(5, 5, (5, 1), "A//B", 0)),
+    );
+    calls.call(0, "its entry is renamed", |list| {
+        list.act(5, Lent::Own, 7, 5, &wish(5, 5, (5, 1), "A B", 0))
+    });
 }
 
 fn accepted(calls: &mut Calls) {

@@ -256,6 +256,10 @@ pub fn full() -> Written {
             shown("the full log is shown, written and handed out", "0 each"),
             shown("an act on a full log", "11"),
             shown("a malformed wish on a full log: 7 comes before 11", "7"),
+            shown(
+                "a stroke in a label on a full log: 24 comes before 11",
+                "24",
+            ),
             shown("a block with a 513th record", "11"),
             shown(
                 "the same with another number, then with seen that is not closed: 8 and 9 come before 11",

@@ -319,6 +319,11 @@ pub fn full() -> String {
     assert_eq!(list.act(7, Own, 3, 7, &store), 11);
     store[30] = 13;
     assert_eq!(list.act(7, Own, 3, 7, &store), 7);
+    let mut rename = store;
+    rename[1] = 5;
+    rename[30] = 3;
+    rename[32] = b'/';
+    assert_eq!(list.act(7, Own, 3, 7, &rename), 24);
     let mut last = file_of(&records[507..513], 3, 5);
     assert_eq!(list.take(7, Own, 3, 7, &last), 11);
     // On a full log too, 8 and 9 come before 11.

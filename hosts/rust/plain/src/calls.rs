@@ -101,6 +101,9 @@ pub fn act(log: &mut [u8], _archive: u32, unit: u8, wish: &[u8]) -> Answer<()> {
     if !well_formed(&record) {
         return refuse(7);
     }
+    if wish[32..64].contains(&b'/') {
+        return refuse(24);
+    }
     if held.all == RECORDS {
         return refuse(11);
     }

@@ -63,7 +63,8 @@ pub fn start(log: &mut [u8], archive: u32, unit: u32) -> Answer<()> {
     answer(result).map(drop)
 }
 
-/// Makes the wished record, if it fits. Refuses 1, 21, 19, 7, 11, 12 to 16, 18.
+/// Makes the wished record, if it fits. Refuses 1, 21, 19, 7, 24, 11,
+/// 12 to 16, 18.
 pub fn act(log: &mut [u8], archive: u32, unit: u32, wish: &[u8]) -> Answer<()> {
     let result = unsafe {
         ffi::sab_act(

@@ -9,7 +9,8 @@ pub struct Wish([u8; raw::WISH]);
 
 impl Wish {
     /// A folder in a folder, or in the root. Refused with 7 if the label is
-    /// longer than 32 bytes or has a zero; the act judges the rest.
+    /// longer than 32 bytes or has a zero; the act judges the rest, a stroke in
+    /// it with 24.
     pub fn make_folder(folder: Identity, label: &str, date: Date) -> Answer<Wish> {
         Wish::of(Operation::MakeFolder, date)
             .in_folder(folder)

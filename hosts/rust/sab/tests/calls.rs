@@ -66,6 +66,14 @@ fn acting() {
     let before = log.clone();
     assert_eq!(raw::act(&mut log, ARCHIVE, 3, &wish), refused(15));
     assert_eq!(raw::act(&mut log, ARCHIVE, 4, &wish), refused(7));
+    for at in 32..64 {
+        let mut wish = wish;
+        wish[32..=at].fill(b'a');
+        wish[at] = b'/';
+        assert_eq!(raw::act(&mut log, ARCHIVE, 3, &wish), refused(24));
+        wish[31] = 0;
+        assert_eq!(raw::act(&mut log, ARCHIVE, 3, &wish), refused(7));
+    }
     assert_eq!(raw::act(&mut log, ARCHIVE, 200, &wish), refused(21));
     for wish in wrong(WISH) {
         assert_eq!(raw::act(&mut log, ARCHIVE, 3, &wish), refused(1));

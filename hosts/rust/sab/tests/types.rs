@@ -102,7 +102,7 @@ fn dates_and_marks() {
 
 #[test]
 fn refusals() {
-    for number in 1..=21 {
+    for number in (1..=21).chain([24]) {
         let refusal = Refusal { number, place: 2 };
         let text = refusal.to_string();
         assert_eq!(text, format!("refused {number} at 2: {}", in_words(number)));
@@ -110,6 +110,7 @@ fn refusals() {
     }
     assert!(Refusal::new(4).is_damage() && !Refusal::new(10).is_damage());
     assert!(Refusal::new(20).has_place() && !Refusal::new(21).has_place());
+    assert!(Refusal::new(24).has_place());
     let error: Box<dyn Error> = Refusal::new(6).into();
     assert_eq!(
         error.to_string(),

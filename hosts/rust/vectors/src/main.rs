@@ -71,9 +71,10 @@ fn run_list(
 }
 
 /// Files whose lines are cases by themselves, and what runs a line.
-const TABLES: [(&str, Row); 3] = [
+const TABLES: [(&str, Row); 4] = [
     ("tables.txt", tables::row),
     ("compare.txt", tables::row),
+    ("wishes.txt", tables::row),
     ("merge.txt", merges::row),
 ];
 

@@ -1,7 +1,8 @@
 //! Tables of the small functions. What an implementation does not offer by
 //! itself is asked through its entry points.
 
-use crate::words::{Fault, Words};
+use crate::lists::{answer, kept};
+use crate::words::{Fault, Words, hash};
 use library::Library;
 
 const LOG: usize = 40_960;
@@ -49,6 +50,7 @@ pub fn row(library: &dyn Library, line: &str) -> Result<(), Fault> {
             words.expect(&[(asked as u8).to_string()])
         }
         "sums" => sums(library, words),
+        "wish" => wish(library, words),
         name => Err(format!("no table {name}")),
     }
 }
@@ -106,6 +108,21 @@ fn record_by_take(library: &dyn Library, record: &[u8; 80]) -> bool {
         Ok(()) => true,
         Err(refusal) => matches!(refusal.number, 8 | 9),
     }
+}
+
+/// An act of a lent log, whatever the log holds.
+fn wish(library: &dyn Library, mut words: Words) -> Result<(), Fault> {
+    let mut log = words.bytes()?;
+    let (archive, unit) = (words.number()?, words.number()?);
+    let wish = words.bytes()?;
+    words.equals()?;
+    let before = log.clone();
+    let given = library.act(&mut log, archive, unit, &wish);
+    if given.is_err() {
+        kept("log", &log, &before)?;
+    }
+    let [number, place] = answer(&given);
+    words.expect(&[number, place, hash(&log)])
 }
 
 /// Writes the sums of a block, word by word as the paper says.

@@ -167,6 +167,7 @@ fn act(archive: &Archive, unit: Unit, wanted: &Wanted) -> Outcome<Log> {
         }
         let detail = match refusal.number {
             7 => why::of_wish(&wish, &archive.vector),
+            24 => why::of_stroke(&wish),
             number => log.show().ok().and_then(|tree| {
                 let story = Story::new(log, &tree);
                 story.unfit(number, &wanted.wished())

@@ -1,11 +1,11 @@
 //! `sab explain`: what a number means.
 
 use super::{Command, Session};
-use crate::args::{as_text, flag, number};
+use crate::args::{Read, Usage, as_text, flag, number};
 use crate::failure::{Outcome, usage};
 use crate::help::wrapped;
 use crate::json::Object;
-use crate::numbers::{ROWS, Row, field_card, row, section};
+use crate::numbers::{Row, field_card, row, section};
 use crate::out::{Ink, Status};
 
 /// `sab explain`.
@@ -34,16 +34,26 @@ fn run(session: &mut Session) -> Outcome<Status> {
     }
     let words = session.args.words();
     if words.is_empty() {
-        return Err(usage("N wanted, 1 to 21"));
+        return Err(usage("N wanted, 1 to 21 or 24"));
     }
-    let numbers: Vec<u8> = words
+    let rows: Vec<&Row> = words
         .iter()
-        .map(|word| number(as_text(word, "N")?, 1..=ROWS.len() as u8, "N"))
-        .collect::<Result<_, _>>()?;
-    for row in numbers.into_iter().filter_map(row) {
+        .map(|word| of_table(as_text(word, "N")?))
+        .collect::<Read<_>>()?;
+    for row in rows {
         tell(session, row);
     }
     Ok(Status::Yes)
+}
+
+/// The row that a word names.
+fn of_table(word: &str) -> Read<&'static Row> {
+    let number = number(word, 1..=u8::MAX, "N").ok();
+    number.and_then(row).ok_or_else(|| {
+        Usage(format!(
+            "N: {word:?} is no number of the table, 1 to 21 or 24"
+        ))
+    })
 }
 
 /// What a reason means where it stands behind an aside.
