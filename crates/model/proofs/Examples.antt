@@ -4,7 +4,7 @@ use mathlib.Core.Path.{_≡_, refl}
 use mathlib.Core.Bool.{true}
 use Rattle.model.specs.Bytes.{word, blank, sameBytes, part, padded}
 use Rattle.model.specs.Table.{identityBytes}
-use Rattle.model.specs.File.{blockCount}
+use Rattle.model.specs.File.{blockCount, blocksIn, blockAt}
 use Rattle.model.specs.Examples.{allRight, table}
 use Rattle.model.specs.Vector as Vec
 use Rattle.model.specs.Date as D
@@ -12,10 +12,11 @@ use Rattle.model.specs.Record as R
 use Rattle.model.specs.Log as L
 use Rattle.model.specs.Replay as P
 use Rattle.model.specs.Outcome as O
+use Rattle.model.specs.Row as W
 use Rattle.model.specs.Listing as T
 use Rattle.model.specs.Examples as E
 
 -- every row of the table is right
 pub examples : allRight table ≡ true
-unfolding word blank sameBytes part padded Vec.coversTo Vec.covers Vec.compareOf Vec.countsAt Vec.vectorAt Vec.countBytes Vec.vectorBytes D.isLeap D.daysOf D.isDate R.identity R.unit R.op R.num R.seen R.seenVector R.identityAt R.selfOf R.objectOf R.folderOf R.dateBytes R.labelOf R.markOf R.textLength R.printable R.isLabel R.usesObject R.usesFolder R.usesLabel R.usesMark R.unused R.names R.objectFits R.folderFits R.labelFits R.markFits R.dateFits R.headFits R.wellFormed L.rank L.insert L.count L.countsTo L.vectorOf L.byId L.isNext L.isWithin L.allTo L.nowhereAbove L.isClosed L.rises L.recordFault L.soundAfter P.emptyTree P.isPresent P.sameLabel P.entryOf P.isIn P.holderOf P.hasEntries P.standsAside P.unseen P.freeLabel P.judgeMakeIn P.judgeMake P.judgeStore P.judgeRemove P.judgeRename P.judgeSettle P.judge P.newEntry P.stored P.renamed P.removed P.changed P.settled P.effect P.apply P.step P.replayFrom P.replay P.isDisputed P.presentOnes identityBytes blockCount T.decimalTo T.decimal T.headLine T.countsText T.seenLine O.takeNew O.takeHeld O.takeOne O.takeAll E.encode E.march E.makesFolder E.makesTrace E.stores E.removes E.renames E.settles E.sameFlag E.showsEntries E.showsAsides E.shows E.showsTaken E.isRefused E.right E.allRight E.starred E.further E.table
+unfolding word blank sameBytes part padded Vec.coversTo Vec.covers Vec.compareOf Vec.countsAt Vec.vectorAt Vec.countBytes Vec.vectorBytes D.isLeap D.daysOf D.isDate R.identity R.unit R.op R.num R.seen R.seenVector R.identityAt R.selfOf R.objectOf R.folderOf R.dateBytes R.labelOf R.markOf R.textLength R.printable R.isLabel R.usesObject R.usesFolder R.usesLabel R.usesMark R.unused R.names R.objectFits R.folderFits R.labelFits R.markFits R.dateFits R.headFits R.wellFormed L.rank L.insert L.count L.countsTo L.vectorOf L.byId L.isNext L.isWithin L.allTo L.nowhereAbove L.isClosed L.rises L.recordFault L.soundAfter L.recordsIn L.recordsOf L.soundLog P.emptyTree P.isPresent P.sameLabel P.entryOf P.isIn P.holderOf P.hasEntries P.standsAside P.unseen P.freeLabel P.judgeMakeIn P.judgeMake P.judgeStore P.judgeRemove P.judgeRename P.judgeSettle P.judge P.newEntry P.stored P.renamed P.removed P.changed P.settled P.effect P.apply P.step P.replayFrom P.replay P.isDisputed P.presentOnes identityBytes blockCount blocksIn blockAt T.decimalTo T.decimal T.headLine T.countsText T.seenLine O.guarded O.takeNew O.takeHeld O.takeOne O.takeAll O.takeOf W.rowFits W.tryFrom W.tryAll W.takeRowOf W.isThere W.hasDisputed W.newlyDisputed W.becameDisputed W.rowCount E.encode E.march E.makesFolder E.makesTrace E.stores E.removes E.renames E.settles E.sameFlag E.showsEntries E.showsAsides E.shows E.showsTaken E.isRefused E.sameTried E.makers E.disputesTaken E.right E.allRight E.starred E.further E.inRows E.table
 examples = refl

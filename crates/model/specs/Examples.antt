@@ -15,6 +15,7 @@ use Rattle.model.specs.Replay.{Entry, Aside, Tree, replay, presentOnes, 
 use Rattle.model.specs.Table.{identityBytes}
 use Rattle.model.specs.File.{blockCount}
 use Rattle.model.specs.Outcome.{Took, refused, taken, takeAll}
+use Rattle.model.specs.Row.{Tried, RowTaken, rowFits, tryAll, takeRowOf, becameDisputed, rowCount}
 use Rattle.model.specs.Listing.{decimal, headLine, seenLine}
 
 infix 90 _·_
@@ -153,6 +154,16 @@ pub data Row : Type 0 where
   refuses : List Rec → List Rec → ℕ → Row
   -- how many records, and how many blocks their file has
   blocks : ℕ → ℕ → Row
+  -- how many bytes, and whether a row may have that length
+  fitsRow : ℕ → Bool → Row
+  -- a log, a row, how many blocks of it archive 7 would take, and what stops it
+  stops : List ℕ → List ℕ → ℕ → ℕ → Row
+  -- a log, a row, and the number under which the row is turned away
+  turnsAway : List ℕ → List ℕ → ℕ → Row
+  -- the records of a log, those of a block that it takes, and the entries that become disputed
+  disputes : List Rec → List Rec → List ℕ → Row
+  -- how many records a vector lacks, and how many blocks they are handed out in
+  rowBlocks : ℕ → ℕ → Row
   -- the records of a file before a record, last first, that record, and its fault
   faulty : List Rec → Rec → ℕ → Row
   -- a text of the listing, and its bytes
@@ -166,6 +177,17 @@ unfoldable pub isRefused : Took → ℕ → Bool
 isRefused (refused n) k = eqb n k
 isRefused (taken m) k = false
 
+unfoldable pub sameTried : Tried → ℕ → ℕ → Bool
+sameTried t k n = eqb (t .taken) k && eqb (t .stopped) n
+
+unfoldable pub makers : List Entry → List ℕ
+makers [] = []
+makers (e ∷ l) = e .made ∷ makers l
+
+unfoldable pub disputesTaken : List Rec → Took → List ℕ → Bool
+disputesTaken l (refused n) ks = false
+disputesTaken l (taken m) ks = sameBytes (makers (becameDisputed (replay l) (replay m))) ks
+
 unfoldable pub right : Row → Bool
 right (vectors a b n) = eqb (compareOf a b) n
 right (whole l es ss) =
@@ -177,6 +199,11 @@ right (tree l es ss) = shows l es ss
 right (takes l rs es ss) = soundAfter [] l && showsTaken (takeAll l rs) es ss
 right (refuses l rs n) = soundAfter [] l && isRefused (takeAll l rs) n
 right (blocks n k) = eqb (blockCount n) k
+right (fitsRow n b) = sameFlag (rowFits n) b
+right (stops log row k n) = sameTried (tryAll 7 0 log row) k n
+right (turnsAway log row n) = eqb (takeRowOf 7 0 log row .number) n
+right (disputes l rs ks) = soundAfter [] l && disputesTaken l (takeAll l rs) ks
+right (rowBlocks n k) = eqb (rowCount n) k
 right (faulty l r n) = eqb (recordFault l r) n
 right (prints t b) = sameBytes t b
 
@@ -360,5 +387,38 @@ further =
     (115 ∷ 101 ∷ 101 ∷ 110 ∷ 32 ∷ 50 ∷ 32 ∷ 49 ∷ 32 ∷ 48 ∷ 32 ∷ 48 ∷ 32 ∷ 48 ∷ 32 ∷ 48 ∷ 32 ∷ 48 ∷ 32 ∷ 48 ∷ 10 ∷ [])
     ∷ []
 
+-- rows of blocks
+unfoldable pub inRows : List Row
+inRows =
+    -- 0 to 86 whole blocks
+    fitsRow 0 true
+    ∷ fitsRow 512 true
+    ∷ fitsRow 44032 true
+    ∷ fitsRow 511 false
+    ∷ fitsRow 513 false
+    ∷ fitsRow 44544 false
+    -- no block; a block whose take is refused, here for the log, is not taken
+    ∷ stops [] [] 0 0
+    ∷ stops [] (replicate 512 0) 0 1
+    -- a part of a block is refused before the log is found unsound
+    ∷ turnsAway (1 ∷ replicate 40959 0) (replicate 513 0) 2
+    -- an entry that was there and not disputed; one that was not there
+    ∷ disputes (makesTrace 3 (0 · 1) [] root A ∷ []) (makesTrace 4 (1 · 1) [] root A ∷ []) (0 · 1 ∷ [])
+    ∷ disputes (makesTrace 3 (1 · 1) [] root A ∷ []) (makesTrace 4 (0 · 1) [] root A ∷ []) (0 · 1 ∷ [])
+    -- one that another aside disputed before; one that is no longer disputed
+    ∷ disputes (makesTrace 3 (0 · 1) [] root A ∷ makesTrace 3 (1 · 1) [] root A ∷ []) (makesTrace 3 (2 · 1) [] root A ∷ []) []
+    ∷ disputes (makesTrace 3 (0 · 1) [] root A ∷ makesTrace 3 (1 · 1) [] root A ∷ []) (settles 3 (0 · 2) (1 ∷ 1 ∷ []) (1 · 1) ∷ []) []
+    -- 0.1 was marked, and removed by 2.1; 1.1 ranks before the remove and is unseen by it, so 0.1 stays and is disputed
+    ∷ disputes (makesTrace 3 (0 · 1) [] root A ∷ makesTrace 3 (2 · 1) [] root A ∷ removes 3 (2 · 2) (1 ∷ 0 ∷ 1 ∷ []) (0 · 1) ∷ []) (stores 3 (1 · 1) (1 ∷ []) (0 · 1) ∷ []) (0 · 1 ∷ [])
+    -- two of them, by rank of their makers
+    ∷ disputes (makesTrace 3 (0 · 1) [] root A ∷ makesTrace 3 (1 · 1) [] root B ∷ []) (makesTrace 3 (2 · 1) [] root B ∷ makesTrace 3 (3 · 1) [] root A ∷ []) (0 · 1 ∷ 1 · 1 ∷ [])
+    -- six records a block, and none for none
+    ∷ rowBlocks 0 0
+    ∷ rowBlocks 1 1
+    ∷ rowBlocks 6 1
+    ∷ rowBlocks 7 2
+    ∷ rowBlocks 512 86
+    ∷ []
+
 unfoldable pub table : List Row
-table = starred ++ further
+table = starred ++ (further ++ inRows)

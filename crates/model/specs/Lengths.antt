@@ -22,6 +22,10 @@ fileSize = 44032
 abbrev pub treeSize : ℕ
 treeSize = 43012
 
+-- the report of a row that is tried: 20 bytes and 512 identities
+abbrev pub reportSize : ℕ
+reportSize = 2068
+
 -- the most records of a log
 abbrev pub logPlaces : ℕ
 logPlaces = 512

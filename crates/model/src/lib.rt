@@ -15,5 +15,8 @@ pub const FILE_BYTES: usize = 44032;
 // The tree table.
 pub const TREE_BYTES: usize = 43012;
 
+// The report of a row that is tried.
+pub const REPORT_BYTES: usize = 2068;
+
 // The most records of a log.
 pub const LOG_PLACES: usize = 512;
