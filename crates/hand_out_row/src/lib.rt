@@ -1,0 +1,120 @@
+// Handing out a row: all blocks of what another unit lacks, with one check of the log.
+ghost use mathlib.Core.Path.{_≡_};
+ghost use mathlib.Core.Bool.{true};
+ghost use Prim.Native.Nat.{_*_, _≤_};
+ghost use lib.ListN.{length, replicate};
+ghost use Rattle.model.specs.Bytes.{padded, joined};
+ghost use Rattle.model.specs.Log.{recordsOf, soundLog, vectorOf};
+ghost use Rattle.model.specs.Outcome.{outcome, lacking};
+ghost use Rattle.model.specs.Row.{rowCount, rowBlock, rowOf, handRowOf};
+use write_file_blocks::count_at;
+use write_file_blocks::write_at;
+use write_file::Written;
+use write_file::clear_behind;
+use hand_out_pick::gather_all;
+use log_check::check;
+use block_write::Block;
+use block_write::block_of;
+use vector::Vector;
+
+// 512 places of 80 bytes, all zero.
+fn fresh_records() -> [u8; 40960]
+    ensures { λ r. ⌜ r ≡ replicate 40960 0 ⌝ }
+{
+    [0u8; 40960]
+}
+
+// How many blocks n records are.
+fn row_count(n: usize) -> usize
+    requires { ⌜ n ≤ 512 ⌝ }
+    ensures { λ r. ⌜ r ≡ rowCount n ⌝ }
+{
+    (n + 5) / 6
+}
+
+// Block k of the n records that the asked vector lacks, which lie one behind another. The log and the asked vector only say which they are.
+fn row_block(
+    log: &[u8],
+    asked: Vector,
+    recs: &[u8],
+    n: usize,
+    k: usize,
+    held: Vector,
+    archive: u32,
+    unit: u8,
+) -> Block
+    requires { ⌜ (soundLog (now log) ≡ true) × (length (now recs) ≡ 40960) × (now recs ≡ padded 40960 (joined (lacking (asked .counts) (recordsOf (now log))))) × (n ≡ length (lacking (asked .counts) (recordsOf (now log)))) × (held .counts ≡ vectorOf (recordsOf (now log))) × (n ≤ 512) × (6 * k ≤ n) ⌝ }
+    ensures { λ r. ⌜ r .bytes ≡ rowBlock archive unit (recordsOf (now (log .entry))) (lacking (asked .counts) (recordsOf (now (log .entry)))) k ⌝ }
+{
+    let c = count_at(n, k);
+    let at = 480 * k;
+    block_of(archive, unit, c as u8, 0, held, &recs[at..at + 80 * c])
+}
+
+// Block after block is written, then zeros; the count of blocks is returned.
+fn write_row(
+    log: &[u8],
+    used: usize,
+    held: Vector,
+    archive: u32,
+    unit: u8,
+    asked: Vector,
+    out: &mut [u8],
+) -> u8
+    requires { ⌜ (length (now log) ≡ 40960) × (soundLog (now log) ≡ true) × (used ≡ length (recordsOf (now log))) × (held .counts ≡ vectorOf (recordsOf (now log))) × (length (now out) ≡ 44032) ⌝ }
+    ensures counted { λ r. ⌜ r ≡ rowCount (length (lacking (asked .counts) (recordsOf (now (log .entry))))) ⌝ }
+    ensures written { λ _. ⌜ now (out .exit) ≡ padded 44032 (rowOf archive unit (recordsOf (now (log .entry))) (asked .counts)) ⌝ }
+{
+    let mut recs = fresh_records();
+    let m = gather_all(log, used, asked, &mut recs);
+    let n = row_count(m);
+    let mut k: usize = 0;
+    while k < n {
+        let b = row_block(log, asked, &recs, m, k, held, archive, unit);
+        write_at(out, k, b);
+        k += 1;
+    }
+    clear_behind(out, n);
+    n as u8
+}
+
+// All blocks of what the asked vector lacks are written into the lent row, with zeros behind the last. The log is only read.
+pub fn hand_out_row(log: &[u8], archive: u32, unit: u8, asked: Vector, out: &mut [u8]) -> Written
+    ensures { λ r. ⌜ outcome (r .number) (r .place) (now (log .entry)) (now (out .exit)) (r .blocks) ≡ handRowOf archive unit (now (log .entry)) (asked .counts) (now (out .entry)) ⌝ }
+{
+    if log.len() != 40960 {
+        return Written {
+            number: 1,
+            place: 0,
+            blocks: 0,
+        };
+    }
+    if out.len() != 44032 {
+        return Written {
+            number: 1,
+            place: 0,
+            blocks: 0,
+        };
+    }
+    if 7 < unit {
+        return Written {
+            number: 21,
+            place: 0,
+            blocks: 0,
+        };
+    }
+    let c = check(log);
+    if !c.sound {
+        return Written {
+            number: 19,
+            place: 0,
+            blocks: 0,
+        };
+    }
+    let n = write_row(log, c.used, c.held, archive, unit, asked, out);
+    Written {
+        number: 0,
+        place: 0,
+        blocks: n,
+    }
+}

@@ -1,0 +1,104 @@
+use Prim.Native.Nat.{_≤_, _-_}
+use mathlib.Core.Path.{_≡_, refl}
+use lib.ListN.{length}
+use Rattle.model.specs.Log.{recordsOf, logBytes}
+use Rattle.model.specs.Row.{piecesIn, tryFrom, takeRowOf}
+use Rattle.row_laws.proofs.Turns.{piece-is, piece-inside, turns-start, turns-end, turn-stops, turn-goes}
+use Rattle.take_row_store.specs.Grown.{heldIn}
+use Rattle.take_row_judge.specs.Kept.{Kept}
+use Rattle.take_row_judge.proofs.Judged.{row-starts, row-gives, kept-grown, one-kept, one-grown, one-answers}
+use borrow.Author.Needs.{needs}
+use native.Mathlib.Omega.{arith}
+use Rattle.take_row_judge.proofs.judge_row.Statement.{statement}
+use Rattle.take_row_judge.proofs.judge_row.Tie as tie
+
+abbrev Inv-loop : tie.InvT-loop
+Inv-loop row archive unit log base work₀ places₀ seens₀ n held₀ used₀ k₀ work places seens held used k =
+    (k ≤ n) × (length work ≡ 41440) × (length places ≡ 4096) × (length seens ≡ 4144) × Kept (recordsOf log) base work used (held .counts) places seens × (tryFrom archive unit row (logBytes (heldIn (recordsOf log) base work used)) k (n - k) ≡ takeRowOf archive unit log row)
+
+abbrev μ-loop : tie.MeasureT-loop
+μ-loop row archive unit log base work₀ places₀ seens₀ n held₀ used₀ k₀ work places seens held used k = n - k
+
+pieces-requires : tie.Need-pieces-requires Inv-loop μ-loop
+pieces-requires c κs = search needs
+
+loop-holds : tie.Need-loop-holds Inv-loop μ-loop
+loop-holds c = (omega arith, search needs, search needs, search needs, search needs, search (row-starts, turns-start))
+
+mul-at : tie.Need-mul-at Inv-loop μ-loop
+unfolding piecesIn
+mul-at c = omega arith
+
+piece-end-requires : tie.Need-piece-end-requires Inv-loop μ-loop
+piece-end-requires c κs = search needs
+
+sub-judge-one : tie.Need-sub-judge-one Inv-loop μ-loop
+sub-judge-one c = search needs
+
+part-judge-one-start : tie.Need-part-judge-one-start Inv-loop μ-loop
+part-judge-one-start c = search needs
+
+part-judge-one-end : tie.Need-part-judge-one-end Inv-loop μ-loop
+part-judge-one-end c = search (piece-inside)
+
+judge-one-requires : tie.Need-judge-one-requires Inv-loop μ-loop
+judge-one-requires c κs = search needs
+
+same-length : tie.Need-same-length Inv-loop μ-loop
+same-length c = search needs
+
+same-length-2 : tie.Need-same-length-2 Inv-loop μ-loop
+same-length-2 c = search needs
+
+same-length-3 : tie.Need-same-length-3 Inv-loop μ-loop
+same-length-3 c = search needs
+
+returns : tie.Need-returns Inv-loop μ-loop
+returns c = search (row-gives, turn-stops, piece-is, one-answers, one-grown)
+
+add-k : tie.Need-add-k Inv-loop μ-loop
+add-k c = search needs
+
+loop-less : tie.Need-loop-less Inv-loop μ-loop
+loop-less c = search needs
+
+loop-again : tie.Need-loop-again Inv-loop μ-loop
+loop-again c = (omega arith, search needs, search needs, search needs, search (one-kept), search (turn-goes, piece-is, one-answers))
+
+same-length-4 : tie.Need-same-length-4 Inv-loop μ-loop
+same-length-4 c = search needs
+
+same-length-5 : tie.Need-same-length-5 Inv-loop μ-loop
+same-length-5 c = search needs
+
+same-length-6 : tie.Need-same-length-6 Inv-loop μ-loop
+same-length-6 c = search needs
+
+returns-2 : tie.Need-returns-2 Inv-loop μ-loop
+returns-2 c = search (row-gives, turns-end, kept-grown)
+
+pub judge-row-spec : {M : Type 1} → statement M
+judge-row-spec =
+    tie.close
+    (tie.spec
+    Inv-loop
+    μ-loop
+    pieces-requires
+    loop-holds
+    mul-at
+    piece-end-requires
+    sub-judge-one
+    part-judge-one-start
+    part-judge-one-end
+    judge-one-requires
+    same-length
+    same-length-2
+    same-length-3
+    returns
+    add-k
+    loop-less
+    loop-again
+    same-length-4
+    same-length-5
+    same-length-6
+    returns-2)
