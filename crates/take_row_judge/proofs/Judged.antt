@@ -10,7 +10,7 @@ use lib.ListN.{length, take}
 use borrow.Author.Tests.{eq-eqb, ne-eqb, le-leb}
 use Rattle.model.specs.Bytes.{part}
 use Rattle.model.specs.Record.{Rec}
-use Rattle.model.specs.Log.{recordsOf, soundLog, logBytes}
+use Rattle.model.specs.Log.{vectorOf, recordsOf, soundLog, logBytes}
 use Rattle.model.specs.Block.{countIn, blockFault, blockRecords}
 use Rattle.model.specs.Outcome.{Outcome, outcome, refusal, taken, refused, takeAll, givenFault, guarded, tookAll, tookBlock, takeOf}
 use Rattle.byte_slice.proofs.Numbers.{eq-or-ne}
@@ -20,7 +20,7 @@ use Rattle.encoding_laws.proofs.Logs.{sound-proper, proper-sized, length-logByt
 use Rattle.encoding_laws.proofs.Calls.{sound-back}
 use Rattle.log_check.specs.declared.Layout.the-variants.{Log}
 use Rattle.log_check.specs.Places.{offsetOf, laidAt}
-use Rattle.model.specs.Row.{tried, takeRowOf, tryFrom}
+use Rattle.model.specs.Row.{tried, tryFrom, tryAll}
 use Rattle.take_row_store.specs.Grown.{heldIn, Grown}
 use Rattle.take_row_store.proofs.Runs.{held-none, held-alike, held-long, held-sound, grown-alike}
 use Rattle.take_row_judge.specs.Kept.{Kept, JudgedInto, JudgedOne, JudgedRow}
@@ -95,18 +95,19 @@ given-few archive b f e z n q =
 
 module _ (archive u : ℕ) (b : List ℕ) (l : List Rec) (base : ℕ) (work : List ℕ) (m : ℕ) (held places seens : List ℕ) (h : u ≤ 7) (k : Kept l base work m held places seens) (f : ℕ) (e : f ≡ givenFault archive b) where
   pub one-bad : (f ≡ 0 → ⊥) → JudgedOne l base archive u b work m f work m held places seens
-  one-bad z = record { answers = bad archive u b l base work m (k .grown) h f e z; grown = k .grown; kept = λ y. k }
+  one-bad z = record { answers = bad archive u b l base work m (k .grown) h f e z; grown = k .grown; counts = k .indexed .counts; kept = λ y. k }
 
   module _ (z : f ≡ 0) (number : ℕ) (work′ : List ℕ) (used : ℕ) (held′ places′ seens′ : List ℕ) (j : JudgedInto l base b work m number work′ used held′ places′ seens′) where
     same : (p : ℕ) → p < m → laidAt Log work p ≡ laidAt Log work′ p
     unfolding laidAt offsetOf
     same p q = sym (part-take work (80 * m) (80 * p) 80 (omega arith)) ∙ rw (← j .front) (part-take work′ (80 * m) (80 * p) 80 (omega arith))
 
-    pub one-refused : (number ≡ 0 → ⊥) → (held″ : List ℕ) → JudgedOne l base archive u b work m number work′ m held″ places′ seens′
-    one-refused y held″ =
+    pub one-refused : (number ≡ 0 → ⊥) → JudgedOne l base archive u b work m number work′ m held places′ seens′
+    one-refused y =
         record {
           answers = rw (← held-alike l base work work′ m same) (no archive u b l base work m (k .grown) h f e z (j .refuses y));
           grown = grown-alike l base work m (k .grown) work′ same;
+          counts = rw (← held-alike l base work work′ m same) (k .indexed .counts);
           kept = λ x. absurd (y x);
         }
 
@@ -115,27 +116,34 @@ module _ (archive u : ℕ) (b : List ℕ) (l : List Rec) (base : ℕ) (work : Li
         record {
           answers = rw y (yes archive u b l base work m (k .grown) h f e z (j .accepts y));
           grown = j .kept y .grown;
+          counts = j .kept y .indexed .counts;
           kept = λ x. j .kept y;
         }
 
 -- ---- block after block
 
-pub row-starts : (log row : List ℕ) (archive u base n : ℕ) (work : List ℕ) → length log ≡ 40960 → soundLog log ≡ true → tryFrom archive u row log 0 (n - 0) ≡ takeRowOf archive u log row
-    → tryFrom archive u row (logBytes (heldIn (recordsOf log) base work base)) 0 (n - 0) ≡ takeRowOf archive u log row
+pub row-starts : (log row : List ℕ) (archive u base n : ℕ) (work : List ℕ) → length log ≡ 40960 → soundLog log ≡ true → tryFrom archive u row log 0 (n - 0) ≡ tryAll archive u log row
+    → tryFrom archive u row (logBytes (heldIn (recordsOf log) base work base)) 0 (n - 0) ≡ tryAll archive u log row
 row-starts log row archive u base n work long s q = rw (held-none (recordsOf log) base work, sound-bytes log long s) q
 
-pub row-gives : (log row : List ℕ) (archive u base n number : ℕ) (work : List ℕ) (used : ℕ) → tried n number (logBytes (heldIn (recordsOf log) base work used)) ≡ takeRowOf archive u log row → Grown (recordsOf log) base work used
-    → JudgedRow log base archive u row n number work used
-row-gives log row archive u base n number work used q g = record { answers = q; grown = g }
+pub row-gives : (log row : List ℕ) (archive u base n number : ℕ) (work : List ℕ) (used : ℕ) (held : List ℕ) → tried n number (logBytes (heldIn (recordsOf log) base work used)) ≡ tryAll archive u log row → Grown (recordsOf log) base work used
+    → held ≡ vectorOf (heldIn (recordsOf log) base work used) → JudgedRow log base archive u row n number work used held
+row-gives log row archive u base n number work used held q g c = record { answers = q; grown = g; counts = c }
 
 pub kept-grown : {l : List Rec} {base used : ℕ} {work held places seens : List ℕ} → Kept l base work used held places seens → Grown l base work used
 kept-grown k = k .grown
+
+pub kept-counts : {l : List Rec} {base used : ℕ} {work held places seens : List ℕ} → Kept l base work used held places seens → held ≡ vectorOf (heldIn l base work used)
+kept-counts k = k .indexed .counts
 
 pub one-kept : {l : List Rec} {base archive u m number used : ℕ} {b work work′ held places seens : List ℕ} → JudgedOne l base archive u b work m number work′ used held places seens → number ≡ 0 → Kept l base work′ used held places seens
 one-kept j z = j .kept z
 
 pub one-grown : {l : List Rec} {base archive u m number used : ℕ} {b work work′ held places seens : List ℕ} → JudgedOne l base archive u b work m number work′ used held places seens → Grown l base work′ used
 one-grown j = j .grown
+
+pub one-counts : {l : List Rec} {base archive u m number used : ℕ} {b work work′ held places seens : List ℕ} → JudgedOne l base archive u b work m number work′ used held places seens → held ≡ vectorOf (heldIn l base work′ used)
+one-counts j = j .counts
 
 pub one-answers : {l : List Rec} {base archive u m number used : ℕ} {b work work′ held places seens : List ℕ} → JudgedOne l base archive u b work m number work′ used held places seens
     → outcome number 0 (logBytes (heldIn l base work′ used)) [] 0 ≡ takeOf archive u (logBytes (heldIn l base work m)) b

@@ -1,34 +1,37 @@
-// The blocks of a row judged one after another. Each new record is laid behind those held, so that the tables keep its place; the log is
-// not touched.
+// The blocks of a row judged one after another. Each new record is laid behind those held, in lent work memory, so that the tables keep its
+// place; the log is not touched.
 ghost use mathlib.Core.Path.{_≡_};
 ghost use mathlib.Core.Bool.{true};
 ghost use Prim.Native.Nat.{_+_, _≤_, _<_};
 ghost use lib.ListN.{length};
+ghost use Rattle.model.specs.Lengths.{recordSize, blockSize, logSize, fileSize, logPlaces};
 ghost use Rattle.model.specs.Bytes.{sameBytes};
 ghost use Rattle.model.specs.Log.{recordsOf, soundLog};
 ghost use Rattle.model.specs.Block.{countIn};
-ghost use Rattle.log_closure.specs.Tables.{Placed};
+ghost use Rattle.log_closure.specs.Tables.{placesSize, seensSize, Placed};
 ghost use Rattle.log_check.specs.declared.Layout.the-variants.{Log};
 ghost use Rattle.log_check.specs.Places.{laidAt};
 ghost use Rattle.take_beside.specs.Judging.{Counted, step, takeBy};
+ghost use Rattle.take_row_store.specs.Grown.{workSize};
 ghost use Rattle.take_row_judge.specs.Kept.{Kept, JudgedInto, JudgedOne, JudgedRow};
 use take_beside::Judged;
 use take_beside::take_new;
 use byte_slice::put;
-use rows::piece_end;
-use rows::pieces;
+use model::BLOCK_BYTES;
 use vector::Vector;
 
-// What judging a row gives: how many blocks pass, the number that stops it or 0, and how many records are held then.
+// What judging a row gives: the counts of the records held then and how many they are, how many blocks pass, and the number that stops the
+// row, or 0.
 pub struct RowJudged {
-    pub taken: usize,
-    pub stopped: u8,
+    pub held: Vector,
     pub used: usize,
+    pub taken: u8,
+    pub stopped: u8,
 }
 
 // The record at a place has the bytes of rec.
 fn same_at(rec: &[u8], q: usize, work: &[u8]) -> bool
-    requires { ⌜ (q < 518) × (length (now work) ≡ 41440) ⌝ }
+    requires { ⌜ (q < 518) × (length (now work) ≡ workSize) ⌝ }
     ensures { λ r. ⌜ r ≡ sameBytes (laidAt Log (now (work .entry)) q) (now (rec .entry)) ⌝ }
 {
     let at = 80 * q;
@@ -44,7 +47,7 @@ fn take_at(
     places: &mut [u16],
     seens: &mut [u16],
 ) -> Judged
-    requires { ⌜ (length (now rec) ≡ 80) × (used ≤ 512) × (length (now work) ≡ 41440) × (length (now places) ≡ 4096) × (length (now seens) ≡ 4144) × Placed (held .counts) (now places) × Counted (held .counts) used ⌝ }
+    requires { ⌜ (length (now rec) ≡ recordSize) × (used ≤ logPlaces) × (length (now work) ≡ workSize) × (length (now places) ≡ placesSize) × (length (now seens) ≡ seensSize) × Placed (held .counts) (now places) × Counted (held .counts) used ⌝ }
     ensures { λ r. ⌜ step (r .number) (r .held .counts) (r .used) (now (places .exit)) (now (seens .exit)) ≡ takeBy (laidAt Log (now (work .entry))) (now (rec .entry)) used (held .counts) used (now (places .entry)) (now (seens .entry)) ⌝ }
 {
     if !record::well_formed(rec) {
@@ -86,7 +89,7 @@ fn judge_into(
     places: &mut [u16],
     seens: &mut [u16],
 ) -> Judged
-    requires { ⌜ (length (now b) ≡ 512) × (n ≡ countIn (now b)) × (n ≤ 6) × (length (now work) ≡ 41440) × (length (now places) ≡ 4096) × (length (now seens) ≡ 4144) × Kept (recordsOf (now log)) base (now work) m (v .counts) (now places) (now seens) ⌝ }
+    requires { ⌜ (length (now b) ≡ blockSize) × (n ≡ countIn (now b)) × (n ≤ 6) × (length (now work) ≡ workSize) × (length (now places) ≡ placesSize) × (length (now seens) ≡ seensSize) × Kept (recordsOf (now log)) base (now work) m (v .counts) (now places) (now seens) ⌝ }
     ensures { λ r. ⌜ JudgedInto (recordsOf (now (log .entry))) base (now (b .entry)) (now (work .entry)) m (r .number) (now (work .exit)) (r .used) (r .held .counts) (now (places .exit)) (now (seens .exit)) ⌝ }
 {
     let mut held = v;
@@ -124,7 +127,7 @@ fn judge_one(
     places: &mut [u16],
     seens: &mut [u16],
 ) -> Judged
-    requires { ⌜ (unit ≤ 7) × (length (now work) ≡ 41440) × (length (now places) ≡ 4096) × (length (now seens) ≡ 4144) × Kept (recordsOf (now log)) base (now work) m (v .counts) (now places) (now seens) ⌝ }
+    requires { ⌜ (unit ≤ 7) × (length (now work) ≡ workSize) × (length (now places) ≡ placesSize) × (length (now seens) ≡ seensSize) × Kept (recordsOf (now log)) base (now work) m (v .counts) (now places) (now seens) ⌝ }
     ensures { λ r. ⌜ JudgedOne (recordsOf (now (log .entry))) base archive unit (now (b .entry)) (now (work .entry)) m (r .number) (now (work .exit)) (r .used) (r .held .counts) (now (places .exit)) (now (seens .exit)) ⌝ }
 {
     let f = take_beside::given_fault(archive, b);
@@ -159,18 +162,17 @@ pub fn judge_row(
     places: &mut [u16],
     seens: &mut [u16],
 ) -> RowJudged
-    requires { ⌜ (unit ≤ 7) × (length (now log) ≡ 40960) × (soundLog (now log) ≡ true) × (length (now work) ≡ 41440) × (length (now places) ≡ 4096) × (length (now seens) ≡ 4144) × Kept (recordsOf (now log)) base (now work) base (v .counts) (now places) (now seens) ⌝ }
-    ensures { λ r. ⌜ JudgedRow (now (log .entry)) base archive unit (now (row .entry)) (r .taken) (r .stopped) (now (work .exit)) (r .used) ⌝ }
+    requires { ⌜ (length (now row) ≤ fileSize) × (unit ≤ 7) × (length (now log) ≡ logSize) × (soundLog (now log) ≡ true) × (length (now work) ≡ workSize) × (length (now places) ≡ placesSize) × (length (now seens) ≡ seensSize) × Kept (recordsOf (now log)) base (now work) base (v .counts) (now places) (now seens) ⌝ }
+    ensures { λ r. ⌜ JudgedRow (now (log .entry)) base archive unit (now (row .entry)) (r .taken) (r .stopped) (now (work .exit)) (r .used) (r .held .counts) ⌝ }
 {
-    let n = pieces(row.len());
+    let n = row.len() / BLOCK_BYTES;
     let mut held = v;
     let mut used = base;
     let mut k: usize = 0;
     while k < n {
         let at = 512 * k;
-        let end = piece_end(row.len(), k);
         let t = judge_one(
-            &row[at..end],
+            &row[at..at + 512],
             archive,
             unit,
             log,
@@ -181,21 +183,23 @@ pub fn judge_row(
             places,
             seens,
         );
-        if t.number != 0 {
-            return RowJudged {
-                taken: k,
-                stopped: t.number,
-                used: t.used,
-            };
-        }
         let next = t.held;
         held = next;
         used = t.used;
+        if t.number != 0 {
+            return RowJudged {
+                held,
+                used,
+                taken: k as u8,
+                stopped: t.number,
+            };
+        }
         k += 1;
     }
     RowJudged {
-        taken: n,
-        stopped: 0,
+        held,
         used,
+        taken: n as u8,
+        stopped: 0,
     }
 }

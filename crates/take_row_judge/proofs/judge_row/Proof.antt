@@ -2,11 +2,12 @@ use Prim.Native.Nat.{_≤_, _-_}
 use mathlib.Core.Path.{_≡_, refl}
 use lib.ListN.{length}
 use Rattle.model.specs.Log.{recordsOf, logBytes}
-use Rattle.model.specs.Row.{piecesIn, tryFrom, takeRowOf}
-use Rattle.row_laws.proofs.Turns.{piece-is, piece-inside, turns-start, turns-end, turn-stops, turn-goes}
+use Rattle.model.specs.File.{blocksIn}
+use Rattle.model.specs.Row.{tryFrom, tryAll}
+use Rattle.row_laws.proofs.Turns.{block-is, block-inside, turns-start, turns-end, turn-stops, turn-goes}
 use Rattle.take_row_store.specs.Grown.{heldIn}
 use Rattle.take_row_judge.specs.Kept.{Kept}
-use Rattle.take_row_judge.proofs.Judged.{row-starts, row-gives, kept-grown, one-kept, one-grown, one-answers}
+use Rattle.take_row_judge.proofs.Judged.{row-starts, row-gives, kept-grown, kept-counts, one-kept, one-grown, one-counts, one-answers}
 use borrow.Author.Needs.{needs}
 use native.Mathlib.Omega.{arith}
 use Rattle.take_row_judge.proofs.judge_row.Statement.{statement}
@@ -14,7 +15,7 @@ use Rattle.take_row_judge.proofs.judge_row.Tie as tie
 
 abbrev Inv-loop : tie.InvT-loop
 Inv-loop row archive unit log base work₀ places₀ seens₀ n held₀ used₀ k₀ work places seens held used k =
-    (k ≤ n) × (length work ≡ 41440) × (length places ≡ 4096) × (length seens ≡ 4144) × Kept (recordsOf log) base work used (held .counts) places seens × (tryFrom archive unit row (logBytes (heldIn (recordsOf log) base work used)) k (n - k) ≡ takeRowOf archive unit log row)
+    (k ≤ n) × (length work ≡ 41440) × (length places ≡ 4096) × (length seens ≡ 4144) × Kept (recordsOf log) base work used (held .counts) places seens × (tryFrom archive unit row (logBytes (heldIn (recordsOf log) base work used)) k (n - k) ≡ tryAll archive unit log row)
 
 abbrev μ-loop : tie.MeasureT-loop
 μ-loop row archive unit log base work₀ places₀ seens₀ n held₀ used₀ k₀ work places seens held used k = n - k
@@ -54,7 +55,7 @@ same-length-3 : tie.Need-same-length-3 Inv-loop μ-loop
 same-length-3 c = search needs
 
 returns : tie.Need-returns Inv-loop μ-loop
-returns c = search (row-gives, turn-stops, piece-is, one-answers, one-grown)
+returns c = search (row-gives, turn-stops, block-is, one-answers, one-grown)
 
 add-k : tie.Need-add-k Inv-loop μ-loop
 add-k c = search needs
@@ -63,7 +64,7 @@ loop-less : tie.Need-loop-less Inv-loop μ-loop
 loop-less c = search needs
 
 loop-again : tie.Need-loop-again Inv-loop μ-loop
-loop-again c = (omega arith, search needs, search needs, search needs, search (one-kept), search (turn-goes, piece-is, one-answers))
+loop-again c = (omega arith, search needs, search needs, search needs, search (one-kept), search (turn-goes, block-is, one-answers))
 
 same-length-4 : tie.Need-same-length-4 Inv-loop μ-loop
 same-length-4 c = search needs
