@@ -130,21 +130,5 @@ pub row-gives : (log row : List ℕ) (archive u base n number : ℕ) (work : Lis
     → held ≡ vectorOf (heldIn (recordsOf log) base work used) → JudgedRow log base archive u row n number work used held
 row-gives log row archive u base n number work used held q g c = record { answers = q; grown = g; counts = c }
 
-pub kept-grown : {l : List Rec} {base used : ℕ} {work held places seens : List ℕ} → Kept l base work used held places seens → Grown l base work used
-kept-grown k = k .grown
-
-pub kept-counts : {l : List Rec} {base used : ℕ} {work held places seens : List ℕ} → Kept l base work used held places seens → held ≡ vectorOf (heldIn l base work used)
-kept-counts k = k .indexed .counts
-
 pub one-kept : {l : List Rec} {base archive u m number used : ℕ} {b work work′ held places seens : List ℕ} → JudgedOne l base archive u b work m number work′ used held places seens → number ≡ 0 → Kept l base work′ used held places seens
 one-kept j z = j .kept z
-
-pub one-grown : {l : List Rec} {base archive u m number used : ℕ} {b work work′ held places seens : List ℕ} → JudgedOne l base archive u b work m number work′ used held places seens → Grown l base work′ used
-one-grown j = j .grown
-
-pub one-counts : {l : List Rec} {base archive u m number used : ℕ} {b work work′ held places seens : List ℕ} → JudgedOne l base archive u b work m number work′ used held places seens → held ≡ vectorOf (heldIn l base work′ used)
-one-counts j = j .counts
-
-pub one-answers : {l : List Rec} {base archive u m number used : ℕ} {b work work′ held places seens : List ℕ} → JudgedOne l base archive u b work m number work′ used held places seens
-    → outcome number 0 (logBytes (heldIn l base work′ used)) [] 0 ≡ takeOf archive u (logBytes (heldIn l base work m)) b
-one-answers j = j .answers

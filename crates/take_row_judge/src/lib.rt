@@ -8,6 +8,7 @@ ghost use Rattle.model.specs.Lengths.{recordSize, blockSize, logSize, fileSize,
 ghost use Rattle.model.specs.Bytes.{sameBytes};
 ghost use Rattle.model.specs.Log.{recordsOf, soundLog};
 ghost use Rattle.model.specs.Block.{countIn};
+ghost use Rattle.model.specs.File.{blocksIn};
 ghost use Rattle.log_closure.specs.Tables.{placesSize, seensSize, Placed};
 ghost use Rattle.log_check.specs.declared.Layout.the-variants.{Log};
 ghost use Rattle.log_check.specs.Places.{laidAt};
@@ -150,6 +151,14 @@ fn judge_one(
     t
 }
 
+// How many blocks a row has.
+fn blocks_in(row: &[u8]) -> usize
+    requires { ⌜ length (now row) ≤ fileSize ⌝ }
+    ensures { λ r. ⌜ (r ≡ blocksIn (now (row .entry))) × (r ≤ 86) ⌝ }
+{
+    row.len() / BLOCK_BYTES
+}
+
 // The blocks of a row, one after another up to the first that is refused.
 pub fn judge_row(
     row: &[u8],
@@ -165,7 +174,7 @@ pub fn judge_row(
     requires { ⌜ (length (now row) ≤ fileSize) × (unit ≤ 7) × (length (now log) ≡ logSize) × (soundLog (now log) ≡ true) × (length (now work) ≡ workSize) × (length (now places) ≡ placesSize) × (length (now seens) ≡ seensSize) × Kept (recordsOf (now log)) base (now work) base (v .counts) (now places) (now seens) ⌝ }
     ensures { λ r. ⌜ JudgedRow (now (log .entry)) base archive unit (now (row .entry)) (r .taken) (r .stopped) (now (work .exit)) (r .used) (r .held .counts) ⌝ }
 {
-    let n = row.len() / BLOCK_BYTES;
+    let n = blocks_in(row);
     let mut held = v;
     let mut used = base;
     let mut k: usize = 0;
