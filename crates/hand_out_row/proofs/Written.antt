@@ -5,8 +5,9 @@ use native.Mathlib.Numerals.{add-one}
 use native.Mathlib.Omega.{arith}
 use mathlib.Core.Path.{_≡_, sym, _∙_}
 use mathlib.Core.Logic.{⊎-elim}
-use mathlib.Core.Bool.{Bool, true, false, not}
+use mathlib.Core.Bool.{true}
 use mathlib.Core.List.{List, _++_, append-nil}
+use lib.Dec.{eqb}
 use lib.ListN.{length, take, drop, replicate, length-append, length-take, length-drop, length-replicate}
 use lib.Seq.{take-all, drop-length}
 use Rattle.model.specs.Bytes.{padded, joined, putAt}
@@ -20,7 +21,8 @@ use Rattle.byte_slice.proofs.Parts.{part-is}
 use Rattle.byte_slice.proofs.PutAt.{put-grows}
 use Rattle.block_laws.proofs.Fields.{Sized, joined-part}
 use Rattle.encoding_laws.proofs.Logs.{sound-proper, proper-sized, sound-records}
-use Rattle.call_answer.proofs.Guards.{guards-pass}
+use Rattle.call_guard.specs.Opened.{opened, openOf}
+use Rattle.call_guard.proofs.Opening.{call-passes}
 use Rattle.hand_out_pick.proofs.Gathered.{sized-lacking}
 use Rattle.row_laws.proofs.Raised.{length-rowBlock, length-rowTo}
 use Rattle.model.specs.Row.{rowCount, rowBlock, rowTo, rowOf, handRowOf}
@@ -100,8 +102,8 @@ module _ (b v : List ℕ) (sound : soundLog b ≡ true) where
 
 -- ---- success
 
-pub all-handed : (a u : ℕ) (log v lent : List ℕ) {n : ℕ} {o : List ℕ} {s : Bool} → o ≡ padded 44032 (rowOf a u (recordsOf log) v) → n ≡ rowCount (length (lacking v (recordsOf log)))
-    → length log ≡ 40960 → length lent ≡ 44032 → u ≤ 7 → s ≡ soundLog log → not s ≡ false → outcome 0 0 log o n ≡ handRowOf a u log v lent
+pub all-handed : (a u : ℕ) (log v lent : List ℕ) {n used : ℕ} {held : List ℕ} → opened n held used ≡ openOf u log (eqb (length lent) 44032) true → n ≡ 0
+    → {k : ℕ} {o : List ℕ} → o ≡ padded 44032 (rowOf a u (recordsOf log) v) → k ≡ rowCount (length (lacking v (recordsOf log))) → outcome 0 0 log o k ≡ handRowOf a u log v lent
 unfolding handRowOf
-all-handed a u log v lent p q l m h e f =
-    (rw (p, q)) ∙ guards-pass u log lent lent 44032 (outcome 0 0 log (padded 44032 (rowOf a u (recordsOf log) v)) (rowCount (length (lacking v (recordsOf log))))) l m h e f
+all-handed a u log v lent e z p q =
+    (rw (p, q)) ∙ call-passes u log lent (eqb (length lent) 44032) e (outcome 0 0 log (padded 44032 (rowOf a u (recordsOf log) v)) (rowCount (length (lacking v (recordsOf log))))) z

@@ -3,30 +3,33 @@ ghost use mathlib.Core.Path.{_≡_};
 ghost use mathlib.Core.Bool.{true};
 ghost use Prim.Native.Nat.{_*_, _≤_};
 ghost use lib.ListN.{length, replicate};
+ghost use Rattle.model.specs.Lengths.{logSize, fileSize, logPlaces};
 ghost use Rattle.model.specs.Bytes.{padded, joined};
 ghost use Rattle.model.specs.Log.{recordsOf, soundLog, vectorOf};
 ghost use Rattle.model.specs.Outcome.{outcome, lacking};
 ghost use Rattle.model.specs.Row.{rowCount, rowBlock, rowOf, handRowOf};
-use write_file_blocks::count_at;
-use write_file_blocks::write_at;
-use write_file::Written;
-use write_file::clear_behind;
-use hand_out_pick::gather_all;
-use log_check::check;
 use block_write::Block;
 use block_write::block_of;
+use call_guard::open;
+use hand_out_pick::gather_all;
+use model::FILE_BYTES;
+use model::LOG_BYTES;
 use vector::Vector;
+use write_file::Written;
+use write_file::clear_behind;
+use write_file_blocks::count_at;
+use write_file_blocks::write_at;
 
 // 512 places of 80 bytes, all zero.
 fn fresh_records() -> [u8; 40960]
-    ensures { λ r. ⌜ r ≡ replicate 40960 0 ⌝ }
+    ensures { λ r. ⌜ r ≡ replicate logSize 0 ⌝ }
 {
-    [0u8; 40960]
+    [0u8; LOG_BYTES]
 }
 
 // How many blocks n records are.
 fn row_count(n: usize) -> usize
-    requires { ⌜ n ≤ 512 ⌝ }
+    requires { ⌜ n ≤ logPlaces ⌝ }
     ensures { λ r. ⌜ r ≡ rowCount n ⌝ }
 {
     (n + 5) / 6
@@ -43,7 +46,7 @@ fn row_block(
     archive: u32,
     unit: u8,
 ) -> Block
-    requires { ⌜ (soundLog (now log) ≡ true) × (length (now recs) ≡ 40960) × (now recs ≡ padded 40960 (joined (lacking (asked .counts) (recordsOf (now log))))) × (n ≡ length (lacking (asked .counts) (recordsOf (now log)))) × (held .counts ≡ vectorOf (recordsOf (now log))) × (n ≤ 512) × (6 * k ≤ n) ⌝ }
+    requires { ⌜ (soundLog (now log) ≡ true) × (length (now recs) ≡ logSize) × (now recs ≡ padded logSize (joined (lacking (asked .counts) (recordsOf (now log))))) × (n ≡ length (lacking (asked .counts) (recordsOf (now log)))) × (held .counts ≡ vectorOf (recordsOf (now log))) × (n ≤ logPlaces) × (6 * k ≤ n) ⌝ }
     ensures { λ r. ⌜ r .bytes ≡ rowBlock archive unit (recordsOf (now (log .entry))) (lacking (asked .counts) (recordsOf (now (log .entry)))) k ⌝ }
 {
     let c = count_at(n, k);
@@ -61,9 +64,9 @@ fn write_row(
     asked: Vector,
     out: &mut [u8],
 ) -> u8
-    requires { ⌜ (length (now log) ≡ 40960) × (soundLog (now log) ≡ true) × (used ≡ length (recordsOf (now log))) × (held .counts ≡ vectorOf (recordsOf (now log))) × (length (now out) ≡ 44032) ⌝ }
+    requires { ⌜ (length (now log) ≡ logSize) × (soundLog (now log) ≡ true) × (used ≡ length (recordsOf (now log))) × (held .counts ≡ vectorOf (recordsOf (now log))) × (length (now out) ≡ fileSize) ⌝ }
     ensures counted { λ r. ⌜ r ≡ rowCount (length (lacking (asked .counts) (recordsOf (now (log .entry))))) ⌝ }
-    ensures written { λ _. ⌜ now (out .exit) ≡ padded 44032 (rowOf archive unit (recordsOf (now (log .entry))) (asked .counts)) ⌝ }
+    ensures written { λ _. ⌜ now (out .exit) ≡ padded fileSize (rowOf archive unit (recordsOf (now (log .entry))) (asked .counts)) ⌝ }
 {
     let mut recs = fresh_records();
     let m = gather_all(log, used, asked, &mut recs);
@@ -82,36 +85,15 @@ fn write_row(
 pub fn hand_out_row(log: &[u8], archive: u32, unit: u8, asked: Vector, out: &mut [u8]) -> Written
     ensures { λ r. ⌜ outcome (r .number) (r .place) (now (log .entry)) (now (out .exit)) (r .blocks) ≡ handRowOf archive unit (now (log .entry)) (asked .counts) (now (out .entry)) ⌝ }
 {
-    if log.len() != 40960 {
+    let o = open(log, unit, out.len() == FILE_BYTES, true);
+    if o.number != 0 {
         return Written {
-            number: 1,
+            number: o.number,
             place: 0,
             blocks: 0,
         };
     }
-    if out.len() != 44032 {
-        return Written {
-            number: 1,
-            place: 0,
-            blocks: 0,
-        };
-    }
-    if 7 < unit {
-        return Written {
-            number: 21,
-            place: 0,
-            blocks: 0,
-        };
-    }
-    let c = check(log);
-    if !c.sound {
-        return Written {
-            number: 19,
-            place: 0,
-            blocks: 0,
-        };
-    }
-    let n = write_row(log, c.used, c.held, archive, unit, asked, out);
+    let n = write_row(log, o.used, o.held, archive, unit, asked, out);
     Written {
         number: 0,
         place: 0,

@@ -1,17 +1,18 @@
 -- A meeting by rows is a meeting by single blocks.
 -- Assumes nothing.
-use Prim.Native.Nat.{ℕ, zero, suc, _+_, _-_, _*_, _/_, _≤_, _<_}
+use Prim.Native.Nat.{ℕ, zero, suc, _+_, _-_, _*_, _/_, _%_, _≤_, _<_}
 use native.Mathlib.Omega.{arith}
+use mathlib.Core.Bool.{true}
 use mathlib.Core.Path.{_≡_, sym, ap, _∙_}
 use mathlib.Core.List.{List, [], append-nil}
 use lib.ListN.{length, take, drop, replicate, length-replicate}
 use lib.Dec.{eqb}
 use lib.Seq.{take-at}
-use borrow.Author.Tests.{eq-eqb}
+use borrow.Author.Tests.{eq-eqb, le-leb}
 use Rattle.model.specs.Bytes.{padded}
 use Rattle.model.specs.Record.{Rec}
 use Rattle.model.specs.Log.{vectorOf, recordsOf}
-use Rattle.model.specs.File.{blockAt}
+use Rattle.model.specs.File.{blocksIn, blockAt}
 use Rattle.model.specs.Outcome.{Outcome, outcome, guarded, lacking, handBlock, handOf, takeOf}
 use Rattle.log_laws.specs.Members.{Agree}
 use Rattle.block_laws.proofs.Fields.{Sized}
@@ -21,7 +22,8 @@ use Rattle.encoding_laws.proofs.Logs.{sound-proper, proper-sized, sound-records
 use Rattle.hand_out_pick.proofs.Gathered.{sized-lacking}
 use Rattle.machine.specs.Meeting.{lackedBy, handed, round, meet, Meets}
 use Rattle.machine.proofs.Meeting.{every-meeting}
-use Rattle.model.specs.Row.{Tried, tried, piecesIn, tryFrom, takeRowOf, rowCount, rowBlock, rowTo, rowOf, handRowOf}
+use Rattle.model.specs.Row.{Tried, tried, rowFits, tryFrom, tryAll, RowTaken, rowTaken, takeRowOf, rowCount, rowBlock, rowTo, rowOf, handRowOf}
+use Rattle.row_laws.proofs.Turns.{row-passes}
 use Rattle.row_laws.proofs.Raised.{length-rowTo, block-of-row}
 use Rattle.machine_rows.specs.RowMeeting.{rowHanded, rowRound, RowMeets, EveryRowMeeting}
 
@@ -59,9 +61,20 @@ module _ (archive a b : ℕ) (la lb : List ℕ) (ha : a < 8) (hb : b < 8) (ga : 
   unfolding padded
   cut = take-at row (replicate (44032 - length row) 0) (512 * n) long
 
-  pieces : piecesIn (length row) ≡ n
-  unfolding piecesIn
-  pieces = omega (arith, long)
+  counted : blocksIn row ≡ n
+  unfolding blocksIn
+  counted = omega (arith, long)
+
+  few : n ≤ 86
+  unfolding n rowCount w
+  few = omega arith
+
+  right-length : rowFits (length row) ≡ true
+  unfolding rowFits
+  right-length =
+      let a : length row % 512 ≡ 0 = omega (arith, long) in
+      let b : length row / 512 ≤ 86 = omega (arith, long, few) in
+      rw (eq-eqb (length row % 512) 0 a, le-leb (length row / 512) 86 b)
 
   left : (k : ℕ) → lacking (vectorOf (recordsOf (meet archive a b la lb k))) (recordsOf la) ≡ drop (6 * k) w
   unfolding w lackedBy
@@ -93,9 +106,13 @@ module _ (archive a b : ℕ) (la lb : List ℕ) (ha : a < 8) (hb : b < 8) (ga : 
       let l : takeOf archive b (meet archive a b la lb k) (blockAt row k) .log ≡ meet archive a b la lb (suc k) = ap (λ (o : Outcome). o .log) s in
       rw (z, l) (turns j (suc k) (omega arith))
 
-  taken-row : rowRound archive a b la lb ≡ tried n 0 (meet archive a b la lb n)
-  unfolding rowRound takeRowOf meet
-  taken-row = rw (handed-is, cut, pieces) (turns n 0 (omega arith))
+  taken-all : tryAll archive b lb row ≡ tried n 0 (meet archive a b la lb n)
+  unfolding tryAll meet
+  taken-all = rw counted (turns n 0 (omega arith))
+
+  taken-row : rowRound archive a b la lb ≡ rowTaken 0 0 n 0 (meet archive a b la lb n)
+  unfolding rowRound
+  taken-row = rw (handed-is, cut) (row-passes archive b lb row (omega arith) gb right-length ∙ ap (λ (t : Tried). rowTaken 0 0 (t .taken) (t .stopped) (t .log)) taken-all)
 
   all-passed : lackedBy la (meet archive a b la lb n) ≡ []
   unfolding n rowCount w
@@ -105,8 +122,8 @@ module _ (archive a b : ℕ) (la lb : List ℕ) (ha : a < 8) (hb : b < 8) (ga : 
   row-meets =
       record {
         handing = ap (λ (o : Outcome). o .number) handed-is;
-        taking = taken-row ∙ ap (λ (o : Outcome). tried (o .blocks) 0 (meet archive a b la lb (o .blocks))) (sym handed-is);
-        nothing = ap (λ (t : Tried). lackedBy la (t .log)) taken-row ∙ all-passed;
+        taking = taken-row ∙ ap (λ (o : Outcome). rowTaken 0 0 (o .blocks) 0 (meet archive a b la lb (o .blocks))) (sym handed-is);
+        nothing = ap (λ (t : RowTaken). lackedBy la (t .log)) taken-row ∙ all-passed;
       }
 
 pub every-row-meeting : EveryRowMeeting

@@ -6,15 +6,17 @@ use native.Mathlib.Numerals.{add-one}
 use native.Mathlib.Omega.{arith}
 use mathlib.Core.Path.{_≡_, refl, sym, ap, _∙_}
 use mathlib.Core.Logic.{_↔_, ⊎-elim}
+use mathlib.Core.Bool.{true}
 use mathlib.Core.List.{List, []}
 use lib.ListN.{length, take, drop}
-use borrow.Author.Tests.{eq-eqb, ne-eqb}
+use borrow.Author.Tests.{eq-eqb, ne-eqb, le-leb}
 use Rattle.model.specs.File.{blocksIn, blockAt}
 use Rattle.model.specs.Outcome.{Outcome, outcome, takeOf}
 use Rattle.byte_slice.proofs.Numbers.{eq-or-ne}
 use Rattle.byte_slice.proofs.Parts.{part-is}
+use Rattle.encoding_laws.specs.Keeps.{Good}
 use Rattle.encoding_laws.proofs.Calls.{take-keeps}
-use Rattle.model.specs.Row.{Tried, tried, tryFrom, tryAll}
+use Rattle.model.specs.Row.{Tried, tried, rowFits, tryFrom, tryAll, rowTaken, takeRowOf}
 
 -- ---- the blocks of a row
 
@@ -91,3 +93,11 @@ whole-from archive u row log k (suc n) =
 pub whole-row : (archive u : ℕ) (log row : List ℕ) → (tryAll archive u log row .stopped ≡ 0) ↔ (tryAll archive u log row .taken ≡ blocksIn row)
 unfolding tryAll
 whole-row archive u log row = rw (zero-add (blocksIn row)) at (whole-from archive u row log 0 (blocksIn row))
+
+-- ---- the call
+
+-- the checks 1, 21, 2 and 19 pass
+pub row-passes : (archive u : ℕ) (log row : List ℕ) → u ≤ 7 → Good log → rowFits (length row) ≡ true
+    → takeRowOf archive u log row ≡ rowTaken 0 0 (tryAll archive u log row .taken) (tryAll archive u log row .stopped) (tryAll archive u log row .log)
+unfolding takeRowOf
+row-passes archive u log row h g f = rw (eq-eqb (length log) 40960 (g .long), le-leb u 7 h, f, g .sound)

@@ -1,58 +1,49 @@
 -- The ways out of taking a row, over plain values.
 -- Assumes nothing.
-use Prim.Native.Nat.{ℕ, zero, suc, _+_, _-_, _*_, _≤_, _<_}
-use native.Mathlib.Nat.{zero-add, sub-zero, sub-self}
+use Prim.Native.Nat.{ℕ, zero, suc, _+_, _-_, _*_, _/_, _%_, _≤_, _<_}
+use native.Mathlib.Nat.{zero-add, sub-self}
 use native.Mathlib.Omega.{arith}
-use mathlib.Core.Path.{_≡_, refl, sym, _∙_, subst}
-use mathlib.Core.Bool.{Bool, true, false, not}
+use mathlib.Core.Path.{_≡_, refl, sym, ap, _∙_}
+use mathlib.Core.Bool.{Bool, true, false, not, _&&_}
 use mathlib.Core.List.{List, []}
+use lib.Dec.{leb, eqb}
 use lib.ListN.{length}
+use borrow.Author.Tests.{eq-eqb, ne-eqb, eqb-true, leb-true}
 use Rattle.model.specs.Bytes.{part, putAt}
-use Rattle.model.specs.Log.{recordsOf, soundLog, logBytes}
-use Rattle.model.specs.File.{blockAt}
-use Rattle.model.specs.Outcome.{outcome, givenFault, tookBlock, takeOf}
+use Rattle.model.specs.Log.{vectorOf, recordsOf, soundLog, logBytes}
+use Rattle.model.specs.Outcome.{guardNumber}
+use Rattle.model.specs.Row.{Tried, tried, rowFits, tryAll, tookRow, rowTaken, takeRowOf}
+use Rattle.byte_slice.proofs.Numbers.{and-true}
 use Rattle.byte_slice.proofs.PutAt.{part-put-inside}
 use Rattle.log_laws.specs.Sound.{Sound}
 use Rattle.encoding_laws.proofs.Logs.{sound-records, sound-few}
-use Rattle.call_answer.proofs.Guards.{log-length, unit-above, log-unsound}
+use Rattle.encoding_laws.proofs.Calls.{sound-back}
 use Rattle.log_closure.specs.Tables.{Indexed}
 use Rattle.log_admit.proofs.Tables.{indexed-where}
 use Rattle.log_check.specs.declared.Layout.the-variants.{Log}
 use Rattle.log_check.specs.Places.{offsetOf, laidAt}
-use Rattle.log_check.specs.InOrder.{CheckGives}
 use Rattle.log_insert.specs.Where.{insertTo}
-use Rattle.model.specs.Row.{tried, piecesIn, tryFrom, takeRowOf}
-use Rattle.row_laws.proofs.Turns.{turns-start, turn-stops}
+use Rattle.call_guard.specs.Opened.{opened, openOf}
+use Rattle.call_guard.proofs.Opening.{number-is, open-row}
 use Rattle.take_row_store.specs.Grown.{newAt, heldIn, Grown}
-use Rattle.take_row_store.proofs.Runs.{held-none}
+use Rattle.take_row_store.proofs.Runs.{held-none, held-long, held-sound}
 use Rattle.take_row_judge.specs.Kept.{Kept, JudgedRow}
 
--- ---- a row of no bytes, and a log or unit that is refused
+-- ---- the length of a row
 
-pub row-none : (archive u : ℕ) (log row : List ℕ) → length row ≡ 0 → tried 0 0 log ≡ takeRowOf archive u log row
-unfolding takeRowOf piecesIn tryFrom
-row-none archive u log row e = rw e
+pub part-block : (n : ℕ) → (n % 512 ≡ 0 → ⊥) → false ≡ rowFits n
+unfolding rowFits
+part-block n h = rw (ne-eqb (n % 512) 0 h)
 
-module _ (archive u : ℕ) (log row : List ℕ) (some : length row ≡ 0 → ⊥) where
-  more : 0 < piecesIn (length row)
-  unfolding piecesIn
-  more = omega arith
+pub whole-blocks : (n : ℕ) → n % 512 ≡ 0 → leb (n / 512) 86 ≡ rowFits n
+unfolding rowFits
+whole-blocks n h = rw (eq-eqb (n % 512) 0 h)
 
-  first-stops : (a : ℕ) → (a ≡ 0 → ⊥) → outcome a 0 log [] 0 ≡ takeOf archive u log (blockAt row 0) → tried 0 a log ≡ takeRowOf archive u log row
-  first-stops a z e =
-      turn-stops archive u row log 0 (piecesIn (length row)) (takeRowOf archive u log row) (turns-start archive u row log (piecesIn (length row)) refl) more a 0 log [] 0 (blockAt row 0) e refl z
-
-  pub row-length : (length log ≡ 40960 → ⊥) → tried 0 1 log ≡ takeRowOf archive u log row
-  unfolding takeOf
-  row-length h = first-stops 1 (λ z. omega arith) (log-length u log [] [] 0 (tookBlock log (blockAt row 0) (givenFault archive (blockAt row 0))) h)
-
-  pub row-unit : length log ≡ 40960 → 7 < u → tried 0 21 log ≡ takeRowOf archive u log row
-  unfolding takeOf
-  row-unit n h = first-stops 21 (λ z. omega arith) (unit-above u log [] [] 0 (tookBlock log (blockAt row 0) (givenFault archive (blockAt row 0))) n refl h)
-
-  pub row-unsound : {s : Bool} → length log ≡ 40960 → u ≤ 7 → s ≡ soundLog log → not s ≡ true → tried 0 19 log ≡ takeRowOf archive u log row
-  unfolding takeOf
-  row-unsound n h e g = first-stops 19 (λ z. omega arith) (log-unsound u log [] [] 0 (tookBlock log (blockAt row 0) (givenFault archive (blockAt row 0))) n refl h e g)
+pub row-short : (n : ℕ) → rowFits n ≡ true → n ≤ 44032
+unfolding rowFits
+row-short n h =
+    let (a, b) = and-true (eqb (n % 512) 0) (leb (n / 512) 86) h in
+    omega (arith, eqb-true (n % 512) 0 a, leb-true (n / 512) 86 b)
 
 -- ---- what is held at first
 
@@ -79,8 +70,40 @@ module _ (log work fresh : List ℕ) (used : ℕ) (held places seens : List ℕ)
 
 -- ---- the row is judged and its records are put in
 
-pub judged-grown : {log row work : List ℕ} {base archive u n number used : ℕ} → JudgedRow log base archive u row n number work used → Grown (recordsOf log) base work used
+pub judged-grown : {log row work held : List ℕ} {base archive u n number used : ℕ} → JudgedRow log base archive u row n number work used held → Grown (recordsOf log) base work used
 judged-grown j = j .grown
 
-pub row-done : (log row work : List ℕ) (base archive u n number used : ℕ) → JudgedRow log base archive u row n number work used → (m : List ℕ) → m ≡ logBytes (heldIn (recordsOf log) base work used) → tried n number m ≡ takeRowOf archive u log row
-row-done log row work base archive u n number used j m e = rw e (j .answers)
+module _ (log row work held : List ℕ) (base archive u n number used : ℕ) (j : JudgedRow log base archive u row n number work used held) (m : List ℕ) (e : m ≡ logBytes (heldIn (recordsOf log) base work used)) where
+  pub row-done : tried n number m ≡ tryAll archive u log row
+  row-done = rw e (j .answers)
+
+  records : recordsOf m ≡ heldIn (recordsOf log) base work used
+  records = rw e (sound-back (heldIn (recordsOf log) base work used) (held-sound (recordsOf log) base work used (j .grown)) (omega (arith, held-long (recordsOf log) base work used (j .grown), j .grown .few)))
+
+  pub row-used : used ≡ length (recordsOf m)
+  row-used = rw records (held-long (recordsOf log) base work used (j .grown))
+
+  pub row-counts : held ≡ vectorOf (recordsOf m)
+  row-counts = rw records (j .counts)
+
+-- ---- the call
+
+module _ (archive u : ℕ) (log row : List ℕ) {n used : ℕ} {held : List ℕ} (e : opened n held used ≡ openOf u log true (rowFits (length row))) where
+  pub row-refused : (n ≡ 0 → ⊥) → rowTaken n 0 0 0 log ≡ takeRowOf archive u log row
+  unfolding takeRowOf
+  row-refused z = rw (← number-is u log true (rowFits (length row)) e) (go n z)
+    where
+      go : (k : ℕ) → (k ≡ 0 → ⊥) → rowTaken k 0 0 0 log ≡ tookRow k log (tryAll archive u log row)
+      go zero y = absurd (y refl)
+      go (suc k) y = refl
+
+  pub row-passes : n ≡ 0 → {k s : ℕ} {m : List ℕ} → tried k s m ≡ tryAll archive u log row → rowTaken 0 0 k s m ≡ takeRowOf archive u log row
+  unfolding takeRowOf
+  row-passes z q = rw (← number-is u log true (rowFits (length row)) e, z, ← q)
+
+  pub row-long : n ≡ 0 → length row ≤ 44032
+  row-long z = row-short (length row) (open-row u log true (rowFits (length row)) e z)
+
+pub row-indexed : (log : List ℕ) (n used : ℕ) (held places seens : List ℕ) → (n ≡ 0 → Indexed (laidAt Log log) used (recordsOf log) held places seens) → n ≡ 0
+    → Indexed (laidAt Log log) used (recordsOf log) held places seens
+row-indexed log n used held places seens f z = f z

@@ -3,37 +3,62 @@ ghost use mathlib.Core.Path.{_≡_};
 ghost use mathlib.Core.Bool.{true};
 ghost use Prim.Native.Nat.{_≤_};
 ghost use lib.ListN.{length};
-ghost use Rattle.model.specs.Log.{recordsOf, soundLog};
-ghost use Rattle.log_closure.specs.Tables.{Indexed};
+ghost use Rattle.model.specs.Lengths.{logSize, fileSize};
+ghost use Rattle.model.specs.Log.{vectorOf, recordsOf, soundLog};
+ghost use Rattle.model.specs.Row.{rowFits, tried, tryAll, rowTaken, takeRowOf};
+ghost use Rattle.log_closure.specs.Tables.{placesSize, seensSize, Indexed};
 ghost use Rattle.log_check.specs.declared.Layout.the-variants.{Log};
 ghost use Rattle.log_check.specs.Places.{laidAt};
-ghost use Rattle.model.specs.Row.{tried, takeRowOf};
-use rows::Tried;
+ghost use Rattle.take_row_store.specs.Grown.{workSize};
+use call_guard::open_into;
+use model::BLOCK_BYTES;
+use take_row_judge::RowJudged;
+use take_row_store::WORK_BYTES;
 use vector::Vector;
 
-// 518 places of 80 bytes, all zero.
-fn fresh_work() -> [u8; 41440]
-    ensures { λ r. ⌜ length r ≡ 41440 ⌝ }
-{
-    [0u8; 41440]
+// What taking a row answers: the number, 0 for success; then how many blocks were taken, and the number that stopped the row, or 0.
+pub struct RowTaken {
+    pub number: u8,
+    pub place: u8,
+    pub taken: u8,
+    pub stopped: u8,
 }
 
-// A row is taken into a sound log whose records the tables have.
-fn take_checked(
+// Memory to judge a row in.
+fn fresh_work() -> [u8; 41440]
+    ensures { λ r. ⌜ length r ≡ workSize ⌝ }
+{
+    [0u8; WORK_BYTES]
+}
+
+// A row may have n bytes: 0 to 86 whole blocks.
+pub fn row_fits(n: usize) -> bool
+    ensures { λ r. ⌜ r ≡ rowFits n ⌝ }
+{
+    if n % BLOCK_BYTES != 0 {
+        return false;
+    }
+    n / BLOCK_BYTES <= 86
+}
+
+// A row is taken into a sound log whose records the tables have, up to the first block that is refused. What work holds before does not
+// matter.
+pub fn take_blocks(
     log: &mut [u8],
     archive: u32,
     unit: u8,
     row: &[u8],
     used: usize,
     held: Vector,
+    work: &mut [u8],
     places: &mut [u16],
     seens: &mut [u16],
-) -> Tried
-    requires { ⌜ (unit ≤ 7) × (length (now log) ≡ 40960) × (soundLog (now log) ≡ true) × (used ≡ length (recordsOf (now log))) × (length (now places) ≡ 4096) × (length (now seens) ≡ 4144) × Indexed (laidAt Log (now log)) used (recordsOf (now log)) (held .counts) (now places) (now seens) ⌝ }
-    ensures { λ r. ⌜ tried (r .taken) (r .stopped) (now (log .exit)) ≡ takeRowOf archive unit (now (log .entry)) (now (row .entry)) ⌝ }
+) -> RowJudged
+    requires { ⌜ (length (now row) ≤ fileSize) × (unit ≤ 7) × (length (now log) ≡ logSize) × (soundLog (now log) ≡ true) × (used ≡ length (recordsOf (now log))) × (length (now work) ≡ workSize) × (length (now places) ≡ placesSize) × (length (now seens) ≡ seensSize) × Indexed (laidAt Log (now log)) used (recordsOf (now log)) (held .counts) (now places) (now seens) ⌝ }
+    ensures took { λ r. ⌜ tried (r .taken) (r .stopped) (now (log .exit)) ≡ tryAll archive unit (now (log .entry)) (now (row .entry)) ⌝ }
+    ensures counted { λ r. ⌜ (r .used ≡ length (recordsOf (now (log .exit)))) × (r .held .counts ≡ vectorOf (recordsOf (now (log .exit)))) ⌝ }
 {
-    let mut work = fresh_work();
-    byte_slice::put(&mut work, 0, log);
+    byte_slice::put(work, 0, log);
     let t = take_row_judge::judge_row(
         row,
         archive,
@@ -41,58 +66,46 @@ fn take_checked(
         log,
         used,
         held,
-        &mut work,
+        work,
         places,
         seens,
     );
-    take_row_store::merge(log, used, &work, t.used);
-    Tried {
-        taken: t.taken,
-        stopped: t.stopped,
-    }
+    take_row_store::put_in(log, used, work, t.used);
+    t
 }
 
-// The blocks of a row are taken in turn, up to the first refusal. The log is checked once. Bytes behind the whole blocks are a block that is
-// too short.
-pub fn take_row(log: &mut [u8], archive: u32, unit: u8, row: &[u8]) -> Tried
-    ensures { λ r. ⌜ tried (r .taken) (r .stopped) (now (log .exit)) ≡ takeRowOf archive unit (now (log .entry)) (now (row .entry)) ⌝ }
+// The blocks of a row are taken in turn, up to the first refusal. Checked in this order: 1, 21, 2, 19; then the blocks.
+pub fn take_row(log: &mut [u8], archive: u32, unit: u8, row: &[u8]) -> RowTaken
+    ensures { λ r. ⌜ rowTaken (r .number) (r .place) (r .taken) (r .stopped) (now (log .exit)) ≡ takeRowOf archive unit (now (log .entry)) (now (row .entry)) ⌝ }
 {
-    if row.len() == 0 {
-        return Tried {
+    let mut places = log_check::fresh_places();
+    let mut seens = log_check::fresh_seens();
+    let o = open_into(log, unit, true, row_fits(row.len()), &mut places, &mut seens);
+    if o.number != 0 {
+        return RowTaken {
+            number: o.number,
+            place: 0,
             taken: 0,
             stopped: 0,
         };
     }
-    if log.len() != 40960 {
-        return Tried {
-            taken: 0,
-            stopped: 1,
-        };
-    }
-    if 7 < unit {
-        return Tried {
-            taken: 0,
-            stopped: 21,
-        };
-    }
-    let mut places = log_check::fresh_places();
-    let mut seens = log_check::fresh_seens();
-    let c = log_check::check_into(log, &mut places, &mut seens);
-    if !c.sound {
-        return Tried {
-            taken: 0,
-            stopped: 19,
-        };
-    }
-    let held = c.held;
-    take_checked(
+    let held = o.held;
+    let mut work = fresh_work();
+    let t = take_blocks(
         log,
         archive,
         unit,
         row,
-        c.used,
+        o.used,
         held,
+        &mut work,
         &mut places,
         &mut seens,
-    )
+    );
+    RowTaken {
+        number: 0,
+        place: 0,
+        taken: t.taken,
+        stopped: t.stopped,
+    }
 }

@@ -1,0 +1,135 @@
+// Trying a row of blocks: what taking it would do, on a copy of the log.
+ghost use mathlib.Core.Path.{_≡_};
+ghost use mathlib.Core.Bool.{true};
+ghost use Prim.Native.Nat.{_≤_};
+ghost use lib.ListN.{length};
+ghost use Rattle.model.specs.Lengths.{logSize, fileSize, treeSize, reportSize};
+ghost use Rattle.model.specs.Log.{vectorOf, recordsOf, soundLog};
+ghost use Rattle.model.specs.Row.{tried, tryAll, trial, reported, trialLent, tryOf};
+ghost use Rattle.log_closure.specs.Tables.{placesSize, seensSize, Indexed};
+ghost use Rattle.log_check.specs.declared.Layout.the-variants.{Log};
+ghost use Rattle.log_check.specs.Places.{laidAt};
+use call_answer::Answer;
+use call_guard::open_into;
+use model::LOG_BYTES;
+use model::REPORT_BYTES;
+use model::TREE_BYTES;
+use show_tree::lay_tree;
+use take_row::row_fits;
+use take_row::take_blocks;
+use take_row_judge::RowJudged;
+use take_row_store::WORK_BYTES;
+use vector::Vector;
+
+// The three lent buffers have their stated lengths.
+fn lent_fits(copy: &[u8], tree: &[u8], report: &[u8]) -> bool
+    ensures { λ r. ⌜ r ≡ trialLent (now (copy .entry)) (now (tree .entry)) (now (report .entry)) ⌝ }
+{
+    if copy.len() != LOG_BYTES {
+        return false;
+    }
+    if tree.len() != TREE_BYTES {
+        return false;
+    }
+    report.len() == REPORT_BYTES
+}
+
+// The row is taken into a copy of a sound log whose records the tables have. The front of the tree table is the memory to judge it in.
+fn take_copy(
+    log: &[u8],
+    archive: u32,
+    unit: u8,
+    row: &[u8],
+    used: usize,
+    held: Vector,
+    copy: &mut [u8],
+    tree: &mut [u8],
+    places: &mut [u16],
+    seens: &mut [u16],
+) -> RowJudged
+    requires { ⌜ (length (now row) ≤ fileSize) × (unit ≤ 7) × (length (now log) ≡ logSize) × (soundLog (now log) ≡ true) × (used ≡ length (recordsOf (now log))) × (length (now copy) ≡ logSize) × (length (now tree) ≡ treeSize) × (length (now places) ≡ placesSize) × (length (now seens) ≡ seensSize) × Indexed (laidAt Log (now log)) used (recordsOf (now log)) (held .counts) (now places) (now seens) ⌝ }
+    ensures took { λ r. ⌜ tried (r .taken) (r .stopped) (now (copy .exit)) ≡ tryAll archive unit (now (log .entry)) (now (row .entry)) ⌝ }
+    ensures counted { λ r. ⌜ (r .used ≡ length (recordsOf (now (copy .exit)))) × (r .held .counts ≡ vectorOf (recordsOf (now (copy .exit)))) ⌝ }
+{
+    byte_slice::put(copy, 0, log);
+    take_blocks(
+        copy,
+        archive,
+        unit,
+        row,
+        used,
+        held,
+        &mut tree[0..WORK_BYTES],
+        places,
+        seens,
+    )
+}
+
+// The row is tried: the disputed entries of the log's tree are noted, the row is taken into the copy, and the report is written by the tree
+// of the copy.
+fn try_checked(
+    log: &[u8],
+    archive: u32,
+    unit: u8,
+    row: &[u8],
+    used: usize,
+    held: Vector,
+    copy: &mut [u8],
+    tree: &mut [u8],
+    report: &mut [u8],
+    places: &mut [u16],
+    seens: &mut [u16],
+)
+    requires { ⌜ (length (now row) ≤ fileSize) × (unit ≤ 7) × (length (now log) ≡ logSize) × (soundLog (now log) ≡ true) × (used ≡ length (recordsOf (now log))) × (length (now copy) ≡ logSize) × (length (now tree) ≡ treeSize) × (length (now report) ≡ reportSize) × (length (now places) ≡ placesSize) × (length (now seens) ≡ seensSize) × Indexed (laidAt Log (now log)) used (recordsOf (now log)) (held .counts) (now places) (now seens) ⌝ }
+    ensures { λ _. ⌜ trial 0 0 (now (copy .exit)) (now (tree .exit)) (now (report .exit)) ≡ reported (now (log .entry)) (tryAll archive unit (now (log .entry)) (now (row .entry))) ⌝ }
+{
+    let mut flags = try_row_report::fresh_flags();
+    lay_tree(log, used, tree);
+    try_row_report::note_disputed(tree, &mut flags);
+    let t = take_copy(log, archive, unit, row, used, held, copy, tree, places, seens);
+    lay_tree(copy, t.used, tree);
+    try_row_report::write_report(tree, &flags, t.taken, t.stopped, t.held, report);
+}
+
+// What taking a row would do: the copy as the log would be, its tree in the table, and the report. Checked in this order: 1, 21, 2, 19. The log
+// is only read.
+pub fn try_row(
+    log: &[u8],
+    archive: u32,
+    unit: u8,
+    row: &[u8],
+    copy: &mut [u8],
+    tree: &mut [u8],
+    report: &mut [u8],
+) -> Answer
+    ensures { λ r. ⌜ trial (r .number) (r .place) (now (copy .exit)) (now (tree .exit)) (now (report .exit)) ≡ tryOf archive unit (now (log .entry)) (now (row .entry)) (now (copy .entry)) (now (tree .entry)) (now (report .entry)) ⌝ }
+{
+    let mut places = log_check::fresh_places();
+    let mut seens = log_check::fresh_seens();
+    let lent = lent_fits(copy, tree, report);
+    let o = open_into(log, unit, lent, row_fits(row.len()), &mut places, &mut seens);
+    if o.number != 0 {
+        return Answer {
+            number: o.number,
+            place: 0,
+        };
+    }
+    let held = o.held;
+    try_checked(
+        log,
+        archive,
+        unit,
+        row,
+        o.used,
+        held,
+        copy,
+        tree,
+        report,
+        &mut places,
+        &mut seens,
+    );
+    Answer {
+        number: 0,
+        place: 0,
+    }
+}
