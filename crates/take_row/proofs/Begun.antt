@@ -88,10 +88,13 @@ module _ (log row work held : List ℕ) (base archive u n number used : ℕ) (j 
 
 -- ---- the call
 
-module _ (archive u : ℕ) (log row : List ℕ) {n used : ℕ} {held : List ℕ} (e : opened n held used ≡ openOf u log true (rowFits (length row))) where
+module _ (archive u : ℕ) (log row : List ℕ) {n used : ℕ} {held : List ℕ} {fit : Bool} (l : fit ≡ rowFits (length row)) (e : opened n held used ≡ openOf u log true fit) where
+  opens : opened n held used ≡ openOf u log true (rowFits (length row))
+  opens = rw l at e
+
   pub row-refused : (n ≡ 0 → ⊥) → rowTaken n 0 0 0 log ≡ takeRowOf archive u log row
   unfolding takeRowOf
-  row-refused z = rw (← number-is u log true (rowFits (length row)) e) (go n z)
+  row-refused z = rw (← number-is u log true (rowFits (length row)) opens) (go n z)
     where
       go : (k : ℕ) → (k ≡ 0 → ⊥) → rowTaken k 0 0 0 log ≡ tookRow k log (tryAll archive u log row)
       go zero y = absurd (y refl)
@@ -99,10 +102,10 @@ module _ (archive u : ℕ) (log row : List ℕ) {n used : ℕ} {held : List ℕ}
 
   pub row-passes : n ≡ 0 → {k s : ℕ} {m : List ℕ} → tried k s m ≡ tryAll archive u log row → rowTaken 0 0 k s m ≡ takeRowOf archive u log row
   unfolding takeRowOf
-  row-passes z q = rw (← number-is u log true (rowFits (length row)) e, z, ← q)
+  row-passes z q = rw (← number-is u log true (rowFits (length row)) opens, z, ← q)
 
-  pub row-long : n ≡ 0 → length row ≤ 44032
-  row-long z = row-short (length row) (open-row u log true (rowFits (length row)) e z)
+pub row-long : (u : ℕ) (log row : List ℕ) {n used : ℕ} {held : List ℕ} {fit : Bool} → fit ≡ rowFits (length row) → opened n held used ≡ openOf u log true fit → n ≡ 0 → length row ≤ 44032
+row-long u log row {fit = fit} l e z = row-short (length row) (sym l ∙ open-row u log true fit e z)
 
 pub row-indexed : (log : List ℕ) (n used : ℕ) (held places seens : List ℕ) → (n ≡ 0 → Indexed (laidAt Log log) used (recordsOf log) held places seens) → n ≡ 0
     → Indexed (laidAt Log log) used (recordsOf log) held places seens
