@@ -5,17 +5,16 @@ use native.Mathlib.Numerals.{add-one}
 use native.Mathlib.Omega.{arith}
 use mathlib.Core.Path.{_≡_, refl, sym, ap, _∙_}
 use mathlib.Core.Bool.{Bool, true, false, cond, not, _&&_}
-use mathlib.Core.List.{List, [], _∷_, _++_, append-assoc}
+use mathlib.Core.List.{List, [], _∷_, _++_, append-nil}
 use lib.Dec.{eqb}
-use lib.ListN.{getD, length, take, drop, set, replicate, length-append, length-set, length-take, length-drop, length-replicate}
-use lib.Seq.{drop-length}
+use lib.ListN.{getD, length, take, drop, set, replicate, length-append, length-set, length-replicate}
 use borrow.Author.Tests.{not-true, not-false}
+use borrow.Rule.Slice.PartMut.{putMid}
 use Rattle.model.specs.Bytes.{word, two, part, padded, putAt}
 use Rattle.model.specs.Vector.{vectorBytes}
 use Rattle.model.specs.Table.{identityBytes}
-use Rattle.byte_slice.proofs.Numbers.{bool-cases}
-use Rattle.byte_slice.proofs.Parts.{part-replicate}
-use Rattle.byte_slice.proofs.PutAt.{mid-put, put-padded, padded-nil, length-padded, put-grows, put-whole, set-put}
+use Rattle.byte_slice.proofs.Parts.{part-replicate, drop-replicate, take-replicate}
+use Rattle.byte_slice.proofs.PutAt.{mid-put, put-padded, padded-nil}
 use Rattle.vector.proofs.InBytes.{vectorBytes-length}
 use Rattle.tree_table.specs.Rows.{InRange, entryIn}
 use Rattle.tree_maps.specs.Keys.{slotOf}
@@ -31,8 +30,8 @@ pub made-range : (b : List ℕ) (i k : ℕ) → Shown b → i < word b 0 → k �
 unfolding madeIn
 made-range b i k s h e = rw e (s .range i h)
 
-pub made-low : (b : List ℕ) (i k : ℕ) → Shown b → i < word b 0 → k ≡ entryIn b (4 + 72 * i) .made → k < 524288
-made-low b i k s h e = omega (arith, made-range b i k s h e .high)
+pub made-low : (b : List ℕ) (i k n : ℕ) → Shown b → n ≡ word b 0 → i < n → k ≡ entryIn b (4 + 72 * i) .made → k < 524288
+made-low b i k n s q h e = omega (arith, made-range b i k s (omega arith) e .high)
 
 pub made-slot : (b : List ℕ) (i k r : ℕ) → k ≡ entryIn b (4 + 72 * i) .made → r ≡ slotOf k → r ≡ slotOf (madeIn b i)
 made-slot b i k r e f = rw (row-made b i k e) at f
@@ -154,12 +153,24 @@ unfolding part
 list-part d n r e = rw (e, n) (part-replicate 2068 0 20 2048 (omega arith))
 
 module _ (d r l : List ℕ) (n : length d ≡ 2068) (z : r ≡ replicate (length d) 0) (long : length l ≡ 2048) (s a c : ℕ) (v : List ℕ) where
-  with-list : List ℕ
-  with-list = putMid 20 (2068 - 20) r l
+  laid : putMid 20 (2068 - 20) r l ≡ replicate 20 0 ++ l
+  unfolding putAt
+  laid =
+      let e : r ≡ replicate 2068 0 = rw n at z in
+      let w : 20 + length l ≡ 2068 = omega arith in
+      let p : putAt r 20 l ≡ take 20 r ++ (l ++ drop (20 + length l) r) = refl in
+      let q : take 20 r ≡ replicate 20 0 = rw e (take-replicate 20 2068 0 (omega arith)) in
+      let d : drop (20 + length l) r ≡ [] = rw (w, e) (drop-replicate 2068 2068 0) in
+      mid-put 20 2048 r l long ∙ p ∙ rw (q, d, append-nil l)
 
-  laid : putMid 20 (2068 - 20) r l ≡ take 20 r ++ l
-  laid = ?
+  head : putAt (set (set (replicate 20 0 ++ l) 0 s) 1 a) 2 (two c) ≡ (s ∷ a ∷ two c) ++ (replicate 16 0 ++ l)
+  unfolding putAt
+  head = refl
+
+  tail : putAt ((s ∷ a ∷ two c) ++ (replicate 16 0 ++ l)) 4 (vectorBytes v) ≡ (s ∷ a ∷ two c) ++ (vectorBytes v ++ l)
+  unfolding putAt
+  tail = rw (vectorBytes-length v)
 
   pub reports : {m o : List ℕ} → m ≡ putAt (set (set (putMid 20 (2068 - 20) r l) 0 s) 1 a) 2 (two c) → o ≡ putAt m 4 (vectorBytes v)
       → o ≡ (s ∷ a ∷ two c) ++ (vectorBytes v ++ l)
-  reports e f = ?
+  reports e f = f ∙ rw (e, laid, head) tail

@@ -102,20 +102,17 @@ at-has (x ∷ l) e (inl q) = (0, omega arith, sym q)
 at-has (x ∷ l) e (inr h) = let (i, a, q) = at-has l e h in (suc i, omega arith, q)
 
 module _ (t : Tree) (few : length (presentOnes (t .entries)) ≤ 512) (a : AllProper (presentOnes (t .entries))) (b : List ℕ) (is : b ≡ tableBytes t) (long : length b ≡ 43012) where
-  es : List Entry
+  abbrev es : List Entry
   es = presentOnes (t .entries)
 
   count : word b 0 ≡ length es
-  unfolding es
   count = rw is (entries-counted t)
 
   module _ (i : ℕ) (h : i < length es) where
     row : part b (4 + 72 * i) 72 ≡ entryRow (flagOf (t .asides) (getD es i none)) (getD es i none)
-    unfolding es
     row = rw is (row-at t i h few a none)
 
     entry : entryIn b (4 + 72 * i) ≡ getD es i none
-    unfolding es
     entry =
         let at : ℕ = 4 + 72 * i in
         let p : List ℕ = take at b in
@@ -126,11 +123,11 @@ module _ (t : Tree) (few : length (presentOnes (t .entries)) ≤ 512) (a : AllPr
         let m : length p + 0 ≡ at = omega arith in
         (rw (w, m) at x) ∙ rw row (row-back (flagOf (t .asides) (getD es i none)) (getD es i none) q (proper-at es i none h a))
 
-    pub made-is : madeIn b i ≡ getD es i none .made
+    made-is : madeIn b i ≡ getD es i none .made
     unfolding madeIn
     made-is = ap (λ (e : Entry). e .made) entry
 
-    pub disputed-is : disputedIn b i ≡ isDisputed (getD es i none .made) (t .asides)
+    disputed-is : disputedIn b i ≡ isDisputed (getD es i none .made) (t .asides)
     unfolding disputedIn
     disputed-is =
         let n : 4 + 72 * i + 1 ≡ 5 + 72 * i = omega arith in
@@ -138,21 +135,18 @@ module _ (t : Tree) (few : length (presentOnes (t .entries)) ≤ 512) (a : AllPr
         rw (← n, ← g, row, flag-of (flagOf (t .asides) (getD es i none)) (getD es i none)) (flag-true (isDisputed (getD es i none .made) (t .asides)))
 
     range : InRange (madeIn b i)
-    unfolding es
     range = rw made-is (proper-at es i none h a .range)
 
   pub table-shown : Shown b
-  unfolding es
   table-shown = record { long = long; few = omega (arith, count); range = λ i h. range i (omega (arith, count)) }
 
   -- ---- the flags of a tree
 
   module _ (k : ℕ) (r : InRange k) where
-    flags : List ℕ
+    abbrev flags : List ℕ
     flags = noted b (replicate 4096 0) (word b 0)
 
     set-for : (e : Entry) → DisputedIn t e → e .made ≡ k → getD flags (slotOf k) 0 ≡ 1
-    unfolding flags es
     set-for e d m =
         let (i, h, q) = at-has es e (d .there) in
         let p : madeIn b i ≡ k = made-is i h ∙ ap (λ (x : Entry). x .made) q ∙ m in
@@ -160,10 +154,9 @@ module _ (t : Tree) (few : length (presentOnes (t .entries)) ≤ 512) (a : AllPr
         rw p at (noted-to b (replicate 4096 0) (word b 0) i (omega (arith, count)) g (omega (arith, slot-low (madeIn b i) (range i h), length-replicate {A = ℕ} 4096 0)))
 
     set-only : (getD flags (slotOf k) 0 ≡ 0 → ⊥) → hasDisputed k t ≡ true
-    unfolding flags es
     set-only z =
         ⊎-elim
-        (λ (h : getD (noted b (replicate 4096 0) (word b 0)) (slotOf k) 0 ≡ getD (replicate 4096 0) (slotOf k) 0). absurd (z (h ∙ zeros 4096 (slotOf k))))
+        (λ (h : getD (noted b (replicate 4096 0) (word b 0)) (slotOf k) 0 ≡ getD (replicate {A = ℕ} 4096 0) (slotOf k) 0). absurd (z (h ∙ zeros 4096 (slotOf k))))
         (λ (h : (i : ℕ) × (i < word b 0) × (disputedIn b i ≡ true) × (slotOf (madeIn b i) ≡ slotOf k)).
         let i : ℕ = h .0 in
         let l : i < length es = omega (arith, h .1, count) in
@@ -171,13 +164,12 @@ module _ (t : Tree) (few : length (presentOnes (t .entries)) ≤ 512) (a : AllPr
         has-disputed k t (getD es i none) (record { there = has-at es i l; disputed = sym (disputed-is i l) ∙ h .2 }) (sym (made-is i l) ∙ p))
         (noted-from b (replicate 4096 0) (word b 0) (slotOf k))
       where
-        zeros : (n j : ℕ) → getD (replicate n 0) j 0 ≡ 0
+        zeros : (n j : ℕ) → getD (replicate {A = ℕ} n 0) j 0 ≡ 0
         zeros zero j = refl
         zeros (suc n) zero = refl
         zeros (suc n) (suc j) = zeros n j
 
     flag-exact : eqb (getD flags (slotOf k) 0) 0 ≡ not (hasDisputed k t)
-    unfolding flags
     flag-exact =
         ⊎-elim
         (λ (h : hasDisputed k t ≡ true). let (e, d, m) = disputed-has k t h in rw (set-for e d m, h))
@@ -203,7 +195,7 @@ newly-append t t′ (e ∷ a) b = go (isDisputed (e .made) (t′ .asides) && not
 made-append : (a b : List Entry) → madeBytes (a ++ b) ≡ madeBytes a ++ madeBytes b
 unfolding madeBytes
 made-append [] b = refl
-made-append (e ∷ a) b = rw (made-append a b) (sym (append-assoc _ (madeBytes a) (madeBytes b)))
+made-append (e ∷ a) b = rw (made-append a b) (sym (append-assoc (identityBytes (e .made)) (madeBytes a) (madeBytes b)))
 
 grow-list : (l : List Entry) (e : Entry) (k : ℕ) (y : Bool) → k ≡ e .made → cond y (madeBytes l ++ identityBytes k) (madeBytes l) ≡ madeBytes (l ++ cond y (e ∷ []) [])
 unfolding madeBytes
@@ -219,22 +211,20 @@ one-more t t′ l n h = rw (take-suc l n none h) (newly-append t t′ (take n l)
 
 module _ (t t′ : Tree) (few : length (presentOnes (t .entries)) ≤ 512) (few′ : length (presentOnes (t′ .entries)) ≤ 512) (a : AllProper (presentOnes (t .entries))) (a′ : AllProper (presentOnes (t′ .entries)))
     (b b′ : List ℕ) (is : b ≡ tableBytes t) (is′ : b′ ≡ tableBytes t′) (long : length b ≡ 43012) (long′ : length b′ ≡ 43012) where
-  before : List ℕ
+  abbrev before : List ℕ
   before = noted b (replicate 4096 0) (word b 0)
 
-  es′ : List Entry
+  abbrev es′ : List Entry
   es′ = presentOnes (t′ .entries)
 
   counted′ : word b′ 0 ≡ length es′
-  unfolding es′
   counted′ = rw is′ (entries-counted t′)
 
   made-of : (i : ℕ) → i < length es′ → madeIn b′ i ≡ getD es′ i none .made
-  unfolding es′
   made-of i h = made-is t′ few′ a′ b′ is′ long′ i h
 
   new-is : (i : ℕ) → i < length es′ → isNewIn b′ before i ≡ (isDisputed (getD es′ i none .made) (t′ .asides) && not (hasDisputed (getD es′ i none .made) t))
-  unfolding isNewIn before es′
+  unfolding isNewIn
   new-is i h =
       let m = made-is t′ few′ a′ b′ is′ long′ i h in
       let d = disputed-is t′ few′ a′ b′ is′ long′ i h in
@@ -258,15 +248,14 @@ module _ (t t′ : Tree) (few : length (presentOnes (t .entries)) ≤ 512) (few�
       (grow-count (newlyDisputed t t′ (take n es′)) e (isDisputed (e .made) (t′ .asides) && not (hasDisputed (e .made) t)))
 
   whole : take (word b′ 0) es′ ≡ es′
-  unfolding es′
   whole = take-all (word b′ 0) (presentOnes (t′ .entries)) (omega (arith, counted′))
 
   pub list-is : listed b′ (noted b (replicate 4096 0) (word b 0)) (word b′ 0) ≡ madeBytes (becameDisputed t t′)
-  unfolding becameDisputed before es′
+  unfolding becameDisputed
   list-is = listed-is (word b′ 0) (omega (arith, counted′)) ∙ rw whole
 
   pub count-is : listedCount b′ (noted b (replicate 4096 0) (word b 0)) (word b′ 0) ≡ length (becameDisputed t t′)
-  unfolding becameDisputed before es′
+  unfolding becameDisputed
   count-is = counted-is (word b′ 0) (omega (arith, counted′)) ∙ rw whole
 
 -- ---- the report of a trial
