@@ -81,9 +81,9 @@ module _ (archive u : ℕ) (log row copy : List ℕ) (k n : ℕ) (unit : u ≤ 7
 
 -- ---- the call
 
-module _ (archive u : ℕ) (log row copy tree report : List ℕ) {n used : ℕ} {held : List ℕ} {lent : Bool} (l : lent ≡ trialLent copy tree report) (e : opened n held used ≡ openOf u log lent (rowFits (length row))) where
+module _ (archive u : ℕ) (log row copy tree report : List ℕ) {n used : ℕ} {held : List ℕ} {lent fit : Bool} (l : lent ≡ trialLent copy tree report) (f : fit ≡ rowFits (length row)) (e : opened n held used ≡ openOf u log lent fit) where
   opens : opened n held used ≡ openOf u log (trialLent copy tree report) (rowFits (length row))
-  opens = rw l at e
+  opens = rw (l, f) at e
 
   pub try-refused : (n ≡ 0 → ⊥) → trial n 0 copy tree report ≡ tryOf archive u log row copy tree report
   unfolding tryOf
@@ -97,8 +97,18 @@ module _ (archive u : ℕ) (log row copy tree report : List ℕ) {n used : ℕ} 
   unfolding tryOf
   try-passes z o q = q ∙ rw (← number-is u log (trialLent copy tree report) (rowFits (length row)) opens, z)
 
-  pub try-short : n ≡ 0 → length row ≤ 44032
-  try-short z = row-short (length row) (open-row u log (trialLent copy tree report) (rowFits (length row)) opens z)
+pub try-short : (u : ℕ) (log row : List ℕ) {n used : ℕ} {held : List ℕ} {lent fit : Bool} → fit ≡ rowFits (length row) → opened n held used ≡ openOf u log lent fit → n ≡ 0 → length row ≤ 44032
+try-short u log row {lent = lent} {fit = fit} f e z = row-short (length row) (sym f ∙ open-row u log lent fit e z)
 
-  pub try-lent : n ≡ 0 → (length copy ≡ 40960) × (length tree ≡ 43012) × (length report ≡ 2068)
-  try-lent z = all-lent copy tree report (open-lent u log (trialLent copy tree report) (rowFits (length row)) opens z)
+module _ (u : ℕ) (log copy tree report : List ℕ) {n used : ℕ} {held : List ℕ} {lent fit : Bool} (l : lent ≡ trialLent copy tree report) (e : opened n held used ≡ openOf u log lent fit) (z : n ≡ 0) where
+  right : (length copy ≡ 40960) × (length tree ≡ 43012) × (length report ≡ 2068)
+  right = all-lent copy tree report (sym l ∙ open-lent u log lent fit e z)
+
+  pub try-copy : length copy ≡ 40960
+  try-copy = right .0
+
+  pub try-tree : length tree ≡ 43012
+  try-tree = right .1
+
+  pub try-report : length report ≡ 2068
+  try-report = right .2

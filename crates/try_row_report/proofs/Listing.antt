@@ -5,7 +5,7 @@ use native.Mathlib.Numerals.{add-one}
 use native.Mathlib.Omega.{arith}
 use mathlib.Core.Path.{_≡_, refl, sym, ap, _∙_}
 use mathlib.Core.Bool.{Bool, true, false, cond, not, _&&_}
-use mathlib.Core.List.{List, [], _∷_, _++_, append-nil}
+use mathlib.Core.List.{List, [], _∷_, _++_, append-nil, append-assoc}
 use lib.Dec.{eqb}
 use lib.ListN.{getD, length, take, drop, set, replicate, length-append, length-set, length-replicate}
 use borrow.Author.Tests.{not-true, not-false}
@@ -14,7 +14,7 @@ use Rattle.model.specs.Bytes.{word, two, part, padded, putAt}
 use Rattle.model.specs.Vector.{vectorBytes}
 use Rattle.model.specs.Table.{identityBytes}
 use Rattle.byte_slice.proofs.Parts.{part-replicate, drop-replicate, take-replicate}
-use Rattle.byte_slice.proofs.PutAt.{mid-put, put-padded, padded-nil}
+use Rattle.byte_slice.proofs.PutAt.{mid-put, put-more, put-padded, padded-nil}
 use Rattle.vector.proofs.InBytes.{vectorBytes-length}
 use Rattle.tree_table.specs.Rows.{InRange, entryIn}
 use Rattle.tree_maps.specs.Keys.{slotOf}
@@ -152,7 +152,21 @@ pub list-part : (d : List ℕ) → length d ≡ 2068 → (r : List ℕ) → r �
 unfolding part
 list-part d n r e = rw (e, n) (part-replicate 2068 0 20 2048 (omega arith))
 
-module _ (d r l : List ℕ) (n : length d ≡ 2068) (z : r ≡ replicate (length d) 0) (long : length l ≡ 2048) (s a c : ℕ) (v : List ℕ) where
+-- the first 20 bytes
+whole-head : (d h v : List ℕ) → length h ≡ 4 → putAt d 0 (h ++ vectorBytes v) ≡ h ++ (vectorBytes v ++ drop 20 d)
+unfolding putAt
+whole-head d h v n =
+    let w : 0 + length (h ++ vectorBytes v) ≡ 20 = omega (arith, length-append h (vectorBytes v), vectorBytes-length v) in
+    rw w (append-assoc h (vectorBytes v) (drop 20 d))
+
+pub head-put : (d : List ℕ) (s a c : ℕ) (v : List ℕ) → length d ≡ 2068 → {x y o : List ℕ} → x ≡ putAt d 0 (s ∷ a ∷ []) → y ≡ putAt x 2 (two c) → o ≡ putAt y 4 (vectorBytes v)
+    → o ≡ (s ∷ a ∷ two c) ++ (vectorBytes v ++ drop 20 d)
+head-put d s a c v n e f g =
+    let second : putAt (putAt d 0 (s ∷ a ∷ [])) 2 (two c) ≡ putAt d 0 (s ∷ a ∷ two c) = put-more d 0 (s ∷ a ∷ []) (two c) (omega arith) in
+    let third : putAt (putAt d 0 (s ∷ a ∷ two c)) 4 (vectorBytes v) ≡ putAt d 0 ((s ∷ a ∷ two c) ++ vectorBytes v) = put-more d 0 (s ∷ a ∷ two c) (vectorBytes v) (omega arith) in
+    g ∙ rw (f, e, second, third) (whole-head d (s ∷ a ∷ two c) v refl)
+
+module _ (d r l : List ℕ) (n : length d ≡ 2068) (z : r ≡ replicate (length d) 0) (long : length l ≡ 2048) where
   laid : putMid 20 (2068 - 20) r l ≡ replicate 20 0 ++ l
   unfolding putAt
   laid =
@@ -160,17 +174,11 @@ module _ (d r l : List ℕ) (n : length d ≡ 2068) (z : r ≡ replicate (length
       let w : 20 + length l ≡ 2068 = omega arith in
       let p : putAt r 20 l ≡ take 20 r ++ (l ++ drop (20 + length l) r) = refl in
       let q : take 20 r ≡ replicate 20 0 = rw e (take-replicate 20 2068 0 (omega arith)) in
-      let d : drop (20 + length l) r ≡ [] = rw (w, e) (drop-replicate 2068 2068 0) in
-      mid-put 20 2048 r l long ∙ p ∙ rw (q, d, append-nil l)
+      let b : drop (20 + length l) r ≡ [] = rw (w, e) (drop-replicate 2068 2068 0) in
+      mid-put 20 2048 r l long ∙ p ∙ rw (q, b, append-nil l)
 
-  head : putAt (set (set (replicate 20 0 ++ l) 0 s) 1 a) 2 (two c) ≡ (s ∷ a ∷ two c) ++ (replicate 16 0 ++ l)
-  unfolding putAt
-  head = refl
+  pub list-laid : (x : List ℕ) → l ≡ x → putMid 20 (2068 - 20) r l ≡ replicate 20 0 ++ x
+  list-laid x e = laid ∙ ap (λ (y : List ℕ). replicate 20 0 ++ y) e
 
-  tail : putAt ((s ∷ a ∷ two c) ++ (replicate 16 0 ++ l)) 4 (vectorBytes v) ≡ (s ∷ a ∷ two c) ++ (vectorBytes v ++ l)
-  unfolding putAt
-  tail = rw (vectorBytes-length v)
-
-  pub reports : {m o : List ℕ} → m ≡ putAt (set (set (putMid 20 (2068 - 20) r l) 0 s) 1 a) 2 (two c) → o ≡ putAt m 4 (vectorBytes v)
-      → o ≡ (s ∷ a ∷ two c) ++ (vectorBytes v ++ l)
-  reports e f = f ∙ rw (e, laid, head) tail
+pub reports : (s a c k : ℕ) (v x : List ℕ) {m o : List ℕ} → c ≡ k → m ≡ replicate 20 0 ++ x → o ≡ (s ∷ a ∷ two c) ++ (vectorBytes v ++ drop 20 m) → o ≡ (s ∷ a ∷ two k) ++ (vectorBytes v ++ x)
+reports s a c k v x p q e = e ∙ rw (q, p)

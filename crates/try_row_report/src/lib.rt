@@ -4,7 +4,7 @@ ghost use mathlib.Core.Path.{_≡_};
 ghost use mathlib.Core.Bool.{cond};
 ghost use mathlib.Core.List.{_∷_, _++_};
 ghost use Prim.Native.Nat.{_+_, _*_, _≤_, _<_};
-ghost use lib.ListN.{length, replicate};
+ghost use lib.ListN.{length, drop, replicate};
 ghost use Rattle.model.specs.Lengths.{treeSize, reportSize};
 ghost use Rattle.model.specs.Bytes.{word, two, padded, putAt};
 ghost use Rattle.model.specs.Vector.{vectorBytes};
@@ -104,6 +104,27 @@ pub fn list_new(tree: &[u8], flags: &[u8], list: &mut [u8]) -> usize
     c
 }
 
+// The list is laid from byte 20 of a report on, behind zeros; the count of the entries is returned.
+fn lay_list(tree: &[u8], flags: &[u8], report: &mut [u8]) -> usize
+    requires { ⌜ Shown (now tree) × (length (now flags) ≡ flagsSize) × (length (now report) ≡ reportSize) ⌝ }
+    ensures counted { λ r. ⌜ (r ≡ listedCount (now (tree .entry)) (now (flags .entry)) (word (now (tree .entry)) 0)) × (r ≤ 512) ⌝ }
+    ensures laid { λ _. ⌜ now (report .exit) ≡ replicate 20 0 ++ padded 2048 (listed (now (tree .entry)) (now (flags .entry)) (word (now (tree .entry)) 0)) ⌝ }
+{
+    byte_slice::clear(report);
+    list_new(tree, flags, &mut report[20..REPORT_BYTES])
+}
+
+// The first 20 bytes of a report: how many blocks were taken, what stopped the row, how many entries are listed, and the vector.
+fn put_head(report: &mut [u8], taken: u8, stopped: u8, n: usize, held: Vector)
+    requires { ⌜ (length (now report) ≡ reportSize) × (n ≤ 512) ⌝ }
+    ensures { λ _. ⌜ now (report .exit) ≡ (taken ∷ stopped ∷ two n) ++ (vectorBytes (held .counts) ++ drop 20 (now (report .entry))) ⌝ }
+{
+    let pair = [taken, stopped];
+    byte_slice::put(report, 0, &pair);
+    byte_slice::put16(report, 2, n as u16);
+    vector::put_vector(report, 4, held);
+}
+
 // The report: how many blocks were taken, what stopped the row, how many entries are listed, the vector, and the list.
 pub fn write_report(
     tree: &[u8],
@@ -116,10 +137,6 @@ pub fn write_report(
     requires { ⌜ Shown (now tree) × (length (now flags) ≡ flagsSize) × (length (now report) ≡ reportSize) ⌝ }
     ensures { λ _. ⌜ now (report .exit) ≡ (taken ∷ stopped ∷ two (listedCount (now (tree .entry)) (now (flags .entry)) (word (now (tree .entry)) 0))) ++ (vectorBytes (held .counts) ++ padded 2048 (listed (now (tree .entry)) (now (flags .entry)) (word (now (tree .entry)) 0))) ⌝ }
 {
-    byte_slice::clear(report);
-    let n = list_new(tree, flags, &mut report[20..REPORT_BYTES]);
-    report[0] = taken;
-    report[1] = stopped;
-    byte_slice::put16(report, 2, n as u16);
-    vector::put_vector(report, 4, held);
+    let n = lay_list(tree, flags, report);
+    put_head(report, taken, stopped, n, held);
 }
