@@ -14,7 +14,7 @@ use Rattle.model.specs.Bytes.{word, two, part, padded, putAt}
 use Rattle.model.specs.Vector.{vectorBytes}
 use Rattle.model.specs.Table.{identityBytes}
 use Rattle.byte_slice.proofs.Parts.{part-replicate, drop-replicate, take-replicate}
-use Rattle.byte_slice.proofs.PutAt.{mid-put, put-more, put-padded, padded-nil}
+use Rattle.byte_slice.proofs.PutAt.{mid-put, put-more, length-padded, put-padded, padded-nil}
 use Rattle.vector.proofs.InBytes.{vectorBytes-length}
 use Rattle.tree_table.specs.Rows.{InRange, entryIn}
 use Rattle.tree_maps.specs.Keys.{slotOf}
@@ -177,8 +177,11 @@ module _ (d r l : List ℕ) (n : length d ≡ 2068) (z : r ≡ replicate (length
       let b : drop (20 + length l) r ≡ [] = rw (w, e) (drop-replicate 2068 2068 0) in
       mid-put 20 2048 r l long ∙ p ∙ rw (q, b, append-nil l)
 
-  pub list-laid : (x : List ℕ) → l ≡ x → putMid 20 (2068 - 20) r l ≡ replicate 20 0 ++ x
-  list-laid x e = laid ∙ ap (λ (y : List ℕ). replicate 20 0 ++ y) e
+pub list-laid : (d r l b f : List ℕ) (c : ℕ) → length d ≡ 2068 → r ≡ replicate (length d) 0 → c ≡ listedCount b f (word b 0) → c ≤ 512 → l ≡ padded 2048 (listed b f (word b 0))
+    → putMid 20 (2068 - 20) r l ≡ replicate 20 0 ++ padded 2048 (listed b f (word b 0))
+list-laid d r l b f c n z q h e =
+    let few : length (listed b f (word b 0)) ≤ 2048 = omega (arith, length-listed b f (word b 0)) in
+    laid d r l n z (ap (λ (y : List ℕ). length y) e ∙ length-padded 2048 (listed b f (word b 0)) few) ∙ ap (λ (y : List ℕ). replicate 20 0 ++ y) e
 
 pub reports : (s a c k : ℕ) (v x : List ℕ) {m o : List ℕ} → c ≡ k → m ≡ replicate 20 0 ++ x → o ≡ (s ∷ a ∷ two c) ++ (vectorBytes v ++ drop 20 m) → o ≡ (s ∷ a ∷ two k) ++ (vectorBytes v ++ x)
 reports s a c k v x p q e = e ∙ rw (q, p)

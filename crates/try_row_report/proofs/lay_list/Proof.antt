@@ -22,7 +22,7 @@ same-length : tie.Need-same-length
 same-length c = search needs
 
 returns : tie.Need-returns
-returns c = (search needs, search (list-laid, needs))
+returns c = (search needs, search (list-laid))
 
 pub lay-list-spec : {M : Type 1} → statement M
 lay-list-spec =

@@ -15,6 +15,7 @@ mod held;
 mod listing;
 mod record;
 mod replay;
+mod rows;
 mod table;
 mod vector;
 
@@ -22,6 +23,7 @@ pub use block::sums;
 pub use calls::{Head, act, hand_out, read_file, show, sound, start, take, vector, write_file};
 pub use listing::{LISTING, listing};
 pub use record::{is_date, well_formed};
+pub use rows::{REPORT, RowTaken, hand_out_row, take_row, try_row};
 pub use vector::compare;
 
 /// Bytes of a record.
