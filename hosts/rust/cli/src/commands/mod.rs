@@ -17,6 +17,7 @@ mod salvage;
 mod settle;
 mod take;
 mod tree;
+mod try_row;
 mod words;
 
 use crate::args::{Args, Opt, Usage, flag, nearest, value};
@@ -88,6 +89,7 @@ pub const GROUPS: &[(&str, &[&Command])] = &[
             &meet::COMMAND,
             &pass::COMMAND,
             &pack::COMMAND,
+            &try_row::COMMAND,
             &take::COMMAND,
         ],
     ),
