@@ -104,11 +104,11 @@ module _ (t t′ : Tree) where
   unfolding becameDisputed isNew
   newly-exactly e = (
     λ i.
-    let (p, q) = listed-has (presentOnes (t′ .entries)) e i in
-    let (a, b) = and-true (isDisputed (e .made) (t′ .asides)) (not (hasDisputed (e .made) t)) q in
-    record { then = record { there = p; disputed = a }; before = λ x d m. true≢false (sym (has-disputed (e .made) t x d m) ∙ not-true (hasDisputed (e .made) t) b) },
+        let (p, q) = listed-has (presentOnes (t′ .entries)) e i in
+        let (a, b) = and-true (isDisputed (e .made) (t′ .asides)) (not (hasDisputed (e .made) t)) q in
+        record { then = record { there = p; disputed = a }; before = λ x d m. true≢false (sym (has-disputed (e .made) t x d m) ∙ not-true (hasDisputed (e .made) t) b) },
     λ d.
-    has-listed (presentOnes (t′ .entries)) e (d .then .there) (rw (d .then .disputed, none-before (d .before)) refl),
+        has-listed (presentOnes (t′ .entries)) e (d .then .there) (rw (d .then .disputed, none-before (d .before)) refl),
   )
     where
       none-before : ((x : Entry) → DisputedIn t x → x .made ≡ e .made → ⊥) → hasDisputed (e .made) t ≡ false

@@ -59,17 +59,7 @@ pub fn take_blocks(
     ensures counted { λ r. ⌜ (r .used ≡ length (recordsOf (now (log .exit)))) × (r .held .counts ≡ vectorOf (recordsOf (now (log .exit)))) ⌝ }
 {
     byte_slice::put(work, 0, log);
-    let t = take_row_judge::judge_row(
-        row,
-        archive,
-        unit,
-        log,
-        used,
-        held,
-        work,
-        places,
-        seens,
-    );
+    let t = take_row_judge::judge_row(row, archive, unit, log, used, held, work, places, seens);
     take_row_store::put_in(log, used, work, t.used);
     t
 }
@@ -80,7 +70,14 @@ pub fn take_row(log: &mut [u8], archive: u32, unit: u8, row: &[u8]) -> RowTaken
 {
     let mut places = log_check::fresh_places();
     let mut seens = log_check::fresh_seens();
-    let o = open_into(log, unit, true, row_fits(row.len()), &mut places, &mut seens);
+    let o = open_into(
+        log,
+        unit,
+        true,
+        row_fits(row.len()),
+        &mut places,
+        &mut seens,
+    );
     if o.number != 0 {
         return RowTaken {
             number: o.number,

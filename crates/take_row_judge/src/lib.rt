@@ -15,10 +15,10 @@ ghost use Rattle.log_check.specs.Places.{laidAt};
 ghost use Rattle.take_beside.specs.Judging.{Counted, step, takeBy};
 ghost use Rattle.take_row_store.specs.Grown.{workSize};
 ghost use Rattle.take_row_judge.specs.Kept.{Kept, JudgedInto, JudgedOne, JudgedRow};
-use take_beside::Judged;
-use take_beside::take_new;
 use byte_slice::put;
 use model::BLOCK_BYTES;
+use take_beside::Judged;
+use take_beside::take_new;
 use vector::Vector;
 
 // What judging a row gives: the counts of the records held then and how many they are, how many blocks pass, and the number that stops the

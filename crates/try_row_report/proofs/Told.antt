@@ -14,15 +14,16 @@ use Rattle.model.specs.Record.{Rec}
 use Rattle.model.specs.Vector.{vectorBytes}
 use Rattle.model.specs.Log.{vectorOf, recordsOf, soundLog}
 use Rattle.model.specs.Replay.{Entry, Aside, Tree, isDisputed, replay, presentOnes}
-use Rattle.model.specs.Table.{identityBytes, entryRow, tableBytes}
+use Rattle.model.specs.Table.{identityBytes, entryRow, entryRows, asideRows, tableBytes}
 use Rattle.model.specs.Row.{tried, hasDisputed, newlyDisputed, becameDisputed, madeBytes, reportBytes}
 use Rattle.byte_slice.proofs.Numbers.{lt-or-ge, eq-or-ne, bool-cases}
 use Rattle.byte_slice.proofs.Parts.{getD-part, part-around}
+use Rattle.byte_slice.proofs.PutAt.{length-padded}
 use Rattle.encoding_laws.proofs.Logs.{sound-records, sound-few}
 use Rattle.row_laws.specs.Disputes.{HasEntry, DisputedIn}
 use Rattle.row_laws.proofs.Disputes.{disputed-has, has-disputed}
 use Rattle.tree_table.specs.Rows.{InRange, AllProper, flagOf, entryIn}
-use Rattle.tree_table.proofs.Rows.{entry-behind, row-back}
+use Rattle.tree_table.proofs.Rows.{entry-behind, row-back, rows-length, aside-rows-length}
 use Rattle.tree_maps.specs.Keys.{slotOf}
 use Rattle.tree_maps.proofs.Counts.{slot-one, slot-low}
 use Rattle.tree_lookup.proofs.Working.{proper-at}
@@ -258,27 +259,43 @@ module _ (t t′ : Tree) (few : length (presentOnes (t .entries)) ≤ 512) (few�
   unfolding becameDisputed
   count-is = counted-is (word b′ 0) (omega (arith, counted′)) ∙ rw whole
 
+-- ---- how long a table is
+
+table-long : (t : Tree) → length (presentOnes (t .entries)) ≤ 512 → AllProper (presentOnes (t .entries)) → length (t .asides) ≤ 512 → length (tableBytes t) ≡ 43012
+unfolding tableBytes
+table-long t few a notes =
+    let es : List Entry = presentOnes (t .entries) in
+    let rows : List ℕ = entryRows (t .asides) es in
+    let p : length (padded 36864 rows) ≡ 36864 = length-padded 36864 rows (omega (arith, rows-length (t .asides) es a)) in
+    let q : length (padded 6144 (asideRows (t .asides))) ≡ 6144 = length-padded 6144 (asideRows (t .asides)) (omega (arith, aside-rows-length (t .asides))) in
+    omega (arith, length-append (padded 36864 rows) (padded 6144 (asideRows (t .asides))), p, q)
+
+pub log-table-long : (log : List ℕ) → soundLog log ≡ true → length (tableBytes (replay (recordsOf log))) ≡ 43012
+log-table-long log s =
+    table-long (replay (recordsOf log)) (omega (arith, rows-within (recordsOf log), sound-few log)) (sound-rows (recordsOf log) (sound-records log s) (sound-few log))
+    (omega (arith, rows-within (recordsOf log), sound-few log))
+
 -- ---- the report of a trial
 
-module _ (log copy : List ℕ) (sound : soundLog log ≡ true) (sound′ : soundLog copy ≡ true) (b b′ : List ℕ) (is : b ≡ tableBytes (replay (recordsOf log))) (is′ : b′ ≡ tableBytes (replay (recordsOf copy)))
-    (long : length b ≡ 43012) (long′ : length b′ ≡ 43012) where
+module _ (log copy : List ℕ) (sound : soundLog log ≡ true) (sound′ : soundLog copy ≡ true) where
   fits : (log : List ℕ) → length (presentOnes (replay (recordsOf log) .entries)) ≤ 512
   fits log = omega (arith, rows-within (recordsOf log), sound-few log)
 
   proper : (log : List ℕ) → soundLog log ≡ true → AllProper (presentOnes (replay (recordsOf log) .entries))
   proper log s = sound-rows (recordsOf log) (sound-records log s) (sound-few log)
 
-  pub told : (k n : ℕ) (v f r : List ℕ) → f ≡ noted b (replicate 4096 0) (word b 0) → v ≡ vectorOf (recordsOf copy)
-      → r ≡ (k ∷ n ∷ two (listedCount b′ f (word b′ 0))) ++ (vectorBytes v ++ padded 2048 (listed b′ f (word b′ 0)))
+  pub told : (k n : ℕ) (v f r : List ℕ) → f ≡ noted (tableBytes (replay (recordsOf log))) (replicate 4096 0) (word (tableBytes (replay (recordsOf log))) 0) → v ≡ vectorOf (recordsOf copy)
+      → r ≡ (k ∷ n ∷ two (listedCount (tableBytes (replay (recordsOf copy))) f (word (tableBytes (replay (recordsOf copy))) 0))) ++ (vectorBytes v ++ padded 2048 (listed (tableBytes (replay (recordsOf copy))) f (word (tableBytes (replay (recordsOf copy))) 0)))
       → r ≡ reportBytes (tried k n copy) (replay (recordsOf log)) (replay (recordsOf copy))
   unfolding reportBytes
   told k n v f r p q e =
       let t : Tree = replay (recordsOf log) in
       let t′ : Tree = replay (recordsOf copy) in
-      let l = list-is t t′ (fits log) (fits copy) (proper log sound) (proper copy sound′) b b′ is is′ long long′ in
-      let c = count-is t t′ (fits log) (fits copy) (proper log sound) (proper copy sound′) b b′ is is′ long long′ in
+      let l = list-is t t′ (fits log) (fits copy) (proper log sound) (proper copy sound′) (tableBytes t) (tableBytes t′) refl refl (log-table-long log sound) (log-table-long copy sound′) in
+      let c = count-is t t′ (fits log) (fits copy) (proper log sound) (proper copy sound′) (tableBytes t) (tableBytes t′) refl refl (log-table-long log sound) (log-table-long copy sound′) in
       e ∙ rw (p, l, c, q)
 
-pub tree-shown : (log b : List ℕ) → soundLog log ≡ true → b ≡ tableBytes (replay (recordsOf log)) → length b ≡ 43012 → Shown b
-tree-shown log b s e n =
-    table-shown (replay (recordsOf log)) (omega (arith, rows-within (recordsOf log), sound-few log)) (sound-rows (recordsOf log) (sound-records log s) (sound-few log)) b e n
+pub tree-shown : (log b : List ℕ) → soundLog log ≡ true → b ≡ tableBytes (replay (recordsOf log)) → Shown b
+tree-shown log b s e =
+    table-shown (replay (recordsOf log)) (omega (arith, rows-within (recordsOf log), sound-few log)) (sound-rows (recordsOf log) (sound-records log s) (sound-few log)) b e
+    (ap (λ (x : List ℕ). length x) e ∙ log-table-long log s)

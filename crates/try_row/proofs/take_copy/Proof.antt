@@ -1,25 +1,16 @@
-use Rattle.try_row.proofs.Tried.{copy-sound, copy-used, copy-indexed, copy-tried}
+use Rattle.try_row.proofs.Tried.{copy-long, copy-sound, copy-used, copy-indexed, copy-tried, same-copy}
 use borrow.Author.Needs.{needs}
 use Rattle.try_row.proofs.take_copy.Statement.{statement}
 use Rattle.try_row.proofs.take_copy.Tie as tie
 
-put-requires : tie.Need-put-requires
-put-requires c κs = search needs
+copy-log-requires : tie.Need-copy-log-requires
+copy-log-requires c κs = search needs
 
-sub-take-blocks : tie.Need-sub-take-blocks
-sub-take-blocks c = search needs
-
-part-take-blocks-start : tie.Need-part-take-blocks-start
-part-take-blocks-start c = search needs
-
-part-take-blocks-end : tie.Need-part-take-blocks-end
-part-take-blocks-end c = search needs
-
-take-blocks-requires : tie.Need-take-blocks-requires
-take-blocks-requires c κs = (search needs, search needs, search needs, search (copy-sound), search (copy-used), search needs, search needs, search needs, search (copy-indexed))
+take-by-requires : tie.Need-take-by-requires
+take-by-requires c κs = (search needs, search needs, search (copy-long), search (copy-sound), search (copy-used), search needs, search needs, search needs, search (copy-indexed))
 
 same-length : tie.Need-same-length
-same-length c = search needs
+same-length c = search (same-copy, copy-tried)
 
 same-length-2 : tie.Need-same-length-2
 same-length-2 c = search needs
@@ -37,11 +28,8 @@ pub take-copy-spec : {M : Type 1} → statement M
 take-copy-spec =
     tie.close
     (tie.spec
-    put-requires
-    sub-take-blocks
-    part-take-blocks-start
-    part-take-blocks-end
-    take-blocks-requires
+    copy-log-requires
+    take-by-requires
     same-length
     same-length-2
     same-length-3

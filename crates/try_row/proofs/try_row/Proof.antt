@@ -11,20 +11,14 @@ fresh-places-requires c κs = search needs
 fresh-seens-requires : tie.Need-fresh-seens-requires
 fresh-seens-requires c κs = search needs
 
-lent-fits-requires : tie.Need-lent-fits-requires
-lent-fits-requires c κs = search needs
+slice-aggregate-open-trial : tie.Need-slice-aggregate-open-trial
+slice-aggregate-open-trial c = search needs
 
-row-fits-requires : tie.Need-row-fits-requires
-row-fits-requires c κs = search needs
+slice-aggregate-open-trial-2 : tie.Need-slice-aggregate-open-trial-2
+slice-aggregate-open-trial-2 c = search needs
 
-slice-aggregate-open-into : tie.Need-slice-aggregate-open-into
-slice-aggregate-open-into c = search needs
-
-slice-aggregate-open-into-2 : tie.Need-slice-aggregate-open-into-2
-slice-aggregate-open-into-2 c = search needs
-
-open-into-requires : tie.Need-open-into-requires
-open-into-requires c κs = search needs
+open-trial-requires : tie.Need-open-trial-requires
+open-trial-requires c κs = search needs
 
 same-length : tie.Need-same-length
 same-length c = search needs
@@ -65,11 +59,9 @@ try-row-spec =
     (tie.spec
     fresh-places-requires
     fresh-seens-requires
-    lent-fits-requires
-    row-fits-requires
-    slice-aggregate-open-into
-    slice-aggregate-open-into-2
-    open-into-requires
+    slice-aggregate-open-trial
+    slice-aggregate-open-trial-2
+    open-trial-requires
     same-length
     same-length-2
     same-length-3

@@ -9,6 +9,7 @@ mod cuts;
 mod lists;
 mod orders;
 mod power;
+mod rows;
 mod study;
 mod twice;
 mod world;
@@ -20,7 +21,7 @@ use study::{Plan, Tally};
 
 type Study = fn(&dyn Library, &Plan) -> Tally;
 
-const STUDIES: [(&str, Study); 10] = [
+const STUDIES: [(&str, Study); 12] = [
     ("meetings, no fault", cuts::none),
     ("changed byte, block", bytes::blocks),
     ("changed byte, file", bytes::files),
@@ -31,6 +32,8 @@ const STUDIES: [(&str, Study); 10] = [
     ("power lost", power::lost),
     ("file half stored", power::half_stored),
     ("call lists", lists::all),
+    ("meetings by rows", rows::meetings),
+    ("changed byte, row", rows::changed),
 ];
 
 const USAGE: &str = "usage: faults [--long] [--seconds N] [--seed N]";

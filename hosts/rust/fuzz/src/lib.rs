@@ -1,5 +1,5 @@
 //! Harnesses for a coverage-guided fuzzer. Each takes the fuzzer's bytes, makes a
-//! log and a block, file or wish of them, gives both to the static library and to
+//! log and a block, row, file or wish of them, gives both to the static library and to
 //! the plain implementation, and ends the program if an answer or a byte differs.
 
 mod act;
@@ -7,10 +7,12 @@ mod compare;
 mod input;
 mod life;
 mod read_file;
+mod row;
 mod take;
 
 pub use act::act;
 pub use read_file::read_file;
+pub use row::row_calls;
 pub use take::take;
 
 /// The fuzzer's bytes.
@@ -38,3 +40,4 @@ macro_rules! harness {
 harness!(fuzz_take, take::take);
 harness!(fuzz_read_file, read_file::read_file);
 harness!(fuzz_act, act::act);
+harness!(fuzz_row, row::row_calls);

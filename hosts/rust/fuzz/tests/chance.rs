@@ -25,3 +25,8 @@ fn files() {
 fn acts() {
     run(fuzz::act, 3);
 }
+
+#[test]
+fn rows() {
+    run(fuzz::row_calls, 4);
+}

@@ -10,6 +10,7 @@ mod damaged;
 mod good;
 mod index;
 mod kit;
+mod rows;
 mod tables;
 
 use kit::{Case, Written};
@@ -25,6 +26,7 @@ fn write(directory: &Path) -> io::Result<()> {
         calls::list(),
         calls::meeting(),
         calls::full(),
+        rows::list(),
     ];
     let tables = tables::all();
 
