@@ -62,6 +62,15 @@ pub flags-is : (log b f₀ f : List ℕ) → b ≡ tableBytes (replay (recordsOf
     → f ≡ noted (tableBytes (replay (recordsOf log))) (replicate 4096 0) (word (tableBytes (replay (recordsOf log))) 0)
 flags-is log b f₀ f p q e = e ∙ rw (p, q)
 
+-- ---- lengths
+
+-- a buffer that a call keeps as long as it was
+pub keeps-on : (a b c : List ℕ) → length a ≡ length b → length b ≡ length c → length a ≡ length c
+keeps-on a b c e f = e ∙ f
+
+pub kept-long : (a b : List ℕ) (n : ℕ) → length a ≡ length b → length b ≡ n → length a ≡ n
+kept-long a b n e f = e ∙ f
+
 -- ---- the copy
 
 pub copies : (log copy fresh : List ℕ) → length log ≡ 40960 → length fresh ≡ 40960 → copy ≡ putAt fresh 0 log → copy ≡ log
@@ -94,9 +103,6 @@ module _ (archive u : ℕ) (log row copy : List ℕ) (k n : ℕ) (unit : u ≤ 7
 
   pub tried-sound : soundLog copy ≡ true
   tried-sound = good .sound
-
-  pub same-copy : (fresh : List ℕ) → length fresh ≡ 40960 → length copy ≡ length fresh
-  same-copy fresh m = tried-long ∙ sym m
 
   pub same-tree : (tree fresh : List ℕ) → length fresh ≡ 43012 → tree ≡ tableBytes (replay (recordsOf copy)) → length tree ≡ length fresh
   same-tree tree fresh m e = ap (λ (x : List ℕ). length x) e ∙ log-table-long copy tried-sound ∙ sym m

@@ -133,8 +133,8 @@ fn take_copy(
 // The tree of the copy is laid, and the report is written by it and the flags.
 fn report_after(copy: &[u8], t: RowJudged, tree: &mut [u8], flags: &[u8], report: &mut [u8])
     requires { ⌜ (length (now copy) ≡ logSize) × (soundLog (now copy) ≡ true) × (t .used ≡ length (recordsOf (now copy))) × (length (now tree) ≡ treeSize) × (length (now flags) ≡ flagsSize) × (length (now report) ≡ reportSize) ⌝ }
-    ensures tree { λ _. ⌜ now (tree .exit) ≡ tableBytes (replay (recordsOf (now (copy .entry)))) ⌝ }
-    ensures report { λ _. ⌜ now (report .exit) ≡ (t .taken ∷ t .stopped ∷ two (listedCount (tableBytes (replay (recordsOf (now (copy .entry))))) (now (flags .entry)) (word (tableBytes (replay (recordsOf (now (copy .entry))))) 0))) ++ (vectorBytes (t .held .counts) ++ padded 2048 (listed (tableBytes (replay (recordsOf (now (copy .entry))))) (now (flags .entry)) (word (tableBytes (replay (recordsOf (now (copy .entry))))) 0))) ⌝ }
+    ensures laid { λ _. ⌜ now (tree .exit) ≡ tableBytes (replay (recordsOf (now (copy .entry)))) ⌝ }
+    ensures told { λ _. ⌜ now (report .exit) ≡ (t .taken ∷ t .stopped ∷ two (listedCount (tableBytes (replay (recordsOf (now (copy .entry))))) (now (flags .entry)) (word (tableBytes (replay (recordsOf (now (copy .entry))))) 0))) ++ (vectorBytes (t .held .counts) ++ padded 2048 (listed (tableBytes (replay (recordsOf (now (copy .entry))))) (now (flags .entry)) (word (tableBytes (replay (recordsOf (now (copy .entry))))) 0))) ⌝ }
 {
     lay_tree(copy, t.used, tree);
     try_row_report::write_report(tree, flags, t.taken, t.stopped, t.held, report);

@@ -1,4 +1,4 @@
-use Rattle.try_row.proofs.Tried.{copy-long, copy-sound, copy-used, copy-indexed, copy-tried, same-copy}
+use Rattle.try_row.proofs.Tried.{copy-long, copy-sound, copy-used, copy-indexed, copy-tried, keeps-on}
 use borrow.Author.Needs.{needs}
 use Rattle.try_row.proofs.take_copy.Statement.{statement}
 use Rattle.try_row.proofs.take_copy.Tie as tie
@@ -10,7 +10,7 @@ take-by-requires : tie.Need-take-by-requires
 take-by-requires c κs = (search needs, search needs, search (copy-long), search (copy-sound), search (copy-used), search needs, search needs, search needs, search (copy-indexed))
 
 same-length : tie.Need-same-length
-same-length c = search (same-copy, copy-tried)
+same-length c = search (keeps-on)
 
 same-length-2 : tie.Need-same-length-2
 same-length-2 c = search needs

@@ -1,4 +1,4 @@
-use Rattle.try_row.proofs.Tried.{tried-long, tried-sound, same-tree, all-reported}
+use Rattle.try_row.proofs.Tried.{kept-long, tried-long, tried-sound, same-tree, all-reported}
 use borrow.Author.Needs.{needs}
 use Rattle.try_row.proofs.try_checked.Statement.{statement}
 use Rattle.try_row.proofs.try_checked.Tie as tie
@@ -7,13 +7,13 @@ flags-before-requires : tie.Need-flags-before-requires
 flags-before-requires c κs = (search needs, search needs, search needs, search needs)
 
 take-copy-requires : tie.Need-take-copy-requires
-take-copy-requires c κs = (search needs, search needs, search needs, search needs, search needs, search needs, search needs, search needs, search needs, search needs)
+take-copy-requires c κs = (search needs, search needs, search needs, search needs, search needs, search needs, search (kept-long), search needs, search needs, search needs)
 
 slice-aggregate-report-after : tie.Need-slice-aggregate-report-after
 slice-aggregate-report-after c = search needs
 
 report-after-requires : tie.Need-report-after-requires
-report-after-requires c κs = (search (tried-long), search (tried-sound), search needs, search needs, search needs, search needs)
+report-after-requires c κs = (search (tried-long), search (tried-sound), search needs, search (kept-long), search needs, search needs)
 
 same-length : tie.Need-same-length
 same-length c = search needs
