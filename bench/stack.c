@@ -22,8 +22,9 @@ static uint8_t log_bytes[SAB_LOG_BYTES], full[SAB_LOG_BYTES], shorter[SAB_LOG_BY
     block[SAB_BLOCK_BYTES], file[SAB_FILE_BYTES], out_file[SAB_FILE_BYTES],
     tree[SAB_TREE_BYTES], listing[SAB_LISTING_BYTES], length[SAB_LENGTH_BYTES],
     head[SAB_HEAD_BYTES], asked[SAB_VECTOR_BYTES], held[SAB_VECTOR_BYTES],
-    lacks[SAB_LACKS_BYTES], wish[SAB_RECORD_BYTES];
-static size_t file_length;
+    lacks[SAB_LACKS_BYTES], wish[SAB_RECORD_BYTES], row[SAB_FILE_BYTES],
+    copy[SAB_LOG_BYTES], report[SAB_REPORT_BYTES];
+static size_t file_length, row_length;
 static uint32_t result;
 
 static void run_compare(void)
@@ -55,6 +56,23 @@ static void run_hand_out(void)
 static void run_take(void)
 {
     result = sab_take(shorter, sizeof shorter, ARCHIVE, 0, block, sizeof block);
+}
+
+static void run_hand_out_row(void)
+{
+    result = sab_hand_out_row(log_bytes, sizeof log_bytes, ARCHIVE, 0, asked, sizeof asked, row,
+                              sizeof row);
+}
+
+static void run_take_row(void)
+{
+    result = sab_take_row(log_bytes, sizeof log_bytes, ARCHIVE, 0, row, row_length);
+}
+
+static void run_try(void)
+{
+    result = sab_try(log_bytes, sizeof log_bytes, ARCHIVE, 0, row, row_length, copy, sizeof copy,
+                     tree, sizeof tree, report, sizeof report);
 }
 
 static void run_write_file(void)
@@ -95,7 +113,8 @@ static const struct entry ENTRIES[] = {
     {"sab_hand_out", run_hand_out},     {"sab_take", run_take},
     {"sab_write_file", run_write_file}, {"sab_read_file", run_read_file},
     {"sab_merge", run_merge},           {"sab_show", run_show},
-    {"sab_listing", run_listing},
+    {"sab_listing", run_listing},       {"sab_hand_out_row", run_hand_out_row},
+    {"sab_take_row", run_take_row},     {"sab_try", run_try},
 };
 
 static void fail(const char *what)
@@ -157,6 +176,10 @@ static void prepare(const struct entry *entry, size_t records)
         first(shorter, least(records, FULL - 6));
         sab_vector(shorter, sizeof shorter, asked, sizeof asked);
         r = sab_hand_out(full, sizeof full, ARCHIVE, 0, asked, sizeof asked, block, sizeof block);
+    } else if (entry->run == run_take_row || entry->run == run_try) {
+        sab_vector(log_bytes, sizeof log_bytes, asked, sizeof asked);
+        r = sab_hand_out_row(full, sizeof full, ARCHIVE, 0, asked, sizeof asked, row, sizeof row);
+        row_length = SAB_BLOCK_BYTES * SAB_COUNT(r);
     } else if (entry->run == run_act) {
         first(shorter, least(records, FULL - 1));
     }

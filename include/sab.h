@@ -76,17 +76,17 @@
  *                     sab_merge give another than 0. For the other numbers it
  *                     says nothing
  *     SAB_COUNT(r)    what a successful call counted: the blocks written
- *                     (sab_write_file, sab_merge), the records read
- *                     (sab_read_file) or held (sab_vector), the answer of
- *                     sab_compare; of a refused sab_merge, which file is at
- *                     fault; else 0
+ *                     (sab_write_file, sab_merge, sab_hand_out_row), the records
+ *                     read (sab_read_file) or held (sab_vector), the answer of
+ *                     sab_compare; of sab_take_row two numbers; of a refused
+ *                     sab_merge, which file is at fault; else 0
  *
  * A refused call leaves every byte of every lent buffer as it was.
  * (sab_listing, whose output tells of the refusal, says what it leaves.)
  *
  * Each function checks in the order in which its numbers stand, and returns the
  * first that holds. A buffer that has not the stated length is refused with 1,
- * or with 2 if it is a block or a file given for reading; its bytes are neither
+ * or with 2 if it is a block, a row or a file given for reading; its bytes are neither
  * read nor written, so with a wrong length, also 0, the pointer may be anything.
  *
  *
@@ -197,6 +197,7 @@ extern "C" {
 #define SAB_VECTOR_BYTES 16      /* a vector: eight 16-bit counts, unit 0 first */
 #define SAB_LACKS_BYTES 8        /* how far two vectors are apart: two numbers */
 #define SAB_HEAD_BYTES 24        /* what a file says of itself */
+#define SAB_REPORT_BYTES 2068    /* the report of a row that is tried */
 #define SAB_LISTING_BYTES 76800  /* lent for a listing; none is longer */
 #define SAB_LENGTH_BYTES 4       /* the length of a listing */
 
@@ -207,13 +208,16 @@ extern "C" {
 #define SAB_NUMBER(r) ((uint32_t)(r) & 0xFFu)
 #define SAB_PLACE(r) (((uint32_t)(r) >> 8) & 0xFFu)
 #define SAB_COUNT(r) ((uint32_t)(r) >> 16)
+#define SAB_TAKEN(r) (((uint32_t)(r) >> 16) & 0xFFu)   /* of sab_take_row: */
+#define SAB_STOPPED(r) ((uint32_t)(r) >> 24)           /* the count's halves */
 
 /* ---- Numbers of refusals; P: with the place of the block at fault ---- */
 
 #define SAB_OK 0u
 #define SAB_BAD_BUFFER 1u     /*   a lent buffer is not of the stated length */
-#define SAB_BAD_LENGTH 2u     /* P a block is not 512 bytes, or a file is not 1
-                                   to 86 blocks; the place is 0 */
+#define SAB_BAD_LENGTH 2u     /* P a block is not 512 bytes, a file is not 1 to
+                                   86 blocks or a row not 0 to 86; the place is
+                                   0 */
 #define SAB_BAD_LETTERS 3u    /* P a block does not begin with SAB1 */
 #define SAB_BAD_SUM 4u        /* P a sum of a block differs: damaged */
 #define SAB_BAD_HEADER 5u     /* P a header's unit is above 7 or its count above
@@ -395,6 +399,68 @@ uint32_t sab_hand_out(const uint8_t *log, size_t log_len, uint32_t archive,
  */
 uint32_t sab_take(uint8_t *log, size_t log_len, uint32_t archive,
                   uint32_t unit, const uint8_t *block, size_t block_len);
+
+/* Hands out a row: all blocks of what the asked vector lacks, each as
+ * sab_hand_out would give it once those before are taken. One check of the log
+ * for all of them.
+ *
+ * log       40,960 bytes, only read
+ * archive   goes into the blocks
+ * unit      the own unit; goes into the blocks
+ * asked     16 bytes, only read: the vector of the unit that asks; any counts
+ * row       44,032 bytes; on 0 every byte is written: SAB_COUNT blocks of 512,
+ *           which are the row, then zeros, which are not part of it
+ *
+ * Returns 0, and SAB_COUNT is the count of blocks, 0 to 86, 0 if nothing is
+ * lacking; 1 log, asked or row not of its length; 21 unit above 7; 19 log not
+ * sound.
+ */
+uint32_t sab_hand_out_row(const uint8_t *log, size_t log_len, uint32_t archive,
+                          uint32_t unit, const uint8_t *asked,
+                          size_t asked_len, uint8_t *row, size_t row_len);
+
+/* Takes the blocks of a row in turn, each as sab_take does, up to the first that
+ * is refused. One check of the log for all of them.
+ *
+ * log       40,960 bytes; on 0 it holds the records held before and those of the
+ *           blocks taken
+ * archive   the archive that the blocks must have
+ * unit      the own unit
+ * row       0 to 86 blocks of 512 bytes, only read
+ *
+ * Returns 0, and SAB_TAKEN is how many blocks were taken, SAB_STOPPED the number
+ * that sab_take would answer for the block behind them, 3 to 11, or 0 if all were
+ * taken; 1 log not of 40,960 bytes; 21 unit above 7; 2 row not of 0 to 86 whole
+ * blocks; 19 log not sound.
+ */
+uint32_t sab_take_row(uint8_t *log, size_t log_len, uint32_t archive,
+                      uint32_t unit, const uint8_t *row, size_t row_len);
+
+/* Tells what sab_take_row would do, on a copy of the log.
+ *
+ * log       40,960 bytes, only read
+ * archive   the archive that the blocks must have
+ * unit      the own unit
+ * row       0 to 86 blocks of 512 bytes, only read
+ * copy      40,960 bytes; on 0 the log as it would be
+ * tree      43,012 bytes; on 0 the tree table of the copy
+ * report    2,068 bytes; on 0 every byte is written:
+ *             0 how many blocks would be taken;
+ *             1 the number that stops the row, 3 to 11, or 0;
+ *             2-3 how many entries become disputed;
+ *             4-19 the vector of the copy;
+ *             20-2067 the identities of these entries, 4 bytes each: unit, zero,
+ *                number; by rank of their makers, then zeros.
+ *           An entry becomes disputed if it is disputed in the tree of the copy
+ *           and was no disputed entry of the log's tree.
+ *
+ * Returns 0; 1 log, copy, tree or report not of its length; 21 unit above 7; 2
+ * row not of 0 to 86 whole blocks; 19 log not sound.
+ */
+uint32_t sab_try(const uint8_t *log, size_t log_len, uint32_t archive,
+                 uint32_t unit, const uint8_t *row, size_t row_len,
+                 uint8_t *copy, size_t copy_len, uint8_t *tree, size_t tree_len,
+                 uint8_t *report, size_t report_len);
 
 /* Writes the whole log as a file.
  *

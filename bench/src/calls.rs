@@ -2,7 +2,7 @@
 
 use crate::exchange::Pair;
 use crate::times::clock;
-use library::Library;
+use library::{Library, REPORT, Trial};
 use plain::{BLOCK, FILE, LOG, RECORD, TREE};
 use std::hint::black_box;
 use workload::vector_of;
@@ -66,6 +66,9 @@ pub fn cases(log: &[u8], pair: &Pair) -> Vec<Case> {
             "take, six new",
             take(first(log, before), &first(log, before + 6)),
         );
+        case("hand out a row, all lacking", hand_out_row(lent.clone()));
+        case("take a row, the rest", take_row(lent.clone(), log));
+        case("try a row, the rest", try_row(lent.clone(), log));
         case("write a file", write_file(lent.clone()));
         case("read a file", read_file(&lent));
         case("merge, the same file", merge([&lent, &lent]));
@@ -136,6 +139,54 @@ fn take(log: Vec<u8>, other: &[u8]) -> Run {
             library
                 .take(black_box(&mut lent), ARCHIVE, 0, &block)
                 .unwrap()
+        }))
+    })
+}
+
+fn hand_out_row(log: Vec<u8>) -> Run {
+    let mut row = vec![0; FILE];
+    Box::new(move |library| {
+        Some(clock(|| {
+            library
+                .hand_out_row(black_box(&log), ARCHIVE, 0, &[0; 8], &mut row)
+                .unwrap();
+        }))
+    })
+}
+
+/// The row of what a log lacks of another.
+fn row_for(log: &[u8], other: &[u8]) -> Vec<u8> {
+    let mut row = vec![0; FILE];
+    let blocks = plain::hand_out_row(other, ARCHIVE, 1, &vector_of(log), &mut row);
+    row.truncate(BLOCK * usize::from(blocks.expect("a sound log")));
+    row
+}
+
+fn take_row(log: Vec<u8>, other: &[u8]) -> Run {
+    let row = row_for(&log, other);
+    let mut lent = log.clone();
+    Box::new(move |library| {
+        lent.copy_from_slice(&log);
+        Some(clock(|| {
+            library
+                .take_row(black_box(&mut lent), ARCHIVE, 0, &row)
+                .unwrap();
+        }))
+    })
+}
+
+fn try_row(log: Vec<u8>, other: &[u8]) -> Run {
+    let row = row_for(&log, other);
+    let mut trial = Trial {
+        copy: vec![0; LOG],
+        tree: vec![0; TREE],
+        report: vec![0; REPORT],
+    };
+    Box::new(move |library| {
+        Some(clock(|| {
+            library
+                .try_row(black_box(&log), ARCHIVE, 0, &row, &mut trial)
+                .unwrap();
         }))
     })
 }

@@ -2,7 +2,7 @@
 
 use crate::times::clock;
 use library::Library;
-use plain::{BLOCK, LOG};
+use plain::{BLOCK, FILE, LOG};
 use workload::{Chance, Mix, Units, vector_of};
 
 const ARCHIVE: u32 = 7;
@@ -51,6 +51,35 @@ impl Pair {
         assert!(first == second && first[LOG - 80] < 2);
         time
     }
+
+    /// The time in which a row passes each way.
+    pub fn run_by_rows(&self, library: &dyn Library) -> u64 {
+        let [mut first, mut second] = self.logs.clone();
+        let mut row = vec![0; FILE];
+        let time = clock(|| {
+            pass_row(library, &first, 0, &mut second, 1, &mut row);
+            pass_row(library, &second, 1, &mut first, 0, &mut row);
+        });
+        assert!(first == second && first[LOG - 80] < 2);
+        time
+    }
+}
+
+/// Passes all that the other lacks in one row.
+fn pass_row(
+    library: &dyn Library,
+    from: &[u8],
+    giver: u32,
+    to: &mut [u8],
+    taker: u32,
+    row: &mut [u8],
+) {
+    let blocks = library
+        .hand_out_row(from, ARCHIVE, giver, &vector_of(to), row)
+        .unwrap();
+    let row = &row[..BLOCK * usize::from(blocks)];
+    let taken = library.take_row(to, ARCHIVE, taker, row).unwrap();
+    assert_eq!(taken.stopped, 0);
 }
 
 /// Passes all that the other lacks. What it holds is counted from the blocks.

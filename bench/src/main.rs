@@ -81,13 +81,19 @@ fn main() {
         times::row(&case.name, times, &yard);
     }
 
-    let mut times = vec![Times::default(); libraries.len()];
-    for _ in 0..options.rounds.div_ceil(20) {
-        for ((_, library), times) in libraries.iter().zip(&mut times) {
-            times.push(pair.run(&**library));
+    let exchanges: [(&str, fn(&exchange::Pair, &dyn Library) -> u64); 2] = [
+        ("exchange, 256 each way", exchange::Pair::run),
+        ("exchange by rows, 256 each way", exchange::Pair::run_by_rows),
+    ];
+    for (name, exchange) in exchanges {
+        let mut times = vec![Times::default(); libraries.len()];
+        for _ in 0..options.rounds.div_ceil(20) {
+            for ((_, library), times) in libraries.iter().zip(&mut times) {
+                times.push(exchange(&pair, &**library));
+            }
         }
+        times::row(name, &times, &yard);
     }
-    times::row("exchange, 256 each way", &times, &yard);
     #[cfg(feature = "sqlite")]
     by_sqlite(&pair, options.rounds.div_ceil(20), &yard);
 

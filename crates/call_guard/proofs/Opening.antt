@@ -4,9 +4,9 @@ use Prim.Native.Nat.{ℕ, zero, suc, _≤_}
 use native.Mathlib.Omega.{arith}
 use mathlib.Core.Path.{_≡_, refl, sym, ap, _∙_}
 use mathlib.Core.Logic.{⊎-elim}
-use mathlib.Core.Bool.{Bool, true, false, cond, not}
+use mathlib.Core.Bool.{Bool, true, false, cond, not, _&&_}
 use mathlib.Core.List.{List}
-use lib.Dec.{eqb}
+use lib.Dec.{leb, eqb}
 use lib.ListN.{length, replicate}
 use borrow.Author.Tests.{eqb-true, not-true, not-false}
 use Rattle.model.specs.Log.{vectorOf, recordsOf, soundLog}
@@ -86,7 +86,7 @@ opened-number zero log = refl
 opened-number (suc n) log = refl
 
 module _ (u : ℕ) (log : List ℕ) (ok row : Bool) {n : ℕ} {held : List ℕ} {used : ℕ} (e : opened n held used ≡ openOf u log ok row) where
-  number-is : n ≡ guardNumber u log ok row
+  pub number-is : n ≡ guardNumber u log ok row
   unfolding openOf
   number-is = ap (λ (x : Opening). x .number) e ∙ opened-number (guardNumber u log ok row) log
 
@@ -101,8 +101,17 @@ module _ (u : ℕ) (log : List ℕ) (ok row : Bool) {n : ℕ} {held : List ℕ} 
     pub open-long : length log ≡ 40960
     open-long = early-long u log ok row (both .0)
 
-    open-lent : ok ≡ true
+    pub open-lent : ok ≡ true
     open-lent = early-lent u log ok row (both .0)
+
+    pub open-row : row ≡ true
+    open-row = means (eqb (length log) 40960 && ok) (leb u 7) row (both .0)
+      where
+        means : (t s r : Bool) → _≡_ {A = ℕ} (cond t (cond s (cond r 0 2) 21) 1) 0 → r ≡ true
+        means true true true q = refl
+        means true true false q = absurd (omega arith)
+        means true false r q = absurd (omega arith)
+        means false s r q = absurd (omega arith)
 
     pub open-unit : u ≤ 7
     open-unit = early-unit u log ok row (both .0)

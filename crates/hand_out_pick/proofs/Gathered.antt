@@ -8,7 +8,7 @@ use mathlib.Core.Logic.{inl, inr}
 use mathlib.Core.Bool.{Bool, true, false, cond, not}
 use mathlib.Core.List.{List, [], _∷_, _++_, append-nil}
 use lib.Dec.{ltb}
-use lib.ListN.{getD, length, take, drop, replicate, take-append-drop, length-append}
+use lib.ListN.{getD, length, take, drop, replicate, take-append-drop, length-append, length-replicate}
 use lib.Seq.{take-suc, take-all, take-at}
 use borrow.Author.Tests.{not-true, not-false}
 use Rattle.model.specs.Bytes.{part, padded, joined, putAt}
@@ -41,7 +41,7 @@ lacking-append v (r ∷ a) b = go (ltb (getD v (unit r) 0) (num r)) (lacking-app
 unfoldable pub gathered : List ℕ → List ℕ → ℕ → List Rec
 gathered v b i = lacking v (take i (recordsOf b))
 
-sized-lacking : (v : List ℕ) (l : List Rec) → Sized l → Sized (lacking v l)
+pub sized-lacking : (v : List ℕ) (l : List Rec) → Sized l → Sized (lacking v l)
 unfolding lacking
 sized-lacking v [] z = tt
 sized-lacking v (r ∷ l) z = go (ltb (getD v (unit r) 0) (num r)) (sized-lacking v l (z .1))
@@ -121,19 +121,19 @@ module _ (v b : List ℕ) (long : length b ≡ 40960) (sound : soundLog b ≡ tr
       pub skips-count : not t ≡ true → n ≡ length (gathered v b (i + 1))
       skips-count e = rw (skipped e) counted
 
-      pub skips-laid : {d : List ℕ} → not t ≡ true → d ≡ padded 480 (joined (gathered v b i)) → d ≡ padded 480 (joined (gathered v b (i + 1)))
-      skips-laid e f = rw (skipped e) f
+      pub skips-laid : (z : ℕ) {d : List ℕ} → not t ≡ true → d ≡ padded z (joined (gathered v b i)) → d ≡ padded z (joined (gathered v b (i + 1)))
+      skips-laid z e f = rw (skipped e) f
 
       pub adds-count : not t ≡ false → n + 1 ≡ length (gathered v b (i + 1))
       adds-count e = omega (arith, ap (λ (l : List Rec). length l) (added e), length-append (gathered v b i) (part b (80 * i) 80 ∷ []))
 
-      pub adds-laid : {d o : List ℕ} {to : ℕ} → not t ≡ false → to ≡ 80 * n → d ≡ padded 480 (joined (gathered v b i)) → o ≡ putAt d to (take (80 * i + 80 - 80 * i) (drop (80 * i) b))
-          → o ≡ padded 480 (joined (gathered v b (i + 1)))
-      adds-laid {d} {o} {to} e k f g =
+      pub adds-laid : (z : ℕ) {d o : List ℕ} {to : ℕ} → not t ≡ false → to ≡ 80 * n → d ≡ padded z (joined (gathered v b i)) → o ≡ putAt d to (take (80 * i + 80 - 80 * i) (drop (80 * i) b))
+          → o ≡ padded z (joined (gathered v b (i + 1)))
+      adds-laid z {d} {o} {to} e k f g =
           let r = part b (80 * i) 80 in
           let m : to ≡ length (joined (gathered v b i)) = omega (arith, length-gathered i) in
           let w : joined (gathered v b (i + 1)) ≡ joined (gathered v b i) ++ r = rw (added e) (joined-append (gathered v b i) (r ∷ []) ∙ rw (joined-one r)) in
-          g ∙ rw (part-is b (80 * i) 80, f, m, w) (put-padded 480 (joined (gathered v b i)) r)
+          g ∙ rw (part-is b (80 * i) 80, f, m, w) (put-padded z (joined (gathered v b i)) r)
 
     pub full-count : n ≡ 6 → 6 ≡ length (take 6 (lacking v (recordsOf b)))
     full-count e = let m : length (gathered v b i) ≡ 6 = omega arith in rw (gathered-six i m) (sym m)
@@ -147,12 +147,28 @@ module _ (v b : List ℕ) (long : length b ≡ 40960) (sound : soundLog b ≡ tr
     pub ends-laid : {d : List ℕ} → n ≤ 6 → i ≤ used → used ≤ i → d ≡ padded 480 (joined (gathered v b i)) → d ≡ padded 480 (joined (take 6 (lacking v (recordsOf b))))
     ends-laid h k j f = let m : length (gathered v b i) ≤ 6 = omega arith in rw (gathered-all i (omega arith) m) f
 
+-- ---- all that a vector lacks
+
+module _ (v b : List ℕ) (i used n : ℕ) (whole : used ≡ length (recordsOf b)) (counted : n ≡ length (gathered v b i)) (h : used ≤ i) where
+  gathered-whole : gathered v b i ≡ lacking v (recordsOf b)
+  unfolding gathered
+  gathered-whole = rw (take-all i (recordsOf b) (omega arith))
+
+  pub whole-count : n ≡ length (lacking v (recordsOf b))
+  whole-count = counted ∙ ap (λ (l : List Rec). length l) gathered-whole
+
+  pub whole-laid : (z : ℕ) {d : List ℕ} → d ≡ padded z (joined (gathered v b i)) → d ≡ padded z (joined (lacking v (recordsOf b)))
+  whole-laid z f = rw gathered-whole at f
+
+pub starts-log : {d : List ℕ} → d ≡ replicate 40960 0 → length d ≡ 40960
+starts-log e = ap (λ (l : List ℕ). length l) e ∙ length-replicate {A = ℕ} 40960 0
+
 pub starts-long : {d : List ℕ} → d ≡ replicate 480 0 → length d ≡ 480
 starts-long e = ap (λ (l : List ℕ). length l) e
 
 pub starts-few : (b : List ℕ) (used : ℕ) → used ≡ length (recordsOf b) → used ≤ 512
 starts-few b used e = omega (arith, sound-few b)
 
-pub starts-laid : (v b : List ℕ) {d : List ℕ} → d ≡ replicate 480 0 → d ≡ padded 480 (joined (gathered v b 0))
+pub starts-laid : (v b : List ℕ) (z : ℕ) {d : List ℕ} → d ≡ replicate z 0 → d ≡ padded z (joined (gathered v b 0))
 unfolding gathered lacking joined
-starts-laid v b e = e ∙ sym (padded-nil 480)
+starts-laid v b z e = e ∙ sym (padded-nil z)

@@ -1,7 +1,7 @@
-// The first six or fewer records of a log that a vector lacks, gathered one behind another.
+// The records of a log that a vector lacks, gathered one behind another: the first six or fewer, or all.
 ghost use mathlib.Core.Path.{_≡_};
 ghost use mathlib.Core.Bool.{true};
-ghost use Prim.Native.Nat.{_<_};
+ghost use Prim.Native.Nat.{_<_, _≤_};
 ghost use lib.Dec.{ltb};
 ghost use lib.ListN.{length, getD, take, replicate};
 ghost use Rattle.model.specs.Bytes.{padded, joined};
@@ -42,6 +42,26 @@ pub fn gather(log: &[u8], used: usize, v: Vector, recs: &mut [u8]) -> u8
         }
         put(recs, to, &log[at..at + 80]);
         to += 80;
+        n += 1;
+    }
+    n
+}
+
+// All records that a vector lacks are laid one behind another; their count is returned.
+pub fn gather_all(log: &[u8], used: usize, v: Vector, recs: &mut [u8]) -> usize
+    requires { ⌜ (length (now log) ≡ 40960) × (soundLog (now log) ≡ true) × (used ≡ length (recordsOf (now log))) × (now recs ≡ replicate 40960 0) ⌝ }
+    ensures counted { λ r. ⌜ (r ≡ length (lacking (v .counts) (recordsOf (now (log .entry))))) × (r ≤ 512) ⌝ }
+    ensures laid { λ r. ⌜ now (recs .exit) ≡ padded 40960 (joined (lacking (v .counts) (recordsOf (now (log .entry))))) ⌝ }
+{
+    let mut n: usize = 0;
+    let mut i: usize = 0;
+    while i < used {
+        let at = 80 * i;
+        i += 1;
+        if !lacks(v, &log[at..at + 80]) {
+            continue;
+        }
+        put(recs, 80 * n, &log[at..at + 80]);
         n += 1;
     }
     n

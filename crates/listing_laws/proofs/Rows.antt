@@ -147,7 +147,7 @@ asides-counted t =
     word-behind (two (length (presentOnes (t .entries)))) (two (length (t .asides)) ++ rest) 0 ∙ word-two (length (t .asides)) rest
 
 module _ (t : Tree) (i : ℕ) (h : i < length (presentOnes (t .entries))) (few : length (presentOnes (t .entries)) ≤ 512) (a : AllProper (presentOnes (t .entries))) (e : Entry) where
-  row-at : part (tableBytes t) (4 + 72 * i) 72 ≡ entryRow (flagOf (t .asides) (getD (presentOnes (t .entries)) i e)) (getD (presentOnes (t .entries)) i e)
+  pub row-at : part (tableBytes t) (4 + 72 * i) 72 ≡ entryRow (flagOf (t .asides) (getD (presentOnes (t .entries)) i e)) (getD (presentOnes (t .entries)) i e)
   unfolding tableBytes padded
   row-at =
       let es : List Entry = presentOnes (t .entries) in

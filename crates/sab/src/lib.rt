@@ -6,6 +6,7 @@ ghost use Rattle.model.specs.Merge.{mergeOf};
 ghost use Rattle.held_vector.specs.Held.{heldOf};
 ghost use Rattle.sab_words.specs.Called.{called, told};
 ghost use Rattle.sab_block.specs.Handed.{handedOf};
+ghost use Rattle.sab_row.specs.Rows.{rowHandedOf, rowTakenOf, triedCall, rowTriedOf};
 ghost use Rattle.sab_file.specs.Loaded.{loadedOf};
 ghost use Rattle.sab_merge.specs.Joined.{joined};
 ghost use Rattle.sab_listing.specs.Printed.{printed, printedOf};
@@ -47,6 +48,44 @@ pub extern "C" fn sab_take(log: &mut [u8], archive: u32, unit: u32, block: &[u8]
     ensures { λ r. ⌜ called r (now (log .exit)) [] ≡ told (takeOf archive unit (now (log .entry)) (now (block .entry))) ⌝ }
 {
     sab_block::take(log, archive, unit, block)
+}
+
+// Hands out all blocks of what the asked vector lacks; the count is that of the blocks.
+#[no_mangle]
+pub extern "C" fn sab_hand_out_row(
+    log: &[u8],
+    archive: u32,
+    unit: u32,
+    asked: &[u8],
+    row: &mut [u8],
+) -> u32
+    ensures { λ r. ⌜ called r (now (log .entry)) (now (row .exit)) ≡ rowHandedOf archive unit (now (log .entry)) (now (asked .entry)) (now (row .entry)) ⌝ }
+{
+    sab_row::hand_out_row(log, archive, unit, asked, row)
+}
+
+// Takes the blocks of a row in turn, up to the first refusal; the count is that of the blocks taken, and what stopped the row.
+#[no_mangle]
+pub extern "C" fn sab_take_row(log: &mut [u8], archive: u32, unit: u32, row: &[u8]) -> u32
+    ensures { λ r. ⌜ called r (now (log .exit)) [] ≡ rowTakenOf archive unit (now (log .entry)) (now (row .entry)) ⌝ }
+{
+    sab_row::take_row(log, archive, unit, row)
+}
+
+// Tries a row on a copy of the log.
+#[no_mangle]
+pub extern "C" fn sab_try(
+    log: &[u8],
+    archive: u32,
+    unit: u32,
+    row: &[u8],
+    copy: &mut [u8],
+    tree: &mut [u8],
+    report: &mut [u8],
+) -> u32
+    ensures { λ r. ⌜ triedCall r (now (copy .exit)) (now (tree .exit)) (now (report .exit)) ≡ rowTriedOf archive unit (now (log .entry)) (now (row .entry)) (now (copy .entry)) (now (tree .entry)) (now (report .entry)) ⌝ }
+{
+    sab_row::try_row(log, archive, unit, row, copy, tree, report)
 }
 
 // Writes the whole log as a file; the count is that of its blocks.

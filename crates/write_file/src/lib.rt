@@ -24,7 +24,7 @@ pub struct Written {
 }
 
 // Zeros are written behind the first n blocks.
-fn clear_behind(file: &mut [u8], n: usize)
+pub fn clear_behind(file: &mut [u8], n: usize)
     requires { ⌜ (length (now file) ≡ fileSize) × (n ≤ 86) ⌝ }
     ensures { λ _. ⌜ now (file .exit) ≡ putAt (now (file .entry)) (512 * n) (replicate (fileSize - 512 * n) 0) ⌝ }
 {

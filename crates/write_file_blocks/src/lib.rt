@@ -24,7 +24,7 @@ pub fn block_count(n: usize) -> usize
 }
 
 // How many of n records stand in block k.
-fn count_at(n: usize, k: usize) -> usize
+pub fn count_at(n: usize, k: usize) -> usize
     requires { ⌜ (n ≤ 512) × (6 * k ≤ n) ⌝ }
     ensures { λ r. ⌜ r ≡ min 6 (n - 6 * k) ⌝ }
 {

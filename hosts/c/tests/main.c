@@ -26,6 +26,7 @@ int main(void)
     test_act();
     test_hand_out();
     test_take();
+    test_rows();
     test_write_file();
     test_read_file();
     test_merge();

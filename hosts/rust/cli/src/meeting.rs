@@ -1,4 +1,4 @@
-//! Records passed from one log to another, block by block.
+//! Records passed from one log to another, in rows of blocks.
 
 use crate::blocks;
 use crate::failure::Refused;
@@ -6,8 +6,8 @@ use crate::json::Object;
 use crate::numbers::Case;
 use crate::out::Out;
 use crate::why::{self, counted};
-use sab::{Answer, Asking, Block, Identity, Log, Record, Refusal};
-use std::collections::BTreeMap;
+use sab::{Answer, Asking, Identity, Log, Record, Refusal, Row, raw};
+use std::collections::{BTreeMap, BTreeSet};
 use std::path::Path;
 
 /// A block that was taken.
@@ -36,61 +36,60 @@ pub struct Passed {
     pub end: End,
 }
 
-/// Takes a block; what it brought.
-pub fn take(
-    log: &mut Log,
-    block: &Block,
-    how: impl FnOnce(&mut Log) -> Answer<()>,
-) -> Answer<Given> {
-    let (held, new) =
-        blocks::identities(block).partition(|identity| log.record(*identity).is_some());
-    how(log)?;
-    Ok(Given { new, held })
+/// What the blocks of a row bring, one after another: what a block before brought
+/// counts as held.
+pub fn given(log: &Log, row: &Row) -> Vec<Given> {
+    let mut held: BTreeSet<Identity> = log.records().map(Record::identity).collect();
+    row.blocks()
+        .map(|block| {
+            let (old, new): (Vec<Identity>, Vec<Identity>) =
+                blocks::identities(&block).partition(|identity| held.contains(identity));
+            held.extend(&new);
+            Given { new, held: old }
+        })
+        .collect()
 }
 
 /// Passes what one log lacks of another, asking carefully: the last record of
 /// each unit that both hold is compared too. `room` is how many blocks with new
 /// records may still be taken.
 pub fn pass(from: &Log, to: &mut Log, room: &mut usize) -> Passed {
-    let mut blocks = Vec::new();
-    let end = pass_all(from, to, room, &mut blocks);
-    Passed { blocks, end }
+    pass_all(from, to, room).unwrap_or_else(|refusal| Passed {
+        blocks: Vec::new(),
+        end: End::Stopped(refusal, None),
+    })
 }
 
-fn pass_all(from: &Log, to: &mut Log, room: &mut usize, blocks: &mut Vec<Given>) -> End {
-    let mut asking = match Asking::careful(to) {
-        Ok(asking) => asking,
-        Err(refusal) => return End::Stopped(refusal, None),
+fn pass_all(from: &Log, to: &mut Log, room: &mut usize) -> Answer<Passed> {
+    let asked = Asking::careful(to)?.vector();
+    let row = from.hand_out_row(&asked)?;
+    let mut blocks = given(to, &row);
+    let fits = cut_at(&blocks, *room);
+    let cut = Row::try_from(&row.as_ref()[..raw::BLOCK * fits])?;
+    let taken = to.take_row(&cut)?;
+    blocks.truncate(taken.taken.into());
+    *room -= blocks.iter().filter(|given| !given.new.is_empty()).count();
+    let end = match taken.stopped {
+        Some(refusal) => {
+            let refusal = Refusal::new(refusal.number);
+            let block = row.blocks().nth(blocks.len());
+            let words = block.and_then(|block| why::of_block(block.as_ref(), to, refusal));
+            End::Stopped(refusal, words)
+        }
+        None if fits < row.len() => End::Cut,
+        None => End::Whole,
     };
-    loop {
-        let block = match from.hand_out(&asking.vector()) {
-            Ok(block) => block,
-            Err(refusal) => return End::Stopped(refusal, None),
-        };
-        if block.is_empty() {
-            // It is taken too: so the library has compared the archives.
-            return match to.take(block) {
-                Ok(()) => End::Whole,
-                Err(refusal) => End::Stopped(refusal, why::of_block(block.as_ref(), to, refusal)),
-            };
-        }
-        if *room == 0 && brings_new(&block, to) {
-            return End::Cut;
-        }
-        match take(to, &block, |log| asking.take(log, block).map(drop)) {
-            Ok(given) => {
-                *room -= usize::from(!given.new.is_empty()).min(*room);
-                blocks.push(given);
-            }
-            Err(refusal) => {
-                return End::Stopped(refusal, why::of_block(block.as_ref(), to, refusal));
-            }
-        }
-    }
+    Ok(Passed { blocks, end })
 }
 
-fn brings_new(block: &Block, log: &Log) -> bool {
-    blocks::identities(block).any(|identity| log.record(identity).is_none())
+/// How many of the first blocks may be taken, where at most `room` of them bring
+/// something new.
+fn cut_at(blocks: &[Given], room: usize) -> usize {
+    let new = blocks
+        .iter()
+        .enumerate()
+        .filter(|(_, given)| !given.new.is_empty());
+    new.map(|(at, _)| at).nth(room).unwrap_or(blocks.len())
 }
 
 /// The records that two logs hold under one identity with other bytes.

@@ -10,6 +10,7 @@ mod cuts;
 mod lists;
 mod orders;
 mod power;
+mod rows;
 mod study;
 mod twice;
 mod world;
@@ -21,7 +22,7 @@ use study::{Plan, Tally};
 
 type Study = fn(&dyn Library, &Plan) -> Tally;
 
-const STUDIES: [(&str, Study); 14] = [
+const STUDIES: [(&str, Study); 16] = [
     ("meetings, no fault", cuts::none),
     ("changed byte, block", bytes::blocks),
     ("changed byte, file", bytes::files),
@@ -36,6 +37,8 @@ const STUDIES: [(&str, Study); 14] = [
     ("two cards, number used twice", cards::used_twice),
     ("two cards, too many records", cards::too_many),
     ("call lists", lists::all),
+    ("meetings by rows", rows::meetings),
+    ("changed byte, row", rows::changed),
 ];
 
 const USAGE: &str = "usage: faults [--long] [--seconds N] [--seed N]";

@@ -1,5 +1,5 @@
 //! Harnesses for a coverage-guided fuzzer. Each takes the fuzzer's bytes, makes a
-//! log and a block, file or wish of them, gives both to the static library and to
+//! log and a block, row, file or wish of them, gives both to the static library and to
 //! the plain implementation, and ends the program if an answer or a byte differs.
 
 mod act;
@@ -8,11 +8,13 @@ mod input;
 mod life;
 mod merge;
 mod read_file;
+mod row;
 mod take;
 
 pub use act::act;
 pub use merge::merge;
 pub use read_file::read_file;
+pub use row::row_calls;
 pub use take::take;
 
 /// The fuzzer's bytes.
@@ -41,3 +43,4 @@ harness!(fuzz_take, take::take);
 harness!(fuzz_read_file, read_file::read_file);
 harness!(fuzz_act, act::act);
 harness!(fuzz_merge, merge::merge);
+harness!(fuzz_row, row::row_calls);

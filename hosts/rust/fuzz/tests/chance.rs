@@ -30,3 +30,8 @@ fn acts() {
 fn merges() {
     run(fuzz::merge, 4);
 }
+
+#[test]
+fn rows() {
+    run(fuzz::row_calls, 5);
+}

@@ -43,6 +43,24 @@ pub struct Compared {
     pub second_lacks: u32,
 }
 
+/// How far a row was taken: how many blocks, and the number that stopped it, or
+/// 0.
+#[derive(Clone, Copy, Debug, PartialEq, Eq)]
+pub struct RowTaken {
+    pub taken: u8,
+    pub stopped: u8,
+}
+
+/// The memory lent for a trial.
+pub struct Trial {
+    pub copy: Vec<u8>,
+    pub tree: Vec<u8>,
+    pub report: Vec<u8>,
+}
+
+/// Bytes of the report of a trial.
+pub const REPORT: usize = 2_068;
+
 /// Bytes lent for a listing; none is longer.
 pub const LISTING: usize = 76_800;
 
@@ -60,6 +78,23 @@ pub trait Library {
         block: &mut [u8],
     ) -> Answer<()>;
     fn take(&self, log: &mut [u8], archive: u32, unit: u32, block: &[u8]) -> Answer<()>;
+    fn hand_out_row(
+        &self,
+        log: &[u8],
+        archive: u32,
+        unit: u32,
+        asked: &[u16; 8],
+        row: &mut [u8],
+    ) -> Answer<u16>;
+    fn take_row(&self, log: &mut [u8], archive: u32, unit: u32, row: &[u8]) -> Answer<RowTaken>;
+    fn try_row(
+        &self,
+        log: &[u8],
+        archive: u32,
+        unit: u32,
+        row: &[u8],
+        trial: &mut Trial,
+    ) -> Answer<()>;
     fn write_file(&self, log: &[u8], archive: u32, unit: u32, file: &mut [u8]) -> Answer<u16>;
     fn read_file(&self, log: &mut [u8], file: &[u8]) -> Answer<Head>;
     fn show(&self, log: &[u8], tree: &mut [u8]) -> Answer<()>;
@@ -113,6 +148,39 @@ macro_rules! entry_points {
         fn take(&self, log: &mut [u8], archive: u32, unit: u32, block: &[u8]) -> Answer<()> {
             $library::take(log, archive, unit_of(unit), block).map_err(refusal)
         }
+        fn hand_out_row(
+            &self,
+            log: &[u8],
+            archive: u32,
+            unit: u32,
+            asked: &[u16; 8],
+            row: &mut [u8],
+        ) -> Answer<u16> {
+            $library::hand_out_row(log, archive, unit_of(unit), asked, row).map_err(refusal)
+        }
+        fn take_row(
+            &self,
+            log: &mut [u8],
+            archive: u32,
+            unit: u32,
+            row: &[u8],
+        ) -> Answer<RowTaken> {
+            let $library::RowTaken { taken, stopped } =
+                $library::take_row(log, archive, unit_of(unit), row).map_err(refusal)?;
+            Ok(RowTaken { taken, stopped })
+        }
+        fn try_row(
+            &self,
+            log: &[u8],
+            archive: u32,
+            unit: u32,
+            row: &[u8],
+            trial: &mut Trial,
+        ) -> Answer<()> {
+            let Trial { copy, tree, report } = trial;
+            $library::try_row(log, archive, unit_of(unit), row, copy, tree, report)
+                .map_err(refusal)
+        }
         fn write_file(&self, log: &[u8], archive: u32, unit: u32, file: &mut [u8]) -> Answer<u16> {
             $library::write_file(log, archive, unit_of(unit), file).map_err(refusal)
         }
@@ -165,7 +233,7 @@ macro_rules! entry_points {
 
 /// The plain Rust implementation.
 mod plain_rust {
-    use super::{Answer, Compared, Head, Library, MergeRefusal, Refusal};
+    use super::{Answer, Compared, Head, Library, MergeRefusal, Refusal, RowTaken, Trial};
 
     pub struct Plain;
 
@@ -203,7 +271,7 @@ mod plain_rust {
 /// The static library.
 #[cfg(feature = "static")]
 mod static_library {
-    use super::{Answer, Compared, Head, Library, MergeRefusal, Refusal};
+    use super::{Answer, Compared, Head, Library, MergeRefusal, Refusal, RowTaken, Trial};
     use sab::raw;
     use std::cell::RefCell;
 

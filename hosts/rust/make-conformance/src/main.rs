@@ -11,6 +11,7 @@ mod good;
 mod index;
 mod kit;
 mod merges;
+mod rows;
 mod tables;
 
 use kit::{Case, Written};
@@ -26,6 +27,7 @@ fn write(directory: &Path) -> io::Result<()> {
         calls::list(),
         calls::meeting(),
         calls::full(),
+        rows::list(),
     ];
     let (tables, merges) = (tables::all(), merges::all());
 

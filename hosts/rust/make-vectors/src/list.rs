@@ -1,7 +1,7 @@
 //! A call list in the making: each call is run and written down.
 
 use crate::text::{bytes, hash, lent, vector};
-use plain::{Answer, FILE, LOG, TREE};
+use plain::{Answer, FILE, LOG, REPORT, TREE};
 use workload::vector_of;
 
 /// The log lent to a call.
@@ -157,6 +157,41 @@ impl List {
             self.given
                 .extend(file.chunks(512).take(count as usize).map(<[u8]>::to_vec));
         }
+        number(&came)
+    }
+
+    /// A row tried: on 0 how far it would be taken, what stops it, the vector and
+    /// the entries that become disputed.
+    pub fn try_row(&mut self, slot: usize, log: Lent, archive: u32, unit: u8, row: &[u8]) -> u8 {
+        let (after, word) = self.lent(slot, log);
+        let (mut copy, mut tree, mut report) = (vec![0; LOG], vec![0; TREE], [0; REPORT]);
+        let came = plain::try_row(
+            &after,
+            archive,
+            unit,
+            row,
+            &mut copy,
+            &mut tree,
+            &mut report,
+        );
+        let pair = |at: usize| u16::from_le_bytes([report[at], report[at + 1]]);
+        let told = came.map_or("- - - -".to_string(), |()| {
+            let counts = std::array::from_fn(|unit| pair(4 + 2 * unit));
+            let named: Vec<String> = (0..usize::from(pair(2)))
+                .map(|i| format!("{}.{}", report[20 + 4 * i], pair(22 + 4 * i)))
+                .collect();
+            let named = match named.is_empty() {
+                true => "-".to_string(),
+                false => named.join(","),
+            };
+            format!("{} {} {} {named}", report[0], report[1], vector(&counts))
+        });
+        self.line(format!(
+            "try {slot} {word} {archive} {unit} {} = {} {} {told}",
+            bytes(row),
+            answer(&came),
+            hash(&after)
+        ));
         number(&came)
     }
 

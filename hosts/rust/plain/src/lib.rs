@@ -16,6 +16,7 @@ mod listing;
 mod merge;
 mod record;
 mod replay;
+mod rows;
 mod table;
 mod vector;
 
@@ -24,6 +25,7 @@ pub use calls::{Head, act, hand_out, read_file, show, sound, start, take, vector
 pub use listing::{LISTING, listing};
 pub use merge::{MergeRefusal, merge};
 pub use record::{is_date, well_formed};
+pub use rows::{REPORT, RowTaken, hand_out_row, take_row, try_row};
 pub use vector::{Compared, compare};
 
 /// Bytes of a record.

@@ -38,6 +38,41 @@ unsafe extern "C" {
         block_len: usize,
     ) -> u32;
 
+    pub fn sab_hand_out_row(
+        log: *const u8,
+        log_len: usize,
+        archive: u32,
+        unit: u32,
+        asked: *const u8,
+        asked_len: usize,
+        row: *mut u8,
+        row_len: usize,
+    ) -> u32;
+
+    pub fn sab_take_row(
+        log: *mut u8,
+        log_len: usize,
+        archive: u32,
+        unit: u32,
+        row: *const u8,
+        row_len: usize,
+    ) -> u32;
+
+    pub fn sab_try(
+        log: *const u8,
+        log_len: usize,
+        archive: u32,
+        unit: u32,
+        row: *const u8,
+        row_len: usize,
+        copy: *mut u8,
+        copy_len: usize,
+        tree: *mut u8,
+        tree_len: usize,
+        report: *mut u8,
+        report_len: usize,
+    ) -> u32;
+
     pub fn sab_write_file(
         log: *const u8,
         log_len: usize,

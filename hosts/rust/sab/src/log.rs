@@ -1,6 +1,9 @@
 //! A unit's log.
 
-use crate::{Answer, Block, Identity, Record, Records, Refusal, Tree, Unit, Vector, Wish, raw};
+use crate::{
+    Answer, Block, Identity, Record, Records, Refusal, Row, RowTaken, Tree, Trial, Unit, Vector,
+    Wish, raw,
+};
 use std::fmt;
 
 /// The records that a unit holds, with its archive and its unit number.
@@ -110,6 +113,67 @@ impl Log {
     pub fn take(&mut self, block: impl AsRef<[u8]>) -> Answer<()> {
         let unit = self.unit_number();
         raw::take(&mut *self.bytes, self.archive, unit, block.as_ref())
+    }
+
+    /// All blocks of what the asked vector lacks, in one call.
+    pub fn hand_out_row(&self, asked: &Vector) -> Answer<Row> {
+        let mut row = vec![0; raw::FILE];
+        let blocks = raw::hand_out_row(
+            &*self.bytes,
+            self.archive,
+            self.unit_number(),
+            asked.counts(),
+            &mut row,
+        )?;
+        row.truncate(raw::BLOCK * usize::from(blocks));
+        Ok(Row::new(row))
+    }
+
+    /// Takes the blocks of a row in turn, up to the first that is refused, in one
+    /// call. Refuses 2; what stops the row, 3 to 11, is part of the answer.
+    pub fn take_row(&mut self, row: impl AsRef<[u8]>) -> Answer<RowTaken> {
+        let unit = self.unit_number();
+        let row = raw::take_row(&mut *self.bytes, self.archive, unit, row.as_ref())?;
+        Ok(RowTaken::of(row.taken, row.stopped))
+    }
+
+    /// What [`Log::take_row`] would do. The log stays as it is. Refuses 2.
+    ///
+    /// ```
+    /// use sab::{Date, Identity, Log, Unit, Vector, Wish};
+    /// # fn main() -> Result<(), sab::Refusal> {
+    /// let day = Date::new(2025, 3, 3);
+    /// let mut van = Log::start(7, Unit::ALL[0]);
+    /// let mut bench = Log::start(7, Unit::ALL[1]);
+    /// let made = van.act(&Wish::make_folder(Identity::ROOT, "Bench", day)?)?;
+    /// bench.act(&Wish::make_folder(Identity::ROOT, "Bench", day)?)?;
+    /// let row = van.hand_out_row(&bench.vector()?)?;
+    /// let trial = bench.try_row(&row)?;
+    /// assert_eq!((trial.row.taken, trial.row.stopped), (1, None));
+    /// assert_eq!(trial.disputed, [made]);
+    /// bench.take_row(&row)?;
+    /// assert_eq!(bench, trial.log);
+    /// # Ok(())
+    /// # }
+    /// ```
+    pub fn try_row(&self, row: impl AsRef<[u8]>) -> Answer<Trial> {
+        let mut copy = boxed();
+        let mut tree = vec![0; raw::TREE];
+        let mut report = [0; raw::REPORT];
+        raw::try_row(
+            &*self.bytes,
+            self.archive,
+            self.unit_number(),
+            row.as_ref(),
+            &mut *copy,
+            &mut tree,
+            &mut report,
+        )?;
+        let log = Log {
+            bytes: copy,
+            ..*self
+        };
+        Ok(Trial::of(&report, log, Tree::new(tree)))
     }
 
     /// The whole log as a file, 1 to 86 blocks.

@@ -76,7 +76,7 @@ impl Asking {
         Ok(!block.is_empty())
     }
 
-    /// Takes block after block of a log at hand, until nothing is lacking or a
+    /// Takes the blocks of a log at hand in one row, until nothing is lacking or a
     /// take refuses. What was taken before a refusal stays.
     pub fn pass(self, from: &Log, to: &mut Log) -> Pass {
         let mut pass = Pass::default();
@@ -111,19 +111,18 @@ pub fn pass(from: &Log, to: &mut Log) -> Pass {
     }
 }
 
-fn pass_all(mut asking: Asking, from: &Log, to: &mut Log, pass: &mut Pass) -> Answer<()> {
-    loop {
-        let block = from.hand_out(&asking.vector())?;
-        let more = asking.take(to, block).inspect_err(|refusal| {
-            if refusal.number == 10 {
-                pass.twice = held_otherwise(to, &block);
-            }
-        })?;
-        if !more {
-            return Ok(());
-        }
-        pass.blocks += 1;
+fn pass_all(asking: Asking, from: &Log, to: &mut Log, pass: &mut Pass) -> Answer<()> {
+    let row = from.hand_out_row(&asking.vector())?;
+    let taken = to.take_row(&row)?;
+    pass.blocks = taken.taken.into();
+    let Some(refusal) = taken.stopped else {
+        return Ok(());
+    };
+    if refusal.number == 10 {
+        let block = row.blocks().nth(taken.taken.into());
+        pass.twice = block.and_then(|block| held_otherwise(to, &block));
     }
+    Err(Refusal::new(refusal.number))
 }
 
 /// The first record of a block that a log holds with other bytes.

@@ -19,6 +19,8 @@ pub const BLOCK: usize = 512;
 pub const FILE: usize = 44_032;
 /// Bytes of the tree table.
 pub const TREE: usize = 43_012;
+/// Bytes of the report of a row that is tried.
+pub const REPORT: usize = 2_068;
 /// Bytes lent for a listing; none is longer.
 pub const LISTING: usize = 76_800;
 
@@ -114,6 +116,88 @@ pub fn take(log: &mut [u8], archive: u32, unit: u32, block: &[u8]) -> Answer<()>
             unit,
             block.as_ptr(),
             block.len(),
+        )
+    };
+    answer(result).map(drop)
+}
+
+/// Writes all blocks of what the asked vector lacks, each as [`hand_out`] would
+/// give it once those before are taken, and zeros behind them; answers how many
+/// they are. Refuses 1, 21, 19.
+pub fn hand_out_row(
+    log: &[u8],
+    archive: u32,
+    unit: u32,
+    asked: &[u16; 8],
+    row: &mut [u8],
+) -> Answer<u16> {
+    let asked = vector_bytes(asked);
+    let result = unsafe {
+        ffi::sab_hand_out_row(
+            log.as_ptr(),
+            log.len(),
+            archive,
+            unit,
+            asked.as_ptr(),
+            asked.len(),
+            row.as_mut_ptr(),
+            row.len(),
+        )
+    };
+    answer(result)
+}
+
+/// How far a row was taken.
+#[derive(Clone, Copy, Debug, PartialEq, Eq)]
+pub struct RowTaken {
+    /// How many blocks.
+    pub taken: u8,
+    /// The number that stopped the row, or 0.
+    pub stopped: u8,
+}
+
+/// Takes the blocks of a row in turn, up to the first that [`take`] refuses.
+/// Refuses 1, 21, 2, 19.
+pub fn take_row(log: &mut [u8], archive: u32, unit: u32, row: &[u8]) -> Answer<RowTaken> {
+    let result = unsafe {
+        ffi::sab_take_row(
+            log.as_mut_ptr(),
+            log.len(),
+            archive,
+            unit,
+            row.as_ptr(),
+            row.len(),
+        )
+    };
+    let [taken, stopped] = answer(result)?.to_le_bytes();
+    Ok(RowTaken { taken, stopped })
+}
+
+/// Tries a row on a copy of the log: leaves in `copy` the log as it would be, in
+/// `tree` its tree, in `report` what `include/sab.h` says. Refuses 1, 21, 2, 19.
+pub fn try_row(
+    log: &[u8],
+    archive: u32,
+    unit: u32,
+    row: &[u8],
+    copy: &mut [u8],
+    tree: &mut [u8],
+    report: &mut [u8],
+) -> Answer<()> {
+    let result = unsafe {
+        ffi::sab_try(
+            log.as_ptr(),
+            log.len(),
+            archive,
+            unit,
+            row.as_ptr(),
+            row.len(),
+            copy.as_mut_ptr(),
+            copy.len(),
+            tree.as_mut_ptr(),
+            tree.len(),
+            report.as_mut_ptr(),
+            report.len(),
         )
     };
     answer(result).map(drop)

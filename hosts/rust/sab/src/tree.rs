@@ -13,6 +13,10 @@ const ASIDES: usize = ENTRIES + 512 * ENTRY;
 pub struct Tree(Vec<u8>);
 
 impl Tree {
+    pub(crate) fn new(table: Vec<u8>) -> Tree {
+        Tree(table)
+    }
+
     pub(crate) fn of(log: &[u8]) -> Answer<Tree> {
         let mut tree = vec![0; raw::TREE];
         raw::show(log, &mut tree)?;

@@ -2,7 +2,7 @@
 //! another length, and bytes kept by refusals.
 
 use sab::Refusal;
-use sab::raw::{self, BLOCK, FILE, Head, LISTING, LOG, Listed, TREE, WISH};
+use sab::raw::{self, BLOCK, FILE, Head, LISTING, LOG, Listed, REPORT, RowTaken, TREE, WISH};
 use workload::{Mix, log_of, vector_of};
 
 const ARCHIVE: u32 = 0xfedc_ba98;
@@ -344,4 +344,89 @@ fn comparing() {
     assert_eq!(compared(&ahead, &high), (3, 27 + 65_535, 8));
     // More than 16 bits hold.
     assert_eq!(compared(&[0; 8], &[65_535; 8]), (2, 524_280, 0));
+}
+
+#[test]
+fn rows() {
+    let full = log_of(100, 4, 5, &Mix::CONFLICTS, 3);
+    let mut log = vec![0; LOG];
+    log[..3200].copy_from_slice(&full[..3200]);
+    let held = vector_of(&log);
+
+    // Handing out: as single blocks, one after another.
+    let mut row = pattern(FILE);
+    let blocks = raw::hand_out_row(&full, ARCHIVE, 5, &held, &mut row).unwrap();
+    assert_eq!(blocks, 10);
+    assert!(row[BLOCK * 10..].iter().all(|byte| *byte == 0));
+    let row = row[..BLOCK * 10].to_vec();
+    let mut single = log.clone();
+    for block in row.chunks(BLOCK) {
+        let mut handed = [0; BLOCK];
+        raw::hand_out(&full, ARCHIVE, 5, &vector_of(&single), &mut handed).unwrap();
+        assert_eq!(handed[..], *block);
+        raw::take(&mut single, ARCHIVE, 0, block).unwrap();
+    }
+    assert_eq!(single, full);
+
+    // Trying, then taking; a damaged block stops both.
+    let mut damaged = row.clone();
+    damaged[BLOCK * 4 + 99] ^= 1;
+    for (row, taken, stopped) in [(&row, 10, 0), (&damaged, 4, 4)] {
+        let (mut copy, mut tree, mut report) = (pattern(LOG), pattern(TREE), pattern(REPORT));
+        let before = log.clone();
+        raw::try_row(&log, ARCHIVE, 0, row, &mut copy, &mut tree, &mut report).unwrap();
+        assert_eq!(log, before);
+        assert_eq!(report[..2], [taken, stopped]);
+        let mut after = log.clone();
+        let answer = raw::take_row(&mut after, ARCHIVE, 0, row);
+        assert_eq!(answer, Ok(RowTaken { taken, stopped }));
+        assert_eq!(after, copy);
+        let mut shown = vec![0; TREE];
+        raw::show(&after, &mut shown).unwrap();
+        assert_eq!(shown, tree);
+    }
+
+    // Refusals: 1, 21, 2, 19, and every byte stays.
+    let part = &row[..BLOCK + 1];
+    let mut unsound = log.clone();
+    unsound[1] = 9;
+    let try_row = |log: &[u8], unit, row: &[u8], lengths: [usize; 3]| {
+        let lent = lengths.map(pattern);
+        let [mut copy, mut tree, mut report] = lent.clone();
+        let answer = raw::try_row(log, ARCHIVE, unit, row, &mut copy, &mut tree, &mut report);
+        assert_eq!([copy, tree, report], lent);
+        answer
+    };
+    let right = [LOG, TREE, REPORT];
+    for at in 0..3 {
+        let mut lengths = right;
+        lengths[at] += 1;
+        assert_eq!(try_row(&unsound, 8, part, lengths), refused(1));
+    }
+    assert_eq!(try_row(&log[1..], 8, part, right), refused(1));
+    assert_eq!(try_row(&unsound, 8, part, right), refused(21));
+    assert_eq!(try_row(&unsound, 256, part, right), refused(21));
+    assert_eq!(try_row(&unsound, 0, part, right), refused(2));
+    assert_eq!(try_row(&log, 0, &vec![0; FILE + BLOCK], right), refused(2));
+    assert_eq!(try_row(&unsound, 0, &row, right), refused(19));
+    let take_row = |log: &[u8], unit, row: &[u8]| {
+        let mut lent = log.to_vec();
+        let answer = raw::take_row(&mut lent, ARCHIVE, unit, row);
+        assert_eq!(lent, log);
+        answer
+    };
+    assert_eq!(take_row(&log[1..], 8, part), refused(1));
+    assert_eq!(take_row(&unsound, 8, part), refused(21));
+    assert_eq!(take_row(&unsound, 0, part), refused(2));
+    assert_eq!(take_row(&unsound, 0, &row), refused(19));
+    let none = RowTaken {
+        taken: 0,
+        stopped: 0,
+    };
+    assert_eq!(take_row(&log, 0, &[]), Ok(none));
+    for mut row in wrong(FILE) {
+        let before = row.clone();
+        let answer = raw::hand_out_row(&full, ARCHIVE, 8, &held, &mut row);
+        assert_eq!((answer, row), (refused(1), before));
+    }
 }

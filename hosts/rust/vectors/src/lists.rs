@@ -2,7 +2,7 @@
 
 use crate::tree;
 use crate::words::{Fault, Words, bytes, hash};
-use library::{Answer, Library};
+use library::{Answer, Library, REPORT, Trial};
 
 const LOG: usize = 40_960;
 
@@ -107,6 +107,11 @@ fn call_on(
                 came.push(written(words.word_ahead(3)?, &block)?);
             }
         }
+        "try" => {
+            let row = words.bytes()?;
+            words.equals()?;
+            came.extend(try_row(library, log, archive, unit, &row)?);
+        }
         "write" => {
             let lent = words.lent()?;
             words.equals()?;
@@ -126,10 +131,55 @@ fn call_on(
     if came.len() == 2 {
         came.push(hash(log));
     }
-    if came[0] != "0" || matches!(name, "handout" | "write") {
+    if came[0] != "0" || matches!(name, "handout" | "try" | "write") {
         kept("log", log, &before)?;
     }
     words.expect(&came)
+}
+
+/// Tries a row; then takes it into another copy, which must leave the same.
+fn try_row(
+    library: &dyn Library,
+    log: &[u8],
+    archive: u32,
+    unit: u32,
+    row: &[u8],
+) -> Result<Vec<String>, Fault> {
+    let lent = |length: usize| (0..length).map(|i| (7 + 31 * i) as u8).collect();
+    let mut trial = Trial {
+        copy: lent(LOG),
+        tree: lent(tree::TREE),
+        report: lent(REPORT),
+    };
+    let given = library.try_row(log, archive, unit, row, &mut trial);
+    let mut taken = log.to_vec();
+    let took = library.take_row(&mut taken, archive, unit, row);
+    let mut came = answer(&given).to_vec();
+    came.push(hash(log));
+    if given.is_err() {
+        kept("copy", &trial.copy, &lent(LOG))?;
+        kept("tree", &trial.tree, &lent(tree::TREE))?;
+        kept("report", &trial.report, &lent(REPORT))?;
+        kept("log", &taken, log)?;
+        if took.err() != given.err() {
+            return Err("the take of the row answers otherwise".into());
+        }
+        came.extend(std::iter::repeat_n("-".to_string(), 4));
+        return Ok(came);
+    }
+    let report = &trial.report;
+    let (took, stop) = (took.map(|row| (row.taken, row.stopped)), (report[0], report[1]));
+    if took != Ok(stop) || taken != trial.copy {
+        return Err("the take of the row leaves another log".into());
+    }
+    let pair = |at: usize| u16::from_le_bytes([report[at], report[at + 1]]);
+    let vector: Vec<String> = (0..8).map(|unit| pair(4 + 2 * unit).to_string()).collect();
+    let named: Vec<String> = (0..usize::from(pair(2)))
+        .map(|i| format!("{}.{}", report[20 + 4 * i], pair(22 + 4 * i)))
+        .collect();
+    let named = if named.is_empty() { "-".to_string() } else { named.join(",") };
+    came.extend([stop.0.to_string(), stop.1.to_string(), vector.join(","), named]);
+    Ok(came)
 }
 
 /// A block as the list writes it: the expected word itself if it tells the same

@@ -1,7 +1,7 @@
 //! `sab meet`: blocks passed both ways until both files hold the same.
 
 use super::{Command, Session};
-use crate::archive::Own;
+use crate::archive::{Archive, Own};
 use crate::args::{Opt, flag, value};
 use crate::change::Change;
 use crate::failure::{Failure, Outcome, Refused, of_library, usage};
@@ -201,9 +201,19 @@ fn tell_vectors(session: &mut Session, one: (&Path, &Log), other: (&Path, &Log))
 
 /// Says what a file shows now.
 pub fn tell_change(session: &mut Session, own: &Own, after: &Log, equal: bool) -> Outcome<()> {
-    let name = &own.archive.name;
+    tell_change_of(session, &own.archive, after, equal)
+}
+
+/// Says what a file would show.
+pub fn tell_change_of(
+    session: &mut Session,
+    archive: &Archive,
+    after: &Log,
+    equal: bool,
+) -> Outcome<()> {
+    let name = &archive.name;
     let refused = of_library(name, Case::Taking);
-    let change = Change::between(&own.archive.log, after).map_err(&refused)?;
+    let change = Change::between(&archive.log, after).map_err(&refused)?;
     let vector = after.vector().map_err(&refused)?;
     session.out.object(|| {
         let object = Object::new("meeting")

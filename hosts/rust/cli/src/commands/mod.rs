@@ -18,6 +18,7 @@ mod salvage;
 mod settle;
 mod take;
 mod tree;
+mod try_row;
 mod words;
 
 use crate::args::{Args, Opt, Usage, flag, nearest, value};
@@ -89,6 +90,7 @@ pub const GROUPS: &[(&str, &[&Command])] = &[
             &meet::COMMAND,
             &pass::COMMAND,
             &pack::COMMAND,
+            &try_row::COMMAND,
             &take::COMMAND,
             &merge::COMMAND,
         ],

@@ -11,8 +11,7 @@ use crate::meeting::{self, Given, given_words};
 use crate::numbers::Case;
 use crate::out::{Status, shown};
 use crate::why::{self, counted};
-use sab::raw::BLOCK;
-use sab::{Block, Log};
+use sab::{Identity, Log, Refusal, Row};
 use std::path::{Path, PathBuf};
 
 /// `sab take`.
@@ -51,27 +50,11 @@ fn run(session: &mut Session) -> Outcome<Status> {
     let names = session.args.files(2..=usize::MAX, "FILE and ROW..")?;
     let own = Own::open(session.system, &names[0])?;
     let mut log = own.archive.log.clone();
-    let mut rows = Vec::new();
-    for name in &names[1..] {
-        let row = Row::take(session, &mut log, name)?;
-        let stopped = row.stop.is_some();
-        rows.push(row);
-        if stopped {
-            break;
-        }
-    }
-    let twice = |row: &Row| {
-        row.stop
-            .as_ref()
-            .is_some_and(|stop| stop.refusal.number == 10)
-    };
-    if let Some(refused) = rows.pop_if(|row| twice(row)).and_then(|row| row.stop) {
-        return Err(Failure::Refused(refused));
-    }
+    let rows = Taken::all(session, &mut log, &names[1..])?;
     if !session.args.has("dry-run") {
         own.replace(&log, session.args.has("backup"))?;
     }
-    rows.iter().for_each(|row| row.tell(session));
+    rows.iter().for_each(|row| row.tell(session, "taken"));
     let vector = log.vector().map_err(of_library(&names[0], Case::Taking))?;
     session
         .out
@@ -83,49 +66,74 @@ fn run(session: &mut Session) -> Outcome<Status> {
 }
 
 /// A row that was taken, as far as it went.
-struct Row {
+pub struct Taken {
     name: PathBuf,
     blocks: usize,
     taken: Vec<Given>,
-    stop: Option<Refused>,
+    /// What stopped it.
+    pub stop: Option<Refused>,
+    /// The entries that became disputed.
+    pub disputed: Vec<Identity>,
 }
 
-impl Row {
-    fn take(session: &Session, log: &mut Log, name: &Path) -> Outcome<Row> {
-        let read = files::read(session.system, name, LIMIT)?;
-        // The length is judged as that of a file: 1 to 86 whole blocks.
-        if let Err(refusal) = Log::read_file(&read.bytes)
-            && refusal.number == 2
-        {
-            let detail = why::of_file(&read.bytes, read.length, refusal);
-            let refused = Refused::new(name, refusal, Case::File, detail);
-            return Err(Failure::Refused(refused));
-        }
-        let mut row = Row {
-            name: name.to_path_buf(),
-            blocks: read.bytes.len() / BLOCK,
-            taken: Vec::new(),
-            stop: None,
-        };
-        for bytes in read.bytes.chunks(BLOCK) {
-            let block = Block::try_from(bytes).map_err(of_library(name, Case::Taking))?;
-            match meeting::take(log, &block, |log| log.take(block)) {
-                Ok(given) => row.taken.push(given),
-                Err(refusal) => {
-                    let place = format!("block {} of the row", row.taken.len() + 1);
-                    let detail = match why::of_block(bytes, log, refusal) {
-                        Some(detail) => format!("{place}: {detail}"),
-                        None => place,
-                    };
-                    row.stop = Some(Refused::new(name, refusal, Case::Taking, Some(detail)));
-                    break;
+impl Taken {
+    /// Rows taken one after another, up to the first that stops. A number that was
+    /// used twice refuses all.
+    pub fn all(session: &Session, log: &mut Log, names: &[PathBuf]) -> Outcome<Vec<Taken>> {
+        let mut rows: Vec<Taken> = Vec::new();
+        for name in names {
+            let row = Taken::take(session, log, name)?;
+            match row.stop {
+                Some(refused) if refused.refusal.number == 10 => {
+                    return Err(Failure::Refused(refused));
                 }
+                _ => rows.push(row),
+            }
+            if rows.iter().any(|row| row.stop.is_some()) {
+                break;
             }
         }
-        Ok(row)
+        Ok(rows)
     }
 
-    fn tell(&self, session: &mut Session) {
+    /// The row is tried by the library, and the log becomes the one that it would
+    /// be.
+    fn take(session: &Session, log: &mut Log, name: &Path) -> Outcome<Taken> {
+        let read = files::read(session.system, name, LIMIT)?;
+        let no_row = |refusal: Refusal| {
+            let detail = why::of_file(&read.bytes, read.length, refusal);
+            Failure::Refused(Refused::new(name, refusal, Case::File, detail))
+        };
+        let row = Row::try_from(read.bytes.as_slice()).map_err(no_row)?;
+        if row.is_empty() {
+            return Err(no_row(Refusal::new(2)));
+        }
+        let trial = log.try_row(&row).map_err(of_library(name, Case::Taking))?;
+        let mut taken = meeting::given(log, &row);
+        taken.truncate(trial.row.taken.into());
+        *log = trial.log;
+        let stop = trial.row.stopped.map(|refusal| {
+            let refusal = Refusal::new(refusal.number);
+            let place = format!("block {} of the row", taken.len() + 1);
+            let block = row.blocks().nth(taken.len());
+            let detail = block.and_then(|block| why::of_block(block.as_ref(), log, refusal));
+            let detail = match detail {
+                Some(detail) => format!("{place}: {detail}"),
+                None => place,
+            };
+            Refused::new(name, refusal, Case::Taking, Some(detail))
+        });
+        Ok(Taken {
+            name: name.to_path_buf(),
+            blocks: row.len(),
+            taken,
+            stop,
+            disputed: trial.disputed,
+        })
+    }
+
+    /// Says what the row brought; `done` is taken, or would be taken.
+    pub fn tell(&self, session: &mut Session, done: &str) {
         let name = shown(&self.name);
         session.out.object(|| {
             let stop = self.stop.as_ref().map_or(0, |stop| stop.refusal.number);
@@ -134,6 +142,7 @@ impl Row {
                 .number("blocks", self.blocks as u64)
                 .number("taken", self.taken.len() as u64)
                 .number("stop", stop)
+                .texts("newly_disputed", &self.disputed)
         });
         for (at, given) in self.taken.iter().enumerate() {
             let words = given_words(given);
@@ -142,7 +151,7 @@ impl Row {
                 .line(format_args!("{name}: block {}: {words}", at + 1));
         }
         session.out.line(format_args!(
-            "{name}: {} of {} taken",
+            "{name}: {} of {} {done}",
             self.taken.len(),
             counted(self.blocks, "block")
         ));

@@ -1,0 +1,103 @@
+// Handing out a row: all blocks of what another unit lacks, with one check of the log.
+ghost use mathlib.Core.Path.{_≡_};
+ghost use mathlib.Core.Bool.{true};
+ghost use Prim.Native.Nat.{_*_, _≤_};
+ghost use lib.ListN.{length, replicate};
+ghost use Rattle.model.specs.Vector.{blocksFor};
+ghost use Rattle.model.specs.Lengths.{logSize, fileSize, logPlaces};
+ghost use Rattle.model.specs.Bytes.{padded, joined};
+ghost use Rattle.model.specs.Log.{recordsOf, soundLog, vectorOf};
+ghost use Rattle.model.specs.Outcome.{outcome, lacking};
+ghost use Rattle.row_model.specs.Row.{rowBlock, rowOf, handRowOf};
+use block_write::Block;
+use block_write::block_of;
+use call_guard::open;
+use hand_out_pick::gather_all;
+use model::FILE_BYTES;
+use model::LOG_BYTES;
+use vector::Vector;
+use write_file::Written;
+use write_file::clear_behind;
+use write_file_blocks::count_at;
+use write_file_blocks::write_at;
+
+// 512 places of 80 bytes, all zero.
+fn fresh_records() -> [u8; 40960]
+    ensures { λ r. ⌜ r ≡ replicate logSize 0 ⌝ }
+{
+    [0u8; LOG_BYTES]
+}
+
+// How many blocks n records are.
+fn row_count(n: usize) -> usize
+    requires { ⌜ n ≤ logPlaces ⌝ }
+    ensures { λ r. ⌜ r ≡ blocksFor n ⌝ }
+{
+    (n + 5) / 6
+}
+
+// Block k of the n records that the asked vector lacks, which lie one behind another. The log and the asked vector only say which they are.
+fn row_block(
+    log: &[u8],
+    asked: Vector,
+    recs: &[u8],
+    n: usize,
+    k: usize,
+    held: Vector,
+    archive: u32,
+    unit: u8,
+) -> Block
+    requires { ⌜ (soundLog (now log) ≡ true) × (length (now recs) ≡ logSize) × (now recs ≡ padded logSize (joined (lacking (asked .counts) (recordsOf (now log))))) × (n ≡ length (lacking (asked .counts) (recordsOf (now log)))) × (held .counts ≡ vectorOf (recordsOf (now log))) × (n ≤ logPlaces) × (6 * k ≤ n) ⌝ }
+    ensures { λ r. ⌜ r .bytes ≡ rowBlock archive unit (recordsOf (now (log .entry))) (lacking (asked .counts) (recordsOf (now (log .entry)))) k ⌝ }
+{
+    let c = count_at(n, k);
+    let at = 480 * k;
+    block_of(archive, unit, c as u8, 0, held, &recs[at..at + 80 * c])
+}
+
+// Block after block is written, then zeros; the count of blocks is returned.
+fn write_row(
+    log: &[u8],
+    used: usize,
+    held: Vector,
+    archive: u32,
+    unit: u8,
+    asked: Vector,
+    out: &mut [u8],
+) -> u8
+    requires { ⌜ (length (now log) ≡ logSize) × (soundLog (now log) ≡ true) × (used ≡ length (recordsOf (now log))) × (held .counts ≡ vectorOf (recordsOf (now log))) × (length (now out) ≡ fileSize) ⌝ }
+    ensures counted { λ r. ⌜ r ≡ blocksFor (length (lacking (asked .counts) (recordsOf (now (log .entry))))) ⌝ }
+    ensures written { λ _. ⌜ now (out .exit) ≡ padded fileSize (rowOf archive unit (recordsOf (now (log .entry))) (asked .counts)) ⌝ }
+{
+    let mut recs = fresh_records();
+    let m = gather_all(log, used, asked, &mut recs);
+    let n = row_count(m);
+    let mut k: usize = 0;
+    while k < n {
+        let b = row_block(log, asked, &recs, m, k, held, archive, unit);
+        write_at(out, k, b);
+        k += 1;
+    }
+    clear_behind(out, n);
+    n as u8
+}
+
+// All blocks of what the asked vector lacks are written into the lent row, with zeros behind the last. The log is only read.
+pub fn hand_out_row(log: &[u8], archive: u32, unit: u8, asked: Vector, out: &mut [u8]) -> Written
+    ensures { λ r. ⌜ outcome (r .number) (r .place) (now (log .entry)) (now (out .exit)) (r .blocks) ≡ handRowOf archive unit (now (log .entry)) (asked .counts) (now (out .entry)) ⌝ }
+{
+    let o = open(log, unit, out.len() == FILE_BYTES, true);
+    if o.number != 0 {
+        return Written {
+            number: o.number,
+            place: 0,
+            blocks: 0,
+        };
+    }
+    let n = write_row(log, o.used, o.held, archive, unit, asked, out);
+    Written {
+        number: 0,
+        place: 0,
+        blocks: n,
+    }
+}

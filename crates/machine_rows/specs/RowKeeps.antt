@@ -1,0 +1,28 @@
+-- What the calls of a row may do to what they are lent.
+-- Assumes nothing.
+use Prim.Native.Nat.{ℕ}
+use mathlib.Core.Path.{_≡_}
+use mathlib.Core.Logic.{_↔_}
+use mathlib.Core.List.{List}
+use Rattle.model.specs.File.{blocksIn}
+use Rattle.row_model.specs.Row.{takeRowOf, tryOf, handRowOf}
+use Rattle.encoding_laws.specs.Keeps.{Good, Keeps}
+use Rattle.row_laws.specs.Stopped.{Stop}
+
+-- whatever a call is lent, an accepted one leaves a good log, a refused one every byte as it was
+pub record RowCallsKeep : Type 0 where
+  pub taking : (archive u : ℕ) (log row : List ℕ)
+      → (takeRowOf archive u log row .number ≡ 0 → Good (takeRowOf archive u log row .log))
+      × ((takeRowOf archive u log row .number ≡ 0 → ⊥) → takeRowOf archive u log row .log ≡ log)
+  pub trying : (archive u : ℕ) (log row copy tree report : List ℕ)
+      → (tryOf archive u log row copy tree report .number ≡ 0 → Good (tryOf archive u log row copy tree report .copy))
+      × ((tryOf archive u log row copy tree report .number ≡ 0 → ⊥)
+      → (tryOf archive u log row copy tree report .copy ≡ copy)
+      × (tryOf archive u log row copy tree report .tree ≡ tree)
+      × (tryOf archive u log row copy tree report .report ≡ report))
+  pub handing-out : (archive u : ℕ) (log v lent : List ℕ) → Keeps log lent (handRowOf archive u log v lent)
+  -- what stops a row is none of 1, 2, 19 and 21
+  pub stops : (archive u : ℕ) (log row : List ℕ) → Stop (takeRowOf archive u log row .stopped)
+  -- of an accepted one all blocks were taken exactly if nothing stopped it
+  pub whole : (archive u : ℕ) (log row : List ℕ) → takeRowOf archive u log row .number ≡ 0
+      → (takeRowOf archive u log row .stopped ≡ 0) ↔ (takeRowOf archive u log row .taken ≡ blocksIn row)

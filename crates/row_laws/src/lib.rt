@@ -1,0 +1,1 @@
+// Laws of rows of blocks: see specs/ and proofs/. No code.

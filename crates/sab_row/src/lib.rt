@@ -1,0 +1,45 @@
+// The calls of a row of blocks, as the static library calls them: the unit a 32-bit number, the answer in one word.
+ghost use mathlib.Core.Path.{_≡_};
+ghost use mathlib.Core.List.{[]};
+ghost use Rattle.sab_words.specs.Called.{called};
+ghost use Rattle.sab_row.specs.Rows.{rowHandedOf, rowTakenOf, triedCall, rowTriedOf};
+use byte_slice::wide;
+use sab_words::narrow;
+use sab_words::pack;
+use vector::vector_at;
+
+// Hands out all blocks of what the asked vector lacks; the count is that of the blocks.
+pub fn hand_out_row(log: &[u8], archive: u32, unit: u32, asked: &[u8], row: &mut [u8]) -> u32
+    ensures { λ r. ⌜ called r (now (log .entry)) (now (row .exit)) ≡ rowHandedOf archive unit (now (log .entry)) (now (asked .entry)) (now (row .entry)) ⌝ }
+{
+    if asked.len() != 16 {
+        return pack(1, 0, 0);
+    }
+    let v = vector_at(asked, 0);
+    let w = hand_out_row::hand_out_row(log, archive, narrow(unit), v, row);
+    pack(w.number, w.place, wide(w.blocks))
+}
+
+// Takes the blocks of a row in turn; the count is that of the blocks taken, with what stopped the row in its upper half.
+pub fn take_row(log: &mut [u8], archive: u32, unit: u32, row: &[u8]) -> u32
+    ensures { λ r. ⌜ called r (now (log .exit)) [] ≡ rowTakenOf archive unit (now (log .entry)) (now (row .entry)) ⌝ }
+{
+    let t = take_row::take_row(log, archive, narrow(unit), row);
+    pack(t.number, t.place, wide(t.taken) + 256 * wide(t.stopped))
+}
+
+// Tries a row on a copy of the log.
+pub fn try_row(
+    log: &[u8],
+    archive: u32,
+    unit: u32,
+    row: &[u8],
+    copy: &mut [u8],
+    tree: &mut [u8],
+    report: &mut [u8],
+) -> u32
+    ensures { λ r. ⌜ triedCall r (now (copy .exit)) (now (tree .exit)) (now (report .exit)) ≡ rowTriedOf archive unit (now (log .entry)) (now (row .entry)) (now (copy .entry)) (now (tree .entry)) (now (report .entry)) ⌝ }
+{
+    let a = try_row::try_row(log, archive, narrow(unit), row, copy, tree, report);
+    pack(a.number, a.place, 0)
+}

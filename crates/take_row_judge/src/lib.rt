@@ -1,0 +1,214 @@
+// The blocks of a row judged one after another. Each new record is laid behind those held, in lent work memory, so that the tables keep its
+// place; the log is not touched.
+ghost use mathlib.Core.Path.{_≡_};
+ghost use mathlib.Core.Bool.{true};
+ghost use Prim.Native.Nat.{_+_, _≤_, _<_};
+ghost use lib.ListN.{length};
+ghost use Rattle.model.specs.Lengths.{recordSize, blockSize, logSize, fileSize, logPlaces};
+ghost use Rattle.model.specs.Bytes.{sameBytes};
+ghost use Rattle.model.specs.Log.{recordsOf, soundLog};
+ghost use Rattle.model.specs.Block.{countIn};
+ghost use Rattle.model.specs.File.{blocksIn};
+ghost use Rattle.log_closure.specs.Tables.{placesSize, seensSize, Placed};
+ghost use Rattle.log_check.specs.declared.Layout.the-variants.{Log};
+ghost use Rattle.log_check.specs.Places.{laidAt};
+ghost use Rattle.take_beside.specs.Judging.{Counted, step, takeBy};
+ghost use Rattle.take_row_store.specs.Grown.{workSize};
+ghost use Rattle.take_row_judge.specs.Kept.{Kept, JudgedInto, JudgedOne, JudgedRow};
+use byte_slice::put;
+use model::BLOCK_BYTES;
+use take_beside::Judged;
+use take_beside::take_new;
+use vector::Vector;
+
+// What judging a row gives: the counts of the records held then and how many they are, how many blocks pass, and the number that stops the
+// row, or 0.
+pub struct RowJudged {
+    pub held: Vector,
+    pub used: usize,
+    pub taken: u8,
+    pub stopped: u8,
+}
+
+// The record at a place has the bytes of rec.
+fn same_at(rec: &[u8], q: usize, work: &[u8]) -> bool
+    requires { ⌜ (q < 518) × (length (now work) ≡ workSize) ⌝ }
+    ensures { λ r. ⌜ r ≡ sameBytes (laidAt Log (now (work .entry)) q) (now (rec .entry)) ⌝ }
+{
+    let at = 80 * q;
+    byte_slice::same(&work[at..at + 80], rec)
+}
+
+// One record of a block, which stands at the place used: 7, then 10 if its identity is held, else 8, 9, 11.
+fn take_at(
+    rec: &[u8],
+    held: Vector,
+    used: usize,
+    work: &[u8],
+    places: &mut [u16],
+    seens: &mut [u16],
+) -> Judged
+    requires { ⌜ (length (now rec) ≡ recordSize) × (used ≤ logPlaces) × (length (now work) ≡ workSize) × (length (now places) ≡ placesSize) × (length (now seens) ≡ seensSize) × Placed (held .counts) (now places) × Counted (held .counts) used ⌝ }
+    ensures { λ r. ⌜ step (r .number) (r .held .counts) (r .used) (now (places .exit)) (now (seens .exit)) ≡ takeBy (laidAt Log (now (work .entry))) (now (rec .entry)) used (held .counts) used (now (places .entry)) (now (seens .entry)) ⌝ }
+{
+    if !record::well_formed(rec) {
+        return Judged {
+            number: 7,
+            held,
+            used,
+        };
+    }
+    let u = record::unit_of(rec) as usize;
+    let c = record::number_of(rec);
+    if held.counts[u] < c {
+        return take_new(rec, used, held, used, places, seens);
+    }
+    let q = log_closure::position(places, u, c);
+    if same_at(rec, q, work) {
+        return Judged {
+            number: 0,
+            held,
+            used,
+        };
+    }
+    Judged {
+        number: 10,
+        held,
+        used,
+    }
+}
+
+// The n records of a block, one after another: the number of the first that is refused, or 0. Each new one is laid behind those held.
+fn judge_into(
+    b: &[u8],
+    n: usize,
+    log: &[u8],
+    base: usize,
+    v: Vector,
+    m: usize,
+    work: &mut [u8],
+    places: &mut [u16],
+    seens: &mut [u16],
+) -> Judged
+    requires { ⌜ (length (now b) ≡ blockSize) × (n ≡ countIn (now b)) × (n ≤ 6) × (length (now work) ≡ workSize) × (length (now places) ≡ placesSize) × (length (now seens) ≡ seensSize) × Kept (recordsOf (now log)) base (now work) m (v .counts) (now places) (now seens) ⌝ }
+    ensures { λ r. ⌜ JudgedInto (recordsOf (now (log .entry))) base (now (b .entry)) (now (work .entry)) m (r .number) (now (work .exit)) (r .used) (r .held .counts) (now (places .exit)) (now (seens .exit)) ⌝ }
+{
+    let mut held = v;
+    let mut used = m;
+    let mut j: usize = 0;
+    while j < n {
+        let at = 28 + 80 * j;
+        put(work, 80 * used, &b[at..at + 80]);
+        let t = take_at(&b[at..at + 80], held, used, work, places, seens);
+        if t.number != 0 {
+            return t;
+        }
+        let next = t.held;
+        held = next;
+        used = t.used;
+        j += 1;
+    }
+    Judged {
+        number: 0,
+        held,
+        used,
+    }
+}
+
+// One block beside the records held: 2 to 6, then its records. A refused one leaves the records held as they were.
+fn judge_one(
+    b: &[u8],
+    archive: u32,
+    unit: u8,
+    log: &[u8],
+    base: usize,
+    v: Vector,
+    m: usize,
+    work: &mut [u8],
+    places: &mut [u16],
+    seens: &mut [u16],
+) -> Judged
+    requires { ⌜ (unit ≤ 7) × (length (now work) ≡ workSize) × (length (now places) ≡ placesSize) × (length (now seens) ≡ seensSize) × Kept (recordsOf (now log)) base (now work) m (v .counts) (now places) (now seens) ⌝ }
+    ensures { λ r. ⌜ JudgedOne (recordsOf (now (log .entry))) base archive unit (now (b .entry)) (now (work .entry)) m (r .number) (now (work .exit)) (r .used) (r .held .counts) (now (places .exit)) (now (seens .exit)) ⌝ }
+{
+    let f = take_beside::given_fault(archive, b);
+    if f != 0 {
+        return Judged {
+            number: f,
+            held: v,
+            used: m,
+        };
+    }
+    let n = block_read::count_in(b) as usize;
+    let t = judge_into(b, n, log, base, v, m, work, places, seens);
+    if t.number != 0 {
+        return Judged {
+            number: t.number,
+            held: v,
+            used: m,
+        };
+    }
+    t
+}
+
+// How many blocks a row has.
+fn blocks_in(row: &[u8]) -> usize
+    requires { ⌜ length (now row) ≤ fileSize ⌝ }
+    ensures { λ r. ⌜ (r ≡ blocksIn (now (row .entry))) × (r ≤ 86) ⌝ }
+{
+    row.len() / BLOCK_BYTES
+}
+
+// The blocks of a row, one after another up to the first that is refused.
+pub fn judge_row(
+    row: &[u8],
+    archive: u32,
+    unit: u8,
+    log: &[u8],
+    base: usize,
+    v: Vector,
+    work: &mut [u8],
+    places: &mut [u16],
+    seens: &mut [u16],
+) -> RowJudged
+    requires { ⌜ (length (now row) ≤ fileSize) × (unit ≤ 7) × (length (now log) ≡ logSize) × (soundLog (now log) ≡ true) × (length (now work) ≡ workSize) × (length (now places) ≡ placesSize) × (length (now seens) ≡ seensSize) × Kept (recordsOf (now log)) base (now work) base (v .counts) (now places) (now seens) ⌝ }
+    ensures { λ r. ⌜ JudgedRow (now (log .entry)) base archive unit (now (row .entry)) (r .taken) (r .stopped) (now (work .exit)) (r .used) (r .held .counts) ⌝ }
+{
+    let n = blocks_in(row);
+    let mut held = v;
+    let mut used = base;
+    let mut k: usize = 0;
+    while k < n {
+        let at = 512 * k;
+        let t = judge_one(
+            &row[at..at + 512],
+            archive,
+            unit,
+            log,
+            base,
+            held,
+            used,
+            work,
+            places,
+            seens,
+        );
+        let next = t.held;
+        held = next;
+        used = t.used;
+        if t.number != 0 {
+            return RowJudged {
+                held,
+                used,
+                taken: k as u8,
+                stopped: t.number,
+            };
+        }
+        k += 1;
+    }
+    RowJudged {
+        held,
+        used,
+        taken: n as u8,
+        stopped: 0,
+    }
+}
