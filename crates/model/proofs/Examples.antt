@@ -17,5 +17,5 @@ use Rattle.model.specs.Examples as E
 
 -- every row of the table is right
 pub examples : allRight table ≡ true
-unfolding word blank sameBytes part padded Vec.coversTo Vec.covers Vec.compareOf Vec.countsAt Vec.vectorAt Vec.countBytes Vec.vectorBytes D.isLeap D.daysOf D.isDate R.identity R.unit R.op R.num R.seen R.seenVector R.identityAt R.selfOf R.objectOf R.folderOf R.dateBytes R.labelOf R.markOf R.textLength R.printable R.isLabel R.usesObject R.usesFolder R.usesLabel R.usesMark R.unused R.names R.objectFits R.folderFits R.labelFits R.markFits R.dateFits R.headFits R.wellFormed L.rank L.insert L.count L.countsTo L.vectorOf L.byId L.isNext L.isWithin L.allTo L.nowhereAbove L.isClosed L.rises L.recordFault L.soundAfter P.emptyTree P.isPresent P.sameLabel P.entryOf P.isIn P.holderOf P.hasEntries P.standsAside P.unseen P.freeLabel P.judgeMakeIn P.judgeMake P.judgeStore P.judgeRemove P.judgeRename P.judgeSettle P.judge P.newEntry P.stored P.renamed P.removed P.changed P.settled P.effect P.apply P.step P.replayFrom P.replay P.isDisputed P.presentOnes identityBytes blockCount T.decimalTo T.decimal T.headLine T.countsText T.seenLine O.stamped O.wishFits O.reasonOf O.hasStroke O.actNumber O.takeNew O.takeHeld O.takeOne O.takeAll E.encode E.march E.makesFolder E.makesTrace E.stores E.removes E.renames E.settles E.sameFlag E.showsEntries E.showsAsides E.shows E.showsTaken E.isRefused E.right E.allRight E.starred E.further E.table
+unfolding word blank sameBytes part padded Vec.coversTo Vec.covers Vec.compareOf Vec.countsAt Vec.vectorAt Vec.countBytes Vec.vectorBytes D.isLeap D.daysOf D.isDate R.identity R.unit R.op R.num R.seen R.seenVector R.identityAt R.selfOf R.objectOf R.folderOf R.dateBytes R.labelOf R.markOf R.textLength R.printable R.isLabel R.usesObject R.usesFolder R.usesLabel R.usesMark R.unused R.names R.objectFits R.folderFits R.labelFits R.markFits R.dateFits R.headFits R.wellFormed L.rank L.insert L.count L.countsTo L.vectorOf L.byId L.isNext L.isWithin L.allTo L.nowhereAbove L.isClosed L.rises L.recordFault L.soundAfter P.emptyTree P.isPresent P.sameLabel P.entryOf P.isIn P.holderOf P.hasEntries P.standsAside P.unseen P.freeLabel P.judgeMakeIn P.judgeMake P.judgeStore P.judgeRemove P.judgeRename P.judgeSettle P.judge P.newEntry P.stored P.renamed P.removed P.changed P.settled P.effect P.apply P.step P.replayFrom P.replay P.isDisputed P.presentOnes identityBytes blockCount T.decimalTo T.decimal T.headLine T.countsText T.seenLine O.stamped O.wishFits O.reasonOf O.hasStroke O.mayStand O.actNumber O.takeNew O.takeHeld O.takeOne O.takeAll E.encode E.march E.makesFolder E.makesTrace E.stores E.removes E.renames E.settles E.sameFlag E.showsEntries E.showsAsides E.shows E.showsTaken E.isRefused E.right E.allRight E.starred E.further E.table
 examples = refl

@@ -14,7 +14,7 @@ use Rattle.model.specs.Log.{recordFault, soundAfter}
 use Rattle.model.specs.Replay.{Entry, Aside, Tree, replay, presentOnes, isDisputed}
 use Rattle.model.specs.Table.{identityBytes}
 use Rattle.model.specs.File.{blockCount}
-use Rattle.model.specs.Outcome.{Took, refused, taken, takeAll, actNumber}
+use Rattle.model.specs.Outcome.{Took, refused, taken, takeAll, mayStand, actNumber}
 use Rattle.model.specs.Listing.{decimal, headLine, seenLine}
 
 infix 90 _·_
@@ -153,6 +153,8 @@ pub data Row : Type 0 where
   refuses : List Rec → List Rec → ℕ → Row
   -- the own unit, the records of a log, a wish, and the number that the act answers
   wishes : ℕ → List Rec → List ℕ → ℕ → Row
+  -- a byte, and whether it may stand in a new label
+  stands : ℕ → Bool → Row
   -- how many records, and how many blocks their file has
   blocks : ℕ → ℕ → Row
   -- the records of a file before a record, last first, that record, and its fault
@@ -179,6 +181,7 @@ right (tree l es ss) = shows l es ss
 right (takes l rs es ss) = soundAfter [] l && showsTaken (takeAll l rs) es ss
 right (refuses l rs n) = soundAfter [] l && isRefused (takeAll l rs) n
 right (wishes u l w n) = eqb (actNumber u l w) n
+right (stands x b) = sameFlag (mayStand x) b
 right (blocks n k) = eqb (blockCount n) k
 right (faulty l r n) = eqb (recordFault l r) n
 right (prints t b) = sameBytes t b
@@ -355,6 +358,16 @@ further =
     ∷ formed (march 3 1 (0 · 1) [] root root (65 ∷ 47 ∷ []) []) true
     ∷ takes [] (makesTrace 3 (0 · 1) [] root (47 ∷ []) ∷ []) ((0 · 1, 47 ∷ [], 0 · 1, 0 · 1, false) ∷ []) []
     ∷ wishes 1 (makesTrace 3 (0 · 1) [] root (65 ∷ 47 ∷ []) ∷ []) (renames 3 (1 · 0) [] (0 · 1) B) 0
+    -- the bytes of a new label, at the ends of their range and around the stroke
+    ∷ stands 0 false
+    ∷ stands 31 false
+    ∷ stands 32 true
+    ∷ stands 46 true
+    ∷ stands 47 false
+    ∷ stands 48 true
+    ∷ stands 126 true
+    ∷ stands 127 false
+    ∷ stands 255 false
     -- a wish with a stroke first, in the middle, last, and of nothing else: make folder, make trace, rename
     ∷ wishes 0 [] (makesFolder 3 (0 · 0) [] root (47 ∷ 65 ∷ [])) 24
     ∷ wishes 0 [] (makesTrace 3 (0 · 0) [] root (65 ∷ 47 ∷ 66 ∷ [])) 24

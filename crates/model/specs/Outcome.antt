@@ -2,7 +2,7 @@
 -- Document 01, "Log, blocks and file"; the order of the checks, "When a call says no".
 -- Assumes nothing.
 use Prim.Native.Nat.{ℕ, zero, suc, _+_, _-_, _*_}
-use mathlib.Core.Bool.{Bool, true, false, cond, _&&_, _||_}
+use mathlib.Core.Bool.{Bool, true, false, cond, not, _&&_, _||_}
 use mathlib.Core.Option.{Option, none, some}
 use mathlib.Core.List.{List, [], _∷_, _++_}
 use lib.Dec.{ltb, leb, eqb}
@@ -82,6 +82,10 @@ reasonOf (aside n k) = n
 unfoldable pub hasStroke : List ℕ → Bool
 hasStroke [] = false
 hasStroke (x ∷ t) = eqb x 47 || hasStroke t
+
+-- a byte that may stand in the text of a new label: hexadecimal 20 to 7E but 2F [F105]
+unfoldable pub mayStand : ℕ → Bool
+mayStand x = leb 32 x && (leb x 126 && not (eqb x 47))
 
 -- the checks of a wish in their order: 7, 24; or 0. A well-formed wish without a label has zeros there [F95]
 abbrev pub wishNumber : ℕ → List Rec → List ℕ → ℕ
