@@ -13,6 +13,8 @@ use denote.Ref.{RefT}
 use Rattle.model.specs.Numbers.{badBuffer, unsoundLog, badUnit}
 use Rattle.model.specs.Bytes.{padded}
 use Rattle.model.specs.Log.{recordsOf, soundLog}
+use Rattle.model.specs.Replay.{replay}
+use Rattle.model.specs.Table.{tableBytes}
 use Rattle.model.specs.Block.{blockRecords}
 use Rattle.model.specs.File.{blockCount, fileOf}
 use Rattle.model.specs.Outcome.{Outcome, outcome, refusal, startOf, guarded, actNumber, acted, actOf, handBlock, handOf, writeOf, Took, refused, taken, takeAll, givenFault, tookAll, tookBlock, takeOf, showOf}
@@ -97,13 +99,9 @@ write-made archive u log lent =
 
 show-made : (log lent : List ℕ) → reading log (showOf log lent) ≡ showOf log lent
 unfolding showOf
-show-made log lent = go (bool-cases (eqb (length log) 40960 && eqb (length lent) 43012)) (bool-cases (soundLog log))
-  where
-    go : ((eqb (length log) 40960 && eqb (length lent) 43012) ≡ true) ⊎ ((eqb (length log) 40960 && eqb (length lent) 43012) ≡ false)
-        → (soundLog log ≡ true) ⊎ (soundLog log ≡ false) → reading log (showOf log lent) ≡ showOf log lent
-    go (inl a) (inl b) = rw (a, b) refl
-    go (inl a) (inr b) = rw (a, b) refl
-    go (inr a) b = rw a refl
+show-made log lent =
+    behind (λ o. reading log o ≡ o) 0 log lent (eqb (length lent) 43012)
+    (outcome 0 0 log (tableBytes (replay (recordsOf log))) 0) (λ n k. refl) (λ a b g. refl)
 
 -- ---- the runs
 

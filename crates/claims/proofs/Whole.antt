@@ -1,9 +1,11 @@
 -- Demand 3 of the code, proved.
 -- Assumes nothing.
 use Prim.Native.Nat.{ℕ}
+use native.Mathlib.Omega.{arith}
 use mathlib.Core.Path.{_≡_, sym, ap, subst, _∙_}
 use mathlib.Core.Bool.{true}
 use mathlib.Core.List.{List, _++_}
+use lib.Dec.{eqb}
 use lib.ListN.{length}
 use borrow.Author.Tests.{eq-eqb}
 use Rattle.model.specs.Log.{recordsOf}
@@ -11,6 +13,7 @@ use Rattle.model.specs.Replay.{replay}
 use Rattle.model.specs.Table.{tableBytes}
 use Rattle.model.specs.Outcome.{Outcome, outcome, showOf}
 use Rattle.encoding_laws.specs.Keeps.{Good}
+use Rattle.encoding_laws.proofs.Calls.{guarded-passes}
 use Rattle.machine.specs.Machine.{Call, starts, acts, handsOut, writes, takes, Bench, bare, held, heldVector, blockGiven, done, play}
 use Rattle.machine.specs.Runs.{Runs}
 use Rattle.machine.specs.Claim.{distinct, Claim}
@@ -50,7 +53,7 @@ has-run archive s (takes u n) = take-runs archive u (s .logs u) (blockGiven s n 
 -- a good log is shown
 show-good : (log lent : List ℕ) → Good log → length lent ≡ 43012 → showOf log lent ≡ outcome 0 0 log (tableBytes (replay (recordsOf log))) 0
 unfolding showOf
-show-good log lent g n = rw (eq-eqb (length log) 40960 (g .long), eq-eqb (length lent) 43012 n, g .sound)
+show-good log lent g n = guarded-passes 0 log lent (eqb (length lent) 43012) (outcome 0 0 log (tableBytes (replay (recordsOf log))) 0) (eq-eqb (length lent) 43012 n) (omega arith) g
 
 shown-one : (t : Bench) (u : ℕ) (lent : List ℕ) (o : Outcome) → Good (t .logs u) → RanShow (t .logs u) lent o → Shown t u lent o
 unfolding held

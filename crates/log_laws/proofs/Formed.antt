@@ -1,14 +1,16 @@
 -- What a well-formed record has.
 -- Assumes nothing.
-use Prim.Native.Nat.{suc, _-_, _<_}
+use Prim.Native.Nat.{ℕ, suc, _-_, _<_}
 use native.Mathlib.Omega.{arith}
-use mathlib.Core.Path.{_≡_}
+use mathlib.Core.Path.{_≡_, refl}
 use mathlib.Core.Bool.{true, false, _&&_}
+use mathlib.Core.List.{List, [], _∷_}
 use lib.Dec.{leb, eqb}
 use lib.ListN.{length}
 use borrow.Author.Tests.{eqb-true, leb-true}
 use Rattle.model.specs.Bytes.{word, blank}
 use Rattle.model.specs.Record.{Rec, unit, op, num, seen, headFits, objectFits, folderFits, dateFits, labelFits, markFits, wellFormed}
+use Rattle.model.specs.Outcome.{hasStroke}
 use Rattle.byte_slice.proofs.Numbers.{and-true, test-false}
 use Rattle.byte_slice.proofs.Compare.{blank-getD}
 
@@ -22,6 +24,16 @@ unfolding wellFormed
 well-head r e =
     let (a, b) = and-true (eqb (length r) 80) (headFits r && (objectFits r && (folderFits r && (dateFits r && (labelFits r && markFits r))))) e in
     and-true (headFits r) (objectFits r && (folderFits r && (dateFits r && (labelFits r && markFits r)))) b .0
+
+pub well-label : (r : Rec) → wellFormed r ≡ true → labelFits r ≡ true
+unfolding wellFormed
+well-label r e =
+    let a = and-true (eqb (length r) 80) (headFits r && (objectFits r && (folderFits r && (dateFits r && (labelFits r && markFits r))))) e .1 in
+    let b = and-true (headFits r) (objectFits r && (folderFits r && (dateFits r && (labelFits r && markFits r)))) a .1 in
+    let c = and-true (objectFits r) (folderFits r && (dateFits r && (labelFits r && markFits r))) b .1 in
+    let d = and-true (folderFits r) (dateFits r && (labelFits r && markFits r)) c .1 in
+    let f = and-true (dateFits r) (labelFits r && markFits r) d .1 in
+    and-true (labelFits r) (markFits r) f .0
 
 pub well-unit : (r : Rec) → wellFormed r ≡ true → unit r < 8
 unfolding headFits
@@ -43,3 +55,12 @@ well-own r e =
 pub well-not-blank : (r : Rec) → wellFormed r ≡ true → blank r ≡ false
 unfolding num word
 well-not-blank r e = test-false (blank r) (λ b. omega (arith, well-own r e, blank-getD r 2 b, blank-getD r 3 b))
+
+-- zeros have no stroke
+pub blank-no-stroke : (t : List ℕ) → blank t ≡ true → hasStroke t ≡ false
+unfolding blank hasStroke
+blank-no-stroke [] e = refl
+blank-no-stroke (x ∷ t) e =
+    let (a, b) = and-true (eqb x 0) (blank t) e in
+    let z : x ≡ 0 = eqb-true x 0 a in
+    rw z (blank-no-stroke t b)

@@ -2,18 +2,18 @@
 -- Assumes nothing.
 use Prim.Native.Nat.{ℕ, zero, suc, _<_}
 use mathlib.Core.Path.{_≡_, refl, sym, _∙_}
-use mathlib.Core.Bool.{Bool, true, false, _&&_, _||_, false≢true}
+use mathlib.Core.Bool.{Bool, true, false, _||_, false≢true}
 use mathlib.Core.Logic.{⊎-elim, _↔_}
 use mathlib.Core.List.{List, [], _∷_}
 use native.Mathlib.Omega.{arith}
 use lib.Dec.{eqb}
 use lib.ListN.{getD, length}
 use borrow.Author.Tests.{eqb-true, eq-eqb}
-use Rattle.byte_slice.proofs.Numbers.{and-true, bool-cases}
-use Rattle.model.specs.Bytes.{blank}
-use Rattle.model.specs.Record.{Rec, op, labelOf, usesLabel, unused, headFits, objectFits, folderFits, dateFits, labelFits, markFits, wellFormed}
+use Rattle.byte_slice.proofs.Numbers.{bool-cases}
+use Rattle.model.specs.Record.{Rec, op, labelOf, usesLabel, unused, labelFits, wellFormed}
 use Rattle.model.specs.Replay.{Verdict, fits, aside, judge, replay}
 use Rattle.model.specs.Outcome.{stamped, wishFits, hasStroke, reasonOf, actNumber}
+use Rattle.log_laws.proofs.Formed.{well-label, blank-no-stroke}
 use Rattle.log_laws.proofs.Act.{stamped-label, stamped-op, wish-fits, act-numbers}
 use Rattle.tree_laws.proofs.Verdicts.{Under, Reason, reason-range}
 
@@ -59,31 +59,13 @@ act-stroke u l w = (
 
 -- ---- wishes without a label
 
-blank-no-stroke : (t : List ℕ) → blank t ≡ true → hasStroke t ≡ false
-unfolding blank hasStroke
-blank-no-stroke [] e = refl
-blank-no-stroke (x ∷ t) e =
-    let (a, b) = and-true (eqb x 0) (blank t) e in
-    let z : x ≡ 0 = eqb-true x 0 a in
-    rw z (blank-no-stroke t b)
-
-label-formed : (r : Rec) → wellFormed r ≡ true → labelFits r ≡ true
-unfolding wellFormed
-label-formed r e =
-    let a = and-true (eqb (length r) 80) (headFits r && (objectFits r && (folderFits r && (dateFits r && (labelFits r && markFits r))))) e .1 in
-    let b = and-true (headFits r) (objectFits r && (folderFits r && (dateFits r && (labelFits r && markFits r)))) a .1 in
-    let c = and-true (objectFits r) (folderFits r && (dateFits r && (labelFits r && markFits r))) b .1 in
-    let d = and-true (folderFits r) (dateFits r && (labelFits r && markFits r)) c .1 in
-    let f = and-true (dateFits r) (labelFits r && markFits r) d .1 in
-    and-true (labelFits r) (markFits r) f .0
-
 stroke-used : (r : Rec) → wellFormed r ≡ true → hasStroke (labelOf r) ≡ true → usesLabel (op r) ≡ true
 unfolding labelFits unused labelOf
 stroke-used r e s =
     ⊎-elim
     (λ (a : usesLabel (op r) ≡ true). a)
     (λ (a : usesLabel (op r) ≡ false).
-    absurd (false≢true (sym (blank-no-stroke (labelOf r) (rw a at (label-formed r e))) ∙ s)))
+    absurd (false≢true (sym (blank-no-stroke (labelOf r) (rw a at (well-label r e))) ∙ s)))
     (bool-cases (usesLabel (op r)))
 
 -- only a wish of an operation that uses a label is answered 24
