@@ -11,10 +11,9 @@ use lib.Dec.{leb, eqb}
 use lib.ListN.{getD, length, take}
 use lib.Seq.{take-suc}
 use borrow.Author.Tests.{eqb-true}
-use Rattle.model.specs.Bytes.{blank}
 use Rattle.model.specs.Record.{printable}
 use Rattle.model.specs.Outcome.{firstOf, hasStroke, mayStand}
-use Rattle.byte_slice.proofs.Numbers.{and-true, bool-cases}
+use Rattle.byte_slice.proofs.Numbers.{bool-cases}
 use Rattle.act_label.specs.Label.{standTo, plainTo, textNumber}
 
 -- ---- two texts behind one another
@@ -51,15 +50,6 @@ stroke-more a x = stroke-append a (x ∷ []) ∙ ap (λ (b : Bool). hasStroke a 
     go : (b : Bool) → (b || false) ≡ b
     go true = refl
     go false = refl
-
--- zeros have no stroke
-pub blank-no-stroke : (t : List ℕ) → blank t ≡ true → hasStroke t ≡ false
-unfolding blank hasStroke
-blank-no-stroke [] e = refl
-blank-no-stroke (x ∷ t) e =
-    let (a, b) = and-true (eqb x 0) (blank t) e in
-    let z : x ≡ 0 = eqb-true x 0 a in
-    rw z (blank-no-stroke t b)
 
 -- ---- the first n bytes
 

@@ -13,8 +13,9 @@ use Rattle.model.specs.Bytes.{blank, part}
 use Rattle.model.specs.Record.{Rec, op, labelOf, textLength, printable, isLabel, usesLabel, unused, labelFits}
 use Rattle.model.specs.Outcome.{firstOf, hasStroke}
 use Rattle.byte_slice.proofs.Numbers.{and-true, and-right, test-false, not-both}
+use Rattle.log_laws.proofs.Formed.{blank-no-stroke}
 use Rattle.act_label.specs.Label.{textNumber, labelNumber, fieldNumber}
-use Rattle.act_label.proofs.Bytes.{stroke-append, blank-no-stroke, text-number}
+use Rattle.act_label.proofs.Bytes.{stroke-append, text-number}
 
 -- ---- labels
 
