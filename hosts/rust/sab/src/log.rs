@@ -78,7 +78,7 @@ impl Log {
     }
 
     /// Makes a record of the own unit, if it fits the tree; its identity. Refuses
-    /// 7, 11, 12 to 16, 18.
+    /// 7, 24, 11, 12 to 16, 18.
     pub fn act(&mut self, wish: &Wish) -> Answer<Identity> {
         let unit = self.unit_number();
         raw::act(
