@@ -70,9 +70,9 @@
  * Every function returns one 32-bit word:
  *
  *     SAB_NUMBER(r)   0 for success, else the number of the refusal, below
- *     SAB_PLACE(r)    the block at fault, counted from 0. The numbers 2 to 11 and
- *                     20 have a place; only sab_read_file and sab_listing give
- *                     another than 0. For the other numbers it says nothing
+ *     SAB_PLACE(r)    the block at fault, counted from 0. The numbers 2 to 11, 20
+ *                     and 24 have a place; only sab_read_file and sab_listing
+ *                     give another than 0. For the other numbers it says nothing
  *     SAB_COUNT(r)    what a successful call counted: the blocks written
  *                     (sab_write_file), the records read (sab_read_file) or held
  *                     (sab_vector), the answer of sab_compare; else 0
