@@ -18,6 +18,8 @@ use Rattle.byte_slice.proofs.PutAt.{put-whole, put-more}
 use Rattle.vector.proofs.InBytes.{vectorBytes-length}
 use Rattle.log_laws.proofs.Tests.{vectorOf-getD}
 use Rattle.log_laws.proofs.Act.{stamped-label}
+use Rattle.act_label.specs.Label.{fieldNumber, formedBesides}
+use Rattle.act_label.proofs.Besides.{formed-by-label, not-besides}
 use Rattle.act_wish.specs.Stamp.{stampedBy, fitsAs, numberAs}
 
 -- ---- the three writings
@@ -43,21 +45,6 @@ pub number-is : (u : ℕ) (l : List Rec) (w : List ℕ) {r : Rec} → length w �
 unfolding numberAs fitsAs wishFits
 number-is u l w n e = rw (e, stamped-label u l w n)
 
--- ---- what `has_stroke` is asked
-
-module _ (t : List ℕ) (i : ℕ) (e : hasStroke (drop i t) ≡ hasStroke t) where
-  pub stroke-found : i < length t → getD t i 0 ≡ 47 → true ≡ hasStroke t
-  unfolding hasStroke
-  stroke-found h k = rw (drop-cons t i 0 h, eq-eqb (getD t i 0) 47 k) at e
-
-  pub stroke-next : i < length t → (getD t i 0 ≡ 47 → ⊥) → hasStroke (drop (i + 1) t) ≡ hasStroke t
-  unfolding hasStroke
-  stroke-next h k = rw (add-one i) (rw (drop-cons t i 0 h, ne-eqb (getD t i 0) 47 k) at e)
-
-  pub stroke-none : length t ≤ i → false ≡ hasStroke t
-  unfolding hasStroke
-  stroke-none h = rw (drop-of-length-le t {i = i} h) at e
-
 -- ---- the ways out of `wish_number`
 
 module _ (u : ℕ) (w : List ℕ) (r : Rec) where
@@ -70,16 +57,11 @@ module _ (u : ℕ) (w : List ℕ) (r : Rec) where
     unfolding numberAs fitsAs part
     not-zero h = rw (eq-eqb (getD w 0 0) u a, ← e, not-true b h)
 
-    module _ {f : Bool} (h : not b ≡ false) (g : f ≡ wellFormed r) where
+    module _ {f : Bool} (h : not b ≡ false) (g : f ≡ formedBesides r) where
       pub not-formed : not f ≡ true → 7 ≡ numberAs u w r
       unfolding numberAs fitsAs part
-      not-formed k = rw (eq-eqb (getD w 0 0) u a, ← e, not-false b h, ← g, not-true f k)
+      not-formed k = rw (eq-eqb (getD w 0 0) u a, ← e, not-false b h, not-besides r (sym g ∙ not-true f k))
 
-      module _ (k : not f ≡ false) {x : Bool} (z : x ≡ hasStroke (take (64 - 32) (drop 32 r))) where
-        pub label-stroke : x ≡ true → 24 ≡ numberAs u w r
-        unfolding numberAs fitsAs labelOf part
-        label-stroke y = rw (eq-eqb (getD w 0 0) u a, ← e, not-false b h, ← g, not-false f k, ← z, y)
-
-        pub wish-fits : x ≡ false → 0 ≡ numberAs u w r
-        unfolding numberAs fitsAs labelOf part
-        wish-fits y = rw (eq-eqb (getD w 0 0) u a, ← e, not-false b h, ← g, not-false f k, ← z, y)
+      pub label-tells : {x : ℕ} → length r ≡ 80 → not f ≡ false → x ≡ fieldNumber r → x ≡ numberAs u w r
+      unfolding numberAs fitsAs fieldNumber part
+      label-tells n k z = z ∙ rw (eq-eqb (getD w 0 0) u a, ← e, not-false b h, formed-by-label r n (sym g ∙ not-false f k))

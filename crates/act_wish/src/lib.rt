@@ -3,7 +3,6 @@ ghost use mathlib.Core.Path.{_≡_};
 ghost use Prim.Native.Nat.{_+_, _<_};
 ghost use lib.ListN.{length, getD};
 ghost use Rattle.model.specs.Lengths.{recordSize};
-ghost use Rattle.model.specs.Outcome.{hasStroke};
 ghost use Rattle.act_wish.specs.Stamp.{stampedBy, numberAs};
 use model::RECORD_BYTES;
 use vector::Vector;
@@ -26,20 +25,6 @@ pub fn stamp(wish: &[u8], unit: u8, held: Vector) -> Stamped
     Stamped { bytes }
 }
 
-// A stroke, hexadecimal 2F, stands in a text.
-fn has_stroke(t: &[u8]) -> bool
-    ensures { λ r. ⌜ r ≡ hasStroke (now (t .entry)) ⌝ }
-{
-    let mut i: usize = 0;
-    while i < t.len() {
-        if t[i] == 47 {
-            return true;
-        }
-        i += 1;
-    }
-    false
-}
-
 // 7 for a wish that is not the unit's own, or whose number and seen are not zero, or that is not well formed as the record; 24 for a
 // stroke in its label; or 0.
 pub fn wish_number(wish: &[u8], unit: u8, rec: &[u8]) -> u8
@@ -52,11 +37,8 @@ pub fn wish_number(wish: &[u8], unit: u8, rec: &[u8]) -> u8
     if !byte_slice::is_blank(&wish[2..20]) {
         return 7;
     }
-    if !record::well_formed(rec) {
+    if !act_label::formed_besides(rec) {
         return 7;
     }
-    if has_stroke(&rec[32..64]) {
-        return 24;
-    }
-    0
+    act_label::field_number(rec)
 }

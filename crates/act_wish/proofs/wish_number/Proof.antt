@@ -1,4 +1,4 @@
-use Rattle.act_wish.proofs.Stamping.{other-unit, not-zero, not-formed, label-stroke, wish-fits}
+use Rattle.act_wish.proofs.Stamping.{other-unit, not-zero, not-formed, label-tells}
 use borrow.Author.Needs.{needs}
 use Rattle.act_wish.proofs.wish_number.Statement.{statement}
 use Rattle.act_wish.proofs.wish_number.Tie as tie
@@ -24,29 +24,17 @@ is-blank-requires c κs = search needs
 returns-2 : tie.Need-returns-2
 returns-2 c = search (not-zero)
 
-well-formed-requires : tie.Need-well-formed-requires
-well-formed-requires c κs = search needs
+formed-besides-requires : tie.Need-formed-besides-requires
+formed-besides-requires c κs = search needs
 
 returns-3 : tie.Need-returns-3
 returns-3 c = search (not-formed)
 
-sub-has-stroke : tie.Need-sub-has-stroke
-sub-has-stroke c = search needs
-
-part-has-stroke-start : tie.Need-part-has-stroke-start
-part-has-stroke-start c = search needs
-
-part-has-stroke-end : tie.Need-part-has-stroke-end
-part-has-stroke-end c = search needs
-
-has-stroke-requires : tie.Need-has-stroke-requires
-has-stroke-requires c κs = search needs
+field-number-requires : tie.Need-field-number-requires
+field-number-requires c κs = search needs
 
 returns-4 : tie.Need-returns-4
-returns-4 c = search (label-stroke)
-
-returns-5 : tie.Need-returns-5
-returns-5 c = search (wish-fits)
+returns-4 c = search (label-tells)
 
 pub wish-number-spec : {M : Type 1} → statement M
 wish-number-spec =
@@ -59,11 +47,7 @@ wish-number-spec =
     part-is-blank-end
     is-blank-requires
     returns-2
-    well-formed-requires
+    formed-besides-requires
     returns-3
-    sub-has-stroke
-    part-has-stroke-start
-    part-has-stroke-end
-    has-stroke-requires
-    returns-4
-    returns-5)
+    field-number-requires
+    returns-4)

@@ -51,6 +51,11 @@ pub fn row(library: &dyn Library, line: &str) -> Result<(), Fault> {
         }
         "sums" => sums(library, words),
         "wish" => wish(library, words),
+        "byte" => {
+            let byte = words.number()?;
+            words.equals()?;
+            words.expect(&[(stands_by_act(library, byte) as u8).to_string()])
+        }
         name => Err(format!("no table {name}")),
     }
 }
@@ -108,6 +113,15 @@ fn record_by_take(library: &dyn Library, record: &[u8; 80]) -> bool {
         Ok(()) => true,
         Err(refusal) => matches!(refusal.number, 8 | 9),
     }
+}
+
+/// A wish with the byte inside its label is accepted by an empty log.
+fn stands_by_act(library: &dyn Library, byte: u8) -> bool {
+    let mut wish = [0; 80];
+    wish[1] = 1;
+    wish[28..32].copy_from_slice(&[0xe9, 7, 3, 3]);
+    wish[32..35].copy_from_slice(&[b'a', byte, b'a']);
+    library.act(&mut [0; LOG], 0, 0, &wish).is_ok()
 }
 
 /// An act of a lent log, whatever the log holds.
