@@ -23,7 +23,12 @@ same-length-2 : tie.Need-same-length-2
 same-length-2 c = search needs
 
 returns : tie.Need-returns
-returns c = search (all-reported)
+returns c =
+    let w = c .before .before in
+    let l = w .before .before .before .before .before .before in
+    let f = l .before .before .before .before in
+    let p = f .before .before .before .before .before .before .pre in
+    all-reported _ _ _ _ _ _ _ _ (p .1) (p .4) (l .lay-tree .ensures) (f .flags-before .ensures) (p .6) (w .write-report .ensures)
 
 pub report-trial-spec : {M : Type 1} → statement M
 report-trial-spec =
