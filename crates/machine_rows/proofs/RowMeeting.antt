@@ -111,9 +111,16 @@ module _ (archive a b : ℕ) (la lb : List ℕ) (ha : a < 8) (hb : b < 8) (ga : 
   unfolding tryAll meet
   taken-all = rw counted (turns n 0 (omega arith))
 
+  -- what is taken is the row
+  taken-is : take (512 * rowHanded archive a la lb .blocks) (rowHanded archive a la lb .lent) ≡ row
+  taken-is = rw handed-is cut
+
   taken-row : rowRound archive a b la lb ≡ rowTaken 0 0 n 0 (meet archive a b la lb n)
   unfolding rowRound
-  taken-row = rw (handed-is, cut) (row-passes archive b lb row (omega arith) gb right-length ∙ ap (λ (t : Tried). rowTaken 0 0 (t .taken) (t .stopped) (t .log)) taken-all)
+  taken-row =
+      ap (λ (x : List ℕ). takeRowOf archive b lb x) taken-is
+      ∙ row-passes archive b lb row (omega arith) gb right-length
+      ∙ ap (λ (t : Tried). rowTaken 0 0 (t .taken) (t .stopped) (t .log)) taken-all
 
   all-passed : lackedBy la (meet archive a b la lb n) ≡ []
   unfolding n blocksFor w

@@ -1,9 +1,8 @@
 -- The ways out of trying a row, over plain values.
 -- Assumes nothing.
-use Prim.Native.Nat.{ℕ, zero, suc, _+_, _-_, _≤_}
-use native.Mathlib.Omega.{arith}
+use Prim.Native.Nat.{ℕ, zero, suc, _≤_}
 use mathlib.Core.Path.{_≡_, refl, sym, ap, _∙_, subst}
-use mathlib.Core.Bool.{Bool, true, false, not, _&&_}
+use mathlib.Core.Bool.{Bool, true, false, _&&_}
 use mathlib.Core.List.{List, _∷_, _++_}
 use lib.Dec.{eqb}
 use lib.ListN.{length, replicate}
@@ -62,15 +61,6 @@ pub flags-is : (log b f₀ f : List ℕ) → b ≡ tableBytes (replay (recordsOf
     → f ≡ noted (tableBytes (replay (recordsOf log))) (replicate 4096 0) (word (tableBytes (replay (recordsOf log))) 0)
 flags-is log b f₀ f p q e = e ∙ rw (p, q)
 
--- ---- lengths
-
--- a buffer that a call keeps as long as it was
-pub keeps-on : (a b c : List ℕ) → length a ≡ length b → length b ≡ length c → length a ≡ length c
-keeps-on a b c e f = e ∙ f
-
-pub kept-long : (a b : List ℕ) (n : ℕ) → length a ≡ length b → length b ≡ n → length a ≡ n
-kept-long a b n e f = e ∙ f
-
 -- ---- the copy
 
 pub copies : (log copy fresh : List ℕ) → length log ≡ 40960 → length fresh ≡ 40960 → copy ≡ putAt fresh 0 log → copy ≡ log
@@ -104,22 +94,15 @@ module _ (archive u : ℕ) (log row copy : List ℕ) (k n : ℕ) (unit : u ≤ 7
   pub tried-sound : soundLog copy ≡ true
   tried-sound = good .sound
 
-  pub same-tree : (tree fresh : List ℕ) → length fresh ≡ 43012 → tree ≡ tableBytes (replay (recordsOf copy)) → length tree ≡ length fresh
-  same-tree tree fresh m e = ap (λ (x : List ℕ). length x) e ∙ log-table-long copy tried-sound ∙ sym m
-
-  pub all-reported : (tree report f v : List ℕ) → tree ≡ tableBytes (replay (recordsOf copy))
-      → f ≡ noted (tableBytes (replay (recordsOf log))) (replicate 4096 0) (word (tableBytes (replay (recordsOf log))) 0) → v ≡ vectorOf (recordsOf copy)
-      → report ≡ (k ∷ n ∷ two (listedCount (tableBytes (replay (recordsOf copy))) f (word (tableBytes (replay (recordsOf copy))) 0))) ++ (vectorBytes v ++ padded 2048 (listed (tableBytes (replay (recordsOf copy))) f (word (tableBytes (replay (recordsOf copy))) 0)))
-      → trial 0 0 copy tree report ≡ reported log (tryAll archive u log row)
-  unfolding reported
-  all-reported tree report f v a b c d = rw (← q, a, told log copy sound tried-sound k n v f report b c d)
-
 pub kept-tree : (log tree fresh : List ℕ) → soundLog log ≡ true → length fresh ≡ 43012 → tree ≡ tableBytes (replay (recordsOf log)) → length tree ≡ length fresh
 kept-tree log tree fresh s m e = ap (λ (x : List ℕ). length x) e ∙ log-table-long log s ∙ sym m
 
-pub written : (b b′ f report : List ℕ) (k n : ℕ) (v : List ℕ) → b ≡ b′ → report ≡ (k ∷ n ∷ two (listedCount b f (word b 0))) ++ (vectorBytes v ++ padded 2048 (listed b f (word b 0)))
-    → report ≡ (k ∷ n ∷ two (listedCount b′ f (word b′ 0))) ++ (vectorBytes v ++ padded 2048 (listed b′ f (word b′ 0)))
-written b b′ f report k n v e q = q ∙ rw e
+pub all-reported : (log copy tree report f v : List ℕ) (k n : ℕ) → soundLog log ≡ true → soundLog copy ≡ true → tree ≡ tableBytes (replay (recordsOf copy))
+    → f ≡ noted (tableBytes (replay (recordsOf log))) (replicate 4096 0) (word (tableBytes (replay (recordsOf log))) 0) → v ≡ vectorOf (recordsOf copy)
+    → report ≡ (k ∷ n ∷ two (listedCount tree f (word tree 0))) ++ (vectorBytes v ++ padded 2048 (listed tree f (word tree 0)))
+    → trial 0 0 copy tree report ≡ reported log (tried k n copy)
+unfolding reported
+all-reported log copy tree report f v k n sound sound′ a b c d = rw (a, told log copy sound sound′ k n v f report b c (rw a at d))
 
 -- ---- the call
 
@@ -132,16 +115,16 @@ module _ (archive u : ℕ) (log row copy tree report : List ℕ) {n used : ℕ} 
       go zero y = absurd (y refl)
       go (suc k) y = refl
 
-  pub try-passes : n ≡ 0 → (o : Trial) → o ≡ reported log (tryAll archive u log row) → o ≡ tryOf archive u log row copy tree report
+  pub try-passes : n ≡ 0 → (t : Tried) → t ≡ tryAll archive u log row → (o : Trial) → o ≡ reported log t → o ≡ tryOf archive u log row copy tree report
   unfolding tryOf
-  try-passes z o q = q ∙ rw (← number-is u log (trialLent copy tree report) (rowFits (length row)) e, z)
+  try-passes z t p o q = q ∙ ap (reported log) p ∙ rw (← number-is u log (trialLent copy tree report) (rowFits (length row)) e, z)
 
-module _ (u : ℕ) (log row copy tree report : List ℕ) {n used : ℕ} {held : List ℕ} (e : opened n held used ≡ openOf u log (trialLent copy tree report) (rowFits (length row))) (z : n ≡ 0) where
-  pub try-short : length row ≤ 44032
-  try-short = row-short (length row) (open-row u log (trialLent copy tree report) (rowFits (length row)) e z)
+module _ (u : ℕ) (log copy tree report : List ℕ) (m : ℕ) {n used : ℕ} {held : List ℕ} (e : opened n held used ≡ openOf u log (trialLent copy tree report) (rowFits m)) (z : n ≡ 0) where
+  pub try-short : m ≤ 44032
+  try-short = row-short m (open-row u log (trialLent copy tree report) (rowFits m) e z)
 
   right : (length copy ≡ 40960) × (length tree ≡ 43012) × (length report ≡ 2068)
-  right = all-lent copy tree report (open-lent u log (trialLent copy tree report) (rowFits (length row)) e z)
+  right = all-lent copy tree report (open-lent u log (trialLent copy tree report) (rowFits m) e z)
 
   pub try-copy : length copy ≡ 40960
   try-copy = right .0

@@ -1,13 +1,11 @@
 // Trying a row of blocks: what taking it would do, on a copy of the log.
 ghost use mathlib.Core.Path.{_≡_};
 ghost use mathlib.Core.Bool.{true};
-ghost use mathlib.Core.List.{_∷_, _++_};
 ghost use Prim.Native.Nat.{_≤_};
 ghost use lib.ListN.{length, replicate};
 ghost use Rattle.model.specs.Lengths.{logSize, fileSize, treeSize};
 ghost use Rattle.model.specs.Log.{vectorOf, recordsOf, soundLog};
-ghost use Rattle.model.specs.Bytes.{word, two, padded};
-ghost use Rattle.model.specs.Vector.{vectorBytes};
+ghost use Rattle.model.specs.Bytes.{word};
 ghost use Rattle.model.specs.Replay.{replay};
 ghost use Rattle.model.specs.Table.{tableBytes};
 ghost use Rattle.row_model.specs.Row.{rowFits, tried, tryAll, reportSize, trial, reported, trialLent, tryOf};
@@ -15,7 +13,7 @@ ghost use Rattle.log_closure.specs.Tables.{placesSize, seensSize, Indexed};
 ghost use Rattle.log_check.specs.declared.Layout.the-variants.{Log};
 ghost use Rattle.log_check.specs.Places.{laidAt};
 ghost use Rattle.call_guard.specs.Opened.{opened, openOf};
-ghost use Rattle.try_row_report.specs.Listed.{flagsSize, noted, listedCount, listed};
+ghost use Rattle.try_row_report.specs.Listed.{flagsSize, noted};
 use call_answer::Answer;
 use call_guard::Opened;
 use call_guard::open_into;
@@ -130,48 +128,22 @@ fn take_copy(
     take_by(copy, archive, unit, row, used, held, tree, places, seens)
 }
 
-// The tree of the copy is laid, and the report is written by it and the flags.
-fn report_after(copy: &[u8], t: RowJudged, tree: &mut [u8], flags: &[u8], report: &mut [u8])
-    requires { ⌜ (length (now copy) ≡ logSize) × (soundLog (now copy) ≡ true) × (t .used ≡ length (recordsOf (now copy))) × (length (now tree) ≡ treeSize) × (length (now flags) ≡ flagsSize) × (length (now report) ≡ reportSize) ⌝ }
-    ensures laid { λ _. ⌜ now (tree .exit) ≡ tableBytes (replay (recordsOf (now (copy .entry)))) ⌝ }
-    ensures told { λ _. ⌜ now (report .exit) ≡ (t .taken ∷ t .stopped ∷ two (listedCount (tableBytes (replay (recordsOf (now (copy .entry))))) (now (flags .entry)) (word (tableBytes (replay (recordsOf (now (copy .entry))))) 0))) ++ (vectorBytes (t .held .counts) ++ padded 2048 (listed (tableBytes (replay (recordsOf (now (copy .entry))))) (now (flags .entry)) (word (tableBytes (replay (recordsOf (now (copy .entry))))) 0))) ⌝ }
-{
-    lay_tree(copy, t.used, tree);
-    try_row_report::write_report(tree, flags, t.taken, t.stopped, t.held, report);
-}
-
-// The row is tried: the disputed entries of the log's tree are noted, the row is taken into the copy, and the report is written by the tree
-// of the copy.
-fn try_checked(
+// The row was taken into the copy: the disputed entries of the log's tree are noted, the tree of the copy is laid, and the report is written
+// by it and the flags.
+fn report_trial(
     log: &[u8],
-    archive: u32,
-    unit: u8,
-    row: &[u8],
     used: usize,
-    held: Vector,
-    copy: &mut [u8],
+    copy: &[u8],
+    t: RowJudged,
     tree: &mut [u8],
     report: &mut [u8],
-    places: &mut [u16],
-    seens: &mut [u16],
 )
-    requires { ⌜ (length (now row) ≤ fileSize) × (unit ≤ 7) × (length (now log) ≡ logSize) × (soundLog (now log) ≡ true) × (used ≡ length (recordsOf (now log))) × (length (now copy) ≡ logSize) × (length (now tree) ≡ treeSize) × (length (now report) ≡ reportSize) × (length (now places) ≡ placesSize) × (length (now seens) ≡ seensSize) × Indexed (laidAt Log (now log)) used (recordsOf (now log)) (held .counts) (now places) (now seens) ⌝ }
-    ensures { λ _. ⌜ trial 0 0 (now (copy .exit)) (now (tree .exit)) (now (report .exit)) ≡ reported (now (log .entry)) (tryAll archive unit (now (log .entry)) (now (row .entry))) ⌝ }
+    requires { ⌜ (length (now log) ≡ logSize) × (soundLog (now log) ≡ true) × (used ≡ length (recordsOf (now log))) × (length (now copy) ≡ logSize) × (soundLog (now copy) ≡ true) × (t .used ≡ length (recordsOf (now copy))) × (t .held .counts ≡ vectorOf (recordsOf (now copy))) × (length (now tree) ≡ treeSize) × (length (now report) ≡ reportSize) ⌝ }
+    ensures { λ _. ⌜ trial 0 0 (now (copy .entry)) (now (tree .exit)) (now (report .exit)) ≡ reported (now (log .entry)) (tried (t .taken) (t .stopped) (now (copy .entry))) ⌝ }
 {
     let flags = flags_before(log, used, tree);
-    let t = take_copy(
-        log,
-        archive,
-        unit,
-        row,
-        used,
-        held,
-        copy,
-        tree,
-        places,
-        seens,
-    );
-    report_after(copy, t, tree, &flags, report);
+    lay_tree(copy, t.used, tree);
+    try_row_report::write_report(tree, &flags, t.taken, t.stopped, t.held, report);
 }
 
 // What taking a row would do: the copy as the log would be, its tree in the table, and the report. Checked in this order: 1, 21, 2, 19. The log
@@ -197,7 +169,7 @@ pub fn try_row(
         };
     }
     let held = o.held;
-    try_checked(
+    let t = take_copy(
         log,
         archive,
         unit,
@@ -206,10 +178,10 @@ pub fn try_row(
         held,
         copy,
         tree,
-        report,
         &mut places,
         &mut seens,
     );
+    report_trial(log, o.used, copy, t, tree, report);
     Answer {
         number: 0,
         place: 0,

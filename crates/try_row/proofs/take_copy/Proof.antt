@@ -1,4 +1,5 @@
-use Rattle.try_row.proofs.Tried.{copy-long, copy-sound, copy-used, copy-indexed, copy-tried, keeps-on}
+use Rattle.try_row.proofs.Tried.{copy-long, copy-sound, copy-used, copy-indexed, copy-tried}
+use mathlib.Core.Path.{_∙_}
 use borrow.Author.Needs.{needs}
 use Rattle.try_row.proofs.take_copy.Statement.{statement}
 use Rattle.try_row.proofs.take_copy.Tie as tie
@@ -10,7 +11,9 @@ take-by-requires : tie.Need-take-by-requires
 take-by-requires c κs = (search needs, search needs, search (copy-long), search (copy-sound), search (copy-used), search needs, search needs, search needs, search (copy-indexed))
 
 same-length : tie.Need-same-length
-same-length c = search (keeps-on)
+same-length c =
+    let t = c .before .before .before .before .before .before .before .before in
+    t .take-by .kept .0 ∙ t .before .before .before .before .before .before .before .copy-log .kept .1 .0
 
 same-length-2 : tie.Need-same-length-2
 same-length-2 c = search needs

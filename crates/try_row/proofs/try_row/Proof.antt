@@ -1,6 +1,6 @@
 use Rattle.call_guard.proofs.Opening.{open-long, open-unit, open-sound, open-used}
-use Rattle.take_row.proofs.Begun.{row-indexed}
-use Rattle.try_row.proofs.Tried.{try-refused, try-passes, try-short, try-copy, try-tree, try-report}
+use Rattle.try_row.proofs.Tried.{try-refused, try-passes, try-short, try-copy, try-tree, try-report, tried-long, tried-sound}
+use mathlib.Core.Path.{_∙_}
 use borrow.Author.Needs.{needs}
 use Rattle.try_row.proofs.try_row.Statement.{statement}
 use Rattle.try_row.proofs.try_row.Tie as tie
@@ -30,16 +30,33 @@ same-length-3 : tie.Need-same-length-3
 same-length-3 c = search needs
 
 returns : tie.Need-returns
-returns c = search (try-refused)
+returns c = try-refused _ _ _ _ _ _ _ (c .before .before .before .before .open-trial .ensures .0) (c .if1 .taken)
 
-slice-aggregate-try-checked : tie.Need-slice-aggregate-try-checked
-slice-aggregate-try-checked c = search needs
+slice-aggregate-take-copy : tie.Need-slice-aggregate-take-copy
+slice-aggregate-take-copy c = search needs
 
-slice-aggregate-try-checked-2 : tie.Need-slice-aggregate-try-checked-2
-slice-aggregate-try-checked-2 c = search needs
+slice-aggregate-take-copy-2 : tie.Need-slice-aggregate-take-copy-2
+slice-aggregate-take-copy-2 c = search needs
 
-try-checked-requires : tie.Need-try-checked-requires
-try-checked-requires c κs = (search (try-short), search (open-unit), search (open-long), search (open-sound), search (open-used), search (try-copy), search (try-tree), search (try-report), search needs, search needs, search (row-indexed))
+take-copy-requires : tie.Need-take-copy-requires
+take-copy-requires c κs =
+    let i = c .before .before .before .before .before in
+    let o = i .before .before .before .before in
+    let z = i .if1 .left in
+    let e = o .open-trial .ensures .0 in
+    (try-short _ _ _ _ _ _ e z, open-unit _ _ _ _ e z, open-long _ _ _ _ e z, open-sound _ _ _ _ e z, open-used _ _ _ _ e z, try-copy _ _ _ _ _ _ e z, try-tree _ _ _ _ _ _ e z, search needs, search needs, o .open-trial .ensures .1 z)
+
+report-trial-requires : tie.Need-report-trial-requires
+report-trial-requires c κs =
+    let t = c .before .before .before .before .before .before .before .before .before in
+    let i = t .before .before .before .before .before .before in
+    let z = i .if1 .left in
+    let e = i .before .before .before .before .open-trial .ensures .0 in
+    let q = t .take-copy .ensures .0 in
+    let long = open-long _ _ _ _ e z in
+    let sound = open-sound _ _ _ _ e z in
+    let unit = open-unit _ _ _ _ e z in
+    (long, sound, open-used _ _ _ _ e z, tried-long _ _ _ _ _ _ _ unit long sound q, tried-sound _ _ _ _ _ _ _ unit long sound q, t .take-copy .ensures .1 .0, t .take-copy .ensures .1 .1, t .take-copy .kept .1 .1 .1 .1 .1 .1 .1 .0 ∙ try-tree _ _ _ _ _ _ e z, try-report _ _ _ _ _ _ e z)
 
 same-length-4 : tie.Need-same-length-4
 same-length-4 c = search needs
@@ -51,7 +68,12 @@ same-length-6 : tie.Need-same-length-6
 same-length-6 c = search needs
 
 returns-2 : tie.Need-returns-2
-returns-2 c = search (try-passes)
+returns-2 c =
+    let r = c .before .before .before .before in
+    let t = r .before .before .before .before .before .before .before .before .before .before in
+    let i = t .before .before .before .before .before .before in
+    let o = i .before .before .before .before in
+    try-passes _ _ _ _ _ _ _ (o .open-trial .ensures .0) (i .if1 .left) _ (t .take-copy .ensures .0) _ (r .report-trial .ensures)
 
 pub try-row-spec : {M : Type 1} → statement M
 try-row-spec =
@@ -66,9 +88,10 @@ try-row-spec =
     same-length-2
     same-length-3
     returns
-    slice-aggregate-try-checked
-    slice-aggregate-try-checked-2
-    try-checked-requires
+    slice-aggregate-take-copy
+    slice-aggregate-take-copy-2
+    take-copy-requires
+    report-trial-requires
     same-length-4
     same-length-5
     same-length-6
