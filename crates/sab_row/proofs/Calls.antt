@@ -2,7 +2,7 @@
 -- Assumes nothing.
 use Prim.Native.Nat.{ℕ, _+_, _*_}
 use mathlib.Core.Path.{_≡_, refl, ap, _∙_}
-use mathlib.Core.Bool.{Bool, true, false}
+use mathlib.Core.Bool.{Bool, true, false, _&&_}
 use mathlib.Core.List.{List, []}
 use lib.Dec.{leb, eqb}
 use lib.ListN.{length}
@@ -11,7 +11,7 @@ use Rattle.model.specs.Bytes.{padded}
 use Rattle.model.specs.Vector.{blocksFor, vectorAt}
 use Rattle.model.specs.Log.{recordsOf}
 use Rattle.model.specs.Outcome.{outcome, lacking}
-use Rattle.row_model.specs.Row.{RowTaken, rowTaken, takeRowOf, Trial, trial, tryOf, rowOf, handRowOf}
+use Rattle.row_model.specs.Row.{RowTaken, rowTaken, takeRowOf, Trial, trial, trialLent, tryOf, rowOf, handRowOf}
 use Rattle.sab_words.specs.Words.{packed, narrowed}
 use Rattle.sab_words.specs.Called.{called, wrongBuffer, told}
 use Rattle.sab_words.proofs.Told.{tells-blocks}
@@ -25,17 +25,25 @@ module _ (archive u : ℕ) (log row : List ℕ) where
   unfolding narrowed takeRowOf
   row-alike = on (leb u 7) refl
     where
+      refused : leb u 7 ≡ false → (t : Bool) → (eqb (length log) 40960 && true) ≡ t → takeRowOf archive (narrowed u) log row ≡ takeRowOf archive u log row
+      refused e true x = let n : narrowed u ≡ 255 = rw e in rw (n, e, x)
+      refused e false x = let n : narrowed u ≡ 255 = rw e in rw (n, e, x)
+
       on : (b : Bool) → leb u 7 ≡ b → takeRowOf archive (narrowed u) log row ≡ takeRowOf archive u log row
       on true e = let n : narrowed u ≡ u = rw e in rw n
-      on false e = let n : narrowed u ≡ 255 = rw e in rw (n, e)
+      on false e = refused e (eqb (length log) 40960 && true) refl
 
   try-alike : (copy tree report : List ℕ) → tryOf archive (narrowed u) log row copy tree report ≡ tryOf archive u log row copy tree report
   unfolding narrowed tryOf
   try-alike copy tree report = on (leb u 7) refl
     where
+      refused : leb u 7 ≡ false → (t : Bool) → (eqb (length log) 40960 && trialLent copy tree report) ≡ t → tryOf archive (narrowed u) log row copy tree report ≡ tryOf archive u log row copy tree report
+      refused e true x = let n : narrowed u ≡ 255 = rw e in rw (n, e, x)
+      refused e false x = let n : narrowed u ≡ 255 = rw e in rw (n, e, x)
+
       on : (b : Bool) → leb u 7 ≡ b → tryOf archive (narrowed u) log row copy tree report ≡ tryOf archive u log row copy tree report
       on true e = let n : narrowed u ≡ u = rw e in rw n
-      on false e = let n : narrowed u ≡ 255 = rw e in rw (n, e)
+      on false e = refused e (eqb (length log) 40960 && trialLent copy tree report) refl
 
 hand-row-alike : (archive u : ℕ) (log v lent : List ℕ) → handRowOf archive (narrowed u) log v lent ≡ handRowOf archive u log v lent
 unfolding handRowOf
