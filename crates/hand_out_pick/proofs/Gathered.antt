@@ -1,4 +1,4 @@
--- The first six or fewer records that a vector lacks, gathered in one pass over a sound log.
+-- The records that a vector lacks, the first six or fewer or all, gathered in one pass over a sound log.
 -- Assumes nothing.
 use Prim.Native.Nat.{ℕ, zero, suc, _+_, _-_, _*_, _≤_, _<_}
 use native.Mathlib.Numerals.{add-one}
