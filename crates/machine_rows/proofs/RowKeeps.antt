@@ -7,14 +7,16 @@ use mathlib.Core.Logic.{_⊎_, inl, inr, _↔_}
 use mathlib.Core.Bool.{Bool, true, false, cond, _&&_}
 use mathlib.Core.List.{List}
 use lib.Dec.{leb, eqb}
-use lib.ListN.{length}
+use lib.ListN.{length, getD}
 use borrow.Author.Tests.{eqb-true, leb-true}
 use Rattle.model.specs.Vector.{blocksFor}
 use Rattle.model.specs.Bytes.{padded}
 use Rattle.model.specs.Log.{recordsOf, soundLog}
+use Rattle.model.specs.Replay.{replay}
+use Rattle.model.specs.Table.{tableBytes}
 use Rattle.model.specs.File.{blocksIn}
-use Rattle.model.specs.Outcome.{Outcome, outcome, refusal, earlyNumber, guardNumber, guarded, lacking}
-use Rattle.row_model.specs.Row.{Tried, rowFits, tryAll, tookRow, takeRowOf, Trial, reported, orUntried, trialLent, tryOf, rowOf, handRowOf}
+use Rattle.model.specs.Outcome.{Outcome, outcome, refusal, firstOf, earlyNumber, guardNumber, guarded, lacking}
+use Rattle.row_model.specs.Row.{Tried, rowFits, tryAll, tookRow, takeRowOf, Trial, reportBytes, reported, orUntried, trialLent, tryOf, rowOf, handRowOf}
 use Rattle.byte_slice.proofs.Numbers.{and-true, first-zero}
 use Rattle.encoding_laws.specs.Keeps.{Good, Keeps}
 use Rattle.encoding_laws.proofs.Calls.{Guarded, guarded-cases, refusal-keeps}
@@ -41,6 +43,17 @@ guard-good u log ok row e =
     let (p, q) = and-true (eqb (length log) 40960) ok c in
     (leb-true u 7 d, record { long = eqb-true (length log) 40960 p; sound = sound-means (soundLog log) b })
 
+-- what is lent beside the log is asked first
+lent-or-none : (u : ℕ) (log : List ℕ) (ok row : Bool) → guardNumber u log ok row ≡ 0 → guardNumber u log true row ≡ 0
+lent-or-none u log ok row e = go (eqb (length log) 40960) ok e
+  where
+    go : (a b : Bool)
+        → firstOf (cond (a && b) (cond (leb u 7) (cond row 0 2) 21) 1) (cond (soundLog log) 0 19) ≡ 0
+        → firstOf (cond (a && true) (cond (leb u 7) (cond row 0 2) 21) 1) (cond (soundLog log) 0 19) ≡ 0
+    go true true q = q
+    go true false q = absurd (omega arith)
+    go false b q = absurd (omega arith)
+
 -- ---- taking
 
 took-keeps : (n : ℕ) (log : List ℕ) (t : Tried) → (n ≡ 0 → Good (t .log))
@@ -64,6 +77,17 @@ untried-keeps : (n : ℕ) (copy tree report : List ℕ) (o : Trial) → o .numbe
     → (orUntried n copy tree report o .copy ≡ copy) × (orUntried n copy tree report o .tree ≡ tree) × (orUntried n copy tree report o .report ≡ report))
 untried-keeps zero copy tree report o e g = (λ z. g refl, λ z. absurd (z e))
 untried-keeps (suc n) copy tree report o e g = (λ z. absurd (omega arith), λ z. (refl, refl, refl))
+
+tried-took : (n m : ℕ) (log copy tree report : List ℕ) (t : Tried) → (n ≡ 0 → m ≡ 0) → orUntried n copy tree report (reported log t) .number ≡ 0
+    → (tookRow m log t .number ≡ 0)
+    × (orUntried n copy tree report (reported log t) .copy ≡ tookRow m log t .log)
+    × (orUntried n copy tree report (reported log t) .tree ≡ tableBytes (replay (recordsOf (tookRow m log t .log))))
+    × (getD (orUntried n copy tree report (reported log t) .report) 0 0 ≡ tookRow m log t .taken)
+    × (getD (orUntried n copy tree report (reported log t) .report) 1 0 ≡ tookRow m log t .stopped)
+unfolding reported reportBytes
+tried-took zero zero log copy tree report t h z = (refl, refl, refl, refl, refl)
+tried-took zero (suc m) log copy tree report t h z = absurd (omega (arith, h refl))
+tried-took (suc n) m log copy tree report t h z = absurd (omega arith)
 
 -- ---- handing out
 
@@ -108,5 +132,18 @@ module _ (archive u : ℕ) (log row : List ℕ) where
         untried-keeps (guardNumber u log (trialLent copy tree report) (rowFits (length row))) copy tree report (reported log (tryAll archive u log row)) refl
         (λ z. let (a, b) = guard-good u log (trialLent copy tree report) (rowFits (length row)) z in row-good archive u log row a b)
 
+    tried-as-taken : tryOf archive u log row copy tree report .number ≡ 0
+        → (takeRowOf archive u log row .number ≡ 0)
+        × (tryOf archive u log row copy tree report .copy ≡ takeRowOf archive u log row .log)
+        × (tryOf archive u log row copy tree report .tree ≡ tableBytes (replay (recordsOf (takeRowOf archive u log row .log))))
+        × (getD (tryOf archive u log row copy tree report .report) 0 0 ≡ takeRowOf archive u log row .taken)
+        × (getD (tryOf archive u log row copy tree report .report) 1 0 ≡ takeRowOf archive u log row .stopped)
+    unfolding tryOf takeRowOf
+    tried-as-taken z =
+        tried-took (guardNumber u log (trialLent copy tree report) (rowFits (length row))) (guardNumber u log true (rowFits (length row))) log copy tree report
+        (tryAll archive u log row)
+        (lent-or-none u log (trialLent copy tree report) (rowFits (length row)))
+        z
+
 pub row-calls-keep : RowCallsKeep
-row-calls-keep = record { taking = taking; trying = trying; handing-out = handed-keeps; stops = stops; whole = whole }
+row-calls-keep = record { taking = taking; trying = trying; tried-as-taken = tried-as-taken; handing-out = handed-keeps; stops = stops; whole = whole }

@@ -4,6 +4,10 @@ use Prim.Native.Nat.{ℕ}
 use mathlib.Core.Path.{_≡_}
 use mathlib.Core.Logic.{_↔_}
 use mathlib.Core.List.{List}
+use lib.ListN.{getD}
+use Rattle.model.specs.Log.{recordsOf}
+use Rattle.model.specs.Replay.{replay}
+use Rattle.model.specs.Table.{tableBytes}
 use Rattle.model.specs.File.{blocksIn}
 use Rattle.row_model.specs.Row.{takeRowOf, tryOf, handRowOf}
 use Rattle.encoding_laws.specs.Keeps.{Good, Keeps}
@@ -20,6 +24,13 @@ pub record RowCallsKeep : Type 0 where
       → (tryOf archive u log row copy tree report .copy ≡ copy)
       × (tryOf archive u log row copy tree report .tree ≡ tree)
       × (tryOf archive u log row copy tree report .report ≡ report))
+  -- an accepted trial leaves the copy as taking the row would leave the log, shows that log's tree, and reports what taking would answer
+  pub tried-as-taken : (archive u : ℕ) (log row copy tree report : List ℕ) → tryOf archive u log row copy tree report .number ≡ 0
+      → (takeRowOf archive u log row .number ≡ 0)
+      × (tryOf archive u log row copy tree report .copy ≡ takeRowOf archive u log row .log)
+      × (tryOf archive u log row copy tree report .tree ≡ tableBytes (replay (recordsOf (takeRowOf archive u log row .log))))
+      × (getD (tryOf archive u log row copy tree report .report) 0 0 ≡ takeRowOf archive u log row .taken)
+      × (getD (tryOf archive u log row copy tree report .report) 1 0 ≡ takeRowOf archive u log row .stopped)
   pub handing-out : (archive u : ℕ) (log v lent : List ℕ) → Keeps log lent (handRowOf archive u log v lent)
   -- what stops a row is none of 1, 2, 19 and 21
   pub stops : (archive u : ℕ) (log row : List ℕ) → Stop (takeRowOf archive u log row .stopped)

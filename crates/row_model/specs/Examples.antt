@@ -131,13 +131,17 @@ table =
     ∷ lendsTrial 40960 43011 2068 1
     ∷ lendsTrial 40960 43012 2067 1
     ∷ lendsTrial 40960 43012 2068 21
-    -- a block taken and 3 behind it: one entry disputed, the vector then, its identity
-    ∷ reports (makesTrace 3 (0 · 1) [] root A ∷ [])
+    -- a block taken and 3 behind it: two entries disputed, the vector then, their identities
+    ∷ reports (makesTrace 3 (0 · 1) [] root A ∷ makesTrace 3 (1 · 1) [] root B ∷ [])
     1
     3
-    (makesTrace 3 (0 · 1) [] root A ∷ makesTrace 3 (1 · 1) [] root A ∷ [])
-    (1 ∷ 3 ∷ 1 ∷ 0 ∷ 1 ∷ 0 ∷ 1 ∷ 0 ∷ replicate 12 0 ++ (0 ∷ 0 ∷ 1 ∷ 0 ∷ 0 ∷ []))
-    1
+    (makesTrace 3 (0 · 1) [] root A
+    ∷ makesTrace 3 (1 · 1) [] root B
+    ∷ makesTrace 3 (2 · 1) [] root B
+    ∷ makesTrace 3 (3 · 1) [] root A
+    ∷ [])
+    (1 ∷ 3 ∷ 2 ∷ 0 ∷ 1 ∷ 0 ∷ 1 ∷ 0 ∷ 1 ∷ 0 ∷ 1 ∷ 0 ∷ replicate 8 0 ++ (0 ∷ 0 ∷ 1 ∷ 0 ∷ 1 ∷ 0 ∷ 1 ∷ 0 ∷ 0 ∷ []))
+    2
     -- an entry that was there and not disputed; one that was not there
     ∷ disputes (makesTrace 3 (0 · 1) [] root A ∷ []) (makesTrace 4 (1 · 1) [] root A ∷ []) (0 · 1 ∷ [])
     ∷ disputes (makesTrace 3 (1 · 1) [] root A ∷ []) (makesTrace 4 (0 · 1) [] root A ∷ []) (0 · 1 ∷ [])
