@@ -185,7 +185,7 @@ extern "C" {
 #define SAB_VERSION_MAJOR 2
 #define SAB_VERSION_MINOR 1
 #define SAB_VERSION_PATCH 0
-#define SAB_VERSION "2.2.0"
+#define SAB_VERSION "2.2.1"
 
 /* ---- Lengths in bytes ---- */
 
