@@ -1,4 +1,5 @@
 -- The label of a wish by a table of its bytes, and what else its record is asked.
+-- Document 02, K5.
 -- Assumes nothing.
 use Prim.Native.Nat.{ℕ, zero, suc}
 use mathlib.Core.Bool.{Bool, true, cond, _&&_, _||_}
