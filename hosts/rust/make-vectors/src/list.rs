@@ -72,7 +72,7 @@ impl List {
 
     pub fn start(&mut self, slot: usize, log: Lent, archive: u32, unit: u8) -> u8 {
         let (mut after, word) = self.lent(slot, log);
-        let came = plain::start(&mut after, archive, unit);
+        let came = plain::start(&mut after, &mut [], archive, unit);
         self.line(format!(
             "start {slot} {word} {archive} {unit} = {} {}",
             answer(&came),
@@ -84,7 +84,7 @@ impl List {
 
     pub fn act(&mut self, slot: usize, log: Lent, archive: u32, unit: u8, wish: &[u8]) -> u8 {
         let (mut after, word) = self.lent(slot, log);
-        let came = plain::act(&mut after, archive, unit, wish);
+        let came = plain::act(&mut after, &mut [], archive, unit, wish);
         self.line(format!(
             "act {slot} {word} {archive} {unit} {} = {} {}",
             bytes(wish),
@@ -97,7 +97,7 @@ impl List {
 
     pub fn take(&mut self, slot: usize, log: Lent, archive: u32, unit: u8, block: &[u8]) -> u8 {
         let (mut after, word) = self.lent(slot, log);
-        let came = plain::take(&mut after, archive, unit, block);
+        let came = plain::take(&mut after, &mut [], archive, unit, block);
         self.line(format!(
             "take {slot} {word} {archive} {unit} {} = {} {}",
             bytes(block),
