@@ -23,8 +23,9 @@ static uint8_t log_bytes[SAB_LOG_BYTES], full[SAB_LOG_BYTES], shorter[SAB_LOG_BY
     tree[SAB_TREE_BYTES], listing[SAB_LISTING_BYTES], length[SAB_LENGTH_BYTES],
     head[SAB_HEAD_BYTES], asked[SAB_VECTOR_BYTES], held[SAB_VECTOR_BYTES],
     lacks[SAB_LACKS_BYTES], wish[SAB_RECORD_BYTES], row[SAB_FILE_BYTES],
-    copy[SAB_LOG_BYTES], report[SAB_REPORT_BYTES];
-static size_t file_length, row_length;
+    copy[SAB_LOG_BYTES], report[SAB_REPORT_BYTES], index_bytes[SAB_INDEX_BYTES],
+    entry[SAB_IDENTITY_BYTES], range[SAB_RANGE_BYTES];
+static size_t file_length, row_length, index_length;
 static uint32_t result;
 
 static void run_compare(void)
@@ -39,12 +40,13 @@ static void run_vector(void)
 
 static void run_start(void)
 {
-    result = sab_start(log_bytes, sizeof log_bytes, ARCHIVE, 0);
+    result = sab_start(log_bytes, sizeof log_bytes, index_bytes, index_length, ARCHIVE, 0);
 }
 
 static void run_act(void)
 {
-    result = sab_act(shorter, sizeof shorter, ARCHIVE, 0, wish, sizeof wish);
+    result = sab_act(shorter, sizeof shorter, index_bytes, index_length, ARCHIVE, 0, wish,
+                     sizeof wish);
 }
 
 static void run_hand_out(void)
@@ -55,7 +57,8 @@ static void run_hand_out(void)
 
 static void run_take(void)
 {
-    result = sab_take(shorter, sizeof shorter, ARCHIVE, 0, block, sizeof block);
+    result = sab_take(shorter, sizeof shorter, index_bytes, index_length, ARCHIVE, 0, block,
+                      sizeof block);
 }
 
 static void run_hand_out_row(void)
@@ -66,7 +69,8 @@ static void run_hand_out_row(void)
 
 static void run_take_row(void)
 {
-    result = sab_take_row(log_bytes, sizeof log_bytes, ARCHIVE, 0, row, row_length);
+    result = sab_take_row(log_bytes, sizeof log_bytes, index_bytes, index_length, ARCHIVE, 0, row,
+                          row_length);
 }
 
 static void run_try(void)
@@ -96,25 +100,64 @@ static void run_show(void)
     result = sab_show(log_bytes, sizeof log_bytes, tree, sizeof tree);
 }
 
+static void run_index(void)
+{
+    result = sab_index(log_bytes, sizeof log_bytes, index_bytes, sizeof index_bytes);
+}
+
+/* The folder and the label of the row in the middle. */
+static const uint8_t *middle(void)
+{
+    return index_bytes + SAB_INDEX_ROWS + SAB_INDEX_ROW_BYTES * (index_bytes[0] / 2);
+}
+
+static void run_find(void)
+{
+    result = sab_find(index_bytes, sizeof index_bytes, middle(), SAB_IDENTITY_BYTES, middle() + 4,
+                      SAB_LABEL_BYTES, entry, sizeof entry);
+}
+
+static void run_list(void)
+{
+    result = sab_list(index_bytes, sizeof index_bytes, middle(), SAB_IDENTITY_BYTES, range,
+                      sizeof range);
+}
+
 static void run_listing(void)
 {
     result = sab_listing(file, file_length, log_bytes, sizeof log_bytes, tree, sizeof tree,
                          listing, sizeof listing, length, sizeof length);
 }
 
+/* A call; those that keep an index stand twice, without and with one. */
 struct entry {
     const char *name;
     void (*run)(void);
+    int indexed;
 };
 
 static const struct entry ENTRIES[] = {
-    {"sab_compare", run_compare},       {"sab_vector", run_vector},
-    {"sab_start", run_start},           {"sab_act", run_act},
-    {"sab_hand_out", run_hand_out},     {"sab_take", run_take},
-    {"sab_write_file", run_write_file}, {"sab_read_file", run_read_file},
-    {"sab_merge", run_merge},           {"sab_show", run_show},
-    {"sab_listing", run_listing},       {"sab_hand_out_row", run_hand_out_row},
-    {"sab_take_row", run_take_row},     {"sab_try", run_try},
+    {"sab_compare", run_compare, 0},
+    {"sab_vector", run_vector, 0},
+    {"sab_start", run_start, 0},
+    {"sab_start, with an index", run_start, 1},
+    {"sab_act", run_act, 0},
+    {"sab_act, with an index", run_act, 1},
+    {"sab_hand_out", run_hand_out, 0},
+    {"sab_take", run_take, 0},
+    {"sab_take, with an index", run_take, 1},
+    {"sab_write_file", run_write_file, 0},
+    {"sab_read_file", run_read_file, 0},
+    {"sab_merge", run_merge, 0},
+    {"sab_show", run_show, 0},
+    {"sab_listing", run_listing, 0},
+    {"sab_hand_out_row", run_hand_out_row, 0},
+    {"sab_take_row", run_take_row, 0},
+    {"sab_take_row, with an index", run_take_row, 1},
+    {"sab_try", run_try, 0},
+    {"sab_index", run_index, 0},
+    {"sab_find", run_find, 0},
+    {"sab_list", run_list, 0},
 };
 
 static void fail(const char *what)
@@ -127,12 +170,12 @@ static void fail(const char *what)
 static uint8_t *stack;
 static size_t used;
 
-static void *in_thread(void *entry)
+static void *in_thread(void *call)
 {
     volatile uint8_t *at, *here = (uint8_t *)__builtin_frame_address(0);
     for (at = stack; at < here - MARGIN; at++)
         *at = PAINT;
-    ((const struct entry *)entry)->run();
+    ((const struct entry *)call)->run();
     for (at = stack; at < here - MARGIN && *at == PAINT;)
         at++;
     used = (size_t)(here - at);
@@ -140,12 +183,12 @@ static void *in_thread(void *entry)
 }
 
 /* Runs a call in a thread of its own. */
-static void measure(const struct entry *entry)
+static void measure(const struct entry *call)
 {
     pthread_attr_t how;
     pthread_t thread;
     if (pthread_attr_init(&how) != 0 || pthread_attr_setstack(&how, stack, STACK) != 0 ||
-        pthread_create(&thread, &how, in_thread, (void *)entry) != 0 ||
+        pthread_create(&thread, &how, in_thread, (void *)call) != 0 ||
         pthread_join(thread, NULL) != 0)
         fail("no thread");
     pthread_attr_destroy(&how);
@@ -164,7 +207,7 @@ static size_t least(size_t a, size_t b)
 }
 
 /* Makes the buffers ready for a call on so many records. */
-static void prepare(const struct entry *entry, size_t records)
+static void prepare(const struct entry *call, size_t records)
 {
     uint32_t r;
     first(log_bytes, records);
@@ -172,17 +215,22 @@ static void prepare(const struct entry *entry, size_t records)
     memset(asked, 0, sizeof asked);
     r = sab_write_file(log_bytes, sizeof log_bytes, ARCHIVE, 0, file, sizeof file);
     file_length = SAB_BLOCK_BYTES * SAB_COUNT(r);
-    if (entry->run == run_take) {
+    if (call->run == run_take) {
         first(shorter, least(records, FULL - 6));
         sab_vector(shorter, sizeof shorter, asked, sizeof asked);
         r = sab_hand_out(full, sizeof full, ARCHIVE, 0, asked, sizeof asked, block, sizeof block);
-    } else if (entry->run == run_take_row || entry->run == run_try) {
+    } else if (call->run == run_take_row || call->run == run_try) {
         sab_vector(log_bytes, sizeof log_bytes, asked, sizeof asked);
         r = sab_hand_out_row(full, sizeof full, ARCHIVE, 0, asked, sizeof asked, row, sizeof row);
         row_length = SAB_BLOCK_BYTES * SAB_COUNT(r);
-    } else if (entry->run == run_act) {
+    } else if (call->run == run_act) {
         first(shorter, least(records, FULL - 1));
     }
+    index_length = call->indexed ? sizeof index_bytes : 0;
+    if (call->run == run_act || call->run == run_take)
+        sab_index(shorter, sizeof shorter, index_bytes, sizeof index_bytes);
+    else
+        run_index();
     if (SAB_NUMBER(r) != SAB_OK)
         fail("the file's records are refused");
 }

@@ -78,8 +78,9 @@
  *     SAB_COUNT(r)    what a successful call counted: the blocks written
  *                     (sab_write_file, sab_merge, sab_hand_out_row), the records
  *                     read (sab_read_file) or held (sab_vector), the answer of
- *                     sab_compare; of sab_take_row two numbers; of a refused
- *                     sab_merge, which file is at fault; else 0
+ *                     sab_compare, 1 or 0 entries found (sab_find); of
+ *                     sab_take_row two numbers; of a refused sab_merge, which
+ *                     file is at fault; else 0
  *
  * A refused call leaves every byte of every lent buffer as it was.
  * (sab_listing, whose output tells of the refusal, says what it leaves.)
@@ -88,6 +89,7 @@
  * first that holds. A buffer that has not the stated length is refused with 1,
  * or with 2 if it is a block, a row or a file given for reading; its bytes are neither
  * read nor written, so with a wrong length, also 0, the pointer may be anything.
+ * Only an index may have 0 bytes where a call keeps one: see THE INDEX.
  *
  *
  * RANK
@@ -113,8 +115,8 @@
  *         r = sab_hand_out(your_log, SAB_LOG_BYTES, archive, you,
  *                          asked, SAB_VECTOR_BYTES, block, SAB_BLOCK_BYTES);
  *         ...send block to me; it may arrive damaged or not at all...
- *         r = sab_take(my_log, SAB_LOG_BYTES, archive, me,
- *                      block, SAB_BLOCK_BYTES);
+ *         r = sab_take(my_log, SAB_LOG_BYTES, my_index, SAB_INDEX_BYTES,
+ *                      archive, me, block, SAB_BLOCK_BYTES);
  *         if (SAB_NUMBER(r) != SAB_OK) nothing was taken: ask again or end
  *         advance(asked, block);          by the records that came
  *         ...store my_log...
@@ -147,6 +149,40 @@
  *               came late or from elsewhere: ask again
  *     11        my log is full: I cannot take more; you may still ask me
  *     19 21 1   my log, or my program, is at fault
+ *
+ *
+ * THE INDEX
+ *
+ * An index lists the entries of a log's tree by folder, then by label, so that a
+ * label is found in a big folder without a look at all entries. It is lent memory
+ * like the log, 20,484 bytes:
+ *
+ *   0-1  how many rows, one for each entry of the tree; 2-3  zero
+ *   4 + 40 i       row i
+ *       0-3    the folder that the entry lies in; the root is all zero
+ *       4-35   the label, then zeros
+ *       36-39  the entry
+ *   An identity is four bytes: unit, zero, number (2). Rows not used are zero.
+ *
+ * Rows stand by the folder's unit, then its number, then the bytes of the label
+ * as numbers, those of a shorter label before one that goes on. No two rows have
+ * the same folder and label. A row refers to no place in a log or in a tree.
+ *
+ * Who keeps one lends it to every call that changes the log: sab_start, sab_act,
+ * sab_take, sab_take_row. If it was right before, it is right after, whether the
+ * call is refused or not: the same bytes as sab_index would make of the log. An
+ * act puts its one change into it; a take makes it afresh, a row once. Who keeps
+ * none lends no bytes, of length 0, and any pointer, also NULL. To these calls
+ * every other length is refused with 1, before all else.
+ *
+ * After sab_read_file or sab_merge, or when a log was changed by a call that was
+ * lent no index, sab_index makes it afresh. It is not part of a file and need not
+ * be stored. sab_hand_out, sab_hand_out_row, sab_try, sab_write_file, sab_show and
+ * sab_vector change no log and need none.
+ *
+ * sab_find and sab_list need the index alone. They end in any bytes, with the
+ * answers that docs/FORMAT.md defines; of an index that is not the log's these
+ * mean nothing.
  *
  *
  * STORAGE
@@ -182,10 +218,10 @@ extern "C" {
 
 /* ---- The version of this header and of its calls ---- */
 
-#define SAB_VERSION_MAJOR 2
-#define SAB_VERSION_MINOR 1
+#define SAB_VERSION_MAJOR 3
+#define SAB_VERSION_MINOR 0
 #define SAB_VERSION_PATCH 0
-#define SAB_VERSION "2.2.1"
+#define SAB_VERSION "3.0.0"
 
 /* ---- Lengths in bytes ---- */
 
@@ -194,12 +230,16 @@ extern "C" {
 #define SAB_BLOCK_BYTES 512      /* a block: up to six records */
 #define SAB_FILE_BYTES 44032     /* lent for writing a file: 86 blocks */
 #define SAB_TREE_BYTES 43012     /* the tree table */
+#define SAB_INDEX_BYTES 20484    /* an index: 512 rows of 40 behind 4 bytes */
 #define SAB_VECTOR_BYTES 16      /* a vector: eight 16-bit counts, unit 0 first */
 #define SAB_LACKS_BYTES 8        /* how far two vectors are apart: two numbers */
 #define SAB_HEAD_BYTES 24        /* what a file says of itself */
 #define SAB_REPORT_BYTES 2068    /* the report of a row that is tried */
 #define SAB_LISTING_BYTES 76800  /* lent for a listing; none is longer */
 #define SAB_LENGTH_BYTES 4       /* the length of a listing */
+#define SAB_IDENTITY_BYTES 4     /* a folder or an entry */
+#define SAB_LABEL_BYTES 32       /* a label with the zeros behind it */
+#define SAB_RANGE_BYTES 4        /* the rows of a folder in an index */
 
 /* All numbers of more than one byte, in every buffer, are little-endian. */
 
@@ -307,19 +347,23 @@ uint32_t sab_vector(const uint8_t *log, size_t log_len, uint8_t *vector,
 /* Starts a unit: makes its log all zeros, whatever it held. See the caveat.
  *
  * log       40,960 bytes; on 0 every byte is zero
+ * index     20,484 bytes, or none; on 0 every byte is zero: the index of no entry
  * archive   any number; decides nothing here
  * unit      the own unit
  *
- * Returns 0; 1 log not of 40,960 bytes; 21 unit above 7.
+ * Returns 0; 1 index not of 0 or 20,484 bytes, log not of 40,960; 21 unit above
+ * 7.
  */
-uint32_t sab_start(uint8_t *log, size_t log_len, uint32_t archive,
-                   uint32_t unit);
+uint32_t sab_start(uint8_t *log, size_t log_len, uint8_t *index,
+                   size_t index_len, uint32_t archive, uint32_t unit);
 
 /* Makes a record of the own unit, if it fits the tree.
  *
  * log       40,960 bytes; on 0 the record stands behind those held, with the
  *           unit's next number and the held vector as what it has seen; the
  *           other bytes are as they were
+ * index     20,484 bytes, or none; on 0 a make puts its entry in, a remove takes
+ *           it out, a rename moves it; a store and a settle change nothing
  * archive   any number; decides nothing here
  * unit      the own unit
  * wish      80 bytes, only read: a record whose unit is the own unit and whose
@@ -336,7 +380,7 @@ uint32_t sab_start(uint8_t *log, size_t log_len, uint32_t archive,
  *           fields that the operation does not use are zero
  *
  * Returns 0;
- *    1 log not of 40,960 or wish not of 80 bytes;
+ *    1 index not of 0 or 20,484, log not of 40,960 or wish not of 80 bytes;
  *   21 unit above 7;
  *   19 log not sound;
  *    7 wish of another unit, with number or seen, or malformed; an identity that
@@ -352,8 +396,9 @@ uint32_t sab_start(uint8_t *log, size_t log_len, uint32_t archive,
  *   16 remove: the folder has entries;
  *   18 settle: the object is no record that stands aside.
  */
-uint32_t sab_act(uint8_t *log, size_t log_len, uint32_t archive, uint32_t unit,
-                 const uint8_t *wish, size_t wish_len);
+uint32_t sab_act(uint8_t *log, size_t log_len, uint8_t *index, size_t index_len,
+                 uint32_t archive, uint32_t unit, const uint8_t *wish,
+                 size_t wish_len);
 
 /* Hands out one block: the first six or fewer records, in rank order, that the
  * asked vector lacks.
@@ -380,12 +425,13 @@ uint32_t sab_hand_out(const uint8_t *log, size_t log_len, uint32_t archive,
  * block may come twice. The block's place and vector are not judged.
  *
  * log       40,960 bytes; on 0 it holds the records held before and the block's
+ * index     20,484 bytes, or none; on 0 that of the log, made afresh
  * archive   the archive that the block must have
  * unit      the own unit
  * block     512 bytes, only read
  *
  * Returns 0;
- *    1 log not of 40,960 bytes;
+ *    1 index not of 0 or 20,484 bytes, log not of 40,960;
  *   21 unit above 7;
  *   19 log not sound;
  *    2 block not of 512 bytes; 3 letters; 4 a sum; 5 header; 6 archive;
@@ -397,8 +443,9 @@ uint32_t sab_hand_out(const uint8_t *log, size_t log_len, uint32_t archive,
  *   11 a 513th record.
  * The place is 0.
  */
-uint32_t sab_take(uint8_t *log, size_t log_len, uint32_t archive,
-                  uint32_t unit, const uint8_t *block, size_t block_len);
+uint32_t sab_take(uint8_t *log, size_t log_len, uint8_t *index,
+                  size_t index_len, uint32_t archive, uint32_t unit,
+                  const uint8_t *block, size_t block_len);
 
 /* Hands out a row: all blocks of what the asked vector lacks, each as
  * sab_hand_out would give it once those before are taken. One check of the log
@@ -424,17 +471,20 @@ uint32_t sab_hand_out_row(const uint8_t *log, size_t log_len, uint32_t archive,
  *
  * log       40,960 bytes; on 0 it holds the records held before and those of the
  *           blocks taken
+ * index     20,484 bytes, or none; on 0 that of the log, made afresh if a block
+ *           was taken, also where a later one stops the row; else as it was
  * archive   the archive that the blocks must have
  * unit      the own unit
  * row       0 to 86 blocks of 512 bytes, only read
  *
  * Returns 0, and SAB_TAKEN is how many blocks were taken, SAB_STOPPED the number
  * that sab_take would answer for the block behind them, 3 to 11, or 0 if all were
- * taken; 1 log not of 40,960 bytes; 21 unit above 7; 2 row not of 0 to 86 whole
- * blocks; 19 log not sound.
+ * taken; 1 index not of 0 or 20,484 bytes, log not of 40,960; 21 unit above 7; 2
+ * row not of 0 to 86 whole blocks; 19 log not sound.
  */
-uint32_t sab_take_row(uint8_t *log, size_t log_len, uint32_t archive,
-                      uint32_t unit, const uint8_t *row, size_t row_len);
+uint32_t sab_take_row(uint8_t *log, size_t log_len, uint8_t *index,
+                      size_t index_len, uint32_t archive, uint32_t unit,
+                      const uint8_t *row, size_t row_len);
 
 /* Tells what sab_take_row would do, on a copy of the log.
  *
@@ -568,6 +618,51 @@ uint32_t sab_merge(const uint8_t *first, size_t first_len,
 
 uint32_t sab_show(const uint8_t *log, size_t log_len, uint8_t *tree,
                   size_t tree_len);
+
+/* Makes the index of a log afresh.
+ *
+ * log     40,960 bytes, only read
+ * index   20,484 bytes, whose old bytes are not judged; on 0 every byte is
+ *         written
+ *
+ * Returns 0; 1 log or index not of its length; 19 log not sound.
+ */
+#define SAB_INDEX_ROWS 4        /* where the rows of an index begin */
+#define SAB_INDEX_ROW_BYTES 40  /* a row of an index */
+
+uint32_t sab_index(const uint8_t *log, size_t log_len, uint8_t *index,
+                   size_t index_len);
+
+/* Looks up a label in a folder.
+ *
+ * index    20,484 bytes of any kind, only read
+ * folder   4 bytes, only read: unit 0 to 7, zero, number; the root is all zero.
+ *          Of a trace, and of what is not in the tree, no entry is found
+ * label    32 bytes, only read: a label, then zeros; any others are no label, and
+ *          no entry has them
+ * entry    4 bytes; on 0 every byte is written: the entry, or zeros for none
+ *
+ * Returns 0, and SAB_COUNT is 1 if the folder has an entry of that label, else 0;
+ * 1 index, folder, label or entry not of its length. Nothing else is refused.
+ */
+uint32_t sab_find(const uint8_t *index, size_t index_len, const uint8_t *folder,
+                  size_t folder_len, const uint8_t *label, size_t label_len,
+                  uint8_t *entry, size_t entry_len);
+
+/* Lists a folder: its entries are rows of the index one behind another, by label.
+ *
+ * index    20,484 bytes of any kind, only read
+ * folder   4 bytes, only read, as of sab_find; of a trace, and of what is not in
+ *          the tree, no row is listed
+ * range    4 bytes; on 0 every byte is written: 0-1 the first row, 0 to 512; 2-3
+ *          how many rows. Together they are at most 512
+ *
+ * Row i begins at byte SAB_INDEX_ROWS + SAB_INDEX_ROW_BYTES * i of the index.
+ *
+ * Returns 0; 1 index, folder or range not of its length. Nothing else is refused.
+ */
+uint32_t sab_list(const uint8_t *index, size_t index_len, const uint8_t *folder,
+                  size_t folder_len, uint8_t *range, size_t range_len);
 
 /* Lists a file as text, in the form that docs/FORMAT.md gives: archive, unit and
  * count of records; the vector; a line for each entry; a line for each aside. A

@@ -2,8 +2,9 @@
 
 use crate::exchange::Pair;
 use crate::times::clock;
+use crate::big::Big;
 use library::{Library, REPORT, Trial};
-use plain::{BLOCK, FILE, LOG, RECORD, TREE};
+use plain::{BLOCK, FILE, INDEX, LOG, RECORD, TREE};
 use std::hint::black_box;
 use workload::vector_of;
 
@@ -45,7 +46,7 @@ fn new_trace() -> [u8; 80] {
 /// The cases on the first 0, 64, 256 and 512 records of a full log. An act and a
 /// take of six on the full one are timed on all but what they add. Files that are
 /// merged have so many records together: both the same, or each unit's half.
-pub fn cases(log: &[u8], pair: &Pair) -> Vec<Case> {
+pub fn cases(log: &[u8], pair: &Pair, big: &Big) -> Vec<Case> {
     let mut cases = Vec::new();
     for size in SIZES {
         let mut case = |name: &str, run: Run| {
@@ -55,19 +56,26 @@ pub fn cases(log: &[u8], pair: &Pair) -> Vec<Case> {
         let lent = first(log, size);
         case("check of the log", check(lent.clone()));
         case("start", start(lent.clone()));
-        case("act", act(first(log, size.min(511))));
+        case("act", act(first(log, size.min(511)), With::None));
+        case("act with an index", act(first(log, size.min(511)), With::Index));
         case("hand out, six lacking", hand_out(lent.clone(), [0; 8]));
         case(
             "hand out, none lacking",
             hand_out(lent.clone(), vector_of(&lent)),
         );
         let before = size.min(506);
-        case(
-            "take, six new",
-            take(first(log, before), &first(log, before + 6)),
-        );
+        for (name, with) in [
+            ("take, six new", With::None),
+            ("take with an index, six new", With::Index),
+        ] {
+            case(name, take(first(log, before), &first(log, before + 6), with));
+        }
         case("hand out a row, all lacking", hand_out_row(lent.clone()));
-        case("take a row, the rest", take_row(lent.clone(), log));
+        case("take a row, the rest", take_row(lent.clone(), log, With::None));
+        case(
+            "take a row with an index, the rest",
+            take_row(lent.clone(), log, With::Index),
+        );
         case("try a row, the rest", try_row(lent.clone(), log));
         case("write a file", write_file(lent.clone()));
         case("read a file", read_file(&lent));
@@ -75,12 +83,21 @@ pub fn cases(log: &[u8], pair: &Pair) -> Vec<Case> {
         let [one, other] = pair.logs().map(|log| first(log, size / 2));
         case("merge, halves", merge([&one, &other]));
         case("show the tree", show(lent.clone()));
+        case("make the index", index(lent.clone()));
         case("listing", listing(&lent));
     }
     cases.push(Case {
         name: "compare, 1000 times".to_string(),
         run: compare(vector_of(log)),
     });
+    for (name, run) in [
+        ("look up, 512 entries, 1000 times", find(big, 0)),
+        ("look up none, 512 entries, 1000 times", find(big, 1)),
+        ("list a folder of 400", list(big)),
+    ] {
+        let name = name.to_string();
+        cases.push(Case { name, run });
+    }
     cases
 }
 
@@ -88,7 +105,7 @@ pub fn cases(log: &[u8], pair: &Pair) -> Vec<Case> {
 fn check(mut log: Vec<u8>) -> Run {
     Box::new(move |library| {
         Some(clock(|| {
-            let answer = library.take(black_box(&mut log), ARCHIVE, 0, &[]);
+            let answer = library.take(black_box(&mut log), &mut [], ARCHIVE, 0, &[]);
             assert!(answer.is_err_and(|refusal| refusal.number == 2));
         }))
     })
@@ -99,19 +116,41 @@ fn start(log: Vec<u8>) -> Run {
     Box::new(move |library| {
         lent.copy_from_slice(&log);
         Some(clock(|| {
-            library.start(black_box(&mut lent), ARCHIVE, 0).unwrap()
+            library
+                .start(black_box(&mut lent), &mut [], ARCHIVE, 0)
+                .unwrap()
         }))
     })
 }
 
-fn act(log: Vec<u8>) -> Run {
+/// Whether an index is lent.
+#[derive(Clone, Copy)]
+enum With {
+    Index,
+    None,
+}
+
+/// The index that is lent with a log.
+fn index_of(log: &[u8], with: With) -> Vec<u8> {
+    let mut index = vec![0; INDEX];
+    match with {
+        With::Index => plain::index(log, &mut index).expect("a sound log"),
+        With::None => index.clear(),
+    }
+    index
+}
+
+fn act(log: Vec<u8>, with: With) -> Run {
     let mut lent = log.clone();
+    let index = index_of(&log, with);
+    let mut listed = index.clone();
     let wish = new_trace();
     Box::new(move |library| {
         lent.copy_from_slice(&log);
+        listed.copy_from_slice(&index);
         Some(clock(|| {
             library
-                .act(black_box(&mut lent), ARCHIVE, 0, &wish)
+                .act(black_box(&mut lent), &mut listed, ARCHIVE, 0, &wish)
                 .unwrap()
         }))
     })
@@ -128,16 +167,17 @@ fn hand_out(log: Vec<u8>, asked: [u16; 8]) -> Run {
     })
 }
 
-fn take(log: Vec<u8>, other: &[u8]) -> Run {
+fn take(log: Vec<u8>, other: &[u8], with: With) -> Run {
     let mut block = [0; BLOCK];
     plain::hand_out(other, ARCHIVE, 1, &vector_of(&log), &mut block).expect("a sound log");
     assert_eq!(block[9], 6);
     let mut lent = log.clone();
+    let mut index = index_of(&log, with);
     Box::new(move |library| {
         lent.copy_from_slice(&log);
         Some(clock(|| {
             library
-                .take(black_box(&mut lent), ARCHIVE, 0, &block)
+                .take(black_box(&mut lent), &mut index, ARCHIVE, 0, &block)
                 .unwrap()
         }))
     })
@@ -162,14 +202,15 @@ fn row_for(log: &[u8], other: &[u8]) -> Vec<u8> {
     row
 }
 
-fn take_row(log: Vec<u8>, other: &[u8]) -> Run {
+fn take_row(log: Vec<u8>, other: &[u8], with: With) -> Run {
     let row = row_for(&log, other);
     let mut lent = log.clone();
+    let mut index = index_of(&log, with);
     Box::new(move |library| {
         lent.copy_from_slice(&log);
         Some(clock(|| {
             library
-                .take_row(black_box(&mut lent), ARCHIVE, 0, &row)
+                .take_row(black_box(&mut lent), &mut index, ARCHIVE, 0, &row)
                 .unwrap();
         }))
     })
@@ -235,6 +276,46 @@ fn merge(logs: [&[u8]; 2]) -> Run {
 fn show(log: Vec<u8>) -> Run {
     let mut tree = vec![0; TREE];
     Box::new(move |library| Some(clock(|| library.show(black_box(&log), &mut tree).unwrap())))
+}
+
+fn index(log: Vec<u8>) -> Run {
+    let mut index = vec![0; INDEX];
+    Box::new(move |library| Some(clock(|| library.index(black_box(&log), &mut index).unwrap())))
+}
+
+/// Looks up the entries of the big tree, in an order by chance; with another last
+/// byte of the label there is none.
+fn find(big: &Big, other: u8) -> Run {
+    let index = big.index.clone();
+    let mut keys = big.keys(1000);
+    keys.iter_mut().for_each(|key| key.label[31] ^= other);
+    let there = other == 0;
+    Box::new(move |library| {
+        Some(clock(|| {
+            for key in &keys {
+                let found = library.find(black_box(&index), &key.folder, &key.label);
+                assert_eq!(found.unwrap().is_some(), there);
+            }
+        }))
+    })
+}
+
+/// Lists the big folder and reads the entry of every row.
+fn list(big: &Big) -> Run {
+    let index = big.index.clone();
+    Box::new(move |library| {
+        let mut read = 0;
+        let time = clock(|| {
+            let range = library.list(black_box(&index), &Big::FOLDER).unwrap();
+            let (rows, _) = index[4..].as_chunks::<40>();
+            for row in &rows[usize::from(range.first)..][..usize::from(range.count)] {
+                black_box(&row[36..]);
+                read += 1;
+            }
+        });
+        assert_eq!(read, Big::INSIDE);
+        Some(time)
+    })
 }
 
 fn listing(log: &[u8]) -> Run {

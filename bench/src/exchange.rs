@@ -78,7 +78,7 @@ fn pass_row(
         .hand_out_row(from, ARCHIVE, giver, &vector_of(to), row)
         .unwrap();
     let row = &row[..BLOCK * usize::from(blocks)];
-    let taken = library.take_row(to, ARCHIVE, taker, row).unwrap();
+    let taken = library.take_row(to, &mut [], ARCHIVE, taker, row).unwrap();
     assert_eq!(taken.stopped, 0);
 }
 
@@ -93,7 +93,7 @@ fn pass(library: &dyn Library, from: &[u8], giver: u32, to: &mut [u8], taker: u3
         if block[9] == 0 {
             return;
         }
-        library.take(to, ARCHIVE, taker, &block).unwrap();
+        library.take(to, &mut [], ARCHIVE, taker, &block).unwrap();
         for record in block[28..].chunks(80).take(block[9] as usize) {
             asked[record[0] as usize] += 1;
         }

@@ -5,6 +5,7 @@
 //! block. Each round runs it and then the case once for each implementation, so
 //! that what else the machine does falls on all alike.
 
+mod big;
 mod calls;
 mod exchange;
 mod options;
@@ -57,7 +58,8 @@ fn main() {
     plain::write_file(&log, 7, 0, &mut file).expect("a sound log");
 
     let pair = exchange::Pair::new();
-    let mut cases = calls::cases(&log, &pair);
+    let big = big::Big::new();
+    let mut cases = calls::cases(&log, &pair, &big);
     let mut yard = Times::default();
     let mut times = vec![vec![Times::default(); libraries.len()]; cases.len()];
     for (case, times) in cases.iter_mut().zip(&mut times) {
@@ -95,9 +97,27 @@ fn main() {
         times::row(name, &times, &yard);
     }
     #[cfg(feature = "sqlite")]
-    by_sqlite(&pair, options.rounds.div_ceil(20), &yard);
+    {
+        by_sqlite(&pair, options.rounds.div_ceil(20), &yard);
+        look_up_by_sqlite(&big, options.rounds.div_ceil(4), &yard);
+    }
 
     readout::measure(&options, &file, &yard);
+}
+
+/// The same look-ups and listing by SQLite, in memory, with statements that are
+/// prepared once. The times stand in the first column.
+#[cfg(feature = "sqlite")]
+fn look_up_by_sqlite(big: &big::Big, rounds: usize, yard: &Times) {
+    let entries = sqlite::Entries::of(big);
+    let keys = big.keys(1000);
+    let (mut find, mut list) = (Times::default(), Times::default());
+    for _ in 0..rounds {
+        find.push(entries.find(&keys));
+        list.push(entries.list());
+    }
+    times::row("look up, SQLite, 1000 times", &[find], yard);
+    times::row("list a folder of 400, SQLite", &[list], yard);
 }
 
 /// The exchange by SQLite: one changeset each way, and one for six records as a

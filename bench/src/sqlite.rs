@@ -1,6 +1,8 @@
 //! The same exchange by SQLite's session extension, in memory: each record is a
-//! row, and changesets pass both ways.
+//! row, and changesets pass both ways. And the same look-ups and listing by its
+//! index on folder and label.
 
+use crate::big::{Big, Key};
 use crate::times::clock;
 use std::ffi::{CStr, c_char, c_int, c_void};
 use std::ptr;
@@ -59,6 +61,8 @@ unsafe extern "C" {
     ) -> c_int;
 }
 
+/// The bytes outlive the statement.
+const STATIC: isize = 0;
 const ROW: c_int = 100;
 const DONE: c_int = 101;
 const TRANSIENT: isize = -1;
@@ -215,4 +219,113 @@ pub fn exchange(first: &[[u8; 80]], second: &[[u8; 80]], each: usize) -> u64 {
     let all = (first.len() + second.len()) as c_int;
     assert!(one.count() == all && other.count() == all);
     to_write + to_write_too + to_apply
+}
+
+/// A folder's identity as one number, by unit, then by number.
+fn number_of(identity: &[u8; 4]) -> c_int {
+    let number = u16::from_le_bytes([identity[2], identity[3]]);
+    c_int::from(identity[0]) << 16 | c_int::from(number)
+}
+
+/// The entries of the big tree in a table with an index on folder and label, and
+/// the two statements.
+pub struct Entries {
+    db: Db,
+    find: Statement,
+    list: Statement,
+}
+
+impl Entries {
+    pub fn of(big: &Big) -> Entries {
+        let mut db = ptr::null_mut();
+        let table = c"CREATE TABLE entries(
+            folder INTEGER, label BLOB, entry INTEGER, PRIMARY KEY(folder, label)
+        ) WITHOUT ROWID";
+        unsafe {
+            ok(sqlite3_open(c":memory:".as_ptr(), &mut db));
+            ok(sqlite3_exec(
+                db,
+                table.as_ptr(),
+                ptr::null(),
+                ptr::null_mut(),
+                ptr::null_mut(),
+            ));
+            let insert = prepared(db, c"INSERT INTO entries VALUES(?, ?, ?)");
+            for Key {
+                folder,
+                label,
+                entry,
+            } in &big.entries
+            {
+                ok(sqlite3_bind_int(insert, 1, number_of(folder)));
+                ok(sqlite3_bind_blob(insert, 2, label.as_ptr(), 32, TRANSIENT));
+                ok(sqlite3_bind_int(insert, 3, number_of(entry)));
+                assert_eq!(sqlite3_step(insert), DONE);
+                ok(sqlite3_reset(insert));
+            }
+            ok(sqlite3_finalize(insert));
+            let find = c"SELECT entry FROM entries WHERE folder = ? AND label = ?";
+            let list = c"SELECT entry FROM entries WHERE folder = ? ORDER BY label";
+            Entries {
+                db,
+                find: prepared(db, find),
+                list: prepared(db, list),
+            }
+        }
+    }
+
+    /// The time of looking up all of the keys.
+    pub fn find(&self, keys: &[Key]) -> u64 {
+        clock(|| {
+            for key in keys {
+                unsafe {
+                    ok(sqlite3_bind_int(self.find, 1, number_of(&key.folder)));
+                    ok(sqlite3_bind_blob(self.find, 2, key.label.as_ptr(), 32, STATIC));
+                    assert_eq!(sqlite3_step(self.find), ROW);
+                    let entry = sqlite3_column_int(self.find, 0);
+                    assert_eq!(entry, number_of(&key.entry));
+                    ok(sqlite3_reset(self.find));
+                }
+            }
+        })
+    }
+
+    /// The time of listing the big folder by label.
+    pub fn list(&self) -> u64 {
+        let mut read = 0;
+        let time = clock(|| unsafe {
+            ok(sqlite3_bind_int(self.list, 1, number_of(&Big::FOLDER)));
+            while sqlite3_step(self.list) == ROW {
+                std::hint::black_box(sqlite3_column_int(self.list, 0));
+                read += 1;
+            }
+            ok(sqlite3_reset(self.list));
+        });
+        assert_eq!(read, Big::INSIDE);
+        time
+    }
+}
+
+impl Drop for Entries {
+    fn drop(&mut self) {
+        unsafe {
+            ok(sqlite3_finalize(self.find));
+            ok(sqlite3_finalize(self.list));
+            ok(sqlite3_close(self.db));
+        }
+    }
+}
+
+unsafe fn prepared(db: Db, sql: &CStr) -> Statement {
+    let mut statement = ptr::null_mut();
+    unsafe {
+        ok(sqlite3_prepare_v2(
+            db,
+            sql.as_ptr(),
+            -1,
+            &mut statement,
+            ptr::null_mut(),
+        ));
+    }
+    statement
 }

@@ -33,7 +33,7 @@ pub fn clock<T>(run: impl FnOnce() -> T) -> u64 {
 /// The head of the table; behind the first implementation stand the others'
 /// times in terms of it.
 pub fn head(columns: &[&str]) {
-    print!("{:36}", "");
+    print!("{:48}", "");
     for (i, column) in columns.iter().enumerate() {
         print!(" {:>9} {:>9} {:>7}", column, "median", "yard");
         if i > 0 {
@@ -47,7 +47,7 @@ pub fn head(columns: &[&str]) {
 pub fn row(name: &str, times: &[Times], yard: &Times) {
     let yard = yard.least_and_median().map_or(1.0, |(least, _)| least);
     let first = times.first().and_then(Times::least_and_median);
-    print!("{name:36}");
+    print!("{name:48}");
     for (i, times) in times.iter().enumerate() {
         let Some((least, median)) = times.least_and_median() else {
             print!(" {:>9} {:>9} {:>7}", "-", "-", "-");

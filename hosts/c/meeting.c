@@ -1,6 +1,7 @@
 /* A careful meeting of two units that is cut in the middle of a block and goes on
- * later. It ends with equal logs; then the asides are read out. Last, a unit that
- * was started again uses a number twice, and the next meeting notices it. */
+ * later. It ends with equal logs; then the asides are read out, a trace is looked
+ * up and its folder listed. Last, a unit that was started again uses a number
+ * twice, and the next meeting notices it. */
 
 #include "sab.h"
 
@@ -11,7 +12,7 @@
 enum { ARCHIVE = 7, UNITS = 2 };
 
 /* What each unit keeps. */
-static uint8_t logs[UNITS][SAB_LOG_BYTES];
+static uint8_t logs[UNITS][SAB_LOG_BYTES], indexes[UNITS][SAB_INDEX_BYTES];
 
 static void stop(const char *what, uint32_t result)
 {
@@ -68,7 +69,8 @@ static void wish_of(uint8_t *wish, uint8_t unit, unsigned operation, const char 
 
 static void act(uint8_t unit, const uint8_t *wish)
 {
-    uint32_t r = sab_act(logs[unit], SAB_LOG_BYTES, ARCHIVE, unit, wish, SAB_RECORD_BYTES);
+    uint32_t r = sab_act(logs[unit], SAB_LOG_BYTES, indexes[unit], SAB_INDEX_BYTES, ARCHIVE,
+                         unit, wish, SAB_RECORD_BYTES);
     if (SAB_NUMBER(r) != SAB_OK)
         stop("act", r);
 }
@@ -116,7 +118,8 @@ static int pass(uint8_t from, uint8_t to, int cut)
         if (block[9] == 0)
             return 1;
         carry(arrived, block, n == cut ? 300 : SAB_BLOCK_BYTES);
-        r = sab_take(logs[to], SAB_LOG_BYTES, ARCHIVE, to, arrived, SAB_BLOCK_BYTES);
+        r = sab_take(logs[to], SAB_LOG_BYTES, indexes[to], SAB_INDEX_BYTES, ARCHIVE, to, arrived,
+                     SAB_BLOCK_BYTES);
         printf("unit %d to unit %d, %d records: %u\n", from, to, block[9],
                (unsigned)SAB_NUMBER(r));
         if (SAB_NUMBER(r) != SAB_OK)
@@ -161,13 +164,47 @@ static void read_asides(uint8_t unit)
     }
 }
 
+/* Looks up a label in the folder 0.1, then lists the first and the last label of
+ * that folder, by the unit's index. */
+static void look_up(uint8_t unit, const char *label)
+{
+    static const uint8_t folder[SAB_IDENTITY_BYTES] = {0, 0, 1, 0};
+    uint8_t asked[SAB_LABEL_BYTES] = {0}, entry[SAB_IDENTITY_BYTES], range[SAB_RANGE_BYTES];
+    const uint8_t *row;
+    unsigned count;
+    uint32_t r;
+    memcpy(asked, label, strlen(label));
+    r = sab_find(indexes[unit], SAB_INDEX_BYTES, folder, sizeof folder, asked, sizeof asked, entry,
+                 sizeof entry);
+    if (SAB_NUMBER(r) != SAB_OK)
+        stop("find", r);
+    printf("unit %d: %s is ", unit, label);
+    if (SAB_COUNT(r) == 1)
+        print_identity(entry);
+    else
+        printf("not there");
+    r = sab_list(indexes[unit], SAB_INDEX_BYTES, folder, sizeof folder, range, sizeof range);
+    if (SAB_NUMBER(r) != SAB_OK)
+        stop("list", r);
+    count = get16(range + 2);
+    printf("; %u entries", count);
+    if (count > 0) {
+        row = indexes[unit] + SAB_INDEX_ROWS + SAB_INDEX_ROW_BYTES * get16(range);
+        printf(", %.32s", (const char *)(row + 4));
+        row += SAB_INDEX_ROW_BYTES * (count - 1);
+        printf(" to %.32s", (const char *)(row + 4));
+    }
+    printf("\n");
+}
+
 int main(void)
 {
     uint8_t unit;
     int i;
     char label[16];
     for (unit = 0; unit < UNITS; unit++)
-        if (sab_start(logs[unit], SAB_LOG_BYTES, ARCHIVE, unit) != SAB_OK)
+        if (sab_start(logs[unit], SAB_LOG_BYTES, indexes[unit], SAB_INDEX_BYTES, ARCHIVE, unit) !=
+            SAB_OK)
             return 1;
 
     /* A common folder; then both work apart for a while. */
@@ -185,12 +222,14 @@ int main(void)
     meet(-1);
     read_asides(0);
     read_asides(1);
+    look_up(0, "Noise 7");
+    look_up(1, "Noise");
     if (memcmp(logs[0], logs[1], SAB_LOG_BYTES) != 0)
         return 1;
 
     /* What must not be: unit 1 is started and acts before it has taken its
      * records back. Its 1.1 is another than the one that unit 0 holds. */
-    if (sab_start(logs[1], SAB_LOG_BYTES, ARCHIVE, 1) != SAB_OK)
+    if (sab_start(logs[1], SAB_LOG_BYTES, indexes[1], SAB_INDEX_BYTES, ARCHIVE, 1) != SAB_OK)
         return 1;
     make_folder(1, "Spare");
     meet(-1);

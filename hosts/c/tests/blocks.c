@@ -95,7 +95,7 @@ static uint32_t take(struct lent log, uint32_t unit, struct lent block)
     uint32_t r;
     note(log);
     only_read(block, 1);
-    r = sab_take(log.bytes, SAB_LOG_BYTES, ARCHIVE, unit, block.bytes, SAB_BLOCK_BYTES);
+    r = sab_take(log.bytes, SAB_LOG_BYTES, NULL, 0, ARCHIVE, unit, block.bytes, SAB_BLOCK_BYTES);
     only_read(block, 0);
     CHECK(r == SAB_OK || kept(log));
     return r;
@@ -164,17 +164,17 @@ static void test_order_of_checks(struct lent log, struct lent block)
     note(block);
     for (i = 0; i < WRONG_LENGTHS; i++) {
         size_t no_log = wrong_length(SAB_LOG_BYTES, i), no_block = wrong_length(SAB_BLOCK_BYTES, i);
-        CHECK(sab_take(nowhere(), no_log, ARCHIVE, 0, block.bytes, SAB_BLOCK_BYTES) ==
+        CHECK(sab_take(nowhere(), no_log, NULL, 0, ARCHIVE, 0, block.bytes, SAB_BLOCK_BYTES) ==
               SAB_BAD_BUFFER);
-        CHECK(sab_take(log.bytes, SAB_LOG_BYTES, ARCHIVE, 0, nowhere(), no_block) ==
+        CHECK(sab_take(log.bytes, SAB_LOG_BYTES, NULL, 0, ARCHIVE, 0, nowhere(), no_block) ==
               SAB_BAD_LENGTH);
-        CHECK(sab_take(log.bytes, SAB_LOG_BYTES, ARCHIVE, 8, nowhere(), no_block) ==
+        CHECK(sab_take(log.bytes, SAB_LOG_BYTES, NULL, 0, ARCHIVE, 8, nowhere(), no_block) ==
               SAB_BAD_UNIT);
-        CHECK(sab_take(nowhere(), no_log, ARCHIVE, 8, nowhere(), no_block) == SAB_BAD_BUFFER);
+        CHECK(sab_take(nowhere(), no_log, NULL, 0, ARCHIVE, 8, nowhere(), no_block) == SAB_BAD_BUFFER);
     }
     CHECK(kept(log) && kept(block));
     log.bytes[1] = 9;
-    CHECK(sab_take(log.bytes, SAB_LOG_BYTES, ARCHIVE, 0, nowhere(), 0) == SAB_UNSOUND_LOG);
+    CHECK(sab_take(log.bytes, SAB_LOG_BYTES, NULL, 0, ARCHIVE, 0, nowhere(), 0) == SAB_UNSOUND_LOG);
     block.bytes[0] = 0;
     CHECK(take(log, 0, block) == SAB_UNSOUND_LOG);
     for (i = 0; i < WIDE_UNITS; i++)

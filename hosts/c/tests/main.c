@@ -31,6 +31,7 @@ int main(void)
     test_read_file();
     test_merge();
     test_show();
+    test_index();
     test_listing();
     printf("%d passed, %d failed\n", passed, failed);
     return failed != 0 || passed == 0;

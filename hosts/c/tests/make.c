@@ -61,7 +61,7 @@ struct id id_of(uint8_t unit, unsigned number)
 
 void act(uint8_t *log, uint8_t unit, const uint8_t *wish)
 {
-    CHECK(sab_act(log, SAB_LOG_BYTES, ARCHIVE, unit, wish, SAB_RECORD_BYTES) == SAB_OK);
+    CHECK(sab_act(log, SAB_LOG_BYTES, NULL, 0, ARCHIVE, unit, wish, SAB_RECORD_BYTES) == SAB_OK);
 }
 
 void make(uint8_t *log, uint8_t unit, unsigned operation, struct id folder, const char *label)
@@ -103,7 +103,8 @@ void pass(const uint8_t *from, uint8_t giver, uint8_t *to, uint8_t taker)
         counts(to, asked);
         CHECK(sab_hand_out(from, SAB_LOG_BYTES, ARCHIVE, giver, asked, SAB_VECTOR_BYTES, block,
                            SAB_BLOCK_BYTES) == SAB_OK);
-        CHECK(sab_take(to, SAB_LOG_BYTES, ARCHIVE, taker, block, SAB_BLOCK_BYTES) == SAB_OK);
+        CHECK(sab_take(to, SAB_LOG_BYTES, NULL, 0, ARCHIVE, taker, block, SAB_BLOCK_BYTES) ==
+              SAB_OK);
     } while (block[9] != 0);
 }
 

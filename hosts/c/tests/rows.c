@@ -44,7 +44,7 @@ static void expect(struct lent log, struct lent row, size_t length, struct trial
     CHECK(r == 0);
     CHECK(to.report.bytes[0] == taken && to.report.bytes[1] == stopped);
     memcpy(after, log.bytes, sizeof after);
-    r = sab_take_row(after, sizeof after, ARCHIVE, 0, row.bytes, length);
+    r = sab_take_row(after, sizeof after, NULL, 0, ARCHIVE, 0, row.bytes, length);
     CHECK(SAB_NUMBER(r) == SAB_OK && SAB_PLACE(r) == 0);
     CHECK(SAB_TAKEN(r) == taken && SAB_STOPPED(r) == stopped);
     CHECK(memcmp(after, to.copy.bytes, sizeof after) == 0);
@@ -65,14 +65,14 @@ static void test_refused(struct lent log, struct lent row, struct trial to)
         CHECK(sab_try(log.bytes, log.length, ARCHIVE, 8, row.bytes, part, to.copy.bytes,
                       to.copy.length, to.tree.bytes, to.tree.length, nowhere(),
                       wrong.report.length) == SAB_BAD_BUFFER);
-        CHECK(sab_take_row(nowhere(), wrong_length(SAB_LOG_BYTES, i), ARCHIVE, 8, row.bytes,
+        CHECK(sab_take_row(nowhere(), wrong_length(SAB_LOG_BYTES, i), NULL, 0, ARCHIVE, 8, row.bytes,
                            part) == SAB_BAD_BUFFER);
         CHECK(sab_hand_out_row(log.bytes, log.length, ARCHIVE, 8, none, sizeof none, nowhere(),
                                wrong_length(SAB_FILE_BYTES, i)) == SAB_BAD_BUFFER);
     }
     for (i = 0; i < WIDE_UNITS; i++) {
         CHECK(try_row(log, wide_unit(i), row, part, to) == SAB_BAD_UNIT);
-        CHECK(sab_take_row(log.bytes, log.length, ARCHIVE, wide_unit(i), row.bytes, part) ==
+        CHECK(sab_take_row(log.bytes, log.length, NULL, 0, ARCHIVE, wide_unit(i), row.bytes, part) ==
               SAB_BAD_UNIT);
     }
     log.bytes[1] ^= 0x80;

@@ -150,7 +150,7 @@ void test_start(void)
     int unit, zero;
     for (unit = 0; unit < 8; unit++) {
         fill(log);
-        CHECK(sab_start(log.bytes, SAB_LOG_BYTES, 0xFFFFFFFFu, (uint32_t)unit) == SAB_OK);
+        CHECK(sab_start(log.bytes, SAB_LOG_BYTES, NULL, 0, 0xFFFFFFFFu, (uint32_t)unit) == SAB_OK);
         for (i = 0, zero = 1; i < SAB_LOG_BYTES; i++)
             zero &= log.bytes[i] == 0;
         CHECK(zero);
@@ -158,14 +158,14 @@ void test_start(void)
     fill(log);
     note(log);
     for (unit = 8; unit < 256; unit++)
-        CHECK(sab_start(log.bytes, SAB_LOG_BYTES, 0, (uint32_t)unit) == SAB_BAD_UNIT);
+        CHECK(sab_start(log.bytes, SAB_LOG_BYTES, NULL, 0, 0, (uint32_t)unit) == SAB_BAD_UNIT);
     for (i = 0; i < WIDE_UNITS; i++)
-        CHECK(sab_start(log.bytes, SAB_LOG_BYTES, 0, wide_unit((int)i)) == SAB_BAD_UNIT);
+        CHECK(sab_start(log.bytes, SAB_LOG_BYTES, NULL, 0, 0, wide_unit((int)i)) == SAB_BAD_UNIT);
     for (i = 0; i < WRONG_LENGTHS; i++) {
         size_t wrong = wrong_length(SAB_LOG_BYTES, (int)i);
-        CHECK(sab_start(nowhere(), wrong, ARCHIVE, 0) == SAB_BAD_BUFFER);
-        CHECK(sab_start(nowhere(), wrong, ARCHIVE, 8) == SAB_BAD_BUFFER);
+        CHECK(sab_start(nowhere(), wrong, NULL, 0, ARCHIVE, 0) == SAB_BAD_BUFFER);
+        CHECK(sab_start(nowhere(), wrong, NULL, 0, ARCHIVE, 8) == SAB_BAD_BUFFER);
     }
-    CHECK(sab_start(NULL, 0, ARCHIVE, 0) == SAB_BAD_BUFFER);
+    CHECK(sab_start(NULL, 0, NULL, 0, ARCHIVE, 0) == SAB_BAD_BUFFER);
     CHECK(kept(log));
 }

@@ -14,6 +14,7 @@ void test_write_file(void);
 void test_read_file(void);
 void test_merge(void);
 void test_show(void);
+void test_index(void);
 void test_listing(void);
 
 #endif

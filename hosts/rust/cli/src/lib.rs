@@ -22,6 +22,7 @@ pub mod json;
 pub mod meeting;
 pub mod numbers;
 pub mod out;
+pub mod places;
 pub mod records;
 pub mod system;
 pub mod why;

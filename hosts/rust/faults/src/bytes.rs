@@ -52,7 +52,7 @@ fn refused_block(
     block: &[u8],
     number: u8,
 ) -> End {
-    let answer = library.take(log, ARCHIVE, 1, block);
+    let answer = library.take(log, &mut [], ARCHIVE, 1, block);
     if answer != Err(Refusal { number, place: 0 }) {
         return incorrect(format!("{answer:?}, not {number}"));
     }

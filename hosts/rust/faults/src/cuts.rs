@@ -162,7 +162,7 @@ fn cut_inside(
     arrived: &[u8],
 ) -> End {
     let mut logs = states.to_vec();
-    match library.take(&mut logs[to], ARCHIVE, to as u32, arrived) {
+    match library.take(&mut logs[to], &mut [], ARCHIVE, to as u32, arrived) {
         Err(_) if logs[to] != states[to] => return incorrect("refused, but the log changed"),
         Ok(()) if !given.iter().any(|block| block[..] == *arrived) => {
             return incorrect("a part of a block was taken");

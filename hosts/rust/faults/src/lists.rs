@@ -3,7 +3,7 @@
 
 use crate::study::{End, Plan, Tally, incorrect};
 use library::{LISTING, Library, Plain};
-use plain::{BLOCK, FILE, LOG, RECORD, TREE};
+use plain::{BLOCK, FILE, INDEX, LOG, RECORD, TREE};
 use std::fmt::Debug;
 use workload::{Chance, Mix, log_of, vector_of, wish};
 
@@ -30,6 +30,8 @@ struct Calls<'a> {
     chance: Chance,
     mix: Mix,
     logs: Vec<Vec<u8>>,
+    /// The index of each log.
+    indexes: Vec<Vec<u8>>,
     /// Blocks and files that were written.
     blocks: Vec<Vec<u8>>,
     files: Vec<Vec<u8>>,
@@ -76,11 +78,14 @@ impl Calls<'_> {
         let mix = *chance.pick(&[Mix::BENCH, Mix::CONFLICTS]);
         let held = *chance.pick(&[0, 0, 12, 60, 505, 512]);
         let log = log_of(held, 1 + chance.below(8), 4, &mix, seed);
+        let mut index = vec![0; INDEX];
+        plain::index(&log, &mut index).expect("a sound log");
         Calls {
             library,
             chance,
             mix,
             logs: vec![log; 8],
+            indexes: vec![index; 8],
             blocks: Vec::new(),
             files: Vec::new(),
         }
@@ -101,8 +106,10 @@ impl Calls<'_> {
             60..84 => self.take(slot, unit),
             84..88 => self.write_file(slot, unit),
             88..91 => self.read_file(),
-            91..94 => self.show(slot),
-            94..96 => self.vector(slot),
+            91..93 => self.show(slot),
+            93 => self.index(slot),
+            94 => self.find(slot),
+            95 => self.vector(slot),
             96 => self.listing(),
             97..99 => self.merge(),
             _ => self.compare(),
@@ -161,22 +168,88 @@ impl Calls<'_> {
             .collect()
     }
 
-    /// Keeps what the call left in the slot's log.
-    fn keep<T: PartialEq + Debug>(&mut self, slot: usize, own: bool, both: &mut Both<T>) {
-        if own {
-            self.logs[slot] = std::mem::take(&mut both.lent[0][0]);
+    /// The index that goes with a log: the slot's own; seldom none, any bytes or
+    /// those of another length.
+    fn index_for(&mut self, slot: usize) -> Vec<u8> {
+        match self.chance.below(40) {
+            0..6 => Vec::new(),
+            6 => self.lent(INDEX),
+            _ => self.indexes[slot].clone(),
         }
+    }
+
+    /// Keeps what the call left in the slot's log and index. An index that was
+    /// right must be the one made afresh; where another was lent, it is made.
+    fn keep<T: PartialEq + Debug>(
+        &mut self,
+        slot: usize,
+        own: bool,
+        lent: &[u8],
+        both: &mut Both<T>,
+    ) -> End {
+        if !own {
+            return Ok(false);
+        }
+        let right = lent == self.indexes[slot];
+        let [log, index] = std::mem::take(&mut both.lent[0])
+            .try_into()
+            .expect("a log and an index");
+        self.logs[slot] = log;
+        let made = self.library.index(&self.logs[slot], &mut self.indexes[slot]);
+        if made != Ok(()) {
+            return incorrect(format!("no index: {made:?}"));
+        }
+        if right && index != self.indexes[slot] {
+            return incorrect("the index is not the one made afresh");
+        }
+        Ok(false)
+    }
+
+    /// Makes the index of a log.
+    fn index(&mut self, slot: usize) -> End {
+        let (log, _) = self.log(slot);
+        let index = self.lent(INDEX);
+        let both = Both::run(self.library, &[&index, &log], |library, lent| {
+            let [index, log] = lent else { unreachable!() };
+            library.index(log, index)
+        });
+        both.compared("index")
+    }
+
+    /// Looks up and lists a folder of a row, or any.
+    fn find(&mut self, slot: usize) -> End {
+        let mut index = self.index_for(slot);
+        if index.is_empty() {
+            index = self.lent(INDEX);
+        }
+        let at = 4 + 40 * self.chance.below(512);
+        let row = index.get(at..at + 40).unwrap_or(&[0; 40]);
+        let (mut folder, mut label) = (row[..4].to_vec(), row[4..36].to_vec());
+        match self.chance.below(6) {
+            0 => folder[self.chance.below(4)] = self.odd_byte(),
+            1 => label[self.chance.below(32)] = self.odd_byte(),
+            2 => folder = self.lent(4),
+            3 => label = self.lent(32),
+            _ => (),
+        }
+        let both = Both::run(self.library, &[&index, &folder, &label], |library, lent| {
+            let [index, folder, label] = lent else {
+                unreachable!()
+            };
+            (library.find(index, folder, label), library.list(index, folder))
+        });
+        both.compared("find and list")
     }
 
     fn start(&mut self, slot: usize, unit: u32) -> End {
         let archive = self.archive();
-        let (log, own) = self.log(slot);
-        let mut both = Both::run(self.library, &[&log], |library, lent| {
-            library.start(&mut lent[0], archive, unit)
+        let ((log, own), index) = (self.log(slot), self.index_for(slot));
+        let mut both = Both::run(self.library, &[&log, &index], |library, lent| {
+            let [log, index] = lent else { unreachable!() };
+            library.start(log, index, archive, unit)
         });
-        let end = both.compared("start");
-        self.keep(slot, own, &mut both);
-        end
+        both.compared("start")?;
+        self.keep(slot, own, &index, &mut both)
     }
 
     fn act(&mut self, slot: usize, unit: u32) -> End {
@@ -186,7 +259,7 @@ impl Calls<'_> {
             Ok(()) => wish(&mut self.chance, &self.mix, unit as u8 & 7, &tree).to_vec(),
             Err(_) => return incorrect("a log that is not sound"),
         };
-        let (log, own) = self.log(slot);
+        let ((log, own), index) = (self.log(slot), self.index_for(slot));
         if self.chance.one_in(4) {
             let at = self.chance.below(RECORD);
             wish[at] = self.odd_byte();
@@ -194,12 +267,12 @@ impl Calls<'_> {
         if self.chance.one_in(40) {
             wish.truncate(self.chance.below(RECORD));
         }
-        let mut both = Both::run(self.library, &[&log], |library, lent| {
-            library.act(&mut lent[0], archive, unit, &wish)
+        let mut both = Both::run(self.library, &[&log, &index], |library, lent| {
+            let [log, index] = lent else { unreachable!() };
+            library.act(log, index, archive, unit, &wish)
         });
-        let end = both.compared("act");
-        self.keep(slot, own, &mut both);
-        end
+        both.compared("act")?;
+        self.keep(slot, own, &index, &mut both)
     }
 
     fn odd_byte(&mut self) -> u8 {
@@ -292,13 +365,13 @@ impl Calls<'_> {
     fn take(&mut self, slot: usize, unit: u32) -> End {
         let archive = self.archive();
         let block = self.block();
-        let (log, own) = self.log(slot);
-        let mut both = Both::run(self.library, &[&log], |library, lent| {
-            library.take(&mut lent[0], archive, unit, &block)
+        let ((log, own), index) = (self.log(slot), self.index_for(slot));
+        let mut both = Both::run(self.library, &[&log, &index], |library, lent| {
+            let [log, index] = lent else { unreachable!() };
+            library.take(log, index, archive, unit, &block)
         });
-        let end = both.compared("take");
-        self.keep(slot, own, &mut both);
-        end
+        both.compared("take")?;
+        self.keep(slot, own, &index, &mut both)
     }
 
     fn write_file(&mut self, slot: usize, unit: u32) -> End {

@@ -7,6 +7,7 @@
 mod bytes;
 mod cards;
 mod cuts;
+mod index;
 mod lists;
 mod orders;
 mod power;
@@ -22,7 +23,7 @@ use study::{Plan, Tally};
 
 type Study = fn(&dyn Library, &Plan) -> Tally;
 
-const STUDIES: [(&str, Study); 16] = [
+const STUDIES: [(&str, Study); 17] = [
     ("meetings, no fault", cuts::none),
     ("changed byte, block", bytes::blocks),
     ("changed byte, file", bytes::files),
@@ -39,6 +40,7 @@ const STUDIES: [(&str, Study); 16] = [
     ("call lists", lists::all),
     ("meetings by rows", rows::meetings),
     ("changed byte, row", rows::changed),
+    ("index kept and asked", index::kept),
 ];
 
 const USAGE: &str = "usage: faults [--long] [--seconds N] [--seed N]";

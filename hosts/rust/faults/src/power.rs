@@ -73,7 +73,7 @@ impl Hosts<'_> {
             let wish = &wishes[count(&self.logs[unit])];
             let answer = self
                 .library
-                .act(&mut self.logs[unit], ARCHIVE, unit as u32, wish);
+                .act(&mut self.logs[unit], &mut [], ARCHIVE, unit as u32, wish);
             if let Err(refusal) = answer {
                 return manual(format!("an act is refused: {refusal:?}"));
             }

@@ -43,7 +43,7 @@ fn both(library: &dyn Library, log: &mut Vec<u8>, unit: usize, row: &[u8], due: 
     if (trial.report[0], trial.report[1]) != (due.taken, due.stopped) {
         return incorrect(format!("{:?} tried, not {due:?}", &trial.report[..2]));
     }
-    let taken = library.take_row(log, ARCHIVE, unit as u32, row);
+    let taken = library.take_row(log, &mut [], ARCHIVE, unit as u32, row);
     if taken != Ok(due) {
         return incorrect(format!("{taken:?}, not {due:?}"));
     }

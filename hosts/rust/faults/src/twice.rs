@@ -75,7 +75,7 @@ fn act(chance: &mut Chance, mix: &Mix, log: &mut [u8], unit: usize) {
         plain::show(log, &mut tree).expect("a sound log");
         let mut wish = wish(chance, mix, unit as u8, &tree);
         wish[28..32].copy_from_slice(&DAY);
-        if plain::act(log, ARCHIVE, unit as u8, &wish).is_ok() {
+        if plain::act(log, &mut [], ARCHIVE, unit as u8, &wish).is_ok() {
             return;
         }
     }

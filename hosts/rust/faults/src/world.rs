@@ -56,7 +56,7 @@ pub fn hand_out(
 
 /// Takes a block that must be good.
 pub fn take(library: &dyn Library, log: &mut [u8], unit: usize, block: &[u8]) -> Result<(), Wrong> {
-    match library.take(log, ARCHIVE, unit as u32, block) {
+    match library.take(log, &mut [], ARCHIVE, unit as u32, block) {
         Ok(()) => Ok(()),
         Err(refusal) => manual(format!("a good block refused: {refusal:?}")),
     }

@@ -2,6 +2,7 @@
 //! asked vector compared with the held one.
 
 use crate::compare::{both, show};
+use crate::index;
 use crate::input::Input;
 use crate::life::{ARCHIVE, Life, fill_in, held};
 use library::Refusal;
@@ -34,10 +35,18 @@ pub fn act(data: &[u8]) {
         let end = RECORD * (held(&log) + 1);
         input.patch(&mut log, end);
     }
-    let (_, after) = both(4, &[&log], |library, lent| {
-        library.act(&mut lent[0], ARCHIVE, unit, &wish)
+    let index = index::lent(&mut input, &log);
+    let right = index.is_empty() || index == index::fresh(&log);
+    let (_, after) = both(4, &[&log, &index], |library, lent| {
+        let [log, index] = lent else {
+            unreachable!("two buffers");
+        };
+        library.act(log, index, ARCHIVE, unit, &wish)
     });
     let log = &after[0];
+    if right && !index.is_empty() && plain::sound(log) {
+        assert!(after[1] == index::fresh(log), "the index and a fresh one differ");
+    }
     show(log);
     let _ = both(3, &[log], |library, lent| library.vector(&lent[0]));
     let mut asked = vector_of(log);

@@ -1,9 +1,11 @@
 //! Harnesses for a coverage-guided fuzzer. Each takes the fuzzer's bytes, makes a
-//! log and a block, row, file or wish of them, gives both to the static library and to
-//! the plain implementation, and ends the program if an answer or a byte differs.
+//! log and a block, row, file, wish or index of them, gives both to the static library
+//! and to the plain implementation, and ends the program if an answer or a byte
+//! differs.
 
 mod act;
 mod compare;
+mod index;
 mod input;
 mod life;
 mod merge;
@@ -12,6 +14,7 @@ mod row;
 mod take;
 
 pub use act::act;
+pub use index::index;
 pub use merge::merge;
 pub use read_file::read_file;
 pub use row::row_calls;
@@ -44,3 +47,4 @@ harness!(fuzz_read_file, read_file::read_file);
 harness!(fuzz_act, act::act);
 harness!(fuzz_merge, merge::merge);
 harness!(fuzz_row, row::row_calls);
+harness!(fuzz_index, index::index);

@@ -2,10 +2,11 @@
 //! doubled, left out, damaged and sealed again.
 
 use crate::compare::{both, show};
+use crate::index;
 use crate::input::Input;
 use crate::life::{ARCHIVE, Life, held, seal};
 use library::{REPORT, Trial};
-use plain::{BLOCK, FILE, LOG, RECORD, TREE};
+use plain::{BLOCK, FILE, INDEX, LOG, RECORD, TREE};
 use workload::vector_of;
 
 /// A row that one unit hands out to another, and what happened to it on its way.
@@ -74,12 +75,22 @@ pub fn row_calls(data: &[u8]) {
         (*copy, *tree, *report) = (trial.copy, trial.tree, trial.report);
         answer
     });
-    let (taken, after) = both(3, &[&log], |library, lent| {
-        library.take_row(&mut lent[0], archive, unit, &row)
+    let index = index::lent(&mut input, &log);
+    let (taken, after) = both(3, &[&log, &index], |library, lent| {
+        let [log, index] = lent else {
+            unreachable!("two buffers");
+        };
+        library.take_row(log, index, archive, unit, &row)
     });
-    assert_eq!(tried.err(), taken.err(), "the answers differ");
-    if taken.is_ok() {
+    if index.is_empty() || index.len() == INDEX {
+        assert_eq!(tried.err(), taken.err(), "the answers differ");
+    }
+    if let Ok(taken) = taken {
         assert!(after[0] == left[0], "the logs differ");
         show(&after[0]);
+        if taken.taken > 0 && !index.is_empty() {
+            let fresh = index::fresh(&after[0]);
+            assert!(after[1] == fresh, "the index and a fresh one differ");
+        }
     }
 }

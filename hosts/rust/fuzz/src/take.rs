@@ -1,6 +1,7 @@
 //! A take by a log that is mostly sound, of a block that is mostly good.
 
 use crate::compare::{both, show};
+use crate::index;
 use crate::input::Input;
 use crate::life::{ARCHIVE, Life, get16, held, seal};
 use plain::{BLOCK, RECORD};
@@ -65,10 +66,18 @@ pub fn take(data: &[u8]) {
     } else {
         block(&mut input, &life, &log)
     };
-    let (answer, after) = both(0, &[&log], |library, lent| {
-        library.take(&mut lent[0], archive, unit, &block)
+    let index = index::lent(&mut input, &log);
+    let (answer, after) = both(0, &[&log, &index], |library, lent| {
+        let [log, index] = lent else {
+            unreachable!("two buffers");
+        };
+        library.take(log, index, archive, unit, &block)
     });
     if answer.is_ok() {
         show(&after[0]);
+        if !index.is_empty() {
+            let fresh = index::fresh(&after[0]);
+            assert!(after[1] == fresh, "the index and a fresh one differ");
+        }
     }
 }

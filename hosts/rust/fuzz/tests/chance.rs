@@ -35,3 +35,8 @@ fn merges() {
 fn rows() {
     run(fuzz::row_calls, 5);
 }
+
+#[test]
+fn indexes() {
+    run(fuzz::index, 6);
+}

@@ -58,17 +58,35 @@ pub struct Trial {
     pub report: Vec<u8>,
 }
 
+/// The rows of a folder in an index: the first, and how many.
+#[derive(Clone, Copy, Debug, PartialEq, Eq)]
+pub struct Range {
+    pub first: u16,
+    pub count: u16,
+}
+
+/// Bytes of an index.
+pub const INDEX: usize = 20_484;
+
 /// Bytes of the report of a trial.
 pub const REPORT: usize = 2_068;
 
 /// Bytes lent for a listing; none is longer.
 pub const LISTING: usize = 76_800;
 
-/// The entry points. Those that answer an `Option` are run beside what follows
-/// from the others, where an implementation offers them.
+/// The entry points. An index is lent to those that change a log, or no bytes.
+/// Those that answer an `Option` alone are run beside what follows from the
+/// others, where an implementation offers them.
 pub trait Library {
-    fn start(&self, log: &mut [u8], archive: u32, unit: u32) -> Answer<()>;
-    fn act(&self, log: &mut [u8], archive: u32, unit: u32, wish: &[u8]) -> Answer<()>;
+    fn start(&self, log: &mut [u8], index: &mut [u8], archive: u32, unit: u32) -> Answer<()>;
+    fn act(
+        &self,
+        log: &mut [u8],
+        index: &mut [u8],
+        archive: u32,
+        unit: u32,
+        wish: &[u8],
+    ) -> Answer<()>;
     fn hand_out(
         &self,
         log: &[u8],
@@ -77,7 +95,14 @@ pub trait Library {
         asked: &[u16; 8],
         block: &mut [u8],
     ) -> Answer<()>;
-    fn take(&self, log: &mut [u8], archive: u32, unit: u32, block: &[u8]) -> Answer<()>;
+    fn take(
+        &self,
+        log: &mut [u8],
+        index: &mut [u8],
+        archive: u32,
+        unit: u32,
+        block: &[u8],
+    ) -> Answer<()>;
     fn hand_out_row(
         &self,
         log: &[u8],
@@ -86,7 +111,14 @@ pub trait Library {
         asked: &[u16; 8],
         row: &mut [u8],
     ) -> Answer<u16>;
-    fn take_row(&self, log: &mut [u8], archive: u32, unit: u32, row: &[u8]) -> Answer<RowTaken>;
+    fn take_row(
+        &self,
+        log: &mut [u8],
+        index: &mut [u8],
+        archive: u32,
+        unit: u32,
+        row: &[u8],
+    ) -> Answer<RowTaken>;
     fn try_row(
         &self,
         log: &[u8],
@@ -98,6 +130,9 @@ pub trait Library {
     fn write_file(&self, log: &[u8], archive: u32, unit: u32, file: &mut [u8]) -> Answer<u16>;
     fn read_file(&self, log: &mut [u8], file: &[u8]) -> Answer<Head>;
     fn show(&self, log: &[u8], tree: &mut [u8]) -> Answer<()>;
+    fn index(&self, log: &[u8], index: &mut [u8]) -> Answer<()>;
+    fn find(&self, index: &[u8], folder: &[u8], label: &[u8]) -> Answer<Option<[u8; 4]>>;
+    fn list(&self, index: &[u8], folder: &[u8]) -> Answer<Range>;
     fn compare(&self, first: &[u16; 8], second: &[u16; 8]) -> Compared;
     fn vector(&self, log: &[u8]) -> Answer<[u16; 8]>;
     fn merge(
@@ -129,11 +164,18 @@ pub trait Library {
 /// The entry points of a crate that has them by these names.
 macro_rules! entry_points {
     ($library:ident) => {
-        fn start(&self, log: &mut [u8], archive: u32, unit: u32) -> Answer<()> {
-            $library::start(log, archive, unit_of(unit)).map_err(refusal)
+        fn start(&self, log: &mut [u8], index: &mut [u8], archive: u32, unit: u32) -> Answer<()> {
+            $library::start(log, index, archive, unit_of(unit)).map_err(refusal)
         }
-        fn act(&self, log: &mut [u8], archive: u32, unit: u32, wish: &[u8]) -> Answer<()> {
-            $library::act(log, archive, unit_of(unit), wish).map_err(refusal)
+        fn act(
+            &self,
+            log: &mut [u8],
+            index: &mut [u8],
+            archive: u32,
+            unit: u32,
+            wish: &[u8],
+        ) -> Answer<()> {
+            $library::act(log, index, archive, unit_of(unit), wish).map_err(refusal)
         }
         fn hand_out(
             &self,
@@ -145,8 +187,15 @@ macro_rules! entry_points {
         ) -> Answer<()> {
             $library::hand_out(log, archive, unit_of(unit), asked, block).map_err(refusal)
         }
-        fn take(&self, log: &mut [u8], archive: u32, unit: u32, block: &[u8]) -> Answer<()> {
-            $library::take(log, archive, unit_of(unit), block).map_err(refusal)
+        fn take(
+            &self,
+            log: &mut [u8],
+            index: &mut [u8],
+            archive: u32,
+            unit: u32,
+            block: &[u8],
+        ) -> Answer<()> {
+            $library::take(log, index, archive, unit_of(unit), block).map_err(refusal)
         }
         fn hand_out_row(
             &self,
@@ -161,12 +210,13 @@ macro_rules! entry_points {
         fn take_row(
             &self,
             log: &mut [u8],
+            index: &mut [u8],
             archive: u32,
             unit: u32,
             row: &[u8],
         ) -> Answer<RowTaken> {
             let $library::RowTaken { taken, stopped } =
-                $library::take_row(log, archive, unit_of(unit), row).map_err(refusal)?;
+                $library::take_row(log, index, archive, unit_of(unit), row).map_err(refusal)?;
             Ok(RowTaken { taken, stopped })
         }
         fn try_row(
@@ -201,6 +251,17 @@ macro_rules! entry_points {
         fn show(&self, log: &[u8], tree: &mut [u8]) -> Answer<()> {
             $library::show(log, tree).map_err(refusal)
         }
+        fn index(&self, log: &[u8], index: &mut [u8]) -> Answer<()> {
+            $library::index(log, index).map_err(refusal)
+        }
+        fn find(&self, index: &[u8], folder: &[u8], label: &[u8]) -> Answer<Option<[u8; 4]>> {
+            $library::find(index, folder, label).map_err(refusal)
+        }
+        fn list(&self, index: &[u8], folder: &[u8]) -> Answer<Range> {
+            let $library::Range { first, count } =
+                $library::list(index, folder).map_err(refusal)?;
+            Ok(Range { first, count })
+        }
         fn compare(&self, first: &[u16; 8], second: &[u16; 8]) -> Compared {
             let $library::Compared {
                 answer,
@@ -233,7 +294,7 @@ macro_rules! entry_points {
 
 /// The plain Rust implementation.
 mod plain_rust {
-    use super::{Answer, Compared, Head, Library, MergeRefusal, Refusal, RowTaken, Trial};
+    use super::{Answer, Compared, Head, Library, MergeRefusal, Range, Refusal, RowTaken, Trial};
 
     pub struct Plain;
 
@@ -271,7 +332,7 @@ mod plain_rust {
 /// The static library.
 #[cfg(feature = "static")]
 mod static_library {
-    use super::{Answer, Compared, Head, Library, MergeRefusal, Refusal, RowTaken, Trial};
+    use super::{Answer, Compared, Head, Library, MergeRefusal, Range, Refusal, RowTaken, Trial};
     use sab::raw;
     use std::cell::RefCell;
 

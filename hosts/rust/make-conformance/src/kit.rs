@@ -80,6 +80,17 @@ impl Calls {
         });
     }
 
+    /// A question that must have the answer that is given, as the line ends.
+    pub fn ask(&mut self, answer: &str, shows: &str, ask: impl FnOnce(&mut List)) {
+        self.list.remark(shows);
+        ask(&mut self.list);
+        assert_eq!(self.list.last_answer(), answer, "{shows}");
+        self.cases.push(Shown {
+            shows: shows.to_string(),
+            answer: answer.to_string(),
+        });
+    }
+
     pub fn written(self, name: &'static str, about: &'static str) -> Written {
         Written {
             name,

@@ -7,6 +7,7 @@ mod acts;
 mod blocks;
 mod calls;
 mod damaged;
+mod finding;
 mod good;
 mod index;
 mod kit;
@@ -28,6 +29,7 @@ fn write(directory: &Path) -> io::Result<()> {
         calls::meeting(),
         calls::full(),
         rows::list(),
+        finding::list(),
     ];
     let (tables, merges) = (tables::all(), merges::all());
 

@@ -1,7 +1,7 @@
 //! A call list in the making: each call is run and written down.
 
 use crate::text::{bytes, hash, lent, vector};
-use plain::{Answer, FILE, LOG, REPORT, TREE};
+use plain::{Answer, FILE, INDEX, LOG, REPORT, TREE};
 use workload::vector_of;
 
 /// The log lent to a call.
@@ -17,6 +17,8 @@ use Lent::{Outside, Own};
 pub struct List {
     text: String,
     pub logs: [Vec<u8>; 8],
+    /// The index of each log.
+    indexes: [Vec<u8>; 8],
     /// Blocks given so far.
     pub given: Vec<Vec<u8>>,
 }
@@ -42,6 +44,7 @@ impl List {
         List {
             text: format!("# {remark}\n"),
             logs: std::array::from_fn(|_| vec![0; LOG]),
+            indexes: std::array::from_fn(|_| vec![0; INDEX]),
             given: Vec::new(),
         }
     }
@@ -54,6 +57,12 @@ impl List {
     fn line(&mut self, line: String) {
         self.text += &line;
         self.text.push('\n');
+    }
+
+    /// The last word of the list so far.
+    pub fn last_answer(&self) -> &str {
+        let line = self.text.trim_end();
+        line.rsplit(' ').next().unwrap_or_default()
     }
 
     /// The log of a call, and how it is written.
@@ -70,9 +79,17 @@ impl List {
         }
     }
 
+    /// The index that goes with the log of a call; none with one from outside.
+    fn index(&mut self, slot: usize, log: Lent) -> &mut [u8] {
+        match log {
+            Own => &mut self.indexes[slot],
+            Outside(_) => &mut [],
+        }
+    }
+
     pub fn start(&mut self, slot: usize, log: Lent, archive: u32, unit: u8) -> u8 {
         let (mut after, word) = self.lent(slot, log);
-        let came = plain::start(&mut after, archive, unit);
+        let came = plain::start(&mut after, self.index(slot, log), archive, unit);
         self.line(format!(
             "start {slot} {word} {archive} {unit} = {} {}",
             answer(&came),
@@ -84,7 +101,7 @@ impl List {
 
     pub fn act(&mut self, slot: usize, log: Lent, archive: u32, unit: u8, wish: &[u8]) -> u8 {
         let (mut after, word) = self.lent(slot, log);
-        let came = plain::act(&mut after, archive, unit, wish);
+        let came = plain::act(&mut after, self.index(slot, log), archive, unit, wish);
         self.line(format!(
             "act {slot} {word} {archive} {unit} {} = {} {}",
             bytes(wish),
@@ -97,7 +114,7 @@ impl List {
 
     pub fn take(&mut self, slot: usize, log: Lent, archive: u32, unit: u8, block: &[u8]) -> u8 {
         let (mut after, word) = self.lent(slot, log);
-        let came = plain::take(&mut after, archive, unit, block);
+        let came = plain::take(&mut after, self.index(slot, log), archive, unit, block);
         self.line(format!(
             "take {slot} {word} {archive} {unit} {} = {} {}",
             bytes(block),
@@ -222,6 +239,38 @@ impl List {
         number(&came)
     }
 
+    /// A folder listed: its entries by label.
+    pub fn list(&mut self, slot: usize, folder: (u8, u16)) {
+        let index = &self.indexes[slot];
+        let range = plain::list(index, &four(folder)).expect("an index");
+        let rows = index[4..].chunks(40).skip(range.first.into());
+        let named: Vec<String> = rows
+            .take(range.count.into())
+            .map(|row| identity(&row[36..]))
+            .collect();
+        let named = match named.is_empty() {
+            true => "-".to_string(),
+            false => named.join(","),
+        };
+        self.line(format!("list {slot} {}.{} = {named}", folder.0, folder.1));
+    }
+
+    /// A label looked up in a folder. No entry has one of more than 32 bytes.
+    pub fn find(&mut self, slot: usize, folder: (u8, u16), label: &[u8]) {
+        let mut asked = label.to_vec();
+        asked.resize(label.len().max(32), 0);
+        let found = plain::find(&self.indexes[slot], &four(folder), &asked);
+        let found = found.ok().flatten();
+        let digits: String = label.iter().map(|byte| format!("{byte:02x}")).collect();
+        self.line(format!(
+            "find {slot} {}.{} {} = {}",
+            folder.0,
+            folder.1,
+            if digits.is_empty() { "-" } else { &digits },
+            found.map_or("-".to_string(), |entry| identity(&entry))
+        ));
+    }
+
     /// The list with what the slots hold at its end.
     pub fn end(mut self) -> String {
         for slot in 0..8 {
@@ -231,6 +280,17 @@ impl List {
         }
         self.text
     }
+}
+
+/// The four bytes of an identity.
+fn four((unit, number): (u8, u16)) -> [u8; 4] {
+    let [low, high] = number.to_le_bytes();
+    [unit, 0, low, high]
+}
+
+/// An identity in four bytes, as it is written.
+fn identity(bytes: &[u8]) -> String {
+    format!("{}.{}", bytes[0], u16::from_le_bytes([bytes[2], bytes[3]]))
 }
 
 /// The lines of a log's tree, as its file is listed.

@@ -3,6 +3,7 @@
 use crate::block::{self, Block, Header};
 use crate::bytes::{all_zero, get64};
 use crate::held::{Counts, Places, Store};
+use crate::index::{self, Before};
 use crate::record::{Fields, Record, rank_of, well_formed};
 use crate::replay::Replay;
 use crate::{Answer, BLOCK, FILE, LOG, PER_BLOCK, RECORD, RECORDS, TREE, refuse, refuse_at, table};
@@ -19,7 +20,7 @@ pub struct Head {
 /// Goes once over a lent log and counts it, if it is sound. Each record is shown
 /// to `each` with its place after its own check.
 #[inline(always)]
-fn scan(
+pub fn scan(
     log: &[Record],
     places: &mut Places,
     mut each: impl FnMut(&Places, &Fields, usize),
@@ -59,21 +60,29 @@ pub fn vector(log: &[u8]) -> Answer<[u16; 8]> {
     }
 }
 
-/// Empties a log.
-pub fn start(log: &mut [u8], _archive: u32, unit: u8) -> Answer<()> {
-    if log.len() != LOG {
+/// Empties a log, and its index if one is lent.
+pub fn start(log: &mut [u8], index: &mut [u8], _archive: u32, unit: u8) -> Answer<()> {
+    if !index::fits(index) || log.len() != LOG {
         return refuse(1);
     }
     if unit > 7 {
         return refuse(21);
     }
     log.fill(0);
+    index.fill(0);
     Ok(())
 }
 
-/// Makes the wished record, if it fits.
-pub fn act(log: &mut [u8], _archive: u32, unit: u8, wish: &[u8]) -> Answer<()> {
-    if log.len() != LOG {
+/// Makes the wished record, if it fits. Its one change goes into the index, if
+/// one is lent.
+pub fn act(
+    log: &mut [u8],
+    index: &mut [u8],
+    _archive: u32,
+    unit: u8,
+    wish: &[u8],
+) -> Answer<()> {
+    if !index::fits(index) || log.len() != LOG {
         return refuse(1);
     }
     let Ok(wish) = <&Record>::try_from(wish) else {
@@ -107,10 +116,15 @@ pub fn act(log: &mut [u8], _archive: u32, unit: u8, wish: &[u8]) -> Answer<()> {
     if held.all == RECORDS {
         return refuse(11);
     }
-    replay.step(&places, &lent, &Fields::of(&record), held.all);
+    let fields = Fields::of(&record);
+    let before = Before::of(&replay, &places, lent, &fields);
+    replay.step(&places, &lent, &fields, held.all);
     match replay.fates[held.all].reason {
         0 => (),
         reason => return refuse(reason),
+    }
+    if !index.is_empty() {
+        index::change(index, &fields, &before);
     }
     records[held.all] = record;
     Ok(())
@@ -178,8 +192,31 @@ pub fn hand_out(
     Ok(())
 }
 
+/// Takes a block wholly or not at all. The index is made afresh, if one is lent.
+pub fn take(
+    log: &mut [u8],
+    index: &mut [u8],
+    archive: u32,
+    unit: u8,
+    block: &[u8],
+) -> Answer<()> {
+    if !index::fits(index) {
+        return refuse(1);
+    }
+    take_block(log, archive, unit, block)?;
+    renew(log, index)
+}
+
+/// Makes the index of a sound log afresh, if one is lent.
+pub fn renew(log: &[u8], index: &mut [u8]) -> Answer<()> {
+    if index.is_empty() {
+        return Ok(());
+    }
+    index::index(log, index)
+}
+
 /// Takes a block wholly or not at all.
-pub fn take(log: &mut [u8], archive: u32, unit: u8, block: &[u8]) -> Answer<()> {
+pub fn take_block(log: &mut [u8], archive: u32, unit: u8, block: &[u8]) -> Answer<()> {
     if log.len() != LOG {
         return refuse(1);
     }

@@ -12,6 +12,7 @@ mod block;
 mod bytes;
 mod calls;
 mod held;
+mod index;
 mod listing;
 mod merge;
 mod record;
@@ -22,6 +23,7 @@ mod vector;
 
 pub use block::sums;
 pub use calls::{Head, act, hand_out, read_file, show, sound, start, take, vector, write_file};
+pub use index::{INDEX, Range, find, index, list};
 pub use listing::{LISTING, listing};
 pub use merge::{MergeRefusal, merge};
 pub use record::{is_date, well_formed};

@@ -1,7 +1,8 @@
 //! Rows of blocks: each block by its own call, and the report of a trial from
 //! two trees.
 
-use crate::calls::{hand_out, show, sound, take, vector};
+use crate::calls::{hand_out, renew, show, sound, take_block, vector};
+use crate::index;
 use crate::{Answer, BLOCK, BLOCKS, ENTRY_ROW, FILE, LOG, TREE, refuse};
 
 /// Bytes of the report of a row that is tried.
@@ -64,18 +65,34 @@ fn check(log: &[u8], unit: u8, lent: bool, row: &[u8]) -> Answer<()> {
     Ok(())
 }
 
-/// Takes the blocks of a row in turn, up to the first that is refused.
-pub fn take_row(log: &mut [u8], archive: u32, unit: u8, row: &[u8]) -> Answer<RowTaken> {
-    check(log, unit, true, row)?;
+/// Takes the blocks of a row in turn, up to the first that is refused. If one was
+/// taken, the index is made afresh, if one is lent.
+pub fn take_row(
+    log: &mut [u8],
+    index: &mut [u8],
+    archive: u32,
+    unit: u8,
+    row: &[u8],
+) -> Answer<RowTaken> {
+    check(log, unit, index::fits(index), row)?;
+    let taken = take_blocks(log, archive, unit, row);
+    if taken.taken > 0 {
+        renew(log, index)?;
+    }
+    Ok(taken)
+}
+
+/// Takes blocks in turn.
+fn take_blocks(log: &mut [u8], archive: u32, unit: u8, row: &[u8]) -> RowTaken {
     let mut taken = 0;
     for block in row.chunks(BLOCK) {
-        if let Err(refusal) = take(log, archive, unit, block) {
+        if let Err(refusal) = take_block(log, archive, unit, block) {
             let stopped = refusal.number;
-            return Ok(RowTaken { taken, stopped });
+            return RowTaken { taken, stopped };
         }
         taken += 1;
     }
-    Ok(RowTaken { taken, stopped: 0 })
+    RowTaken { taken, stopped: 0 }
 }
 
 /// The entry rows of a tree table.
@@ -98,7 +115,7 @@ pub fn try_row(
     let lent = copy.len() == LOG && tree.len() == TREE && report.len() == REPORT;
     check(log, unit, lent, row)?;
     copy.copy_from_slice(log);
-    let RowTaken { taken, stopped } = take_row(copy, archive, unit, row)?;
+    let RowTaken { taken, stopped } = take_blocks(copy, archive, unit, row);
     let mut before = [0; TREE];
     show(log, &mut before)?;
     show(copy, tree)?;

@@ -161,12 +161,12 @@ fn a_record_that_acted_stands_aside_after_a_meeting() {
         wish
     };
     let (mut zero, mut one): (Log, Log) = (vec![0; LOG], vec![0; LOG]);
-    act(&mut zero, 7, 0, &wish(0)).unwrap();
-    act(&mut one, 7, 1, &wish(1)).unwrap();
+    act(&mut zero, &mut [], 7, 0, &wish(0)).unwrap();
+    act(&mut one, &mut [], 7, 1, &wish(1)).unwrap();
     assert!(listed(&one).ends_with("folder 1.1 in 0.0 \"A\" 2025-03-03\n"));
     let mut block = [0; BLOCK];
     hand_out(&zero, 7, 0, &[0, 1, 0, 0, 0, 0, 0, 0], &mut block).unwrap();
-    take(&mut one, 7, 1, &block).unwrap();
+    take(&mut one, &mut [], 7, 1, &block).unwrap();
     assert!(listed(&one).ends_with("aside 1.1 reason 15 marks 0.1 open\n"));
 }
 
@@ -191,7 +191,7 @@ fn blocks_for_what_is_lacking() {
             if block[9] == 0 {
                 break;
             }
-            take(&mut taken, 7, 1, &block).unwrap();
+            take(&mut taken, &mut [], 7, 1, &block).unwrap();
             passed += 1;
         }
         assert_eq!(passed, records.div_ceil(6));
@@ -205,7 +205,7 @@ fn traces(count: usize) -> Log {
     for number in 1..=count {
         let mut wish = labelled(record(0, 2, 0, NONE), &number.to_string());
         wish[2..20].fill(0);
-        act(&mut log, 7, 0, &wish).unwrap();
+        act(&mut log, &mut [], 7, 0, &wish).unwrap();
     }
     log
 }

@@ -7,11 +7,20 @@
 #![allow(unsafe_code)]
 
 unsafe extern "C" {
-    pub fn sab_start(log: *mut u8, log_len: usize, archive: u32, unit: u32) -> u32;
+    pub fn sab_start(
+        log: *mut u8,
+        log_len: usize,
+        index: *mut u8,
+        index_len: usize,
+        archive: u32,
+        unit: u32,
+    ) -> u32;
 
     pub fn sab_act(
         log: *mut u8,
         log_len: usize,
+        index: *mut u8,
+        index_len: usize,
         archive: u32,
         unit: u32,
         wish: *const u8,
@@ -32,6 +41,8 @@ unsafe extern "C" {
     pub fn sab_take(
         log: *mut u8,
         log_len: usize,
+        index: *mut u8,
+        index_len: usize,
         archive: u32,
         unit: u32,
         block: *const u8,
@@ -52,6 +63,8 @@ unsafe extern "C" {
     pub fn sab_take_row(
         log: *mut u8,
         log_len: usize,
+        index: *mut u8,
+        index_len: usize,
         archive: u32,
         unit: u32,
         row: *const u8,
@@ -103,6 +116,28 @@ unsafe extern "C" {
     ) -> u32;
 
     pub fn sab_show(log: *const u8, log_len: usize, tree: *mut u8, tree_len: usize) -> u32;
+
+    pub fn sab_index(log: *const u8, log_len: usize, index: *mut u8, index_len: usize) -> u32;
+
+    pub fn sab_find(
+        index: *const u8,
+        index_len: usize,
+        folder: *const u8,
+        folder_len: usize,
+        label: *const u8,
+        label_len: usize,
+        entry: *mut u8,
+        entry_len: usize,
+    ) -> u32;
+
+    pub fn sab_list(
+        index: *const u8,
+        index_len: usize,
+        folder: *const u8,
+        folder_len: usize,
+        range: *mut u8,
+        range_len: usize,
+    ) -> u32;
 
     pub fn sab_vector(log: *const u8, log_len: usize, vector: *mut u8, vector_len: usize) -> u32;
 

@@ -4,8 +4,9 @@
 //! traces. Every change is a record of 80 bytes in the unit's [`Log`]; units
 //! meet in twos and pass [`Block`]s of 512 bytes; the [`Tree`] follows from the
 //! records alone. A record that does not fit the tree stands aside, with a
-//! reason, at every unit alike. `include/sab.h` is the manual of the calls, and
-//! [`raw`] has them over slices.
+//! reason, at every unit alike. An [`Index`] kept with a log finds a label in a
+//! folder, and lists a folder by label. `include/sab.h` is the manual of the
+//! calls, and [`raw`] has them over slices.
 //!
 //! A whole meeting of two units that worked apart:
 //!
@@ -60,6 +61,7 @@
 mod block;
 mod ffi;
 mod fields;
+mod index;
 mod log;
 mod meeting;
 mod merge;
@@ -74,6 +76,7 @@ mod wish;
 
 pub use block::Block;
 pub use fields::{Date, Mark, Operation};
+pub use index::{Index, Indexed};
 pub use log::Log;
 pub use meeting::{Asking, Meeting, Pass, meet, pass};
 pub use merge::{MergeRefusal, merge};

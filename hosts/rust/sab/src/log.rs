@@ -1,21 +1,34 @@
 //! A unit's log.
 
 use crate::{
-    Answer, Block, Identity, Record, Records, Refusal, Row, RowTaken, Tree, Trial, Unit, Vector,
-    Wish, raw,
+    Answer, Block, Identity, Index, Record, Records, Refusal, Row, RowTaken, Tree, Trial, Unit,
+    Vector, Wish, raw,
 };
 use std::fmt;
 
-/// The records that a unit holds, with its archive and its unit number.
+/// The records that a unit holds, with its archive and its unit number, and its
+/// index if one is kept.
 ///
 /// Only the library changes its bytes, so it is sound. The refusals 1, 19 and 21
 /// do not come from the calls here unless the memory itself is at fault.
-#[derive(Clone, PartialEq, Eq)]
+#[derive(Clone)]
 pub struct Log {
     bytes: Box<[u8; raw::LOG]>,
+    index: Option<Index>,
     archive: u32,
     unit: Unit,
 }
+
+/// The same records of the same archive and unit, whether an index is kept or
+/// not.
+impl PartialEq for Log {
+    fn eq(&self, other: &Log) -> bool {
+        let named = |log: &Log| (log.archive, log.unit);
+        named(self) == named(other) && self.bytes == other.bytes
+    }
+}
+
+impl Eq for Log {}
 
 impl Log {
     /// The log of a new unit: no records. A unit that has made records before is
@@ -23,10 +36,11 @@ impl Log {
     /// peer before it acts. Otherwise it uses numbers twice.
     pub fn start(archive: u32, unit: Unit) -> Log {
         let mut bytes = boxed();
-        let started = raw::start(&mut *bytes, archive, u32::from(unit.number()));
+        let started = raw::start(&mut *bytes, &mut [], archive, u32::from(unit.number()));
         debug_assert_eq!(started, Ok(()), "a log and a unit");
         Log {
             bytes,
+            index: None,
             archive,
             unit,
         }
@@ -49,6 +63,7 @@ impl Log {
         let head = raw::read_file(&mut *bytes, file)?;
         Ok(Log {
             bytes,
+            index: None,
             archive: head.archive,
             unit: Unit::try_from(u32::from(head.unit))?,
         })
@@ -76,20 +91,40 @@ impl Log {
         &self.bytes
     }
 
+    /// Keeps an index from now on: made afresh now, and right after every call on
+    /// this log. An act puts its one change into it; a take makes it afresh.
+    pub fn keep_index(&mut self) -> Answer<()> {
+        self.index = Some(self.make_index()?);
+        Ok(())
+    }
+
+    /// The index, if one is kept.
+    pub const fn index(&self) -> Option<&Index> {
+        self.index.as_ref()
+    }
+
+    /// An index of the log as it is now, made afresh.
+    pub fn make_index(&self) -> Answer<Index> {
+        Index::of(&*self.bytes)
+    }
+
     fn unit_number(&self) -> u32 {
         u32::from(self.unit.number())
+    }
+
+    /// The bytes to be changed, and those of the index; none if none is kept.
+    fn lent(&mut self) -> (&mut [u8], &mut [u8]) {
+        let index = self.index.as_mut().map(Index::lent);
+        (&mut *self.bytes, index.unwrap_or_default())
     }
 
     /// Makes a record of the own unit, if it fits the tree; its identity. Refuses
     /// 7, 24, 11, 12 to 16, 18.
     pub fn act(&mut self, wish: &Wish) -> Answer<Identity> {
-        let unit = self.unit_number();
-        raw::act(
-            &mut *self.bytes,
-            self.archive,
-            unit,
-            &wish.to_bytes(self.unit),
-        )?;
+        let (archive, unit) = (self.archive, self.unit_number());
+        let wish = wish.to_bytes(self.unit);
+        let (log, index) = self.lent();
+        raw::act(log, index, archive, unit, &wish)?;
         let made = self.records().next_back();
         Ok(made.ok_or(Refusal::new(19))?.identity())
     }
@@ -111,8 +146,9 @@ impl Log {
     /// Takes a block wholly or not at all. Refuses 2 to 11. For the blocks of a
     /// meeting there is [`Asking::take`](crate::Asking::take).
     pub fn take(&mut self, block: impl AsRef<[u8]>) -> Answer<()> {
-        let unit = self.unit_number();
-        raw::take(&mut *self.bytes, self.archive, unit, block.as_ref())
+        let (archive, unit) = (self.archive, self.unit_number());
+        let (log, index) = self.lent();
+        raw::take(log, index, archive, unit, block.as_ref())
     }
 
     /// All blocks of what the asked vector lacks, in one call.
@@ -132,8 +168,9 @@ impl Log {
     /// Takes the blocks of a row in turn, up to the first that is refused, in one
     /// call. Refuses 2; what stops the row, 3 to 11, is part of the answer.
     pub fn take_row(&mut self, row: impl AsRef<[u8]>) -> Answer<RowTaken> {
-        let unit = self.unit_number();
-        let row = raw::take_row(&mut *self.bytes, self.archive, unit, row.as_ref())?;
+        let (archive, unit) = (self.archive, self.unit_number());
+        let (log, index) = self.lent();
+        let row = raw::take_row(log, index, archive, unit, row.as_ref())?;
         Ok(RowTaken::of(row.taken, row.stopped))
     }
 
@@ -169,10 +206,14 @@ impl Log {
             &mut tree,
             &mut report,
         )?;
-        let log = Log {
+        let mut log = Log {
             bytes: copy,
+            index: None,
             ..*self
         };
+        if self.index.is_some() {
+            log.keep_index()?;
+        }
         Ok(Trial::of(&report, log, Tree::new(tree)))
     }
 

@@ -2,8 +2,9 @@
 //!
 //! A refused call leaves all lent bytes as they were. A slice of any length may
 //! be lent; one of another length than stated is refused with 1 or 2. A unit is
-//! any number here, and one above 7 is refused with 21. The types beside this
-//! module do the same with less to get wrong.
+//! any number here, and one above 7 is refused with 21. To the calls that change a
+//! log its index is lent, or no bytes if none is kept; [`index`] makes one. The
+//! types beside this module do the same with less to get wrong.
 
 #![allow(unsafe_code)]
 
@@ -19,6 +20,8 @@ pub const BLOCK: usize = 512;
 pub const FILE: usize = 44_032;
 /// Bytes of the tree table.
 pub const TREE: usize = 43_012;
+/// Bytes of an index.
+pub const INDEX: usize = 20_484;
 /// Bytes of the report of a row that is tried.
 pub const REPORT: usize = 2_068;
 /// Bytes lent for a listing; none is longer.
@@ -59,19 +62,36 @@ pub(crate) fn vector_of(bytes: &[u8; VECTOR]) -> [u16; 8] {
     std::array::from_fn(|unit| u16::from_le_bytes([bytes[2 * unit], bytes[2 * unit + 1]]))
 }
 
-/// Empties a log. Refuses 1, 21.
-pub fn start(log: &mut [u8], archive: u32, unit: u32) -> Answer<()> {
-    let result = unsafe { ffi::sab_start(log.as_mut_ptr(), log.len(), archive, unit) };
+/// Empties a log and its index. Refuses 1, 21.
+pub fn start(log: &mut [u8], index: &mut [u8], archive: u32, unit: u32) -> Answer<()> {
+    let result = unsafe {
+        ffi::sab_start(
+            log.as_mut_ptr(),
+            log.len(),
+            index.as_mut_ptr(),
+            index.len(),
+            archive,
+            unit,
+        )
+    };
     answer(result).map(drop)
 }
 
 /// Makes the wished record, if it fits. Refuses 1, 21, 19, 7, 24, 11,
 /// 12 to 16, 18.
-pub fn act(log: &mut [u8], archive: u32, unit: u32, wish: &[u8]) -> Answer<()> {
+pub fn act(
+    log: &mut [u8],
+    index: &mut [u8],
+    archive: u32,
+    unit: u32,
+    wish: &[u8],
+) -> Answer<()> {
     let result = unsafe {
         ffi::sab_act(
             log.as_mut_ptr(),
             log.len(),
+            index.as_mut_ptr(),
+            index.len(),
             archive,
             unit,
             wish.as_ptr(),
@@ -107,11 +127,19 @@ pub fn hand_out(
 }
 
 /// Takes a block wholly or not at all. Refuses 1, 21, 19, 2 to 11.
-pub fn take(log: &mut [u8], archive: u32, unit: u32, block: &[u8]) -> Answer<()> {
+pub fn take(
+    log: &mut [u8],
+    index: &mut [u8],
+    archive: u32,
+    unit: u32,
+    block: &[u8],
+) -> Answer<()> {
     let result = unsafe {
         ffi::sab_take(
             log.as_mut_ptr(),
             log.len(),
+            index.as_mut_ptr(),
+            index.len(),
             archive,
             unit,
             block.as_ptr(),
@@ -158,11 +186,19 @@ pub struct RowTaken {
 
 /// Takes the blocks of a row in turn, up to the first that [`take`] refuses.
 /// Refuses 1, 21, 2, 19.
-pub fn take_row(log: &mut [u8], archive: u32, unit: u32, row: &[u8]) -> Answer<RowTaken> {
+pub fn take_row(
+    log: &mut [u8],
+    index: &mut [u8],
+    archive: u32,
+    unit: u32,
+    row: &[u8],
+) -> Answer<RowTaken> {
     let result = unsafe {
         ffi::sab_take_row(
             log.as_mut_ptr(),
             log.len(),
+            index.as_mut_ptr(),
+            index.len(),
             archive,
             unit,
             row.as_ptr(),
@@ -276,6 +312,64 @@ pub fn merge(
 pub fn show(log: &[u8], tree: &mut [u8]) -> Answer<()> {
     let result = unsafe { ffi::sab_show(log.as_ptr(), log.len(), tree.as_mut_ptr(), tree.len()) };
     answer(result).map(drop)
+}
+
+/// Makes the index of a log afresh: every byte of the lent one. Refuses 1, 19.
+pub fn index(log: &[u8], index: &mut [u8]) -> Answer<()> {
+    let result =
+        unsafe { ffi::sab_index(log.as_ptr(), log.len(), index.as_mut_ptr(), index.len()) };
+    answer(result).map(drop)
+}
+
+/// Looks up a folder, 4 bytes, and a label, 32 bytes, in an index, whatever bytes
+/// it has: the entry's 4 bytes, if there is one. Refuses 1.
+pub fn find(index: &[u8], folder: &[u8], label: &[u8]) -> Answer<Option<[u8; 4]>> {
+    let mut entry = [0; 4];
+    let result = unsafe {
+        ffi::sab_find(
+            index.as_ptr(),
+            index.len(),
+            folder.as_ptr(),
+            folder.len(),
+            label.as_ptr(),
+            label.len(),
+            entry.as_mut_ptr(),
+            entry.len(),
+        )
+    };
+    let found = answer(result)?;
+    Ok((found == 1).then_some(entry))
+}
+
+/// The rows of a folder in an index: row `i` stands at byte 4 + 40 i.
+#[derive(Clone, Copy, Debug, PartialEq, Eq)]
+pub struct Range {
+    /// The first row.
+    pub first: u16,
+    /// How many they are.
+    pub count: u16,
+}
+
+/// Lists a folder, 4 bytes, in an index, whatever bytes it has. The rows lie
+/// within the index. Refuses 1.
+pub fn list(index: &[u8], folder: &[u8]) -> Answer<Range> {
+    let mut range = [0; 4];
+    let result = unsafe {
+        ffi::sab_list(
+            index.as_ptr(),
+            index.len(),
+            folder.as_ptr(),
+            folder.len(),
+            range.as_mut_ptr(),
+            range.len(),
+        )
+    };
+    answer(result)?;
+    let [a, b, c, d] = range;
+    Ok(Range {
+        first: u16::from_le_bytes([a, b]),
+        count: u16::from_le_bytes([c, d]),
+    })
 }
 
 /// The held vector of a log: how many records of each unit. Refuses 1, 19.

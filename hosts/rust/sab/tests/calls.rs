@@ -43,13 +43,13 @@ fn file_of(log: &[u8]) -> Vec<u8> {
 #[test]
 fn starting() {
     let mut log = pattern(LOG);
-    assert_eq!(raw::start(&mut log, ARCHIVE, 8), refused(21));
+    assert_eq!(raw::start(&mut log, &mut [], ARCHIVE, 8), refused(21));
     assert_eq!(log, pattern(LOG));
-    assert_eq!(raw::start(&mut log, ARCHIVE, 7), Ok(()));
+    assert_eq!(raw::start(&mut log, &mut [], ARCHIVE, 7), Ok(()));
     assert_eq!(log, vec![0; LOG]);
     for mut log in wrong(LOG) {
         let before = log.clone();
-        assert_eq!(raw::start(&mut log, ARCHIVE, 0), refused(1));
+        assert_eq!(raw::start(&mut log, &mut [], ARCHIVE, 0), refused(1));
         assert_eq!(log, before);
     }
 }
@@ -58,34 +58,34 @@ fn starting() {
 fn acting() {
     let mut log = vec![0; LOG];
     let wish = make_folder(3, "Bench");
-    assert_eq!(raw::act(&mut log, ARCHIVE, 3, &wish), Ok(()));
+    assert_eq!(raw::act(&mut log, &mut [], ARCHIVE, 3, &wish), Ok(()));
     let mut record = wish;
     record[2] = 1;
     assert_eq!(log[..WISH], record);
     assert!(log[WISH..].iter().all(|byte| *byte == 0));
     let before = log.clone();
-    assert_eq!(raw::act(&mut log, ARCHIVE, 3, &wish), refused(15));
-    assert_eq!(raw::act(&mut log, ARCHIVE, 4, &wish), refused(7));
+    assert_eq!(raw::act(&mut log, &mut [], ARCHIVE, 3, &wish), refused(15));
+    assert_eq!(raw::act(&mut log, &mut [], ARCHIVE, 4, &wish), refused(7));
     for at in 32..64 {
         let mut wish = wish;
         wish[32..=at].fill(b'a');
         wish[at] = b'/';
-        assert_eq!(raw::act(&mut log, ARCHIVE, 3, &wish), refused(24));
+        assert_eq!(raw::act(&mut log, &mut [], ARCHIVE, 3, &wish), refused(24));
         wish[31] = 0;
-        assert_eq!(raw::act(&mut log, ARCHIVE, 3, &wish), refused(7));
+        assert_eq!(raw::act(&mut log, &mut [], ARCHIVE, 3, &wish), refused(7));
     }
-    assert_eq!(raw::act(&mut log, ARCHIVE, 200, &wish), refused(21));
+    assert_eq!(raw::act(&mut log, &mut [], ARCHIVE, 200, &wish), refused(21));
     for wish in wrong(WISH) {
-        assert_eq!(raw::act(&mut log, ARCHIVE, 3, &wish), refused(1));
+        assert_eq!(raw::act(&mut log, &mut [], ARCHIVE, 3, &wish), refused(1));
     }
     assert_eq!(log, before);
     for mut log in wrong(LOG) {
         let before = log.clone();
-        assert_eq!(raw::act(&mut log, ARCHIVE, 3, &wish), refused(1));
+        assert_eq!(raw::act(&mut log, &mut [], ARCHIVE, 3, &wish), refused(1));
         assert_eq!(log, before);
     }
     log[1] = 0;
-    assert_eq!(raw::act(&mut log, ARCHIVE, 3, &wish), refused(19));
+    assert_eq!(raw::act(&mut log, &mut [], ARCHIVE, 3, &wish), refused(19));
 }
 
 #[test]
@@ -99,18 +99,18 @@ fn passing_blocks() {
             raw::hand_out(&given, ARCHIVE, 1, &asked, &mut block),
             Ok(())
         );
-        assert_eq!(raw::take(&mut log, ARCHIVE, 2, &block), Ok(()));
+        assert_eq!(raw::take(&mut log, &mut [], ARCHIVE, 2, &block), Ok(()));
         if block[9] == 0 {
             break;
         }
     }
     assert_eq!(log, given);
-    assert_eq!(raw::take(&mut log, ARCHIVE + 1, 2, &block), refused(6));
-    assert_eq!(raw::take(&mut log, ARCHIVE, 8, &block), refused(21));
+    assert_eq!(raw::take(&mut log, &mut [], ARCHIVE + 1, 2, &block), refused(6));
+    assert_eq!(raw::take(&mut log, &mut [], ARCHIVE, 8, &block), refused(21));
     block[100] ^= 1;
-    assert_eq!(raw::take(&mut log, ARCHIVE, 2, &block), refused(4));
+    assert_eq!(raw::take(&mut log, &mut [], ARCHIVE, 2, &block), refused(4));
     for block in wrong(BLOCK) {
-        assert_eq!(raw::take(&mut log, ARCHIVE, 2, &block), refused(2));
+        assert_eq!(raw::take(&mut log, &mut [], ARCHIVE, 2, &block), refused(2));
     }
     assert_eq!(log, given);
     for mut block in wrong(BLOCK) {
@@ -127,7 +127,7 @@ fn passing_blocks() {
             raw::hand_out(&log, ARCHIVE, 1, &[0; 8], &mut block),
             refused(1)
         );
-        assert_eq!(raw::take(&mut log, ARCHIVE, 1, &block), refused(1));
+        assert_eq!(raw::take(&mut log, &mut [], ARCHIVE, 1, &block), refused(1));
         assert!(log == before && block == pattern(BLOCK));
     }
 }
@@ -155,7 +155,7 @@ fn records_in_any_order() {
     let records: [[u8; WISH]; 6] = std::array::from_fn(|unit| {
         let mut log = vec![0; LOG];
         let wish = make_folder(unit as u8, "Bench");
-        raw::act(&mut log, ARCHIVE, unit as u32, &wish).unwrap();
+        raw::act(&mut log, &mut [], ARCHIVE, unit as u32, &wish).unwrap();
         log[..WISH].try_into().unwrap()
     });
     let log_with = |held: &dyn Fn(usize) -> bool| {
@@ -174,7 +174,7 @@ fn records_in_any_order() {
         block[510..].copy_from_slice(&second.to_le_bytes());
         for held in 0..64 {
             let mut log = log_with(&|i| held >> i & 1 == 1);
-            assert_eq!(raw::take(&mut log, ARCHIVE, 7, &block), Ok(()));
+            assert_eq!(raw::take(&mut log, &mut [], ARCHIVE, 7, &block), Ok(()));
             assert!(log == all);
         }
     }
@@ -300,9 +300,9 @@ fn wide_units() {
     let wish = make_folder(0, "Bench");
     for unit in [8, 255, 256, 263, 65_536, 65_537, 0x0100_0000, u32::MAX] {
         let (mut log, mut block, mut file) = (a_log(), pattern(BLOCK), pattern(FILE));
-        assert_eq!(raw::start(&mut log, ARCHIVE, unit), refused(21));
-        assert_eq!(raw::act(&mut log, ARCHIVE, unit, &wish), refused(21));
-        assert_eq!(raw::take(&mut log, ARCHIVE, unit, &block), refused(21));
+        assert_eq!(raw::start(&mut log, &mut [], ARCHIVE, unit), refused(21));
+        assert_eq!(raw::act(&mut log, &mut [], ARCHIVE, unit, &wish), refused(21));
+        assert_eq!(raw::take(&mut log, &mut [], ARCHIVE, unit, &block), refused(21));
         assert_eq!(
             raw::hand_out(&log, ARCHIVE, unit, &[0; 8], &mut block),
             refused(21)
@@ -364,7 +364,7 @@ fn rows() {
         let mut handed = [0; BLOCK];
         raw::hand_out(&full, ARCHIVE, 5, &vector_of(&single), &mut handed).unwrap();
         assert_eq!(handed[..], *block);
-        raw::take(&mut single, ARCHIVE, 0, block).unwrap();
+        raw::take(&mut single, &mut [], ARCHIVE, 0, block).unwrap();
     }
     assert_eq!(single, full);
 
@@ -378,7 +378,7 @@ fn rows() {
         assert_eq!(log, before);
         assert_eq!(report[..2], [taken, stopped]);
         let mut after = log.clone();
-        let answer = raw::take_row(&mut after, ARCHIVE, 0, row);
+        let answer = raw::take_row(&mut after, &mut [], ARCHIVE, 0, row);
         assert_eq!(answer, Ok(RowTaken { taken, stopped }));
         assert_eq!(after, copy);
         let mut shown = vec![0; TREE];
@@ -411,7 +411,7 @@ fn rows() {
     assert_eq!(try_row(&unsound, 0, &row, right), refused(19));
     let take_row = |log: &[u8], unit, row: &[u8]| {
         let mut lent = log.to_vec();
-        let answer = raw::take_row(&mut lent, ARCHIVE, unit, row);
+        let answer = raw::take_row(&mut lent, &mut [], ARCHIVE, unit, row);
         assert_eq!(lent, log);
         answer
     };

@@ -41,7 +41,7 @@ fn alone(unit: u32, folders: usize, day: u8) -> Vec<u8> {
         wish[..2].copy_from_slice(&[unit as u8, 1]);
         wish[28..32].copy_from_slice(&[0xe9, 7, 3, day]);
         wish[32..36].copy_from_slice(format!("{i:04}").as_bytes());
-        raw::act(&mut log, ARCHIVE, unit, &wish).unwrap();
+        raw::act(&mut log, &mut [], ARCHIVE, unit, &wish).unwrap();
     }
     log
 }

@@ -2,17 +2,31 @@
 
 use crate::tree;
 use crate::words::{Fault, Words, bytes, hash};
-use library::{Answer, Library, REPORT, Trial};
+use library::{Answer, INDEX, Library, REPORT, Trial};
 
 const LOG: usize = 40_960;
 
+/// A log and the index that is kept with it.
+struct Slot {
+    log: Vec<u8>,
+    index: Vec<u8>,
+}
+
 /// The eight logs of a list.
-pub struct Slots([Vec<u8>; 8]);
+pub struct Slots([Slot; 8]);
 
 impl Slots {
     pub fn empty() -> Slots {
-        Slots(std::array::from_fn(|_| vec![0; LOG]))
+        Slots(std::array::from_fn(|_| Slot {
+            log: vec![0; LOG],
+            index: vec![0; INDEX],
+        }))
     }
+}
+
+/// Bytes of no meaning, which a refused call must leave.
+fn junk(length: usize) -> Vec<u8> {
+    (0..length).map(|i| (7 + 31 * i) as u8).collect()
 }
 
 /// The number and the place as they are written: only these have a place.
@@ -49,24 +63,33 @@ pub fn call(
     let name = words.word()?;
     let slot: usize = words.number()?;
     let own = slots.0.get_mut(slot).ok_or("no such slot")?;
-    if name == "end" {
-        return end(own, words);
+    match name {
+        "end" => return end(&own.log, words),
+        "list" => return list(library, &own.index, words),
+        "find" => return find(library, &own.index, words),
+        _ => (),
     }
     let lent = words.word()?;
     if lent == "@" {
-        call_on(library, own, name, words, shown)
-    } else {
-        call_on(library, &mut bytes(lent)?, name, words, shown)
+        return call_on(library, own, name, words, shown);
     }
+    let mut lent = Slot {
+        log: bytes(lent)?,
+        index: junk(INDEX),
+    };
+    // Of a log that is not sound there is none.
+    let _ = library.index(&lent.log, &mut lent.index);
+    call_on(library, &mut lent, name, words, shown)
 }
 
 fn call_on(
     library: &dyn Library,
-    log: &mut [u8],
+    slot: &mut Slot,
     name: &str,
     mut words: Words,
     shown: &[&str],
 ) -> Result<(), Fault> {
+    let Slot { log, index } = slot;
     if name == "show" {
         return show(library, log, words, shown);
     }
@@ -75,22 +98,22 @@ fn call_on(
     }
     let archive = words.number()?;
     let unit = words.number()?;
-    let before = log.to_vec();
+    let (before, listed) = (log.to_vec(), index.to_vec());
     let mut came: Vec<String> = Vec::new();
     match name {
         "start" => {
             words.equals()?;
-            came.extend(answer(&library.start(log, archive, unit)));
+            came.extend(answer(&library.start(log, index, archive, unit)));
         }
         "act" => {
             let wish = words.bytes()?;
             words.equals()?;
-            came.extend(answer(&library.act(log, archive, unit, &wish)));
+            came.extend(answer(&library.act(log, index, archive, unit, &wish)));
         }
         "take" => {
             let block = words.bytes()?;
             words.equals()?;
-            came.extend(answer(&library.take(log, archive, unit, &block)));
+            came.extend(answer(&library.take(log, index, archive, unit, &block)));
         }
         "handout" => {
             let asked = words.vector()?;
@@ -133,8 +156,52 @@ fn call_on(
     }
     if came[0] != "0" || matches!(name, "handout" | "try" | "write") {
         kept("log", log, &before)?;
+        kept("index", index, &listed)?;
+    } else if fresh(library, log)? != *index {
+        return Err("the index is not the one made afresh".into());
     }
     words.expect(&came)
+}
+
+/// The index of a log, made afresh.
+fn fresh(library: &dyn Library, log: &[u8]) -> Result<Vec<u8>, Fault> {
+    let mut index = junk(INDEX);
+    match library.index(log, &mut index) {
+        Ok(()) => Ok(index),
+        Err(refusal) => Err(format!("no index: refused {}", refusal.number)),
+    }
+}
+
+/// The entries that an index lists for a folder.
+fn list(library: &dyn Library, index: &[u8], mut words: Words) -> Result<(), Fault> {
+    let folder = words.identity()?;
+    words.equals()?;
+    let range = library.list(index, &folder).map_err(|_| "refused")?;
+    let (rows, _) = index[4..].as_chunks::<40>();
+    let rows = rows.iter().skip(range.first.into()).take(range.count.into());
+    let named: Vec<String> = rows.map(|row| identity(&row[36..])).collect();
+    let named = if named.is_empty() { "-".to_string() } else { named.join(",") };
+    words.expect(&[named])
+}
+
+/// The entry of a folder that has a label. One of more than 32 bytes no entry has,
+/// and the call refuses it with 1.
+fn find(library: &dyn Library, index: &[u8], mut words: Words) -> Result<(), Fault> {
+    let folder = words.identity()?;
+    let mut label = words.label()?;
+    words.equals()?;
+    label.resize(label.len().max(32), 0);
+    let found = match library.find(index, &folder, &label) {
+        Ok(found) => found,
+        Err(refusal) if refusal.number == 1 && label.len() > 32 => None,
+        Err(refusal) => return Err(format!("refused {}", refusal.number)),
+    };
+    words.expect(&[found.map_or("-".to_string(), |entry| identity(&entry))])
+}
+
+/// An identity in four bytes, as it is written.
+fn identity(bytes: &[u8]) -> String {
+    format!("{}.{}", bytes[0], u16::from_le_bytes([bytes[2], bytes[3]]))
 }
 
 /// Tries a row; then takes it into another copy, which must leave the same.
@@ -145,22 +212,24 @@ fn try_row(
     unit: u32,
     row: &[u8],
 ) -> Result<Vec<String>, Fault> {
-    let lent = |length: usize| (0..length).map(|i| (7 + 31 * i) as u8).collect();
     let mut trial = Trial {
-        copy: lent(LOG),
-        tree: lent(tree::TREE),
-        report: lent(REPORT),
+        copy: junk(LOG),
+        tree: junk(tree::TREE),
+        report: junk(REPORT),
     };
     let given = library.try_row(log, archive, unit, row, &mut trial);
-    let mut taken = log.to_vec();
-    let took = library.take_row(&mut taken, archive, unit, row);
+    let (mut taken, mut index) = (log.to_vec(), junk(INDEX));
+    let _ = library.index(log, &mut index);
+    let listed = index.clone();
+    let took = library.take_row(&mut taken, &mut index, archive, unit, row);
     let mut came = answer(&given).to_vec();
     came.push(hash(log));
     if given.is_err() {
-        kept("copy", &trial.copy, &lent(LOG))?;
-        kept("tree", &trial.tree, &lent(tree::TREE))?;
-        kept("report", &trial.report, &lent(REPORT))?;
+        kept("copy", &trial.copy, &junk(LOG))?;
+        kept("tree", &trial.tree, &junk(tree::TREE))?;
+        kept("report", &trial.report, &junk(REPORT))?;
         kept("log", &taken, log)?;
+        kept("index", &index, &listed)?;
         if took.err() != given.err() {
             return Err("the take of the row answers otherwise".into());
         }
@@ -172,10 +241,13 @@ fn try_row(
     if took != Ok(stop) || taken != trial.copy {
         return Err("the take of the row leaves another log".into());
     }
+    if index != fresh(library, &taken)? {
+        return Err("the take of the row leaves another index".into());
+    }
     let pair = |at: usize| u16::from_le_bytes([report[at], report[at + 1]]);
     let vector: Vec<String> = (0..8).map(|unit| pair(4 + 2 * unit).to_string()).collect();
     let named: Vec<String> = (0..usize::from(pair(2)))
-        .map(|i| format!("{}.{}", report[20 + 4 * i], pair(22 + 4 * i)))
+        .map(|i| identity(&report[20 + 4 * i..]))
         .collect();
     let named = if named.is_empty() { "-".to_string() } else { named.join(",") };
     came.extend([stop.0.to_string(), stop.1.to_string(), vector.join(","), named]);
@@ -200,7 +272,7 @@ fn show(
 ) -> Result<(), Fault> {
     words.equals()?;
     let before = log.to_vec();
-    let lent: Vec<u8> = (0..tree::TREE).map(|i| (7 + 31 * i) as u8).collect();
+    let lent = junk(tree::TREE);
     let mut table = lent.clone();
     let given = library.show(log, &mut table);
     kept("log", log, &before)?;

@@ -38,6 +38,24 @@ impl<'a> Words<'a> {
         bytes(self.word()?)
     }
 
+    /// A label's bytes in digits, without the zeros behind it; `-` for none.
+    pub fn label(&mut self) -> Result<Vec<u8>, Fault> {
+        match self.word()? {
+            "-" => Ok(Vec::new()),
+            word => bytes(&format!("{}:{word}", word.len() / 2)),
+        }
+    }
+
+    /// `UNIT.NUMBER`, as four bytes.
+    pub fn identity(&mut self) -> Result<[u8; 4], Fault> {
+        let word = self.word()?;
+        let (unit, of_unit) = word
+            .split_once('.')
+            .ok_or_else(|| format!("{word}: no identity"))?;
+        let [low, high] = number::<u16>(of_unit)?.to_le_bytes();
+        Ok([number(unit)?, 0, low, high])
+    }
+
     /// `LENGTH*SEED`: a buffer lent for writing.
     pub fn lent(&mut self) -> Result<Vec<u8>, Fault> {
         let word = self.word()?;

@@ -34,7 +34,7 @@ impl Units {
         let mut tree = [0; TREE];
         plain::show(&self.logs[unit], &mut tree).expect("a sound log");
         let wish = wish(chance, mix, unit as u8, &tree);
-        plain::act(&mut self.logs[unit], self.archive, unit as u8, &wish).is_ok()
+        plain::act(&mut self.logs[unit], &mut [], self.archive, unit as u8, &wish).is_ok()
     }
 
     /// Passes all that the other lacks.
@@ -53,7 +53,7 @@ impl Units {
             if block[9] == 0 {
                 return;
             }
-            plain::take(&mut self.logs[to], self.archive, to as u8, &block)
+            plain::take(&mut self.logs[to], &mut [], self.archive, to as u8, &block)
                 .expect("a block of one life");
         }
     }

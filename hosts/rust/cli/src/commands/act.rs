@@ -157,7 +157,7 @@ fn act(archive: &Archive, unit: Unit, wanted: &Wanted) -> Outcome<Log> {
     let wish = wish.to_bytes(unit);
     let mut bytes = log.as_bytes().to_vec();
     let header = u32::from(log.unit().number());
-    raw::act(&mut bytes, log.archive(), header, &wish).map_err(|refusal| {
+    raw::act(&mut bytes, &mut [], log.archive(), header, &wish).map_err(|refusal| {
         if unit != log.unit() {
             let detail = format!("the file is of unit {}, not of unit {unit}", log.unit());
             return Refused {

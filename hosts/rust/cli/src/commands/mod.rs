@@ -6,8 +6,10 @@ mod check;
 mod compare;
 mod diff;
 mod explain;
+mod find;
 mod list;
 mod log;
+mod ls;
 mod meet;
 mod merge;
 mod new;
@@ -77,6 +79,8 @@ pub const GROUPS: &[(&str, &[&Command])] = &[
             &check::COMMAND,
             &list::COMMAND,
             &tree::COMMAND,
+            &ls::COMMAND,
+            &find::COMMAND,
             &log::COMMAND,
             &asides::COMMAND,
             &page::COMMAND,

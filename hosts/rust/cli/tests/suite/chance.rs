@@ -74,7 +74,7 @@ fn damaged_by_chance() {
         fs::write(&one, &file).unwrap();
         fs::write(&other, &good[chance.below(good.len())]).unwrap();
         let good_file = sab(&["check", "-q", name]).0 == Status::Yes;
-        for command in ["check", "list", "tree", "log", "asides", "html"] {
+        for command in ["check", "list", "tree", "ls", "log", "asides", "html"] {
             let (status, _, err) = sab(&[command, name]);
             let wanted = if good_file {
                 Status::Yes

@@ -91,6 +91,8 @@ fn every_command(file: &Path) {
     ));
     let (status, _, _) = sab(&["compare", name, name]);
     assert_eq!(status, wanted, "compare {name}");
+    let (status, _, _) = sab(&["ls", name]);
+    assert_eq!(status, wanted, "ls {name}");
     let (status, out, _) = sab(&["diff", name, name]);
     assert_eq!((status, out), (wanted, Vec::new()), "diff {name}");
 }

@@ -1,0 +1,249 @@
+//! The ordered index: the entries of a tree by folder and label. It is made
+//! afresh from a replay, changed by one record, and asked by halving. Any bytes
+//! may be asked.
+
+use crate::bytes::{get16, get32, put16, put32};
+use crate::calls::scan;
+use crate::held::{Places, Store};
+use crate::record::{Fields, MAKE_FOLDER, MAKE_TRACE, REMOVE, RENAME, Record};
+use crate::replay::{Entry, Kind, ROOT, Replay};
+use crate::{Answer, LOG, RECORD, RECORDS, refuse};
+
+/// Bytes of an index row: folder, label, entry.
+const ROW: usize = 40;
+/// Bytes of the index: a count, two zeros, 512 rows.
+pub const INDEX: usize = 4 + RECORDS * ROW;
+/// Halvings that end any search among 512 rows.
+const HALVINGS: usize = 10;
+
+type Row = [u8; ROW];
+
+/// The rows of a folder: the first, and how many.
+#[derive(Clone, Copy, Debug, PartialEq, Eq)]
+pub struct Range {
+    pub first: u16,
+    pub count: u16,
+}
+
+/// An index is lent, or no bytes are.
+pub fn fits(index: &[u8]) -> bool {
+    index.is_empty() || index.len() == INDEX
+}
+
+/// The key of a folder given by its four bytes: by unit, then by number. The
+/// second byte is not looked at; a unit above 7 counts on into the number.
+#[inline(always)]
+fn key_of(folder: u32) -> u32 {
+    let name = name_of(folder);
+    (name % 8) << 29 | name / 8
+}
+
+/// Eight times the number, and the unit.
+#[inline(always)]
+fn name_of(identity: u32) -> u32 {
+    8 * (identity >> 16) + (identity & 0xff)
+}
+
+/// The four bytes of such a name, as a number.
+#[inline(always)]
+fn identity_of(name: u32) -> u32 {
+    name % 8 | (name / 8) << 16
+}
+
+/// How many rows, at most 512.
+#[inline(always)]
+fn rows_in(index: &[u8]) -> usize {
+    usize::from(get16(index, 0)).min(RECORDS)
+}
+
+#[inline(always)]
+fn rows(index: &[u8]) -> &[Row] {
+    index[4..].as_chunks().0
+}
+
+/// The row comes before a label in the folder of a key.
+#[inline(always)]
+fn is_before(row: &Row, key: u32, label: &[u8]) -> bool {
+    let own = key_of(get32(row, 0));
+    own < key || own == key && row[4..36] < *label
+}
+
+/// The first row that does not come before a label in the folder of a key.
+fn seek(index: &[u8], key: u32, label: &[u8]) -> usize {
+    let rows = rows(index);
+    let (mut low, mut high) = (0, rows_in(index));
+    for _ in 0..HALVINGS {
+        if low >= high {
+            break;
+        }
+        let middle = low + (high - low) / 2;
+        if is_before(&rows[middle], key, label) {
+            low = middle + 1;
+        } else {
+            high = middle;
+        }
+    }
+    low
+}
+
+/// The row of a folder and a label, if they have one.
+fn row_of(index: &[u8], folder: u32, label: &[u8]) -> Option<usize> {
+    let at = seek(index, key_of(folder), label);
+    let row = &rows(index)[..rows_in(index)].get(at)?;
+    (name_of(get32(*row, 0)) == name_of(folder) && row[4..36] == *label).then_some(at)
+}
+
+/// Looks up the entry of a folder that has a label: its four bytes, if there is
+/// one.
+pub fn find(index: &[u8], folder: &[u8], label: &[u8]) -> Answer<Option<[u8; 4]>> {
+    if index.len() != INDEX || folder.len() != 4 || label.len() != 32 {
+        return refuse(1);
+    }
+    let row = row_of(index, get32(folder, 0), label);
+    let name = row.map_or(0, |row| name_of(get32(&rows(index)[row], 36)));
+    Ok((name != 0).then(|| identity_of(name).to_le_bytes()))
+}
+
+/// The rows of a folder.
+pub fn list(index: &[u8], folder: &[u8]) -> Answer<Range> {
+    if index.len() != INDEX || folder.len() != 4 {
+        return refuse(1);
+    }
+    let key = key_of(get32(folder, 0));
+    let first = seek(index, key, &[0; 32]);
+    let end = seek(index, key + 1, &[0; 32]);
+    Ok(Range {
+        first: first as u16,
+        count: end.saturating_sub(first) as u16,
+    })
+}
+
+/// Makes the index of a log afresh.
+pub fn index(log: &[u8], index: &mut [u8]) -> Answer<()> {
+    if log.len() != LOG || index.len() != INDEX {
+        return refuse(1);
+    }
+    let records = log.as_chunks::<RECORD>().0;
+    let mut replay = Replay::root();
+    let Some(held) = scan(records, &mut Places::none(), |places, fields, place| {
+        replay.step(places, &records, fields, place)
+    }) else {
+        return refuse(19);
+    };
+    write(index, held.all, &replay, &records);
+    Ok(())
+}
+
+/// The identity of an entry's folder.
+fn folder_of(replay: &Replay, entry: &Entry) -> u32 {
+    match entry.folder {
+        ROOT => 0,
+        folder => replay.identities[usize::from(folder)],
+    }
+}
+
+fn label_in(record: &Record) -> &[u8] {
+    &record[32..64]
+}
+
+/// The first bytes of a label, in the order of labels.
+fn front(label: &[u8]) -> u64 {
+    label.first_chunk().map_or(0, |front| u64::from_be_bytes(*front))
+}
+
+/// Writes every byte of the index.
+fn write(index: &mut [u8], records: usize, replay: &Replay, store: &impl Store) {
+    let label = |place: u16| {
+        let entry = &replay.entries[usize::from(place)];
+        label_in(store.record(usize::from(entry.label)))
+    };
+    // Key of the folder, front of the label and place of each entry.
+    let mut order = [(0, 0, 0); RECORDS];
+    let mut count = 0;
+    for (place, entry) in replay.entries[..records].iter().enumerate() {
+        if entry.kind != Kind::Absent {
+            let key = key_of(folder_of(replay, entry));
+            let place = place as u16;
+            order[count] = (key, front(label(place)), place);
+            count += 1;
+        }
+    }
+    let order = &mut order[..count];
+    order.sort_unstable_by(|a, b| {
+        let fronts = (a.0, a.1).cmp(&(b.0, b.1));
+        fronts.then_with(|| label(a.2).cmp(label(b.2)))
+    });
+    let (head, rows) = index.split_at_mut(4);
+    put32(head, 0, count as u32);
+    let (rows, unused) = rows.as_chunks_mut::<ROW>().0.split_at_mut(count);
+    for (row, &(_, _, place)) in rows.iter_mut().zip(&*order) {
+        let entry = &replay.entries[usize::from(place)];
+        put32(row, 0, folder_of(replay, entry));
+        row[4..36].copy_from_slice(label(place));
+        put32(row, 36, replay.identities[usize::from(place)]);
+    }
+    unused.as_flattened_mut().fill(0);
+}
+
+/// An entry's row before a record changes the tree.
+#[derive(Clone, Copy)]
+pub struct Before<'a> {
+    folder: u32,
+    label: &'a [u8],
+    entry: u32,
+}
+
+impl<'a> Before<'a> {
+    /// Of the entry that a remove or a rename names.
+    pub fn of(replay: &Replay, places: &Places, log: &'a [Record], fields: &Fields) -> Before<'a> {
+        let place = places.named(fields.named);
+        let entry = &replay.entries[place];
+        Before {
+            folder: folder_of(replay, entry),
+            label: label_in(&log[usize::from(entry.label)]),
+            entry: fields.named,
+        }
+    }
+}
+
+/// Changes the index as a record that fits changes the tree.
+pub fn change(index: &mut [u8], fields: &Fields, before: &Before) {
+    let label = label_in(fields.record);
+    match fields.operation {
+        MAKE_FOLDER | MAKE_TRACE => put_in(index, fields.named, label, fields.identity()),
+        REMOVE => take_out(index, before.folder, before.label),
+        RENAME => {
+            take_out(index, before.folder, before.label);
+            put_in(index, before.folder, label, before.entry);
+        }
+        _ => (),
+    }
+}
+
+/// Puts an entry in by its folder and label, if there is room.
+fn put_in(index: &mut [u8], folder: u32, label: &[u8], entry: u32) {
+    let count = rows_in(index);
+    if count == RECORDS {
+        return;
+    }
+    let at = seek(index, key_of(folder), label);
+    let rows = index[4..].as_chunks_mut::<ROW>().0;
+    rows.copy_within(at..count, at + 1);
+    let row = &mut rows[at];
+    put32(row, 0, folder);
+    row[4..36].copy_from_slice(label);
+    put32(row, 36, entry);
+    put16(index, 0, count as u16 + 1);
+}
+
+/// Takes the entry of a folder and a label out, if there is one.
+fn take_out(index: &mut [u8], folder: u32, label: &[u8]) {
+    let Some(at) = row_of(index, folder, label) else {
+        return;
+    };
+    let count = rows_in(index);
+    let rows = index[4..].as_chunks_mut::<ROW>().0;
+    rows.copy_within(at + 1..count, at);
+    rows[count - 1].fill(0);
+    put16(index, 0, count as u16 - 1);
+}
