@@ -183,8 +183,8 @@ extern "C" {
 /* ---- The version of this header and of its calls ---- */
 
 #define SAB_VERSION_MAJOR 2
-#define SAB_VERSION_MINOR 1
-#define SAB_VERSION_PATCH 0
+#define SAB_VERSION_MINOR 2
+#define SAB_VERSION_PATCH 1
 #define SAB_VERSION "2.2.1"
 
 /* ---- Lengths in bytes ---- */
