@@ -3,11 +3,10 @@
 use Prim.Native.Nat.{ℕ, _+_, _*_, _≤_, _<_}
 use native.Mathlib.Omega.{arith}
 use mathlib.Core.Path.{_≡_, refl, sym, ap, _∙_}
-use mathlib.Core.Bool.{Bool, true, false, cond}
+use mathlib.Core.Bool.{true}
 use mathlib.Core.List.{List, []}
-use lib.Dec.{eqb}
 use lib.ListN.{getD, length}
-use borrow.Author.Tests.{eqb-true, eq-eqb, ne-eqb}
+use borrow.Author.Tests.{ne-eqb}
 use Rattle.model.specs.Record.{Rec}
 use Rattle.model.specs.Log.{recordsOf, soundLog}
 use Rattle.model.specs.Replay.{Entry, Tree, Verdict, fits, aside, judge, replay}
@@ -21,10 +20,11 @@ use Rattle.tree_laws.proofs.Verdicts.{Under, Reason, reason-range}
 use Rattle.tree_judge.specs.Judged.{verdictOf}
 use Rattle.tree_judge.proofs.Verdicts.{verdict-numbers}
 use Rattle.index_model.specs.Acting.{changeIn, stepIn}
-use Rattle.index_model.specs.Kept.{indexFits, ifLent}
+use Rattle.index_model.specs.Kept.{ifLent}
 use Rattle.index_laws.proofs.Exact.{Rowed}
 use Rattle.index_laws.proofs.Made.{entries-at}
 use Rattle.index_laws.proofs.Rowed.{sound-all}
+use Rattle.keep_lent.proofs.Lent.{lent-same}
 use Rattle.index_act.specs.Inside.{Inside}
 
 nobody : Entry
@@ -43,28 +43,6 @@ laid-inside log b register n m s w =
       folder = λ i h. rw (row i h) (all-at Rowed (t .entries) i nobody (omega arith) a .1);
       entry = λ i h. rw (row i h) (let u = proper-at (t .entries) i nobody (omega arith) (w .proper) .range .high in omega arith);
     }
-
--- ---- an index is lent, or none
-
-pub none-lent : (i x : List ℕ) → length i ≡ 0 → i ≡ ifLent i x
-unfolding ifLent
-none-lent i x h = rw (eq-eqb (length i) 0 h)
-
-pub is-lent : (i x y : List ℕ) → (length i ≡ 0 → ⊥) → y ≡ x → y ≡ ifLent i x
-unfolding ifLent
-is-lent i x y h e = rw (ne-eqb (length i) 0 h) e
-
-pub lent-long : (i : List ℕ) → indexFits i ≡ true → (length i ≡ 0 → ⊥) → length i ≡ 20484
-unfolding indexFits
-lent-long i f h = eqb-true (length i) 20484 (rw (ne-eqb (length i) 0 h) at f)
-
-lent-same : (i : List ℕ) → i ≡ ifLent i i
-unfolding ifLent
-lent-same i = cond-same (eqb (length i) 0)
-  where
-    cond-same : (b : Bool) → i ≡ cond b i i
-    cond-same true = refl
-    cond-same false = refl
 
 -- ---- the record judged
 

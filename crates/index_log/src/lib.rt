@@ -21,6 +21,15 @@ pub fn lay_index(log: &[u8], n: usize, index: &mut [u8])
     index_make::make_index(&table, index);
 }
 
+// The index of a sound log.
+pub fn renew(log: &[u8], index: &mut [u8])
+    requires { ⌜ (length (now log) ≡ logSize) × (soundLog (now log) ≡ true) × (length (now index) ≡ indexSize) ⌝ }
+    ensures { λ _. ⌜ now (index .exit) ≡ indexOfLog (now (log .entry)) ⌝ }
+{
+    let n = log_check::used(log);
+    lay_index(log, n, index);
+}
+
 // The lent index becomes that of the lent log. A refusal leaves it as it was. No unit is asked: 0 passes.
 pub fn index_log(log: &[u8], index: &mut [u8]) -> Answer
     ensures { λ r. ⌜ outcome (r .number) (r .place) (now (log .entry)) (now (index .exit)) 0 ≡ indexedOf (now (log .entry)) (now (index .entry)) ⌝ }

@@ -1,4 +1,4 @@
-use Rattle.index_act.proofs.Stepping.{none-lent, is-lent, lent-long}
+use Rattle.keep_lent.proofs.Lent.{none-lent, is-lent, lent-long}
 use borrow.Author.Needs.{needs}
 use Rattle.index_act.proofs.change_lent.Statement.{statement}
 use Rattle.index_act.proofs.change_lent.Tie as tie
