@@ -40,13 +40,13 @@ aside-leaves (aside n k) r t i h = refl
 -- ---- what is asked on the way of `act_on`
 
 module _ (u : ℕ) (log i w : List ℕ) (fit : indexFits i ≡ true) {h : List ℕ} (low : u < 8) (held : h ≡ vectorOf (recordsOf log)) {r : Rec} {m : ℕ} (wide : length w ≡ 80) (own : r ≡ stampedBy (getD h u 0 + 1) h w) (told : m ≡ numberAs u w r) where
-  l : List Rec
+  abbrev l : List Rec
   l = recordsOf log
 
-  done : Outcome
+  abbrev done : Outcome
   done = acted u log w (actNumber u (recordsOf log) w)
 
-  change : List ℕ
+  abbrev change : List ℕ
   change = changeIn (stamped u (recordsOf log) w) (replay (recordsOf log)) i
 
   record-is : r ≡ stamped u (recordsOf log) w
