@@ -1,0 +1,10 @@
+pub mod Sorted
+pub mod Halving
+pub mod Reading
+pub mod Exact
+pub mod Fresh
+pub mod Made
+pub mod Unique
+pub mod Changing
+pub mod Acting
+pub mod Rowed
