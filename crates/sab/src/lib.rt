@@ -1,12 +1,15 @@
 // The entry points as C and Rust programs call them: numbers and byte slices in, one word out. include/sab.h is the manual.
 ghost use mathlib.Core.Path.{_≡_};
 ghost use mathlib.Core.List.{[]};
-ghost use Rattle.model.specs.Outcome.{startOf, actOf, takeOf, writeOf, showOf};
+ghost use Rattle.model.specs.Outcome.{writeOf, showOf};
 ghost use Rattle.model.specs.Merge.{mergeOf};
+ghost use Rattle.index_model.specs.Index.{findOf};
+ghost use Rattle.index_model.specs.Kept.{indexedOf, startKept, actKept, takeKept, takeRowKept};
 ghost use Rattle.held_vector.specs.Held.{heldOf};
 ghost use Rattle.sab_words.specs.Called.{called, told};
+ghost use Rattle.sab_index.specs.Told.{toldKept, toldRowKept, folderAsked, foundWord, listedOf};
 ghost use Rattle.sab_block.specs.Handed.{handedOf};
-ghost use Rattle.sab_row.specs.Rows.{rowHandedOf, rowTakenOf, triedCall, rowTriedOf};
+ghost use Rattle.sab_row.specs.Rows.{rowHandedOf, triedCall, rowTriedOf};
 ghost use Rattle.sab_file.specs.Loaded.{loadedOf};
 ghost use Rattle.sab_merge.specs.Joined.{joined};
 ghost use Rattle.sab_listing.specs.Printed.{printed, printedOf};
@@ -14,18 +17,24 @@ ghost use Rattle.sab_vectors.specs.Compared.{comparedOf};
 
 // Starts a unit.
 #[no_mangle]
-pub extern "C" fn sab_start(log: &mut [u8], archive: u32, unit: u32) -> u32
-    ensures { λ r. ⌜ called r (now (log .exit)) [] ≡ told (startOf unit (now (log .entry))) ⌝ }
+pub extern "C" fn sab_start(log: &mut [u8], index: &mut [u8], archive: u32, unit: u32) -> u32
+    ensures { λ r. ⌜ called r (now (log .exit)) (now (index .exit)) ≡ toldKept (startKept unit (now (log .entry)) (now (index .entry))) ⌝ }
 {
-    sab_unit::start(log, archive, unit)
+    sab_unit::start(log, index, archive, unit)
 }
 
 // Makes a record of the own unit.
 #[no_mangle]
-pub extern "C" fn sab_act(log: &mut [u8], archive: u32, unit: u32, wish: &[u8]) -> u32
-    ensures { λ r. ⌜ called r (now (log .exit)) [] ≡ told (actOf unit (now (log .entry)) (now (wish .entry))) ⌝ }
+pub extern "C" fn sab_act(
+    log: &mut [u8],
+    index: &mut [u8],
+    archive: u32,
+    unit: u32,
+    wish: &[u8],
+) -> u32
+    ensures { λ r. ⌜ called r (now (log .exit)) (now (index .exit)) ≡ toldKept (actKept unit (now (log .entry)) (now (index .entry)) (now (wish .entry))) ⌝ }
 {
-    sab_unit::act(log, archive, unit, wish)
+    sab_unit::act(log, index, archive, unit, wish)
 }
 
 // Hands out a block of what the asked vector lacks.
@@ -44,10 +53,16 @@ pub extern "C" fn sab_hand_out(
 
 // Takes a block, wholly or not at all.
 #[no_mangle]
-pub extern "C" fn sab_take(log: &mut [u8], archive: u32, unit: u32, block: &[u8]) -> u32
-    ensures { λ r. ⌜ called r (now (log .exit)) [] ≡ told (takeOf archive unit (now (log .entry)) (now (block .entry))) ⌝ }
+pub extern "C" fn sab_take(
+    log: &mut [u8],
+    index: &mut [u8],
+    archive: u32,
+    unit: u32,
+    block: &[u8],
+) -> u32
+    ensures { λ r. ⌜ called r (now (log .exit)) (now (index .exit)) ≡ toldKept (takeKept archive unit (now (log .entry)) (now (index .entry)) (now (block .entry))) ⌝ }
 {
-    sab_block::take(log, archive, unit, block)
+    sab_block::take(log, index, archive, unit, block)
 }
 
 // Hands out all blocks of what the asked vector lacks; the count is that of the blocks.
@@ -66,10 +81,16 @@ pub extern "C" fn sab_hand_out_row(
 
 // Takes the blocks of a row in turn, up to the first refusal; the count is that of the blocks taken, and what stopped the row.
 #[no_mangle]
-pub extern "C" fn sab_take_row(log: &mut [u8], archive: u32, unit: u32, row: &[u8]) -> u32
-    ensures { λ r. ⌜ called r (now (log .exit)) [] ≡ rowTakenOf archive unit (now (log .entry)) (now (row .entry)) ⌝ }
+pub extern "C" fn sab_take_row(
+    log: &mut [u8],
+    index: &mut [u8],
+    archive: u32,
+    unit: u32,
+    row: &[u8],
+) -> u32
+    ensures { λ r. ⌜ called r (now (log .exit)) (now (index .exit)) ≡ toldRowKept (takeRowKept archive unit (now (log .entry)) (now (index .entry)) (now (row .entry))) ⌝ }
 {
-    sab_row::take_row(log, archive, unit, row)
+    sab_row::take_row(log, index, archive, unit, row)
 }
 
 // Tries a row on a copy of the log.
@@ -118,6 +139,30 @@ pub extern "C" fn sab_show(log: &[u8], tree: &mut [u8]) -> u32
     ensures { λ r. ⌜ called r (now (log .entry)) (now (tree .exit)) ≡ told (showOf (now (log .entry)) (now (tree .entry))) ⌝ }
 {
     sab_tree::show(log, tree)
+}
+
+// Makes the index of a log afresh.
+#[no_mangle]
+pub extern "C" fn sab_index(log: &[u8], index: &mut [u8]) -> u32
+    ensures { λ r. ⌜ called r (now (log .entry)) (now (index .exit)) ≡ told (indexedOf (now (log .entry)) (now (index .entry))) ⌝ }
+{
+    sab_index::index(log, index)
+}
+
+// Looks up a label in a folder; the place is the unit of the entry, the count its number, and 0 for none.
+#[no_mangle]
+pub extern "C" fn sab_find(index: &[u8], unit: u32, number: u32, label: &[u8]) -> u32
+    ensures { λ r. ⌜ r ≡ foundWord (findOf (now (index .entry)) (folderAsked unit number) (now (label .entry))) ⌝ }
+{
+    sab_index::find(index, unit, number, label)
+}
+
+// Lists a folder; the count is that of its entries. The first row and the count are written into the 4 lent bytes.
+#[no_mangle]
+pub extern "C" fn sab_list(index: &[u8], unit: u32, number: u32, range: &mut [u8]) -> u32
+    ensures { λ r. ⌜ called r [] (now (range .exit)) ≡ listedOf (now (index .entry)) (folderAsked unit number) (now (range .entry)) ⌝ }
+{
+    sab_index::list(index, unit, number, range)
 }
 
 // Lists a file as text, by way of a lent log and tree table.

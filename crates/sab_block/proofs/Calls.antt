@@ -2,15 +2,18 @@
 -- Assumes nothing.
 use Prim.Native.Nat.{ℕ}
 use mathlib.Core.Path.{_≡_, _∙_}
-use mathlib.Core.List.{List, []}
+use mathlib.Core.List.{List}
 use lib.ListN.{length}
 use borrow.Author.Tests.{eq-eqb, ne-eqb}
 use Rattle.model.specs.Vector.{vectorAt}
-use Rattle.model.specs.Outcome.{outcome, handOf, takeOf}
+use Rattle.model.specs.Outcome.{outcome, handOf}
+use Rattle.index_model.specs.Kept.{kept, takeKept}
 use Rattle.sab_words.specs.Words.{packed, narrowed}
-use Rattle.sab_words.specs.Called.{called, wrongBuffer, told}
+use Rattle.sab_words.specs.Called.{called, wrongBuffer}
 use Rattle.sab_words.proofs.Told.{tells}
-use Rattle.sab_words.proofs.Units.{hand-alike, take-alike}
+use Rattle.sab_words.proofs.Units.{hand-alike}
+use Rattle.sab_index.specs.Told.{toldKept}
+use Rattle.sab_index.proofs.Alike.{take-kept-alike, tells-kept}
 use Rattle.sab_block.specs.Handed.{handedOf}
 
 -- ---- handing out
@@ -27,6 +30,5 @@ module _ (archive u : ℕ) {r : ℕ} (log asked lent : List ℕ) where
 
 -- ---- taking
 
-module _ (u : ℕ) {v r n p : ℕ} (log : List ℕ) {log′ : List ℕ} (given : v ≡ narrowed u) (w : r ≡ packed n p 0) where
-  pub takes : (archive : ℕ) (b : List ℕ) → outcome n p log′ [] 0 ≡ takeOf archive v log b → called r log′ [] ≡ told (takeOf archive u log b)
-  takes archive b e = tells (e ∙ rw given (take-alike u log archive b)) w
+pub takes : (archive u : ℕ) {v r n p : ℕ} (log i b : List ℕ) {log′ j : List ℕ} → v ≡ narrowed u → r ≡ packed n p 0 → kept n p log′ j ≡ takeKept archive v log i b → called r log′ j ≡ toldKept (takeKept archive u log i b)
+takes archive u log i b given w e = tells-kept (e ∙ rw given (take-kept-alike u log i archive b)) w

@@ -1,8 +1,8 @@
 // Handing out and taking a block, as the static library calls them: the unit a 32-bit number, the answer in one word.
 ghost use mathlib.Core.Path.{_≡_};
-ghost use mathlib.Core.List.{[]};
-ghost use Rattle.model.specs.Outcome.{takeOf};
-ghost use Rattle.sab_words.specs.Called.{called, told};
+ghost use Rattle.index_model.specs.Kept.{takeKept};
+ghost use Rattle.sab_words.specs.Called.{called};
+ghost use Rattle.sab_index.specs.Told.{toldKept};
 ghost use Rattle.sab_block.specs.Handed.{handedOf};
 use sab_words::narrow;
 use sab_words::pack;
@@ -21,9 +21,9 @@ pub fn hand_out(log: &[u8], archive: u32, unit: u32, asked: &[u8], block: &mut [
 }
 
 // Takes a block, wholly or not at all.
-pub fn take(log: &mut [u8], archive: u32, unit: u32, block: &[u8]) -> u32
-    ensures { λ r. ⌜ called r (now (log .exit)) [] ≡ told (takeOf archive unit (now (log .entry)) (now (block .entry))) ⌝ }
+pub fn take(log: &mut [u8], index: &mut [u8], archive: u32, unit: u32, block: &[u8]) -> u32
+    ensures { λ r. ⌜ called r (now (log .exit)) (now (index .exit)) ≡ toldKept (takeKept archive unit (now (log .entry)) (now (index .entry)) (now (block .entry))) ⌝ }
 {
-    let t = take::take(log, archive, narrow(unit), block);
+    let t = keep_take::take(log, index, archive, narrow(unit), block);
     pack(t.number, t.place, 0)
 }

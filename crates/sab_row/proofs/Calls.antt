@@ -11,28 +11,19 @@ use Rattle.model.specs.Bytes.{padded}
 use Rattle.model.specs.Vector.{blocksFor, vectorAt}
 use Rattle.model.specs.Log.{recordsOf}
 use Rattle.model.specs.Outcome.{outcome, lacking}
-use Rattle.row_model.specs.Row.{RowTaken, rowTaken, takeRowOf, Trial, trial, trialLent, tryOf, rowOf, handRowOf}
+use Rattle.row_model.specs.Row.{Trial, trial, trialLent, tryOf, rowOf, handRowOf}
+use Rattle.index_model.specs.Kept.{rowKept, takeRowKept}
 use Rattle.sab_words.specs.Words.{packed, narrowed}
 use Rattle.sab_words.specs.Called.{called, wrongBuffer, told}
 use Rattle.sab_words.proofs.Told.{tells-blocks}
 use Rattle.sab_words.proofs.Units.{guarded-alike}
-use Rattle.sab_row.specs.Rows.{rowHandedOf, toldRow, rowTakenOf, triedCall, toldTrial, rowTriedOf}
+use Rattle.sab_index.specs.Told.{toldRowKept}
+use Rattle.sab_index.proofs.Alike.{row-kept-alike, tells-row}
+use Rattle.sab_row.specs.Rows.{rowHandedOf, triedCall, toldTrial, rowTriedOf}
 
 -- ---- units above 7 are alike
 
 module _ (archive u : ℕ) (log row : List ℕ) where
-  row-alike : takeRowOf archive (narrowed u) log row ≡ takeRowOf archive u log row
-  unfolding narrowed takeRowOf
-  row-alike = on (leb u 7) refl
-    where
-      refused : leb u 7 ≡ false → (t : Bool) → (eqb (length log) 40960 && true) ≡ t → takeRowOf archive (narrowed u) log row ≡ takeRowOf archive u log row
-      refused e true x = let n : narrowed u ≡ 255 = rw e in rw (n, e, x)
-      refused e false x = let n : narrowed u ≡ 255 = rw e in rw (n, e, x)
-
-      on : (b : Bool) → leb u 7 ≡ b → takeRowOf archive (narrowed u) log row ≡ takeRowOf archive u log row
-      on true e = let n : narrowed u ≡ u = rw e in rw n
-      on false e = refused e (eqb (length log) 40960 && true) refl
-
   try-alike : (copy tree report : List ℕ) → tryOf archive (narrowed u) log row copy tree report ≡ tryOf archive u log row copy tree report
   unfolding narrowed tryOf
   try-alike copy tree report = on (leb u 7) refl
@@ -65,10 +56,9 @@ module _ (archive u : ℕ) {r : ℕ} (log asked lent : List ℕ) where
 
 -- ---- taking and trying
 
-pub takes : (archive u : ℕ) {v r n p k s i j : ℕ} (log row : List ℕ) {log′ : List ℕ} → v ≡ narrowed u → rowTaken n p k s log′ ≡ takeRowOf archive v log row → i ≡ k → j ≡ s → r ≡ packed n p (i + 256 * j)
-    → called r log′ [] ≡ rowTakenOf archive u log row
-unfolding rowTakenOf toldRow
-takes archive u log row given e x y w = rw (← row-alike archive u log row, ← given, ← e, w, x, y)
+pub takes : (archive u : ℕ) {v r n p k s x y : ℕ} (log i row : List ℕ) {log′ j : List ℕ} → v ≡ narrowed u → rowKept n p k s log′ j ≡ takeRowKept archive v log i row → x ≡ k → y ≡ s → r ≡ packed n p (x + 256 * y)
+    → called r log′ j ≡ toldRowKept (takeRowKept archive u log i row)
+takes archive u log i row given e a b w = tells-row (e ∙ rw given (row-kept-alike u log i archive row)) a b w
 
 pub tries : (archive u : ℕ) {v r n p : ℕ} (log row copy tree report : List ℕ) {copy′ tree′ report′ : List ℕ} → v ≡ narrowed u → trial n p copy′ tree′ report′ ≡ tryOf archive v log row copy tree report → r ≡ packed n p 0
     → triedCall r copy′ tree′ report′ ≡ rowTriedOf archive u log row copy tree report

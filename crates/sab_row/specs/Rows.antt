@@ -1,26 +1,19 @@
 -- What the calls of a row return in their one word, and what they leave of the lent buffers.
 -- Assumes nothing.
-use Prim.Native.Nat.{ℕ, _+_, _*_}
+use Prim.Native.Nat.{ℕ}
 use mathlib.Core.Bool.{cond}
-use mathlib.Core.List.{List, []}
+use mathlib.Core.List.{List}
 use lib.Dec.{eqb}
 use lib.ListN.{length}
 use Rattle.model.specs.Vector.{vectorAt}
-use Rattle.row_model.specs.Row.{RowTaken, takeRowOf, Trial, tryOf, handRowOf}
+use Rattle.row_model.specs.Row.{Trial, tryOf, handRowOf}
 use Rattle.sab_words.specs.Words.{packed}
-use Rattle.sab_words.specs.Called.{Called, called, wrongBuffer, told}
+use Rattle.sab_words.specs.Called.{Called, wrongBuffer, told}
 
 -- handing out a row to the vector in the 16 bytes asked
 unfoldable pub rowHandedOf : ℕ → ℕ → List ℕ → List ℕ → List ℕ → Called
 rowHandedOf archive u log asked lent =
     cond (eqb (length asked) 16) (told (handRowOf archive u log (vectorAt asked 0) lent)) (wrongBuffer log lent)
-
--- the count: bits 16 to 23 how many blocks were taken, 24 to 31 the number that stopped the row, or 0
-unfoldable pub toldRow : RowTaken → Called
-toldRow o = called (packed (o .number) (o .place) (o .taken + 256 * o .stopped)) (o .log) []
-
-unfoldable pub rowTakenOf : ℕ → ℕ → List ℕ → List ℕ → Called
-rowTakenOf archive u log row = toldRow (takeRowOf archive u log row)
 
 -- the word returned, and the copy, the tree table and the report as they are left
 pub record TriedCall : Type 0 where

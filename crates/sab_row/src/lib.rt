@@ -1,8 +1,9 @@
 // The calls of a row of blocks, as the static library calls them: the unit a 32-bit number, the answer in one word.
 ghost use mathlib.Core.Path.{_≡_};
-ghost use mathlib.Core.List.{[]};
+ghost use Rattle.index_model.specs.Kept.{takeRowKept};
 ghost use Rattle.sab_words.specs.Called.{called};
-ghost use Rattle.sab_row.specs.Rows.{rowHandedOf, rowTakenOf, triedCall, rowTriedOf};
+ghost use Rattle.sab_index.specs.Told.{toldRowKept};
+ghost use Rattle.sab_row.specs.Rows.{rowHandedOf, triedCall, rowTriedOf};
 use byte_slice::wide;
 use sab_words::narrow;
 use sab_words::pack;
@@ -21,10 +22,10 @@ pub fn hand_out_row(log: &[u8], archive: u32, unit: u32, asked: &[u8], row: &mut
 }
 
 // Takes the blocks of a row in turn; the count is that of the blocks taken, with what stopped the row in its upper half.
-pub fn take_row(log: &mut [u8], archive: u32, unit: u32, row: &[u8]) -> u32
-    ensures { λ r. ⌜ called r (now (log .exit)) [] ≡ rowTakenOf archive unit (now (log .entry)) (now (row .entry)) ⌝ }
+pub fn take_row(log: &mut [u8], index: &mut [u8], archive: u32, unit: u32, row: &[u8]) -> u32
+    ensures { λ r. ⌜ called r (now (log .exit)) (now (index .exit)) ≡ toldRowKept (takeRowKept archive unit (now (log .entry)) (now (index .entry)) (now (row .entry))) ⌝ }
 {
-    let t = take_row::take_row(log, archive, narrow(unit), row);
+    let t = keep_take_row::take_row(log, index, archive, narrow(unit), row);
     pack(t.number, t.place, wide(t.taken) + 256 * wide(t.stopped))
 }
 
