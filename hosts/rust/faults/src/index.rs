@@ -141,7 +141,10 @@ fn asked(library: &dyn Library, unit: &Unit, chance: &mut Chance) -> Result<(), 
         return incorrect("the folder is not listed");
     };
     let rows = unit.index[4..].chunks(40).skip(range.first.into());
-    let listed: Vec<&[u8]> = rows.take(range.count.into()).map(|row| &row[36..]).collect();
+    let listed: Vec<&[u8]> = rows
+        .take(range.count.into())
+        .map(|row| &row[36..])
+        .collect();
     let inside: Vec<&[u8]> = inside.into_iter().map(|row| &row[4..8]).collect();
     match listed == inside {
         true => Ok(()),

@@ -107,5 +107,7 @@ pub fn index(data: &[u8]) {
     let [_, index] = &after[..] else {
         unreachable!("two buffers");
     };
-    let _ = both(4, &[], |library, _| library.find(index, &[0; 4], &wish[32..64]));
+    let _ = both(4, &[], |library, _| {
+        library.find(index, &[0; 4], &wish[32..64])
+    });
 }

@@ -42,7 +42,9 @@ fn take(from: u8, to: u8) -> impl FnOnce(&mut List) -> u8 {
 
 /// What a folder of a slot lists.
 fn lists(calls: &mut Calls, slot: usize, folder: Id, answer: &str, shows: &str) {
-    calls.ask(answer, &format!("list: {shows}"), |list| list.list(slot, folder));
+    calls.ask(answer, &format!("list: {shows}"), |list| {
+        list.list(slot, folder)
+    });
 }
 
 /// What is found under a label in a folder of a slot.
@@ -66,10 +68,22 @@ fn order(calls: &mut Calls) {
     };
     make(calls, "0.1 makes the folder b", 1, ROOT, "b");
     for label in ["~", "ab", "B", "a", LONG, "a b"] {
-        make(calls, &format!("the trace {label} in the root"), 2, ROOT, label);
+        make(
+            calls,
+            &format!("the trace {label} in the root"),
+            2,
+            ROOT,
+            label,
+        );
     }
     for label in ["ab", "b", "!"] {
-        make(calls, &format!("the trace {label} in 0.1"), 2, (0, 1), label);
+        make(
+            calls,
+            &format!("the trace {label} in 0.1"),
+            2,
+            (0, 1),
+            label,
+        );
     }
     lists(
         calls,
@@ -78,10 +92,30 @@ fn order(calls: &mut Calls) {
         "0.6,0.4,0.5,0.7,0.3,0.1,0.2",
         "by bytes: digits, capitals, small letters, ~; a before a b before ab; a folder among traces",
     );
-    lists(calls, 0, (0, 1), "0.10,0.8,0.9", "another folder, the same labels");
-    finds(calls, 0, ROOT, b"ab", "0.3", "a label that two folders have: in the root");
+    lists(
+        calls,
+        0,
+        (0, 1),
+        "0.10,0.8,0.9",
+        "another folder, the same labels",
+    );
+    finds(
+        calls,
+        0,
+        ROOT,
+        b"ab",
+        "0.3",
+        "a label that two folders have: in the root",
+    );
     finds(calls, 0, (0, 1), b"ab", "0.8", "in the other");
-    finds(calls, 0, ROOT, LONG.as_bytes(), "0.6", "the first row, 32 bytes");
+    finds(
+        calls,
+        0,
+        ROOT,
+        LONG.as_bytes(),
+        "0.6",
+        "the first row, 32 bytes",
+    );
     finds(calls, 0, ROOT, b"~", "0.2", "the last of a folder");
     finds(calls, 0, (0, 1), b"b", "0.9", "the last row");
     finds(calls, 0, ROOT, b"b", "0.1", "a folder by its label");
@@ -98,7 +132,13 @@ fn odd_folders(calls: &mut Calls) {
     finds(calls, 0, (7, 65_535), b"~", "-", "in the greatest identity");
     lists(calls, 0, (5, 0), "-", "an identity with the number 0");
     finds(calls, 0, (5, 0), b"a", "-", "in one with the number 0");
-    lists(calls, 0, (0, 256), "-", "0.256, whose bytes are those of 0.1 in another order");
+    lists(
+        calls,
+        0,
+        (0, 256),
+        "-",
+        "0.256, whose bytes are those of 0.1 in another order",
+    );
 }
 
 fn odd_labels(calls: &mut Calls) {
@@ -111,21 +151,61 @@ fn odd_labels(calls: &mut Calls) {
     finds(calls, 0, ROOT, b"a/b", "-", "a stroke");
     finds(calls, 0, ROOT, &[0xff; 32], "-", "bytes above all labels");
     finds(calls, 0, ROOT, &[0x1f], "-", "a byte below all labels");
-    finds(calls, 0, ROOT, &LONG.as_bytes()[..31], "-", "31 bytes of a label of 32");
-    finds(calls, 0, ROOT, format!("{LONG}3").as_bytes(), "-", "33 bytes");
+    finds(
+        calls,
+        0,
+        ROOT,
+        &LONG.as_bytes()[..31],
+        "-",
+        "31 bytes of a label of 32",
+    );
+    finds(
+        calls,
+        0,
+        ROOT,
+        format!("{LONG}3").as_bytes(),
+        "-",
+        "33 bytes",
+    );
     finds(calls, 0, ROOT, b"aa", "-", "between two labels");
     finds(calls, 0, ROOT, b"~~", "-", "behind the last");
 }
 
 fn changes(calls: &mut Calls) {
-    calls.call(15, "a make of a label that is held is refused", act(0, 2, ROOT, "a"));
-    lists(calls, 0, ROOT, "0.6,0.4,0.5,0.7,0.3,0.1,0.2", "as before the refusal");
+    calls.call(
+        15,
+        "a make of a label that is held is refused",
+        act(0, 2, ROOT, "a"),
+    );
+    lists(
+        calls,
+        0,
+        ROOT,
+        "0.6,0.4,0.5,0.7,0.3,0.1,0.2",
+        "as before the refusal",
+    );
     calls.call(0, "0.11 renames 0.5, a, to z", act(0, 5, (0, 5), "z"));
-    lists(calls, 0, ROOT, "0.6,0.4,0.7,0.3,0.1,0.5,0.2", "the renamed one at its new place");
+    lists(
+        calls,
+        0,
+        ROOT,
+        "0.6,0.4,0.7,0.3,0.1,0.5,0.2",
+        "the renamed one at its new place",
+    );
     finds(calls, 0, ROOT, b"a", "-", "the old label");
     finds(calls, 0, ROOT, b"z", "0.5", "the new label");
-    calls.call(0, "0.12 renames the folder 0.1 to C", act(0, 5, (0, 1), "C"));
-    lists(calls, 0, ROOT, "0.6,0.4,0.1,0.7,0.3,0.5,0.2", "the renamed folder");
+    calls.call(
+        0,
+        "0.12 renames the folder 0.1 to C",
+        act(0, 5, (0, 1), "C"),
+    );
+    lists(
+        calls,
+        0,
+        ROOT,
+        "0.6,0.4,0.1,0.7,0.3,0.5,0.2",
+        "the renamed folder",
+    );
     lists(calls, 0, (0, 1), "0.10,0.8,0.9", "what lies in it");
     calls.call(0, "0.13 stores to 0.8", act(0, 3, (0, 8), ""));
     calls.call(0, "0.14 removes 0.8", act(0, 4, (0, 8), ""));
@@ -136,7 +216,11 @@ fn changes(calls: &mut Calls) {
     lists(calls, 0, (0, 15), "-", "a folder without entries");
     calls.call(0, "0.16 makes a trace in it", act(0, 2, (0, 15), "x"));
     lists(calls, 0, (0, 15), "0.16", "a folder with one entry");
-    calls.call(16, "a remove of the folder is refused", act(0, 4, (0, 15), ""));
+    calls.call(
+        16,
+        "a remove of the folder is refused",
+        act(0, 4, (0, 15), ""),
+    );
     calls.call(0, "0.17 removes the trace", act(0, 4, (0, 16), ""));
     calls.call(0, "0.18 removes the folder", act(0, 4, (0, 15), ""));
     lists(calls, 0, (0, 15), "-", "a removed folder");
@@ -159,7 +243,13 @@ fn meeting(calls: &mut Calls) {
     calls.call(0, "2.3 renames the folder 2.1 to G", act(2, 5, (2, 1), "G"));
     lists(calls, 2, ROOT, "2.1", "unit 2 after it");
     calls.call(0, "unit 2 takes the records of unit 3", take(3, 2));
-    lists(calls, 2, ROOT, "2.1", "at unit 2 3.1 stands aside too: 2.3 ranks behind it");
+    lists(
+        calls,
+        2,
+        ROOT,
+        "2.1",
+        "at unit 2 3.1 stands aside too: 2.3 ranks behind it",
+    );
     finds(calls, 2, ROOT, b"G", "2.1", "the new label");
     finds(calls, 2, ROOT, b"F", "-", "the label that stands aside");
     calls.call(0, "unit 3 takes 2.3", take(2, 3));

@@ -148,7 +148,9 @@ fn label_in(record: &Record) -> &[u8] {
 
 /// The first bytes of a label, in the order of labels.
 fn front(label: &[u8]) -> u64 {
-    label.first_chunk().map_or(0, |front| u64::from_be_bytes(*front))
+    label
+        .first_chunk()
+        .map_or(0, |front| u64::from_be_bytes(*front))
 }
 
 /// Writes every byte of the index.

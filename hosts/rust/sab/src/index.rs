@@ -117,6 +117,12 @@ impl<'a> Indexed<'a> {
 
 impl fmt::Debug for Indexed<'_> {
     fn fmt(&self, f: &mut fmt::Formatter<'_>) -> fmt::Result {
-        write!(f, "{} {:?} in {}", self.identity(), self.label(), self.folder())
+        write!(
+            f,
+            "{} {:?} in {}",
+            self.identity(),
+            self.label(),
+            self.folder()
+        )
     }
 }

@@ -86,7 +86,10 @@ fn kept() {
         let mut alone = logs[unit].clone();
         let (log, index) = (&mut logs[unit], &mut indexes[unit]);
         let done = raw::act(log, index, ARCHIVE, unit as u32, &wish);
-        assert_eq!(done, raw::act(&mut alone, &mut [], ARCHIVE, unit as u32, &wish));
+        assert_eq!(
+            done,
+            raw::act(&mut alone, &mut [], ARCHIVE, unit as u32, &wish)
+        );
         assert!(*log == alone && *index == plainly(log));
         if chance.one_in(5) {
             let (from, to) = (chance.below(8), chance.below(8));
@@ -127,10 +130,18 @@ fn agrees(log: &Log, tree: &Tree) {
             .map(|entry| (entry.label(), entry.identity()))
             .collect();
         assert_eq!(listed, inside);
-        assert!(index.entries_in(folder).all(|entry| entry.folder() == folder));
+        assert!(
+            index
+                .entries_in(folder)
+                .all(|entry| entry.folder() == folder)
+        );
         for (label, identity) in inside {
             assert_eq!(index.find(folder, label), Some(identity));
-            assert_eq!(index.find(folder, &format!("{label}~")), tree.find(folder, &format!("{label}~")).map(|entry| entry.identity()));
+            assert_eq!(
+                index.find(folder, &format!("{label}~")),
+                tree.find(folder, &format!("{label}~"))
+                    .map(|entry| entry.identity())
+            );
         }
     }
 }

@@ -94,7 +94,10 @@ fn asked(index: &[u8], folder: &[u8], label: &[u8]) {
         assert_eq!(entry[1], 0);
     }
     let range = plain::list(index, folder).expect("lengths");
-    assert_eq!((range.first.into(), range.count.into()), list(index, folder));
+    assert_eq!(
+        (range.first.into(), range.count.into()),
+        list(index, folder)
+    );
 }
 
 #[test]
@@ -179,9 +182,18 @@ fn looked_up() {
         }
     }
     assert_eq!(listed, count);
-    assert_eq!(plain::find(&index[1..], &[0; 4], &[0; 32]).map_err(|no| no.number), Err(1));
-    assert_eq!(plain::find(&index, &[0; 5], &[0; 32]).map_err(|no| no.number), Err(1));
-    assert_eq!(plain::find(&index, &[0; 4], &[0; 33]).map_err(|no| no.number), Err(1));
+    assert_eq!(
+        plain::find(&index[1..], &[0; 4], &[0; 32]).map_err(|no| no.number),
+        Err(1)
+    );
+    assert_eq!(
+        plain::find(&index, &[0; 5], &[0; 32]).map_err(|no| no.number),
+        Err(1)
+    );
+    assert_eq!(
+        plain::find(&index, &[0; 4], &[0; 33]).map_err(|no| no.number),
+        Err(1)
+    );
     assert_eq!(plain::list(&[], &[0; 4]).map_err(|no| no.number), Err(1));
 }
 
@@ -211,7 +223,12 @@ fn any_bytes() {
         for _ in 0..8 {
             let row = row(&index, chance.below(512)).to_vec();
             asked(&index, &row[..4], &row[4..36]);
-            let folder = [chance.below(9) as u8, chance.below(2) as u8, chance.below(4) as u8, 0];
+            let folder = [
+                chance.below(9) as u8,
+                chance.below(2) as u8,
+                chance.below(4) as u8,
+                0,
+            ];
             asked(&index, &folder, &row[4..36]);
         }
     }
