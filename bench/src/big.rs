@@ -13,6 +13,13 @@ pub struct Key {
     pub entry: [u8; 4],
 }
 
+impl Key {
+    /// The folder by unit and number.
+    pub fn folder_asked(&self) -> library::Folder {
+        library::folder_of(&self.folder)
+    }
+}
+
 pub struct Big {
     pub index: Vec<u8>,
     pub entries: Vec<Key>,

@@ -48,17 +48,18 @@ fn lengths() {
         assert_eq!(raw::take(&mut log, &mut index, ARCHIVE, 8, &[]), refused(1));
         let row = raw::take_row(&mut log, &mut index, ARCHIVE, 8, &[0]);
         assert_eq!(row, refused(1));
-        assert_eq!(raw::find(&index, &[0; 4], &[0; 32]), refused(1));
-        assert_eq!(raw::list(&index, &[0; 4]), refused(1));
+        assert_eq!(raw::find(&index, 0, 0, &[0; 32]), refused(1));
+        assert_eq!(raw::list(&index, 0, 0), refused(1));
         assert!(log == before && index == vec![7; length]);
     }
     let index = vec![0; raw::INDEX];
-    for length in [0, 3, 5] {
-        assert_eq!(raw::find(&index, &vec![0; length], &[0; 32]), refused(1));
-        assert_eq!(raw::list(&index, &vec![0; length]), refused(1));
+    for (unit, number) in [(0, 0), (8, 0), (256, 1), (0, 65_537), (u32::MAX, u32::MAX)] {
+        assert_eq!(raw::find(&index, unit, number, &[0; 32]), Ok(None));
+        let none = raw::Range { first: 0, count: 0 };
+        assert_eq!(raw::list(&index, unit, number), Ok(none));
     }
     for length in [0, 31, 33] {
-        assert_eq!(raw::find(&index, &[0; 4], &vec![0; length]), refused(1));
+        assert_eq!(raw::find(&index, 0, 0, &vec![0; length]), refused(1));
     }
     let mut log = vec![7; raw::LOG];
     let mut index = vec![7; raw::INDEX];
