@@ -138,7 +138,13 @@ fn odd_folders(calls: &mut Calls) {
     finds(calls, 0, (8, 0), b"ab", "-", "in unit 8");
     lists(calls, 0, (256, 1), "-", "unit 256, whose low byte is 0");
     finds(calls, 0, (256, 1), b"ab", "-", "in unit 256");
-    lists(calls, 0, (0, 65_537), "-", "the number 65537, whose low half is 1");
+    lists(
+        calls,
+        0,
+        (0, 65_537),
+        "-",
+        "the number 65537, whose low half is 1",
+    );
     finds(calls, 0, (0, 65_537), b"ab", "-", "in the number 65537");
     lists(calls, 0, (u32::MAX, u32::MAX), "-", "the greatest numbers");
     lists(calls, 0, (5, 0), "-", "an identity with the number 0");
