@@ -24,7 +24,7 @@ static uint8_t log_bytes[SAB_LOG_BYTES], full[SAB_LOG_BYTES], shorter[SAB_LOG_BY
     head[SAB_HEAD_BYTES], asked[SAB_VECTOR_BYTES], held[SAB_VECTOR_BYTES],
     lacks[SAB_LACKS_BYTES], wish[SAB_RECORD_BYTES], row[SAB_FILE_BYTES],
     copy[SAB_LOG_BYTES], report[SAB_REPORT_BYTES], index_bytes[SAB_INDEX_BYTES],
-    entry[SAB_IDENTITY_BYTES], range[SAB_RANGE_BYTES];
+    range[SAB_RANGE_BYTES];
 static size_t file_length, row_length, index_length;
 static uint32_t result;
 
@@ -113,13 +113,15 @@ static const uint8_t *middle(void)
 
 static void run_find(void)
 {
-    result = sab_find(index_bytes, sizeof index_bytes, middle(), SAB_IDENTITY_BYTES, middle() + 4,
-                      SAB_LABEL_BYTES, entry, sizeof entry);
+    const uint8_t *row = middle();
+    result = sab_find(index_bytes, sizeof index_bytes, row[0], row[2] + 256u * row[3], row + 4,
+                      SAB_LABEL_BYTES);
 }
 
 static void run_list(void)
 {
-    result = sab_list(index_bytes, sizeof index_bytes, middle(), SAB_IDENTITY_BYTES, range,
+    const uint8_t *row = middle();
+    result = sab_list(index_bytes, sizeof index_bytes, row[0], row[2] + 256u * row[3], range,
                       sizeof range);
 }
 

@@ -77,10 +77,11 @@
  *                     says nothing
  *     SAB_COUNT(r)    what a successful call counted: the blocks written
  *                     (sab_write_file, sab_merge, sab_hand_out_row), the records
- *                     read (sab_read_file) or held (sab_vector), the answer of
- *                     sab_compare, 1 or 0 entries found (sab_find); of
- *                     sab_take_row two numbers; of a refused sab_merge, which
- *                     file is at fault; else 0
+ *                     read (sab_read_file) or held (sab_vector), the rows of a
+ *                     folder (sab_list), the answer of sab_compare; of
+ *                     sab_take_row two numbers; of sab_find the number of the
+ *                     entry, whose unit is the place; of a refused sab_merge,
+ *                     which file is at fault; else 0
  *
  * A refused call leaves every byte of every lent buffer as it was.
  * (sab_listing, whose output tells of the refusal, says what it leaves.)
@@ -237,7 +238,6 @@ extern "C" {
 #define SAB_REPORT_BYTES 2068    /* the report of a row that is tried */
 #define SAB_LISTING_BYTES 76800  /* lent for a listing; none is longer */
 #define SAB_LENGTH_BYTES 4       /* the length of a listing */
-#define SAB_IDENTITY_BYTES 4     /* a folder or an entry */
 #define SAB_LABEL_BYTES 32       /* a label with the zeros behind it */
 #define SAB_RANGE_BYTES 4        /* the rows of a folder in an index */
 
@@ -636,33 +636,36 @@ uint32_t sab_index(const uint8_t *log, size_t log_len, uint8_t *index,
 /* Looks up a label in a folder.
  *
  * index    20,484 bytes of any kind, only read
- * folder   4 bytes, only read: unit 0 to 7, zero, number; the root is all zero.
- *          Of a trace, and of what is not in the tree, no entry is found
+ * unit     of the folder; the root is 0
+ * number   of the folder; the root is 0. Of a trace, and of what is not in the
+ *          tree, no entry is found; nor of a unit above 7 or a number above
+ *          65,535, so that a wider number is not to be cut before the call
  * label    32 bytes, only read: a label, then zeros; any others are no label, and
  *          no entry has them
- * entry    4 bytes; on 0 every byte is written: the entry, or zeros for none
  *
- * Returns 0, and SAB_COUNT is 1 if the folder has an entry of that label, else 0;
- * 1 index, folder, label or entry not of its length. Nothing else is refused.
+ * Returns 0, and the entry: SAB_PLACE is its unit, SAB_COUNT its number; both are
+ * 0 if the folder has no entry of that label. 1 index or label not of its length.
+ * Nothing else is refused.
  */
-uint32_t sab_find(const uint8_t *index, size_t index_len, const uint8_t *folder,
-                  size_t folder_len, const uint8_t *label, size_t label_len,
-                  uint8_t *entry, size_t entry_len);
+uint32_t sab_find(const uint8_t *index, size_t index_len, uint32_t unit,
+                  uint32_t number, const uint8_t *label, size_t label_len);
 
 /* Lists a folder: its entries are rows of the index one behind another, by label.
  *
  * index    20,484 bytes of any kind, only read
- * folder   4 bytes, only read, as of sab_find; of a trace, and of what is not in
- *          the tree, no row is listed
+ * unit     of the folder, as of sab_find; of a trace, and of what is not in the
+ *          tree, no row is listed
+ * number   of the folder
  * range    4 bytes; on 0 every byte is written: 0-1 the first row, 0 to 512; 2-3
  *          how many rows. Together they are at most 512
  *
  * Row i begins at byte SAB_INDEX_ROWS + SAB_INDEX_ROW_BYTES * i of the index.
  *
- * Returns 0; 1 index, folder or range not of its length. Nothing else is refused.
+ * Returns 0, and SAB_COUNT is how many rows; 1 index or range not of its length.
+ * Nothing else is refused.
  */
-uint32_t sab_list(const uint8_t *index, size_t index_len, const uint8_t *folder,
-                  size_t folder_len, uint8_t *range, size_t range_len);
+uint32_t sab_list(const uint8_t *index, size_t index_len, uint32_t unit,
+                  uint32_t number, uint8_t *range, size_t range_len);
 
 /* Lists a file as text, in the form that docs/FORMAT.md gives: archive, unit and
  * count of records; the vector; a line for each entry; a line for each aside. A

@@ -13,6 +13,13 @@ pub struct Key {
     pub entry: [u8; 4],
 }
 
+impl Key {
+    /// The folder by unit and number.
+    pub fn folder_asked(&self) -> library::Folder {
+        library::folder_of(&self.folder)
+    }
+}
+
 pub struct Big {
     pub index: Vec<u8>,
     pub entries: Vec<Key>,
@@ -37,7 +44,11 @@ impl Big {
         make(1, [0; 4], "Bench");
         make(1, [0; 4], "Roof");
         for i in 0..Big::INSIDE {
-            make(2, Big::FOLDER, &format!("Noise figure, stage {}", (i * 173) % 1000));
+            make(
+                2,
+                Big::FOLDER,
+                &format!("Noise figure, stage {}", (i * 173) % 1000),
+            );
         }
         for i in 0..110 {
             make(2, [[0; 4], [0, 0, 2, 0]][i % 2], &format!("Gain {i}"));
@@ -62,6 +73,8 @@ impl Big {
     /// Entries in an order by chance.
     pub fn keys(&self, count: usize) -> Vec<Key> {
         let mut chance = Chance::new(6);
-        (0..count).map(|_| chance.pick(&self.entries).clone()).collect()
+        (0..count)
+            .map(|_| chance.pick(&self.entries).clone())
+            .collect()
     }
 }

@@ -293,7 +293,7 @@ fn find(big: &Big, other: u8) -> Run {
     Box::new(move |library| {
         Some(clock(|| {
             for key in &keys {
-                let found = library.find(black_box(&index), &key.folder, &key.label);
+                let found = library.find(black_box(&index), key.folder_asked(), &key.label);
                 assert_eq!(found.unwrap().is_some(), there);
             }
         }))
@@ -306,7 +306,7 @@ fn list(big: &Big) -> Run {
     Box::new(move |library| {
         let mut read = 0;
         let time = clock(|| {
-            let range = library.list(black_box(&index), &Big::FOLDER).unwrap();
+            let range = library.list(black_box(&index), library::folder_of(&Big::FOLDER)).unwrap();
             let (rows, _) = index[4..].as_chunks::<40>();
             for row in &rows[usize::from(range.first)..][..usize::from(range.count)] {
                 black_box(&row[36..]);

@@ -168,25 +168,23 @@ static void read_asides(uint8_t unit)
  * that folder, by the unit's index. */
 static void look_up(uint8_t unit, const char *label)
 {
-    static const uint8_t folder[SAB_IDENTITY_BYTES] = {0, 0, 1, 0};
-    uint8_t asked[SAB_LABEL_BYTES] = {0}, entry[SAB_IDENTITY_BYTES], range[SAB_RANGE_BYTES];
+    uint8_t asked[SAB_LABEL_BYTES] = {0}, range[SAB_RANGE_BYTES];
     const uint8_t *row;
     unsigned count;
     uint32_t r;
     memcpy(asked, label, strlen(label));
-    r = sab_find(indexes[unit], SAB_INDEX_BYTES, folder, sizeof folder, asked, sizeof asked, entry,
-                 sizeof entry);
+    r = sab_find(indexes[unit], SAB_INDEX_BYTES, 0, 1, asked, sizeof asked);
     if (SAB_NUMBER(r) != SAB_OK)
         stop("find", r);
     printf("unit %d: %s is ", unit, label);
-    if (SAB_COUNT(r) == 1)
-        print_identity(entry);
+    if (SAB_COUNT(r) != 0)
+        printf("%u.%u", (unsigned)SAB_PLACE(r), (unsigned)SAB_COUNT(r));
     else
         printf("not there");
-    r = sab_list(indexes[unit], SAB_INDEX_BYTES, folder, sizeof folder, range, sizeof range);
+    r = sab_list(indexes[unit], SAB_INDEX_BYTES, 0, 1, range, sizeof range);
     if (SAB_NUMBER(r) != SAB_OK)
         stop("list", r);
-    count = get16(range + 2);
+    count = (unsigned)SAB_COUNT(r);
     printf("; %u entries", count);
     if (count > 0) {
         row = indexes[unit] + SAB_INDEX_ROWS + SAB_INDEX_ROW_BYTES * get16(range);

@@ -16,39 +16,35 @@ static void right(const uint8_t *log, const uint8_t *index)
     CHECK(memcmp(fresh, index, sizeof fresh) == 0);
 }
 
-static uint32_t find(struct lent index, struct id folder, const char *label, size_t length,
-                     uint8_t *entry)
+/* What a look-up answers, as a word. */
+static uint32_t find(struct lent index, struct id folder, const char *label, size_t length)
 {
-    uint8_t asked[SAB_LABEL_BYTES] = {0}, four[SAB_IDENTITY_BYTES] = {0};
+    uint8_t asked[SAB_LABEL_BYTES] = {0};
     uint32_t r;
-    four[0] = folder.unit;
-    put16(four + 2, folder.number);
     memcpy(asked, label, length);
     only_read(index, 1);
-    r = sab_find(index.bytes, SAB_INDEX_BYTES, four, sizeof four, asked, sizeof asked, entry,
-                 SAB_IDENTITY_BYTES);
+    r = sab_find(index.bytes, SAB_INDEX_BYTES, folder.unit, folder.number, asked, sizeof asked);
     only_read(index, 0);
-    CHECK(SAB_NUMBER(r) == SAB_OK && SAB_PLACE(r) == 0);
-    return SAB_COUNT(r);
+    CHECK(SAB_NUMBER(r) == SAB_OK);
+    return r;
 }
 
 /* A folder has an entry of a label, or none for 0.0. */
 static void expect(struct lent index, struct id folder, const char *label, struct id entry)
 {
-    uint8_t found[SAB_IDENTITY_BYTES] = {9, 9, 9, 9};
-    CHECK(find(index, folder, label, strlen(label), found) == (entry.number != 0));
-    CHECK(found[0] == entry.unit && found[1] == 0 && get16(found + 2) == entry.number);
+    uint32_t r = find(index, folder, label, strlen(label));
+    CHECK(SAB_PLACE(r) == entry.unit && SAB_COUNT(r) == entry.number);
 }
 
 /* The first row of a folder; how many it has must be as given. */
 static const uint8_t *rows(struct lent index, struct id folder, unsigned count)
 {
-    uint8_t range[SAB_RANGE_BYTES] = {9, 9, 9, 9}, four[SAB_IDENTITY_BYTES] = {0};
-    four[0] = folder.unit;
-    put16(four + 2, folder.number);
+    uint8_t range[SAB_RANGE_BYTES] = {9, 9, 9, 9};
+    uint32_t r;
     only_read(index, 1);
-    CHECK(sab_list(index.bytes, SAB_INDEX_BYTES, four, sizeof four, range, sizeof range) == SAB_OK);
+    r = sab_list(index.bytes, SAB_INDEX_BYTES, folder.unit, folder.number, range, sizeof range);
     only_read(index, 0);
+    CHECK(r == (uint32_t)count << 16);
     CHECK(get16(range + 2) == count && get16(range) + get16(range + 2) <= 512);
     return index.bytes + SAB_INDEX_ROWS + SAB_INDEX_ROW_BYTES * get16(range);
 }
@@ -56,7 +52,7 @@ static const uint8_t *rows(struct lent index, struct id folder, unsigned count)
 static void test_lengths(struct lent log, struct lent index)
 {
     static const uint8_t none[SAB_BLOCK_BYTES];
-    uint8_t four[SAB_IDENTITY_BYTES] = {7, 7, 7, 7};
+    uint8_t four[SAB_RANGE_BYTES] = {7, 7, 7, 7};
     int i;
     note(log);
     note(index);
@@ -65,17 +61,11 @@ static void test_lengths(struct lent log, struct lent index)
         CHECK(sab_index(log.bytes, SAB_LOG_BYTES, nowhere(), wrong) == SAB_BAD_BUFFER);
         CHECK(sab_index(nowhere(), wrong_length(SAB_LOG_BYTES, i), index.bytes, index.length) ==
               SAB_BAD_BUFFER);
-        CHECK(sab_find(nowhere(), wrong, none, 4, none, 32, four, 4) == SAB_BAD_BUFFER);
-        CHECK(sab_find(index.bytes, index.length, nowhere(), wrong_length(4, i), none, 32, four,
-                       4) == SAB_BAD_BUFFER);
-        CHECK(sab_find(index.bytes, index.length, none, 4, nowhere(), wrong_length(32, i), four,
-                       4) == SAB_BAD_BUFFER);
-        CHECK(sab_find(index.bytes, index.length, none, 4, none, 32, nowhere(),
-                       wrong_length(4, i)) == SAB_BAD_BUFFER);
-        CHECK(sab_list(nowhere(), wrong, none, 4, four, 4) == SAB_BAD_BUFFER);
-        CHECK(sab_list(index.bytes, index.length, nowhere(), wrong_length(4, i), four, 4) ==
+        CHECK(sab_find(nowhere(), wrong, 8, 0, none, 32) == SAB_BAD_BUFFER);
+        CHECK(sab_find(index.bytes, index.length, 0, 0, nowhere(), wrong_length(32, i)) ==
               SAB_BAD_BUFFER);
-        CHECK(sab_list(index.bytes, index.length, none, 4, nowhere(), wrong_length(4, i)) ==
+        CHECK(sab_list(nowhere(), wrong, 8, 0, four, 4) == SAB_BAD_BUFFER);
+        CHECK(sab_list(index.bytes, index.length, 0, 0, nowhere(), wrong_length(4, i)) ==
               SAB_BAD_BUFFER);
         if (wrong == 0)
             continue;
@@ -168,11 +158,10 @@ static void test_full(struct lent index)
     CHECK(row == index.bytes + SAB_INDEX_ROWS);
     row = rows(index, id_of(0, 1), 256);
     for (i = 0; i < 256; i++, row += SAB_INDEX_ROW_BYTES) {
-        uint8_t entry[SAB_IDENTITY_BYTES];
+        uint32_t r = find(index, id_of(0, 1), (const char *)row + 4, SAB_LABEL_BYTES);
         CHECK(i == 0 || memcmp(row - SAB_INDEX_ROW_BYTES + 4, row + 4, SAB_LABEL_BYTES) < 0);
-        CHECK(find(index, id_of(0, 1), (const char *)row + 4, SAB_LABEL_BYTES, entry) == 1);
-        CHECK(memcmp(entry, row + 36, sizeof entry) == 0);
-        CHECK(find(index, id_of(0, 0), (const char *)row + 4, SAB_LABEL_BYTES, entry) == 0);
+        CHECK(SAB_PLACE(r) == row[36] && SAB_COUNT(r) == get16(row + 38));
+        CHECK(find(index, id_of(0, 0), (const char *)row + 4, SAB_LABEL_BYTES) == 0);
     }
     rows(index, id_of(1, 1), 0);
     rows(index, id_of(7, 65535), 0);
@@ -180,25 +169,32 @@ static void test_full(struct lent index)
     expect(index, id_of(0, 0), "bench", id_of(0, 0));
     expect(index, id_of(0, 0), "", id_of(0, 0));
     expect(index, id_of(1, 1), "T1", id_of(0, 0));
+    for (i = 0; i < WIDE_UNITS; i++) {
+        static const uint8_t bench[SAB_LABEL_BYTES] = "Bench";
+        uint8_t range[SAB_RANGE_BYTES];
+        CHECK(sab_find(index.bytes, index.length, wide_unit((int)i), 0, bench, 32) == 0);
+        CHECK(sab_find(index.bytes, index.length, 0, 65536u * (i + 1), bench, 32) == 0);
+        CHECK(sab_list(index.bytes, index.length, wide_unit((int)i), 1, range, 4) == 0);
+        CHECK(sab_list(index.bytes, index.length, 0, 65537u + i, range, 4) == 0);
+    }
 }
 
 /* Both end in any bytes, and leave them. */
 static void test_any_bytes(struct lent index)
 {
-    uint8_t four[SAB_IDENTITY_BYTES], range[SAB_RANGE_BYTES], entry[SAB_IDENTITY_BYTES];
+    uint8_t range[SAB_RANGE_BYTES];
     unsigned round, i, seed = 1;
     for (round = 0; round < 400; round++) {
+        const uint8_t *row = index.bytes + 4 + 40 * (round % 512);
         for (i = 0; i < index.length; i++) {
             seed = seed * 1103515245u + 12345u;
             index.bytes[i] = (uint8_t)(seed >> 16 & (round % 2 ? 255u : 1u));
         }
         note(index);
-        memcpy(four, index.bytes + 4 + 40 * (round % 512), sizeof four);
-        CHECK(SAB_NUMBER(sab_find(index.bytes, index.length, four, sizeof four,
-                                  index.bytes + 8 + 40 * (round % 512), 32, entry,
-                                  sizeof entry)) == SAB_OK);
-        CHECK(sab_list(index.bytes, index.length, four, sizeof four, range, sizeof range) ==
-              SAB_OK);
+        CHECK(SAB_NUMBER(sab_find(index.bytes, index.length, row[0], get16(row + 2), row + 4,
+                                  32)) == SAB_OK);
+        CHECK(SAB_NUMBER(sab_list(index.bytes, index.length, row[0], get16(row + 2), range,
+                                  sizeof range)) == SAB_OK);
         CHECK(get16(range) + get16(range + 2) <= 512);
         CHECK(kept(index));
     }

@@ -4,7 +4,7 @@
 
 use crate::study::{End, Plan, Tally, Wrong, incorrect, manual};
 use crate::world::{ARCHIVE, tree_of};
-use library::Library;
+use library::{Library, folder_of};
 use plain::{BLOCK, ENTRY_ROW, FILE, INDEX, LOG, TREE};
 use workload::{Chance, Mix, vector_of, wish};
 
@@ -126,8 +126,9 @@ fn asked(library: &dyn Library, unit: &Unit, chance: &mut Chance) -> Result<(), 
     let count = usize::from(u16::from_le_bytes([tree[0], tree[1]]));
     let entries: Vec<&[u8]> = tree[4..].chunks(ENTRY_ROW).take(count).collect();
     for entry in &entries {
-        let found = library.find(&unit.index, &entry[8..12], &entry[24..56]);
-        if !matches!(found, Ok(Some(found)) if found == entry[4..8]) {
+        let found = library.find(&unit.index, folder_of(&entry[8..12]), &entry[24..56]);
+        let (own, number) = folder_of(&entry[4..8]);
+        if found != Ok(Some((own as u8, number as u16))) {
             return incorrect(format!("{found:?} found for {:?}", &entry[4..8]));
         }
     }
@@ -137,11 +138,14 @@ fn asked(library: &dyn Library, unit: &Unit, chance: &mut Chance) -> Result<(), 
     };
     let mut inside: Vec<&&[u8]> = entries.iter().filter(|row| row[8..12] == folder).collect();
     inside.sort_by_key(|row| &row[24..56]);
-    let Ok(range) = library.list(&unit.index, &folder) else {
+    let Ok(range) = library.list(&unit.index, folder_of(&folder)) else {
         return incorrect("the folder is not listed");
     };
     let rows = unit.index[4..].chunks(40).skip(range.first.into());
-    let listed: Vec<&[u8]> = rows.take(range.count.into()).map(|row| &row[36..]).collect();
+    let listed: Vec<&[u8]> = rows
+        .take(range.count.into())
+        .map(|row| &row[36..])
+        .collect();
     let inside: Vec<&[u8]> = inside.into_iter().map(|row| &row[4..8]).collect();
     match listed == inside {
         true => Ok(()),

@@ -2,7 +2,7 @@
 //! implementation, call by call and byte by byte.
 
 use crate::study::{End, Plan, Tally, incorrect};
-use library::{LISTING, Library, Plain};
+use library::{LISTING, Library, Plain, folder_of};
 use plain::{BLOCK, FILE, INDEX, LOG, RECORD, TREE};
 use std::fmt::Debug;
 use workload::{Chance, Mix, log_of, vector_of, wish};
@@ -224,18 +224,16 @@ impl Calls<'_> {
         }
         let at = 4 + 40 * self.chance.below(512);
         let row = index.get(at..at + 40).unwrap_or(&[0; 40]);
-        let (mut folder, mut label) = (row[..4].to_vec(), row[4..36].to_vec());
+        let (mut folder, mut label) = (folder_of(row), row[4..36].to_vec());
         match self.chance.below(6) {
-            0 => folder[self.chance.below(4)] = self.odd_byte(),
+            0 => folder.0 = self.odd_unit(slot),
             1 => label[self.chance.below(32)] = self.odd_byte(),
-            2 => folder = self.lent(4),
+            2 => folder.1 = self.chance.number() as u32 >> self.chance.below(32),
             3 => label = self.lent(32),
             _ => (),
         }
-        let both = Both::run(self.library, &[&index, &folder, &label], |library, lent| {
-            let [index, folder, label] = lent else {
-                unreachable!()
-            };
+        let both = Both::run(self.library, &[&index, &label], |library, lent| {
+            let [index, label] = lent else { unreachable!() };
             (library.find(index, folder, label), library.list(index, folder))
         });
         both.compared("find and list")

@@ -4,6 +4,7 @@
 use crate::compare::both;
 use crate::input::Input;
 use crate::life::{ARCHIVE, Life, get16};
+use library::{Folder, folder_of};
 use plain::{INDEX, RECORD};
 
 const ROW: usize = 40;
@@ -54,7 +55,7 @@ fn drawn(input: &mut Input, log: &[u8]) -> Vec<u8> {
 }
 
 /// A folder and a label: those of a row, with changes.
-fn asked(input: &mut Input, index: &[u8]) -> (Vec<u8>, Vec<u8>) {
+fn asked(input: &mut Input, index: &[u8]) -> (Folder, Vec<u8>) {
     let rows = usize::from(get16(index, 0)).clamp(1, 512);
     let row = index[4 + ROW * input.below(rows)..][..ROW].to_vec();
     let mut folder = row[..4].to_vec();
@@ -66,8 +67,11 @@ fn asked(input: &mut Input, index: &[u8]) -> (Vec<u8>, Vec<u8>) {
         3 => label.fill(input.byte()),
         _ => (),
     }
-    if input.one_in(32) {
-        folder.resize(input.below(9), 0);
+    let mut folder = folder_of(&folder);
+    if input.one_in(16) {
+        // Also numbers whose low part alone would be the folder's.
+        let more = u32::from(input.byte()) << 16;
+        folder = (folder.0 + (more & 0x70_0000), folder.1 + (more & 0x0f_0000));
     }
     if input.one_in(32) {
         label.resize(input.below(65), 0);
@@ -83,8 +87,8 @@ pub fn index(data: &[u8]) {
     let mut index = drawn(&mut input, &log);
     for _ in 0..1 + input.below(4) {
         let (folder, label) = asked(&mut input, &index);
-        let _ = both(4, &[], |library, _| library.find(&index, &folder, &label));
-        let (range, _) = both(5, &[], |library, _| library.list(&index, &folder));
+        let _ = both(4, &[], |library, _| library.find(&index, folder, &label));
+        let (range, _) = both(5, &[], |library, _| library.list(&index, folder));
         if let Ok(range) = range {
             let end = range.first + range.count;
             assert!(end <= 512, "the rows and the index differ");
@@ -107,5 +111,7 @@ pub fn index(data: &[u8]) {
     let [_, index] = &after[..] else {
         unreachable!("two buffers");
     };
-    let _ = both(4, &[], |library, _| library.find(index, &[0; 4], &wish[32..64]));
+    let _ = both(4, &[], |library, _| {
+        library.find(index, (0, 0), &wish[32..64])
+    });
 }

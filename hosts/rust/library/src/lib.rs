@@ -65,6 +65,15 @@ pub struct Range {
     pub count: u16,
 }
 
+/// A folder that is asked for: any two numbers, meant as unit and number.
+pub type Folder = (u32, u32);
+
+/// The folder in four bytes of a table or an index.
+pub fn folder_of(bytes: &[u8]) -> Folder {
+    let number = u16::from_le_bytes([bytes[2], bytes[3]]);
+    (bytes[0].into(), number.into())
+}
+
 /// Bytes of an index.
 pub const INDEX: usize = 20_484;
 
@@ -131,8 +140,9 @@ pub trait Library {
     fn read_file(&self, log: &mut [u8], file: &[u8]) -> Answer<Head>;
     fn show(&self, log: &[u8], tree: &mut [u8]) -> Answer<()>;
     fn index(&self, log: &[u8], index: &mut [u8]) -> Answer<()>;
-    fn find(&self, index: &[u8], folder: &[u8], label: &[u8]) -> Answer<Option<[u8; 4]>>;
-    fn list(&self, index: &[u8], folder: &[u8]) -> Answer<Range>;
+    /// A folder is given by unit and number; so is the entry.
+    fn find(&self, index: &[u8], folder: Folder, label: &[u8]) -> Answer<Option<(u8, u16)>>;
+    fn list(&self, index: &[u8], folder: Folder) -> Answer<Range>;
     fn compare(&self, first: &[u16; 8], second: &[u16; 8]) -> Compared;
     fn vector(&self, log: &[u8]) -> Answer<[u16; 8]>;
     fn merge(
@@ -254,12 +264,12 @@ macro_rules! entry_points {
         fn index(&self, log: &[u8], index: &mut [u8]) -> Answer<()> {
             $library::index(log, index).map_err(refusal)
         }
-        fn find(&self, index: &[u8], folder: &[u8], label: &[u8]) -> Answer<Option<[u8; 4]>> {
-            $library::find(index, folder, label).map_err(refusal)
+        fn find(&self, index: &[u8], folder: Folder, label: &[u8]) -> Answer<Option<(u8, u16)>> {
+            $library::find(index, folder.0, folder.1, label).map_err(refusal)
         }
-        fn list(&self, index: &[u8], folder: &[u8]) -> Answer<Range> {
+        fn list(&self, index: &[u8], folder: Folder) -> Answer<Range> {
             let $library::Range { first, count } =
-                $library::list(index, folder).map_err(refusal)?;
+                $library::list(index, folder.0, folder.1).map_err(refusal)?;
             Ok(Range { first, count })
         }
         fn compare(&self, first: &[u16; 8], second: &[u16; 8]) -> Compared {
@@ -294,7 +304,7 @@ macro_rules! entry_points {
 
 /// The plain Rust implementation.
 mod plain_rust {
-    use super::{Answer, Compared, Head, Library, MergeRefusal, Range, Refusal, RowTaken, Trial};
+    use super::{Answer, Compared, Folder, Head, Library, MergeRefusal, Range, Refusal, RowTaken, Trial};
 
     pub struct Plain;
 
@@ -332,7 +342,7 @@ mod plain_rust {
 /// The static library.
 #[cfg(feature = "static")]
 mod static_library {
-    use super::{Answer, Compared, Head, Library, MergeRefusal, Range, Refusal, RowTaken, Trial};
+    use super::{Answer, Compared, Folder, Head, Library, MergeRefusal, Range, Refusal, RowTaken, Trial};
     use sab::raw;
     use std::cell::RefCell;
 

@@ -7,6 +7,10 @@ use make_vectors::list::{Lent, List};
 use plain::BLOCK;
 
 type Id = (u8, u16);
+/// A folder asked for: any two numbers.
+type Asked = (u32, u32);
+/// The root, asked for.
+const TOP: Asked = (0, 0);
 
 pub fn list() -> Written {
     let mut calls = Calls::new("folders listed and labels looked up by the index of a log");
@@ -41,22 +45,24 @@ fn take(from: u8, to: u8) -> impl FnOnce(&mut List) -> u8 {
 }
 
 /// What a folder of a slot lists.
-fn lists(calls: &mut Calls, slot: usize, folder: Id, answer: &str, shows: &str) {
-    calls.ask(answer, &format!("list: {shows}"), |list| list.list(slot, folder));
+fn lists(calls: &mut Calls, slot: usize, folder: Asked, answer: &str, shows: &str) {
+    calls.ask(answer, &format!("list: {shows}"), |list| {
+        list.list(slot, folder)
+    });
 }
 
 /// What is found under a label in a folder of a slot.
-fn finds(calls: &mut Calls, slot: usize, folder: Id, label: &[u8], answer: &str, shows: &str) {
+fn finds(calls: &mut Calls, slot: usize, folder: Asked, label: &[u8], answer: &str, shows: &str) {
     calls.ask(answer, &format!("find: {shows}"), |list| {
         list.find(slot, folder, label)
     });
 }
 
 fn empty(calls: &mut Calls) {
-    lists(calls, 0, ROOT, "-", "the root of an empty log");
-    finds(calls, 0, ROOT, b"Bench", "-", "a label in an empty log");
-    finds(calls, 0, ROOT, b"", "-", "no label in an empty log");
-    finds(calls, 0, ROOT, &[0; 32], "-", "32 zeros in an empty log");
+    lists(calls, 0, TOP, "-", "the root of an empty log");
+    finds(calls, 0, TOP, b"Bench", "-", "a label in an empty log");
+    finds(calls, 0, TOP, b"", "-", "no label in an empty log");
+    finds(calls, 0, TOP, &[0; 32], "-", "32 zeros in an empty log");
 }
 
 /// Unit 0: 0.1 the folder b; 0.2 to 0.7 traces in the root; 0.8 to 0.10 in 0.1.
@@ -66,26 +72,58 @@ fn order(calls: &mut Calls) {
     };
     make(calls, "0.1 makes the folder b", 1, ROOT, "b");
     for label in ["~", "ab", "B", "a", LONG, "a b"] {
-        make(calls, &format!("the trace {label} in the root"), 2, ROOT, label);
+        make(
+            calls,
+            &format!("the trace {label} in the root"),
+            2,
+            ROOT,
+            label,
+        );
     }
     for label in ["ab", "b", "!"] {
-        make(calls, &format!("the trace {label} in 0.1"), 2, (0, 1), label);
+        make(
+            calls,
+            &format!("the trace {label} in 0.1"),
+            2,
+            (0, 1),
+            label,
+        );
     }
     lists(
         calls,
         0,
-        ROOT,
+        TOP,
         "0.6,0.4,0.5,0.7,0.3,0.1,0.2",
         "by bytes: digits, capitals, small letters, ~; a before a b before ab; a folder among traces",
     );
-    lists(calls, 0, (0, 1), "0.10,0.8,0.9", "another folder, the same labels");
-    finds(calls, 0, ROOT, b"ab", "0.3", "a label that two folders have: in the root");
+    lists(
+        calls,
+        0,
+        (0, 1),
+        "0.10,0.8,0.9",
+        "another folder, the same labels",
+    );
+    finds(
+        calls,
+        0,
+        TOP,
+        b"ab",
+        "0.3",
+        "a label that two folders have: in the root",
+    );
     finds(calls, 0, (0, 1), b"ab", "0.8", "in the other");
-    finds(calls, 0, ROOT, LONG.as_bytes(), "0.6", "the first row, 32 bytes");
-    finds(calls, 0, ROOT, b"~", "0.2", "the last of a folder");
+    finds(
+        calls,
+        0,
+        TOP,
+        LONG.as_bytes(),
+        "0.6",
+        "the first row, 32 bytes",
+    );
+    finds(calls, 0, TOP, b"~", "0.2", "the last of a folder");
     finds(calls, 0, (0, 1), b"b", "0.9", "the last row");
-    finds(calls, 0, ROOT, b"b", "0.1", "a folder by its label");
-    finds(calls, 0, ROOT, b"a", "0.5", "a front of other labels");
+    finds(calls, 0, TOP, b"b", "0.1", "a folder by its label");
+    finds(calls, 0, TOP, b"a", "0.5", "a front of other labels");
 }
 
 fn odd_folders(calls: &mut Calls) {
@@ -96,36 +134,95 @@ fn odd_folders(calls: &mut Calls) {
     lists(calls, 0, (1, 1), "-", "an identity of another unit");
     lists(calls, 0, (7, 65_535), "-", "the greatest identity");
     finds(calls, 0, (7, 65_535), b"~", "-", "in the greatest identity");
+    lists(calls, 0, (8, 0), "-", "unit 8, which 0.1 is not");
+    finds(calls, 0, (8, 0), b"ab", "-", "in unit 8");
+    lists(calls, 0, (256, 1), "-", "unit 256, whose low byte is 0");
+    finds(calls, 0, (256, 1), b"ab", "-", "in unit 256");
+    lists(
+        calls,
+        0,
+        (0, 65_537),
+        "-",
+        "the number 65537, whose low half is 1",
+    );
+    finds(calls, 0, (0, 65_537), b"ab", "-", "in the number 65537");
+    lists(calls, 0, (u32::MAX, u32::MAX), "-", "the greatest numbers");
     lists(calls, 0, (5, 0), "-", "an identity with the number 0");
     finds(calls, 0, (5, 0), b"a", "-", "in one with the number 0");
-    lists(calls, 0, (0, 256), "-", "0.256, whose bytes are those of 0.1 in another order");
+    lists(
+        calls,
+        0,
+        (0, 256),
+        "-",
+        "0.256, whose bytes are those of 0.1 in another order",
+    );
 }
 
 fn odd_labels(calls: &mut Calls) {
-    finds(calls, 0, ROOT, b"", "-", "an empty label");
-    finds(calls, 0, ROOT, b"A", "-", "a capital for a small letter");
-    finds(calls, 0, ROOT, b"a ", "-", "a space behind");
-    finds(calls, 0, ROOT, b" a", "-", "a space before");
-    finds(calls, 0, ROOT, b"a\0b", "-", "a zero inside");
-    finds(calls, 0, ROOT, b"\0a", "-", "a zero first");
-    finds(calls, 0, ROOT, b"a/b", "-", "a stroke");
-    finds(calls, 0, ROOT, &[0xff; 32], "-", "bytes above all labels");
-    finds(calls, 0, ROOT, &[0x1f], "-", "a byte below all labels");
-    finds(calls, 0, ROOT, &LONG.as_bytes()[..31], "-", "31 bytes of a label of 32");
-    finds(calls, 0, ROOT, format!("{LONG}3").as_bytes(), "-", "33 bytes");
-    finds(calls, 0, ROOT, b"aa", "-", "between two labels");
-    finds(calls, 0, ROOT, b"~~", "-", "behind the last");
+    finds(calls, 0, TOP, b"", "-", "an empty label");
+    finds(calls, 0, TOP, b"A", "-", "a capital for a small letter");
+    finds(calls, 0, TOP, b"a ", "-", "a space behind");
+    finds(calls, 0, TOP, b" a", "-", "a space before");
+    finds(calls, 0, TOP, b"a\0b", "-", "a zero inside");
+    finds(calls, 0, TOP, b"\0a", "-", "a zero first");
+    finds(calls, 0, TOP, b"a/b", "-", "a stroke");
+    finds(calls, 0, TOP, &[0xff; 32], "-", "bytes above all labels");
+    finds(calls, 0, TOP, &[0x1f], "-", "a byte below all labels");
+    finds(
+        calls,
+        0,
+        TOP,
+        &LONG.as_bytes()[..31],
+        "-",
+        "31 bytes of a label of 32",
+    );
+    finds(
+        calls,
+        0,
+        TOP,
+        format!("{LONG}3").as_bytes(),
+        "-",
+        "33 bytes",
+    );
+    finds(calls, 0, TOP, b"aa", "-", "between two labels");
+    finds(calls, 0, TOP, b"~~", "-", "behind the last");
 }
 
 fn changes(calls: &mut Calls) {
-    calls.call(15, "a make of a label that is held is refused", act(0, 2, ROOT, "a"));
-    lists(calls, 0, ROOT, "0.6,0.4,0.5,0.7,0.3,0.1,0.2", "as before the refusal");
+    calls.call(
+        15,
+        "a make of a label that is held is refused",
+        act(0, 2, ROOT, "a"),
+    );
+    lists(
+        calls,
+        0,
+        TOP,
+        "0.6,0.4,0.5,0.7,0.3,0.1,0.2",
+        "as before the refusal",
+    );
     calls.call(0, "0.11 renames 0.5, a, to z", act(0, 5, (0, 5), "z"));
-    lists(calls, 0, ROOT, "0.6,0.4,0.7,0.3,0.1,0.5,0.2", "the renamed one at its new place");
-    finds(calls, 0, ROOT, b"a", "-", "the old label");
-    finds(calls, 0, ROOT, b"z", "0.5", "the new label");
-    calls.call(0, "0.12 renames the folder 0.1 to C", act(0, 5, (0, 1), "C"));
-    lists(calls, 0, ROOT, "0.6,0.4,0.1,0.7,0.3,0.5,0.2", "the renamed folder");
+    lists(
+        calls,
+        0,
+        TOP,
+        "0.6,0.4,0.7,0.3,0.1,0.5,0.2",
+        "the renamed one at its new place",
+    );
+    finds(calls, 0, TOP, b"a", "-", "the old label");
+    finds(calls, 0, TOP, b"z", "0.5", "the new label");
+    calls.call(
+        0,
+        "0.12 renames the folder 0.1 to C",
+        act(0, 5, (0, 1), "C"),
+    );
+    lists(
+        calls,
+        0,
+        TOP,
+        "0.6,0.4,0.1,0.7,0.3,0.5,0.2",
+        "the renamed folder",
+    );
     lists(calls, 0, (0, 1), "0.10,0.8,0.9", "what lies in it");
     calls.call(0, "0.13 stores to 0.8", act(0, 3, (0, 8), ""));
     calls.call(0, "0.14 removes 0.8", act(0, 4, (0, 8), ""));
@@ -136,7 +233,11 @@ fn changes(calls: &mut Calls) {
     lists(calls, 0, (0, 15), "-", "a folder without entries");
     calls.call(0, "0.16 makes a trace in it", act(0, 2, (0, 15), "x"));
     lists(calls, 0, (0, 15), "0.16", "a folder with one entry");
-    calls.call(16, "a remove of the folder is refused", act(0, 4, (0, 15), ""));
+    calls.call(
+        16,
+        "a remove of the folder is refused",
+        act(0, 4, (0, 15), ""),
+    );
     calls.call(0, "0.17 removes the trace", act(0, 4, (0, 16), ""));
     calls.call(0, "0.18 removes the folder", act(0, 4, (0, 15), ""));
     lists(calls, 0, (0, 15), "-", "a removed folder");
@@ -149,23 +250,29 @@ fn meeting(calls: &mut Calls) {
     calls.call(0, "2.2 makes the trace k in it", act(2, 2, (2, 1), "k"));
     calls.call(0, "3.1 makes the folder F too", act(3, 1, ROOT, "F"));
     calls.call(0, "3.2 makes the trace j in 3.1", act(3, 2, (3, 1), "j"));
-    lists(calls, 3, ROOT, "3.1", "unit 3 before the meeting");
+    lists(calls, 3, TOP, "3.1", "unit 3 before the meeting");
     lists(calls, 3, (3, 1), "3.2", "its folder");
     calls.call(0, "unit 3 takes the records of unit 2", take(2, 3));
-    lists(calls, 3, ROOT, "2.1", "3.1 stands aside");
+    lists(calls, 3, TOP, "2.1", "3.1 stands aside");
     lists(calls, 3, (3, 1), "-", "the folder that stands aside");
     lists(calls, 3, (2, 1), "2.2", "the folder that came");
-    finds(calls, 3, ROOT, b"F", "2.1", "the label that both wanted");
+    finds(calls, 3, TOP, b"F", "2.1", "the label that both wanted");
     calls.call(0, "2.3 renames the folder 2.1 to G", act(2, 5, (2, 1), "G"));
-    lists(calls, 2, ROOT, "2.1", "unit 2 after it");
+    lists(calls, 2, TOP, "2.1", "unit 2 after it");
     calls.call(0, "unit 2 takes the records of unit 3", take(3, 2));
-    lists(calls, 2, ROOT, "2.1", "at unit 2 3.1 stands aside too: 2.3 ranks behind it");
-    finds(calls, 2, ROOT, b"G", "2.1", "the new label");
-    finds(calls, 2, ROOT, b"F", "-", "the label that stands aside");
+    lists(
+        calls,
+        2,
+        TOP,
+        "2.1",
+        "at unit 2 3.1 stands aside too: 2.3 ranks behind it",
+    );
+    finds(calls, 2, TOP, b"G", "2.1", "the new label");
+    finds(calls, 2, TOP, b"F", "-", "the label that stands aside");
     calls.call(0, "unit 3 takes 2.3", take(2, 3));
-    lists(calls, 3, ROOT, "2.1", "the same at unit 3");
+    lists(calls, 3, TOP, "2.1", "the same at unit 3");
     calls.call(0, "3.3 makes the folder F again", act(3, 1, ROOT, "F"));
-    lists(calls, 3, ROOT, "3.3,2.1", "both");
+    lists(calls, 3, TOP, "3.3,2.1", "both");
     calls.call(8, "a block that unit 0 cannot take yet", |list| {
         list.hand_out(3, Lent::Own, 7, 3, &[0, 0, 3, 1, 0, 0, 0, 0], (BLOCK, 1));
         let block = list.given[list.given.len() - 1].clone();
@@ -176,7 +283,7 @@ fn meeting(calls: &mut Calls) {
     lists(
         calls,
         0,
-        ROOT,
+        TOP,
         "0.6,0.4,0.1,3.3,2.1,0.7,0.3,0.5,0.2",
         "entries of three units in one folder",
     );
@@ -187,8 +294,8 @@ fn meeting(calls: &mut Calls) {
 fn restart(calls: &mut Calls) {
     let start = |unit| move |list: &mut List| list.start(0, Lent::Own, 7, unit);
     calls.call(21, "a start by unit 8 is refused", start(8));
-    finds(calls, 0, ROOT, b"F", "3.3", "after the refusal");
+    finds(calls, 0, TOP, b"F", "3.3", "after the refusal");
     calls.call(0, "unit 0 is started again", start(0));
-    lists(calls, 0, ROOT, "-", "the root of a started log");
-    finds(calls, 0, ROOT, b"F", "-", "in a started log");
+    lists(calls, 0, TOP, "-", "the root of a started log");
+    finds(calls, 0, TOP, b"F", "-", "in a started log");
 }

@@ -240,9 +240,9 @@ impl List {
     }
 
     /// A folder listed: its entries by label.
-    pub fn list(&mut self, slot: usize, folder: (u8, u16)) {
+    pub fn list(&mut self, slot: usize, folder: (u32, u32)) {
         let index = &self.indexes[slot];
-        let range = plain::list(index, &four(folder)).expect("an index");
+        let range = plain::list(index, folder.0, folder.1).expect("an index");
         let rows = index[4..].chunks(40).skip(range.first.into());
         let named: Vec<String> = rows
             .take(range.count.into())
@@ -256,10 +256,10 @@ impl List {
     }
 
     /// A label looked up in a folder. No entry has one of more than 32 bytes.
-    pub fn find(&mut self, slot: usize, folder: (u8, u16), label: &[u8]) {
+    pub fn find(&mut self, slot: usize, folder: (u32, u32), label: &[u8]) {
         let mut asked = label.to_vec();
         asked.resize(label.len().max(32), 0);
-        let found = plain::find(&self.indexes[slot], &four(folder), &asked);
+        let found = plain::find(&self.indexes[slot], folder.0, folder.1, &asked);
         let found = found.ok().flatten();
         let digits: String = label.iter().map(|byte| format!("{byte:02x}")).collect();
         self.line(format!(
@@ -267,7 +267,7 @@ impl List {
             folder.0,
             folder.1,
             if digits.is_empty() { "-" } else { &digits },
-            found.map_or("-".to_string(), |entry| identity(&entry))
+            found.map_or("-".to_string(), |(unit, number)| format!("{unit}.{number}"))
         ));
     }
 
@@ -280,12 +280,6 @@ impl List {
         }
         self.text
     }
-}
-
-/// The four bytes of an identity.
-fn four((unit, number): (u8, u16)) -> [u8; 4] {
-    let [low, high] = number.to_le_bytes();
-    [unit, 0, low, high]
 }
 
 /// An identity in four bytes, as it is written.

@@ -30,24 +30,29 @@ pub fn fits(index: &[u8]) -> bool {
     index.is_empty() || index.len() == INDEX
 }
 
-/// The key of a folder given by its four bytes: by unit, then by number. The
-/// second byte is not looked at; a unit above 7 counts on into the number.
+/// An identity as one number, eight times its number and its unit.
+type Name = u32;
+
+/// The key of a folder: by unit, then by number.
 #[inline(always)]
-fn key_of(folder: u32) -> u32 {
-    let name = name_of(folder);
-    (name % 8) << 29 | name / 8
+fn key_of(folder: Name) -> u64 {
+    u64::from(folder % 8) << 29 | u64::from(folder / 8)
 }
 
-/// Eight times the number, and the unit.
+/// The identity in four bytes, read as a number. The second byte is not looked
+/// at, and a unit above 7 counts on into the number.
 #[inline(always)]
-fn name_of(identity: u32) -> u32 {
+fn name_of(identity: u32) -> Name {
     8 * (identity >> 16) + (identity & 0xff)
 }
 
-/// The four bytes of such a name, as a number.
+/// The folder of a unit and a number. What is no identity is no entry's folder.
 #[inline(always)]
-fn identity_of(name: u32) -> u32 {
-    name % 8 | (name / 8) << 16
+fn folder_asked(unit: u32, number: u32) -> Name {
+    if unit > 7 || number > 0xffff {
+        return Name::MAX;
+    }
+    8 * number + unit
 }
 
 /// How many rows, at most 512.
@@ -63,13 +68,13 @@ fn rows(index: &[u8]) -> &[Row] {
 
 /// The row comes before a label in the folder of a key.
 #[inline(always)]
-fn is_before(row: &Row, key: u32, label: &[u8]) -> bool {
-    let own = key_of(get32(row, 0));
+fn is_before(row: &Row, key: u64, label: &[u8]) -> bool {
+    let own = key_of(name_of(get32(row, 0)));
     own < key || own == key && row[4..36] < *label
 }
 
 /// The first row that does not come before a label in the folder of a key.
-fn seek(index: &[u8], key: u32, label: &[u8]) -> usize {
+fn seek(index: &[u8], key: u64, label: &[u8]) -> usize {
     let rows = rows(index);
     let (mut low, mut high) = (0, rows_in(index));
     for _ in 0..HALVINGS {
@@ -87,29 +92,30 @@ fn seek(index: &[u8], key: u32, label: &[u8]) -> usize {
 }
 
 /// The row of a folder and a label, if they have one.
-fn row_of(index: &[u8], folder: u32, label: &[u8]) -> Option<usize> {
+fn row_of(index: &[u8], folder: Name, label: &[u8]) -> Option<usize> {
     let at = seek(index, key_of(folder), label);
     let row = &rows(index)[..rows_in(index)].get(at)?;
-    (name_of(get32(*row, 0)) == name_of(folder) && row[4..36] == *label).then_some(at)
+    (name_of(get32(*row, 0)) == folder && row[4..36] == *label).then_some(at)
 }
 
-/// Looks up the entry of a folder that has a label: its four bytes, if there is
-/// one.
-pub fn find(index: &[u8], folder: &[u8], label: &[u8]) -> Answer<Option<[u8; 4]>> {
-    if index.len() != INDEX || folder.len() != 4 || label.len() != 32 {
+/// Looks up the entry of a folder that has a label: its unit and number, if there
+/// is one.
+pub fn find(index: &[u8], unit: u32, number: u32, label: &[u8]) -> Answer<Option<(u8, u16)>> {
+    if index.len() != INDEX || label.len() != 32 {
         return refuse(1);
     }
-    let row = row_of(index, get32(folder, 0), label);
+    let row = row_of(index, folder_asked(unit, number), label);
     let name = row.map_or(0, |row| name_of(get32(&rows(index)[row], 36)));
-    Ok((name != 0).then(|| identity_of(name).to_le_bytes()))
+    let entry = ((name % 8) as u8, (name / 8) as u16);
+    Ok((entry != (0, 0)).then_some(entry))
 }
 
 /// The rows of a folder.
-pub fn list(index: &[u8], folder: &[u8]) -> Answer<Range> {
-    if index.len() != INDEX || folder.len() != 4 {
+pub fn list(index: &[u8], unit: u32, number: u32) -> Answer<Range> {
+    if index.len() != INDEX {
         return refuse(1);
     }
-    let key = key_of(get32(folder, 0));
+    let key = key_of(folder_asked(unit, number));
     let first = seek(index, key, &[0; 32]);
     let end = seek(index, key + 1, &[0; 32]);
     Ok(Range {
@@ -148,7 +154,9 @@ fn label_in(record: &Record) -> &[u8] {
 
 /// The first bytes of a label, in the order of labels.
 fn front(label: &[u8]) -> u64 {
-    label.first_chunk().map_or(0, |front| u64::from_be_bytes(*front))
+    label
+        .first_chunk()
+        .map_or(0, |front| u64::from_be_bytes(*front))
 }
 
 /// Writes every byte of the index.
@@ -158,11 +166,11 @@ fn write(index: &mut [u8], records: usize, replay: &Replay, store: &impl Store) 
         label_in(store.record(usize::from(entry.label)))
     };
     // Key of the folder, front of the label and place of each entry.
-    let mut order = [(0, 0, 0); RECORDS];
+    let mut order = [(0u64, 0, 0); RECORDS];
     let mut count = 0;
     for (place, entry) in replay.entries[..records].iter().enumerate() {
         if entry.kind != Kind::Absent {
-            let key = key_of(folder_of(replay, entry));
+            let key = key_of(name_of(folder_of(replay, entry)));
             let place = place as u16;
             order[count] = (key, front(label(place)), place);
             count += 1;
@@ -226,7 +234,7 @@ fn put_in(index: &mut [u8], folder: u32, label: &[u8], entry: u32) {
     if count == RECORDS {
         return;
     }
-    let at = seek(index, key_of(folder), label);
+    let at = seek(index, key_of(name_of(folder)), label);
     let rows = index[4..].as_chunks_mut::<ROW>().0;
     rows.copy_within(at..count, at + 1);
     let row = &mut rows[at];
@@ -238,7 +246,7 @@ fn put_in(index: &mut [u8], folder: u32, label: &[u8], entry: u32) {
 
 /// Takes the entry of a folder and a label out, if there is one.
 fn take_out(index: &mut [u8], folder: u32, label: &[u8]) {
-    let Some(at) = row_of(index, folder, label) else {
+    let Some(at) = row_of(index, name_of(folder), label) else {
         return;
     };
     let count = rows_in(index);

@@ -122,19 +122,17 @@ unsafe extern "C" {
     pub fn sab_find(
         index: *const u8,
         index_len: usize,
-        folder: *const u8,
-        folder_len: usize,
+        unit: u32,
+        number: u32,
         label: *const u8,
         label_len: usize,
-        entry: *mut u8,
-        entry_len: usize,
     ) -> u32;
 
     pub fn sab_list(
         index: *const u8,
         index_len: usize,
-        folder: *const u8,
-        folder_len: usize,
+        unit: u32,
+        number: u32,
         range: *mut u8,
         range_len: usize,
     ) -> u32;

@@ -1,7 +1,7 @@
 //! The ordered index of a log.
 
 use crate::record::text_of;
-use crate::{Answer, Identity, raw};
+use crate::{Answer, Identity, Unit, raw};
 use std::fmt;
 
 const ROW: usize = 40;
@@ -66,7 +66,8 @@ impl Index {
         &self,
         folder: Identity,
     ) -> impl ExactSizeIterator<Item = Indexed<'_>> + DoubleEndedIterator {
-        let (first, count) = match raw::list(&*self.0, &folder.to_bytes()) {
+        let (unit, number) = asked(folder);
+        let (first, count) = match raw::list(&*self.0, unit, number) {
             Ok(range) => (range.first.into(), range.count.into()),
             Err(_) => (0, 0),
         };
@@ -76,16 +77,22 @@ impl Index {
     /// The entry of a folder, or of the root, that has a label. No entry has one
     /// that is empty, longer than 32 bytes, or has a zero.
     pub fn find(&self, folder: Identity, label: &str) -> Option<Identity> {
-        let mut asked = [0; 32];
-        let place = asked.get_mut(..label.len())?;
+        let mut padded = [0; 32];
+        let place = padded.get_mut(..label.len())?;
         place.copy_from_slice(label.as_bytes());
         if label.contains('\0') {
             return None;
         }
-        let found = raw::find(&*self.0, &folder.to_bytes(), &asked);
-        let entry = found.ok().flatten()?;
-        Some(Identity::of(&entry))
+        let (unit, number) = asked(folder);
+        let found = raw::find(&*self.0, unit, number, &padded);
+        let (unit, number) = found.ok().flatten()?;
+        Identity::new(Unit::of(unit), number)
     }
+}
+
+/// A folder as the calls are asked for it.
+fn asked(folder: Identity) -> (u32, u32) {
+    (folder.unit().number().into(), folder.number().into())
 }
 
 impl fmt::Debug for Index {
@@ -117,6 +124,12 @@ impl<'a> Indexed<'a> {
 
 impl fmt::Debug for Indexed<'_> {
     fn fmt(&self, f: &mut fmt::Formatter<'_>) -> fmt::Result {
-        write!(f, "{} {:?} in {}", self.identity(), self.label(), self.folder())
+        write!(
+            f,
+            "{} {:?} in {}",
+            self.identity(),
+            self.label(),
+            self.folder()
+        )
     }
 }

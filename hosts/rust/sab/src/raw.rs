@@ -321,24 +321,23 @@ pub fn index(log: &[u8], index: &mut [u8]) -> Answer<()> {
     answer(result).map(drop)
 }
 
-/// Looks up a folder, 4 bytes, and a label, 32 bytes, in an index, whatever bytes
-/// it has: the entry's 4 bytes, if there is one. Refuses 1.
-pub fn find(index: &[u8], folder: &[u8], label: &[u8]) -> Answer<Option<[u8; 4]>> {
-    let mut entry = [0; 4];
+/// Looks up a label, 32 bytes, in the folder of a unit and a number, in an index of
+/// any bytes: the entry's unit and number, if there is one. What is no identity has
+/// no entries. Refuses 1.
+pub fn find(index: &[u8], unit: u32, number: u32, label: &[u8]) -> Answer<Option<(u8, u16)>> {
     let result = unsafe {
         ffi::sab_find(
             index.as_ptr(),
             index.len(),
-            folder.as_ptr(),
-            folder.len(),
+            unit,
+            number,
             label.as_ptr(),
             label.len(),
-            entry.as_mut_ptr(),
-            entry.len(),
         )
     };
-    let found = answer(result)?;
-    Ok((found == 1).then_some(entry))
+    let number = answer(result)?;
+    let entry = ((result >> 8) as u8, number);
+    Ok((entry != (0, 0)).then_some(entry))
 }
 
 /// The rows of a folder in an index: row `i` stands at byte 4 + 40 i.
@@ -350,16 +349,16 @@ pub struct Range {
     pub count: u16,
 }
 
-/// Lists a folder, 4 bytes, in an index, whatever bytes it has. The rows lie
+/// Lists the folder of a unit and a number in an index of any bytes. The rows lie
 /// within the index. Refuses 1.
-pub fn list(index: &[u8], folder: &[u8]) -> Answer<Range> {
+pub fn list(index: &[u8], unit: u32, number: u32) -> Answer<Range> {
     let mut range = [0; 4];
     let result = unsafe {
         ffi::sab_list(
             index.as_ptr(),
             index.len(),
-            folder.as_ptr(),
-            folder.len(),
+            unit,
+            number,
             range.as_mut_ptr(),
             range.len(),
         )

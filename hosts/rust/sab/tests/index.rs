@@ -48,17 +48,18 @@ fn lengths() {
         assert_eq!(raw::take(&mut log, &mut index, ARCHIVE, 8, &[]), refused(1));
         let row = raw::take_row(&mut log, &mut index, ARCHIVE, 8, &[0]);
         assert_eq!(row, refused(1));
-        assert_eq!(raw::find(&index, &[0; 4], &[0; 32]), refused(1));
-        assert_eq!(raw::list(&index, &[0; 4]), refused(1));
+        assert_eq!(raw::find(&index, 0, 0, &[0; 32]), refused(1));
+        assert_eq!(raw::list(&index, 0, 0), refused(1));
         assert!(log == before && index == vec![7; length]);
     }
     let index = vec![0; raw::INDEX];
-    for length in [0, 3, 5] {
-        assert_eq!(raw::find(&index, &vec![0; length], &[0; 32]), refused(1));
-        assert_eq!(raw::list(&index, &vec![0; length]), refused(1));
+    for (unit, number) in [(0, 0), (8, 0), (256, 1), (0, 65_537), (u32::MAX, u32::MAX)] {
+        assert_eq!(raw::find(&index, unit, number, &[0; 32]), Ok(None));
+        let none = raw::Range { first: 0, count: 0 };
+        assert_eq!(raw::list(&index, unit, number), Ok(none));
     }
     for length in [0, 31, 33] {
-        assert_eq!(raw::find(&index, &[0; 4], &vec![0; length]), refused(1));
+        assert_eq!(raw::find(&index, 0, 0, &vec![0; length]), refused(1));
     }
     let mut log = vec![7; raw::LOG];
     let mut index = vec![7; raw::INDEX];
@@ -86,7 +87,10 @@ fn kept() {
         let mut alone = logs[unit].clone();
         let (log, index) = (&mut logs[unit], &mut indexes[unit]);
         let done = raw::act(log, index, ARCHIVE, unit as u32, &wish);
-        assert_eq!(done, raw::act(&mut alone, &mut [], ARCHIVE, unit as u32, &wish));
+        assert_eq!(
+            done,
+            raw::act(&mut alone, &mut [], ARCHIVE, unit as u32, &wish)
+        );
         assert!(*log == alone && *index == plainly(log));
         if chance.one_in(5) {
             let (from, to) = (chance.below(8), chance.below(8));
@@ -127,10 +131,18 @@ fn agrees(log: &Log, tree: &Tree) {
             .map(|entry| (entry.label(), entry.identity()))
             .collect();
         assert_eq!(listed, inside);
-        assert!(index.entries_in(folder).all(|entry| entry.folder() == folder));
+        assert!(
+            index
+                .entries_in(folder)
+                .all(|entry| entry.folder() == folder)
+        );
         for (label, identity) in inside {
             assert_eq!(index.find(folder, label), Some(identity));
-            assert_eq!(index.find(folder, &format!("{label}~")), tree.find(folder, &format!("{label}~")).map(|entry| entry.identity()));
+            assert_eq!(
+                index.find(folder, &format!("{label}~")),
+                tree.find(folder, &format!("{label}~"))
+                    .map(|entry| entry.identity())
+            );
         }
     }
 }

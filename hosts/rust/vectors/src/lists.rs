@@ -176,7 +176,7 @@ fn fresh(library: &dyn Library, log: &[u8]) -> Result<Vec<u8>, Fault> {
 fn list(library: &dyn Library, index: &[u8], mut words: Words) -> Result<(), Fault> {
     let folder = words.identity()?;
     words.equals()?;
-    let range = library.list(index, &folder).map_err(|_| "refused")?;
+    let range = library.list(index, folder).map_err(|_| "refused")?;
     let (rows, _) = index[4..].as_chunks::<40>();
     let rows = rows.iter().skip(range.first.into()).take(range.count.into());
     let named: Vec<String> = rows.map(|row| identity(&row[36..])).collect();
@@ -191,12 +191,13 @@ fn find(library: &dyn Library, index: &[u8], mut words: Words) -> Result<(), Fau
     let mut label = words.label()?;
     words.equals()?;
     label.resize(label.len().max(32), 0);
-    let found = match library.find(index, &folder, &label) {
+    let found = match library.find(index, folder, &label) {
         Ok(found) => found,
         Err(refusal) if refusal.number == 1 && label.len() > 32 => None,
         Err(refusal) => return Err(format!("refused {}", refusal.number)),
     };
-    words.expect(&[found.map_or("-".to_string(), |entry| identity(&entry))])
+    let found = found.map(|(unit, number)| format!("{unit}.{number}"));
+    words.expect(&[found.unwrap_or("-".to_string())])
 }
 
 /// An identity in four bytes, as it is written.

@@ -46,14 +46,13 @@ impl<'a> Words<'a> {
         }
     }
 
-    /// `UNIT.NUMBER`, as four bytes.
-    pub fn identity(&mut self) -> Result<[u8; 4], Fault> {
+    /// `UNIT.NUMBER`.
+    pub fn identity(&mut self) -> Result<(u32, u32), Fault> {
         let word = self.word()?;
         let (unit, of_unit) = word
             .split_once('.')
             .ok_or_else(|| format!("{word}: no identity"))?;
-        let [low, high] = number::<u16>(of_unit)?.to_le_bytes();
-        Ok([number(unit)?, 0, low, high])
+        Ok((number(unit)?, number(of_unit)?))
     }
 
     /// `LENGTH*SEED`: a buffer lent for writing.

@@ -85,16 +85,29 @@ fn list(index: &[u8], folder: &[u8]) -> (usize, usize) {
     (first, end.saturating_sub(first))
 }
 
+/// The unit and the number in four bytes.
+fn pair(identity: &[u8]) -> (u32, u32) {
+    let number = u16::from_le_bytes([identity[2], identity[3]]);
+    (identity[0].into(), number.into())
+}
+
+/// Asks for the folder in four bytes; a unit above 7 is none.
 fn asked(index: &[u8], folder: &[u8], label: &[u8]) {
-    let found = plain::find(index, folder, label).expect("lengths");
-    let expected = find(index, folder, label);
-    assert_eq!(found.is_some(), expected != 0);
-    if let Some(entry) = found.filter(|_| expected < 1 << 19) {
-        assert_eq!(name(&entry), expected);
-        assert_eq!(entry[1], 0);
+    let (unit, number) = pair(folder);
+    let found = plain::find(index, unit, number, label).expect("lengths");
+    let range = plain::list(index, unit, number).expect("lengths");
+    if unit > 7 {
+        assert_eq!(found, None);
+        assert_eq!((usize::from(range.first), range.count), (rows(index), 0));
+        return;
     }
-    let range = plain::list(index, folder).expect("lengths");
-    assert_eq!((range.first.into(), range.count.into()), list(index, folder));
+    let expected = find(index, folder, label);
+    let expected = ((expected % 8) as u8, (expected / 8) as u16);
+    assert_eq!(found.unwrap_or((0, 0)), expected);
+    assert_eq!(
+        (range.first.into(), range.count.into()),
+        list(index, folder)
+    );
 }
 
 #[test]
@@ -166,23 +179,30 @@ fn looked_up() {
     let mut listed = 0;
     for at in 0..count {
         let row = row(&index, at);
-        let found = plain::find(&index, &row[..4], &row[4..36]).expect("lengths");
-        assert_eq!(found.as_ref().map(|entry| &entry[..]), Some(&row[36..]));
+        let (unit, number) = pair(row);
+        let found = plain::find(&index, unit, number, &row[4..36]).expect("lengths");
+        let (unit, number) = pair(&row[36..]);
+        assert_eq!(found, Some((unit as u8, number as u16)));
         let mut other = row[4..36].to_vec();
         other[31] ^= 1;
         asked(&index, &row[..4], &other);
         asked(&index, &row[36..], &row[4..36]);
         if at == 0 || self::row(&index, at - 1)[..4] != row[..4] {
-            let range = plain::list(&index, &row[..4]).expect("lengths");
+            let (unit, number) = pair(row);
+            let range = plain::list(&index, unit, number).expect("lengths");
             assert_eq!(usize::from(range.first), at);
             listed += usize::from(range.count);
         }
     }
     assert_eq!(listed, count);
-    assert_eq!(plain::find(&index[1..], &[0; 4], &[0; 32]).map_err(|no| no.number), Err(1));
-    assert_eq!(plain::find(&index, &[0; 5], &[0; 32]).map_err(|no| no.number), Err(1));
-    assert_eq!(plain::find(&index, &[0; 4], &[0; 33]).map_err(|no| no.number), Err(1));
-    assert_eq!(plain::list(&[], &[0; 4]).map_err(|no| no.number), Err(1));
+    assert!(plain::find(&index[1..], 0, 0, &[0; 32]).is_err_and(|no| no.number == 1));
+    assert!(plain::find(&index, 0, 0, &[0; 33]).is_err_and(|no| no.number == 1));
+    assert!(plain::list(&[], 0, 0).is_err_and(|no| no.number == 1));
+    for (unit, number) in [(8, 0), (256, 1), (0, 65_537), (u32::MAX, u32::MAX)] {
+        assert_eq!(plain::find(&index, unit, number, &[0; 32]), Ok(None));
+        let range = plain::list(&index, unit, number).expect("lengths");
+        assert_eq!((usize::from(range.first), range.count), (count, 0));
+    }
 }
 
 #[test]
@@ -211,7 +231,12 @@ fn any_bytes() {
         for _ in 0..8 {
             let row = row(&index, chance.below(512)).to_vec();
             asked(&index, &row[..4], &row[4..36]);
-            let folder = [chance.below(9) as u8, chance.below(2) as u8, chance.below(4) as u8, 0];
+            let folder = [
+                chance.below(9) as u8,
+                chance.below(2) as u8,
+                chance.below(4) as u8,
+                0,
+            ];
             asked(&index, &folder, &row[4..36]);
         }
     }

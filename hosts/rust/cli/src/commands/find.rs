@@ -37,7 +37,11 @@ fn run(session: &mut Session) -> Outcome<Status> {
             let folder = Place::read(as_text(folder, "FOLDER")?, "FOLDER")?;
             (name, folder, Some(as_text(label, "LABEL")?.to_string()))
         }
-        _ => return Err(usage("one FILE wanted, and an ENTRY, or a FOLDER and a LABEL")),
+        _ => {
+            return Err(usage(
+                "one FILE wanted, and an ENTRY, or a FOLDER and a LABEL",
+            ));
+        }
     };
     let name = PathBuf::from(name);
     let archive = Archive::read(session.system, &name)?;
