@@ -48,11 +48,11 @@ halve-within p (suc n) lo hi h =
     let mid : ℕ = lo + (hi - lo) / 2 in
     ⊎-elim
     (λ (a : ltb lo hi ≡ true).
-        let k : lo < hi = ltb-true lo hi a in
-        ⊎-elim
-        (λ (b : p mid ≡ true). rw (a, b) (halve-within p n (mid + 1) hi (omega arith)))
-        (λ (b : p mid ≡ false). rw (a, b) (let w : halve p n lo mid ≤ mid = halve-within p n lo mid (omega arith) in omega arith))
-        (bool-cases (p mid)))
+    let k : lo < hi = ltb-true lo hi a in
+    ⊎-elim
+    (λ (b : p mid ≡ true). rw (a, b) (halve-within p n (mid + 1) hi (omega arith)))
+    (λ (b : p mid ≡ false). rw (a, b) (let w : halve p n lo mid ≤ mid = halve-within p n lo mid (omega arith) in omega arith))
+    (bool-cases (p mid)))
     (λ (a : ltb lo hi ≡ false). rw a h)
     (bool-cases (ltb lo hi))
 
@@ -65,9 +65,9 @@ unfolding rangeOf range firstIn endIn
 range-few b f =
     ⊎-elim
     (λ (a : eqb (length b) 20484 ≡ true).
-        let x : seek b (folderKey f) (replicate 32 0) ≤ 512 = rows-few b (folderKey f) (replicate 32 0) in
-        let y : seek b (folderKey f + 1) (replicate 32 0) ≤ 512 = rows-few b (folderKey f + 1) (replicate 32 0) in
-        rw a (x, omega arith))
+    let x : seek b (folderKey f) (replicate 32 0) ≤ 512 = rows-few b (folderKey f) (replicate 32 0) in
+    let y : seek b (folderKey f + 1) (replicate 32 0) ≤ 512 = rows-few b (folderKey f + 1) (replicate 32 0) in
+    rw a (x, omega arith))
     (λ (a : eqb (length b) 20484 ≡ false). rw a (omega arith, omega arith))
     (bool-cases (eqb (length b) 20484))
 
