@@ -132,6 +132,8 @@ table =
     -- in one folder by label: bytes are numbers, and a label comes before one that goes on
     ∷ comes (0 · 2) A (0 · 2) B true
     ∷ comes (0 · 2) (65 ∷ 66 ∷ []) (0 · 2) B true
+    ∷ comes (0 · 2) B (0 · 2) (66 ∷ 66 ∷ []) true
+    ∷ comes (0 · 2) (66 ∷ 66 ∷ []) (0 · 2) B false
     ∷ comes (0 · 2) (66 ∷ 0 ∷ []) (0 · 2) (66 ∷ 32 ∷ []) true
     ∷ comes (0 · 2) (66 ∷ 32 ∷ []) (0 · 2) (66 ∷ 0 ∷ []) false
     ∷ comes (0 · 2) (97 ∷ []) (0 · 2) (90 ∷ []) false
