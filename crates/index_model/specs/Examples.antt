@@ -138,7 +138,6 @@ table =
     ∷ comes (0 · 2) (66 ∷ 32 ∷ []) (0 · 2) (66 ∷ 0 ∷ []) false
     ∷ comes (0 · 2) (97 ∷ []) (0 · 2) (90 ∷ []) false
     ∷ comes (0 · 2) A (0 · 2) A false
-    ∷ comes (0 · 2) B (0 · 2) (66 ∷ 66 ∷ []) true
     ∷ comes (0 · 2) (replicate 31 65 ++ A) (0 · 2) (replicate 31 65 ++ B) true
     -- six rows, zeros, and the first: the root, "A"
     ∷ writes (folders ++ traces) 0 (6 ∷ 0 ∷ 0 ∷ 0 ∷ 0 ∷ 0 ∷ 0 ∷ 0 ∷ 65 ∷ 0 ∷ [])
