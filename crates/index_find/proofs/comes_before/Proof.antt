@@ -45,7 +45,13 @@ loop-less : tie.Need-loop-less Inv-loop μ-loop
 loop-less c = search needs
 
 loop-again : tie.Need-loop-again Inv-loop μ-loop
-loop-again c = (omega arith, omega arith, search (before-next))
+loop-again c =
+    let e = c .before .before .before in
+    let l = e .before .before .before .before in (
+      omega arith,
+      omega arith,
+      before-next _ _ (l .loop .i) (l .loop .inv .2) (e .before .before .before .loop-test .taken) (e .before .before .if1 .left) _ _ (e .lower .ensures) (c .before .lower2 .ensures) (c .if2 .left),
+    )
 
 returns-3 : tie.Need-returns-3 Inv-loop μ-loop
 returns-3 c = search (before-end)
