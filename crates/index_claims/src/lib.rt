@@ -1,0 +1,1 @@
+// No code: the claims of the ordered index. See specs/ and proofs/.
