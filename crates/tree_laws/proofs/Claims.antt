@@ -14,6 +14,7 @@ use Rattle.model.specs.Replay.{Entry, Aside, Tree, Verdict, fits, aside, isPres
 use Rattle.model.specs.Table.{tableBytes}
 use Rattle.model.specs.Outcome.{stamped, wishFits, hasStroke, actNumber, taken, takeAll}
 use Rattle.log_laws.specs.Members.{Has as Member}
+use Rattle.log_laws.specs.Sound.{Sound}
 use Rattle.log_laws.proofs.Formed.{well-length}
 use Rattle.log_laws.proofs.Counts.{formed}
 use Rattle.log_laws.proofs.Take.{all-from}
@@ -76,13 +77,16 @@ no-record-twice l s =
     let d : Distinct (selves l) = Acting.sound-distinct l (sound-means l s) in
     (Identities.asides-distinct l d, Identities.makers-distinct l d, Identities.asides-no-makers l d)
 
-named : (l : List Rec) → soundAfter [] l ≡ true → Labels.Named (replay l .entries)
-named l s =
-    let h = sound-means l s in
+-- no two entries have one identity, and none has the root's
+pub named-of : (l : List Rec) → Sound l → Labels.Named (replay l .entries)
+named-of l h =
     record {
       once = Identities.makers-distinct l (Acting.sound-distinct l h);
       none-root = λ e i z. Acting.self-no-root l h (e .made) (Identities.makers-of l (e .made) (Labels.has-made (replay l .entries) e i)) z;
     }
+
+named : (l : List Rec) → soundAfter [] l ≡ true → Labels.Named (replay l .entries)
+named l s = named-of l (sound-means l s)
 
 -- two present entries of one folder and label, in capitals or small letters, are one
 pub one-holder-of-a-label : (l : List Rec) → soundAfter [] l ≡ true → (e x : Entry) → Has e (replay l .entries) → Has x (replay l .entries)
