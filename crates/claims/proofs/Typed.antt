@@ -35,7 +35,7 @@ use Rattle.machine.specs.Runs.{Runs}
 use Rattle.machine.specs.Callable.{allBelow, isSlice, isVector, callable, allCallable}
 use Rattle.machine.proofs.Reach.{Inv, put-cases, inv-next}
 use Rattle.claims.specs.Typed.{lentBy, takenBy, Typed}
-use Rattle.claims.proofs.Exist.{behind}
+use Rattle.claims.proofs.Outcomes.{behind}
 use Rattle.claims.proofs.Bytes.{Below, Recs, below-take, below-drop, below-append, zeros-below, two-below, log-below, records-below, block-records-below, vector-below, block-below, file-below, below-from, below-test, below-part}
 
 -- ---- numbers below 256

@@ -8,28 +8,32 @@ use borrow.Fn.Kinds.{Dens, resT, endedOf}
 use denote.Triple.Clauses.{AtExit}
 use denote.Ref.{now}
 use Rattle.model.specs.Outcome.{Outcome, outcome}
-use Rattle.act.proofs.act.Kinds as Act
-use Rattle.act.proofs.act.Reads.{Learnt as ActLearnt}
-use Rattle.take.proofs.take.Kinds as Take
-use Rattle.take.proofs.take.Reads.{Learnt as TakeLearnt}
+use Rattle.index_model.specs.Kept.{RowKept, rowKept}
+use Rattle.keep_act.proofs.act.Kinds as Act
+use Rattle.keep_act.proofs.act.Reads.{Learnt as ActLearnt}
+use Rattle.keep_take.proofs.take.Kinds as Take
+use Rattle.keep_take.proofs.take.Reads.{Learnt as TakeLearnt}
+use Rattle.keep_take_row.proofs.take_row.Kinds as TakeRow
+use Rattle.keep_take_row.proofs.take_row.Reads.{Learnt as TakeRowLearnt}
 use Rattle.show_tree.proofs.show_tree.Kinds as Show
 use Rattle.show_tree.proofs.show_tree.Reads.{Learnt as ShowLearnt}
 use Rattle.hand_out.proofs.hand_out.Kinds as Hand
 use Rattle.hand_out.proofs.hand_out.Reads.{Learnt as HandLearnt}
 use Rattle.write_file.proofs.write_file.Kinds as Write
 use Rattle.write_file.proofs.write_file.Reads.{Learnt as WriteLearnt}
-use Rattle.start.proofs.start.Kinds as Start
-use Rattle.start.proofs.start.Reads.{Learnt as StartLearnt}
+use Rattle.keep_start.proofs.start.Kinds as Start
+use Rattle.keep_start.proofs.start.Reads.{Learnt as StartLearnt}
 
--- `start` at unit u, on a log
-pub record RanStart (u : ℕ) (log : List ℕ) (o : Outcome) : Type 0 where
-  pub κs : Lfts 1
+-- `start` at unit u, on a log and an index, which becomes j
+pub record RanStart (u : ℕ) (log i : List ℕ) (o : Outcome) (j : List ℕ) : Type 0 where
+  pub κs : Lfts 2
   pub args : Dens κs Start.ps
   pub result : resT Start.r κs .Denot
-  pub exit : AtExit (endedOf 1 Start.ps Start.r) κs
+  pub exit : AtExit (endedOf 2 Start.ps Start.r) κs
   pub learnt : StartLearnt κs args result exit
-  pub given : (now (args .0) ≡ log) × (args .1 .1 .0 ≡ u)
+  pub given : (now (args .0) ≡ log) × (now (args .1 .0) ≡ i) × (args .1 .1 .1 .0 ≡ u)
   pub gave : o ≡ outcome (result .number) (result .place) (now (exit .0)) [] 0
+  pub kept : j ≡ now (exit .1 .0)
 
 -- `hand_out` at unit u, on a log, to a vector asked for, into a lent block
 pub record RanHandOut (archive u : ℕ) (log v lent : List ℕ) (o : Outcome) : Type 0 where
@@ -51,25 +55,37 @@ pub record RanWriteFile (archive u : ℕ) (log lent : List ℕ) (o : Outcome) : 
   pub given : (now (args .0) ≡ log) × (args .1 .0 ≡ archive) × (args .1 .1 .0 ≡ u) × (now (args .1 .1 .1 .0) ≡ lent)
   pub gave : o ≡ outcome (result .number) (result .place) (now (args .0)) (now (exit .1 .1 .1 .0)) (result .blocks)
 
--- `act` at unit u, on a log, with a wish
-pub record RanAct (u : ℕ) (log w : List ℕ) (o : Outcome) : Type 0 where
-  pub κs : Lfts 2
+-- `act` at unit u, on a log and an index, which becomes j, with a wish
+pub record RanAct (u : ℕ) (log i w : List ℕ) (o : Outcome) (j : List ℕ) : Type 0 where
+  pub κs : Lfts 3
   pub args : Dens κs Act.ps
   pub result : resT Act.r κs .Denot
-  pub exit : AtExit (endedOf 2 Act.ps Act.r) κs
+  pub exit : AtExit (endedOf 3 Act.ps Act.r) κs
   pub learnt : ActLearnt κs args result exit
-  pub given : (now (args .0) ≡ log) × (args .1 .1 .0 ≡ u) × (now (args .1 .1 .1 .0) ≡ w)
+  pub given : (now (args .0) ≡ log) × (now (args .1 .0) ≡ i) × (args .1 .1 .1 .0 ≡ u) × (now (args .1 .1 .1 .1 .0) ≡ w)
   pub gave : o ≡ outcome (result .number) (result .place) (now (exit .0)) [] 0
+  pub kept : j ≡ now (exit .1 .0)
 
--- `take` at unit u, on a log, of a block
-pub record RanTake (archive u : ℕ) (log b : List ℕ) (o : Outcome) : Type 0 where
-  pub κs : Lfts 2
+-- `take` at unit u, on a log and an index, which becomes j, of a block
+pub record RanTake (archive u : ℕ) (log i b : List ℕ) (o : Outcome) (j : List ℕ) : Type 0 where
+  pub κs : Lfts 3
   pub args : Dens κs Take.ps
   pub result : resT Take.r κs .Denot
-  pub exit : AtExit (endedOf 2 Take.ps Take.r) κs
+  pub exit : AtExit (endedOf 3 Take.ps Take.r) κs
   pub learnt : TakeLearnt κs args result exit
-  pub given : (now (args .0) ≡ log) × (args .1 .0 ≡ archive) × (args .1 .1 .0 ≡ u) × (now (args .1 .1 .1 .0) ≡ b)
+  pub given : (now (args .0) ≡ log) × (now (args .1 .0) ≡ i) × (args .1 .1 .0 ≡ archive) × (args .1 .1 .1 .0 ≡ u) × (now (args .1 .1 .1 .1 .0) ≡ b)
   pub gave : o ≡ outcome (result .number) (result .place) (now (exit .0)) [] 0
+  pub kept : j ≡ now (exit .1 .0)
+
+-- `take_row` at unit u, on a log and an index, of a row of blocks
+pub record RanTakeRow (archive u : ℕ) (log i row : List ℕ) (o : RowKept) : Type 0 where
+  pub κs : Lfts 3
+  pub args : Dens κs TakeRow.ps
+  pub result : resT TakeRow.r κs .Denot
+  pub exit : AtExit (endedOf 3 TakeRow.ps TakeRow.r) κs
+  pub learnt : TakeRowLearnt κs args result exit
+  pub given : (now (args .0) ≡ log) × (now (args .1 .0) ≡ i) × (args .1 .1 .0 ≡ archive) × (args .1 .1 .1 .0 ≡ u) × (now (args .1 .1 .1 .1 .0) ≡ row)
+  pub gave : o ≡ rowKept (result .number) (result .place) (result .taken) (result .stopped) (now (exit .0)) (now (exit .1 .0))
 
 -- `show_tree` of a log, into a lent tree table
 pub record RanShow (log lent : List ℕ) (o : Outcome) : Type 0 where
