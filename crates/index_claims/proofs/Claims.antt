@@ -9,7 +9,7 @@ use mathlib.Core.List.{List, [], _∷_, _++_}
 use lib.ListN.{length, replicate, length-append, replicate-append-replicate}
 use Rattle.byte_slice.proofs.PutAt.{padded-nil}
 use Rattle.model.specs.Bytes.{padded}
-use Rattle.model.specs.Record.{Rec, op}
+use Rattle.model.specs.Record.{Rec, root, op}
 use Rattle.model.specs.Log.{soundAfter}
 use Rattle.model.specs.Replay.{Entry, Tree, Verdict, fits, aside, emptyTree, holderOf, presentOnes, judge, effect, apply, step, replayFrom, replay}
 use Rattle.log_laws.specs.Members.{Has as Member}
@@ -18,7 +18,7 @@ use Rattle.tree_judge.specs.Judged.{Asks}
 use Rattle.log_laws.proofs.Tests.{sound-means}
 use Rattle.tree_laws.proofs.Labels.{Apart, apart-replay}
 use Rattle.tree_laws.proofs.Tables.{entries-few}
-use Rattle.tree_laws.proofs.Claims.{no-record-twice}
+use Rattle.tree_laws.proofs.Claims.{named-of}
 use Rattle.tree_laws.proofs.Settling.{replay-append}
 use Rattle.index_model.specs.Index.{ordered, indexRows, indexBytes, indexOf, findIn, listIn, madeOf}
 use Rattle.index_model.specs.Acting.{changeIn, stepIn}
@@ -35,17 +35,17 @@ unfolding replay emptyTree
 apart l = apart-replay emptyTree l tt
 
 module _ (l : List Rec) (sound : soundAfter [] l ≡ true) (few : length l ≤ 512) (f : ℕ) (fits : f < 4294967296) where
-  -- I1: looking up a folder and a label gives the identity of the one entry that has them, or 0 where the tree has none
-  pub find-exact : (t : List ℕ) → findIn (indexOf (replay l)) f t ≡ madeOf (holderOf f t (replay l .entries))
+  -- I1: looking up a folder and a label, in capitals or small letters, gives the identity of the one entry that has them, or 0 where the tree has none
+  pub find-exact : (t : List ℕ) → findIn (indexOf (replay l)) f t ≡ madeOf (holderOf root f t (replay l .entries))
   unfolding indexOf
   find-exact t =
-      find-right (replay l .entries) (omega (arith, entries-few l)) (sound-rowed l (sound-means l sound) few) f fits nobody t (apart l)
+      find-right (replay l .entries) (omega (arith, entries-few l)) (sound-rowed l (sound-means l sound) few) f fits nobody t (apart l) (named-of l (sound-means l sound))
 
   -- I2: listing a folder gives its entries and no other, each once, in label order
   pub list-exact : Listed f (replay l .entries) (listIn (indexOf (replay l)) f)
   unfolding indexOf
   list-exact =
-      list-right (replay l .entries) (omega (arith, entries-few l)) (sound-rowed l (sound-means l sound) few) f fits nobody (apart l) (no-record-twice l sound .1)
+      list-right (replay l .entries) (omega (arith, entries-few l)) (sound-rowed l (sound-means l sound) few) f fits nobody (apart l) (named-of l (sound-means l sound))
 
 -- ---- the index kept
 
@@ -59,7 +59,7 @@ sound-front pre [] m s = tt
 sound-front pre (r ∷ l) m s = (s .0, sound-front (r ∷ pre) l m (s .1))
 
 fit-of : (l : List Rec) → Sound l → length l ≤ 512 → Fit (replay l .entries)
-fit-of l s few = record { apart = apart l; rowed = sound-rowed l s few; few = omega (arith, entries-few l) }
+fit-of l s few = record { apart = apart l; named = named-of l s; rowed = sound-rowed l s few; few = omega (arith, entries-few l) }
 
 last-of : (l : List Rec) (r : Rec) → Member r (l ++ (r ∷ []))
 last-of [] r = inl refl

@@ -8,9 +8,10 @@ use mathlib.Core.List.{List}
 use lib.Dec.{ltb, eqb}
 use lib.ListN.{length, take, drop, replicate}
 use borrow.Author.Tests.{eq-eqb, ne-eqb, lt-ltb, le-ltb, ltb-true, not-true, not-false}
-use Rattle.byte_slice.proofs.Numbers.{and-true}
-use Rattle.byte_slice.proofs.Parts.{part-is}
-use Rattle.model.specs.Bytes.{sameBytes}
+use Rattle.byte_slice.proofs.Numbers.{and-true, and-wrong, test-false}
+use Rattle.byte_slice.proofs.Parts.{part-is, part-length}
+use Rattle.record_label.proofs.Same.{same-key, key-length}
+use Rattle.model.specs.Bytes.{part}
 use Rattle.model.specs.Record.{identityAt}
 use Rattle.model.specs.Replay.{sameLabel}
 use Rattle.index_model.specs.Index.{folderKey, keyBefore, rowBefore, rowsIn, folderAt, labelAt, entryAt, rowIs, halve, seek, findIn, firstIn, endIn, found, findOf, range, rangeOf}
@@ -34,8 +35,18 @@ module _ (b : List ℕ) (f : ℕ) (t : List ℕ) (i : ℕ) where
       unfolding rowIs folderAt
       row-other g = rw (← e, lt-ltb i n h, ← p, ne-eqb k f g)
 
-      pub row-same : k ≡ f → (r : Bool) → r ≡ sameBytes (take (4 + 40 * i + 4 + 32 - (4 + 40 * i + 4)) (drop (4 + 40 * i + 4) b)) t → r ≡ rowIs b f t i
-      unfolding rowIs folderAt labelAt sameLabel
+      -- a label of another length is in no row
+      pub row-short : length b ≡ 20484 → n ≤ 512 → (length t ≡ 32 → ⊥) → false ≡ rowIs b f t i
+      unfolding rowIs labelAt
+      row-short m few g =
+          let l = part b (4 + 40 * i + 4) 32 in
+          let s : sameLabel l t ≡ false =
+          test-false (sameLabel l t)
+          (λ q. g (sym (key-length t) ∙ ap length (sym (same-key l t q)) ∙ key-length l ∙ part-length b (4 + 40 * i + 4) 32 (omega arith))) in
+          rw (s, and-wrong (eqb (folderAt b i) f), and-wrong (ltb i (rowsIn b)))
+
+      pub row-same : k ≡ f → (r : Bool) → r ≡ sameLabel (take (4 + 40 * i + 4 + 32 - (4 + 40 * i + 4)) (drop (4 + 40 * i + 4) b)) t → r ≡ rowIs b f t i
+      unfolding rowIs folderAt labelAt
       row-same g r q = q ∙ rw (← e, lt-ltb i n h, ← p, eq-eqb k f g, part-is b (4 + 40 * i + 4) 32)
 
 -- ---- the answers

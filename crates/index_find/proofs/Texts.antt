@@ -12,7 +12,8 @@ use lib.Seq.{drop-nil}
 use borrow.Author.Tests.{eq-eqb, ne-eqb, lt-ltb, le-ltb}
 use Rattle.byte_slice.proofs.Numbers.{lt-or-ge}
 use Rattle.byte_slice.proofs.Parts.{drop-more}
-use Rattle.index_model.specs.Index.{labelKey, comesBefore, keyBefore}
+use Rattle.model.specs.Replay.{lower, labelKey}
+use Rattle.index_model.specs.Index.{comesBefore, keyBefore}
 
 or-right : (a : Bool) → (a || false) ≡ a
 or-right true = refl
@@ -23,29 +24,29 @@ gone i [] h = drop-nil i
 gone zero (x ∷ s) h = absurd (omega arith)
 gone (suc i) (x ∷ s) h = gone i s (omega arith)
 
-module _ (a b : List ℕ) (i : ℕ) (inv : comesBefore (drop i a) (drop i b) ≡ comesBefore a b) where
-  pub before-short : i < length a → length b ≤ i → false ≡ comesBefore a b
-  unfolding comesBefore
+module _ (a b : List ℕ) (i : ℕ) (inv : comesBefore (labelKey (drop i a)) (labelKey (drop i b)) ≡ comesBefore (labelKey a) (labelKey b)) where
+  pub before-short : i < length a → length b ≤ i → false ≡ comesBefore (labelKey a) (labelKey b)
+  unfolding comesBefore labelKey
   before-short h g = rw (drop-more a i h, gone i b g) at inv
 
-  pub before-end : length a ≤ i → i ≤ length b → ltb i (length b) ≡ comesBefore a b
-  unfolding comesBefore
+  pub before-end : length a ≤ i → i ≤ length b → ltb i (length b) ≡ comesBefore (labelKey a) (labelKey b)
+  unfolding comesBefore labelKey
   before-end h g =
       ⊎-elim
       (λ (k : i < length b). rw (lt-ltb i (length b) k) (rw (gone i a h, drop-more b i k) at inv))
       (λ (k : length b ≤ i). rw (le-ltb i (length b) k) (rw (gone i a h, gone i b k) at inv))
       (lt-or-ge i (length b))
 
-  module _ (h : i < length a) (g : i < length b) where
-    both : (ltb (getD a i 0) (getD b i 0) || (eqb (getD a i 0) (getD b i 0) && comesBefore (drop (i + 1) a) (drop (i + 1) b))) ≡ comesBefore a b
-    unfolding comesBefore
-    both = rw (drop-more a i h, drop-more b i g) at inv
+  module _ (h : i < length a) (g : i < length b) (x y : ℕ) (p : x ≡ lower (getD a i 0)) (q : y ≡ lower (getD b i 0)) where
+    both : (ltb x y || (eqb x y && comesBefore (labelKey (drop (i + 1) a)) (labelKey (drop (i + 1) b)))) ≡ comesBefore (labelKey a) (labelKey b)
+    unfolding comesBefore labelKey
+    both = rw (p, q) (rw (drop-more a i h, drop-more b i g) at inv)
 
-    pub before-differs : (getD a i 0 ≡ getD b i 0 → ⊥) → ltb (getD a i 0) (getD b i 0) ≡ comesBefore a b
-    before-differs n = sym (or-right (ltb (getD a i 0) (getD b i 0))) ∙ (rw (ne-eqb (getD a i 0) (getD b i 0) n) at both)
+    pub before-differs : (x ≡ y → ⊥) → ltb x y ≡ comesBefore (labelKey a) (labelKey b)
+    before-differs n = sym (or-right (ltb x y)) ∙ (rw (ne-eqb x y n) at both)
 
-    pub before-next : getD a i 0 ≡ getD b i 0 → comesBefore (drop (i + 1) a) (drop (i + 1) b) ≡ comesBefore a b
-    before-next e = rw (le-ltb (getD a i 0) (getD b i 0) (omega arith), eq-eqb (getD a i 0) (getD b i 0) e) at both
+    pub before-next : x ≡ y → comesBefore (labelKey (drop (i + 1) a)) (labelKey (drop (i + 1) b)) ≡ comesBefore (labelKey a) (labelKey b)
+    before-next e = rw (le-ltb x y (omega arith), eq-eqb x y e) at both
 
 module _ (f : ℕ) (t : List ℕ) (g : ℕ) (s : List ℕ) where
   pub key-less : f < g → true ≡ keyBefore f t g s
@@ -56,6 +57,6 @@ module _ (f : ℕ) (t : List ℕ) (g : ℕ) (s : List ℕ) where
   unfolding keyBefore
   key-more h = rw (le-ltb f g (omega arith), ne-eqb f g (omega arith))
 
-  pub key-text : g ≤ f → f ≤ g → (r : Bool) → r ≡ comesBefore t s → r ≡ keyBefore f t g s
-  unfolding keyBefore labelKey
+  pub key-text : g ≤ f → f ≤ g → (r : Bool) → r ≡ comesBefore (labelKey t) (labelKey s) → r ≡ keyBefore f t g s
+  unfolding keyBefore
   key-text h k r e = rw (le-ltb f g h, eq-eqb f g (omega arith)) e

@@ -2,6 +2,7 @@
 ghost use mathlib.Core.Path.{_≡_};
 ghost use Prim.Native.Nat.{_+_, _*_, _≤_, _<_};
 ghost use lib.ListN.{length};
+ghost use Rattle.model.specs.Replay.{labelKey};
 ghost use Rattle.index_model.specs.Index.{indexSize, comesBefore, folderKey, keyBefore, rowBefore, rowsIn, rowIs, entryAt, halve, found, findOf, range, rangeOf};
 use index_model::INDEX_BYTES;
 
@@ -18,17 +19,19 @@ pub struct Range {
     pub count: usize,
 }
 
-// A text comes before another, byte by byte; one that is a front of the other comes first.
+// A label comes before another, byte by byte, A to Z as a to z; one that is a front of the other comes first.
 pub fn comes_before(a: &[u8], b: &[u8]) -> bool
-    ensures { λ r. ⌜ r ≡ comesBefore (now (a .entry)) (now (b .entry)) ⌝ }
+    ensures { λ r. ⌜ r ≡ comesBefore (labelKey (now (a .entry))) (labelKey (now (b .entry))) ⌝ }
 {
     let mut i: usize = 0;
     while i < a.len() {
         if b.len() <= i {
             return false;
         }
-        if a[i] != b[i] {
-            return a[i] < b[i];
+        let x = record_label::lower(a[i]);
+        let y = record_label::lower(b[i]);
+        if x != y {
+            return x < y;
         }
         i += 1;
     }
@@ -99,7 +102,7 @@ pub fn seek(index: &[u8], n: usize, key: u64, label: &[u8]) -> usize
     lo
 }
 
-// Row i is one of n rows, of the folder, and has the label.
+// Row i is one of n rows, of the folder, and has the label, in capitals or small letters.
 pub fn row_is(index: &[u8], n: usize, i: usize, folder: u32, label: &[u8]) -> bool
     requires { ⌜ (length (now index) ≡ indexSize) × (n ≡ rowsIn (now index)) × (n ≤ 512) ⌝ }
     ensures { λ r. ⌜ r ≡ rowIs (now (index .entry)) folder (now (label .entry)) i ⌝ }
@@ -111,8 +114,11 @@ pub fn row_is(index: &[u8], n: usize, i: usize, folder: u32, label: &[u8]) -> bo
     if tree_table::identity_at(index, at) != folder {
         return false;
     }
+    if label.len() != 32 {
+        return false;
+    }
     let from = at + 4;
-    byte_slice::same(&index[from..from + 32], label)
+    record_label::same_label(&index[from..from + 32], label)
 }
 
 // The entry in row i.

@@ -13,17 +13,17 @@ use borrow.Author.Tests.{le-leb, lt-leb, eq-eqb, ne-eqb}
 use Rattle.byte_slice.proofs.Numbers.{bool-cases, cond-cases, and-true}
 use Rattle.model.specs.Bytes.{two, padded}
 use Rattle.model.specs.Record.{Rec, op, selfOf, objectOf, folderOf, labelOf}
-use Rattle.model.specs.Replay.{Entry, Tree, isPresent, entryOf, newEntry, stored, renamed, removed, changed, effect, presentOnes}
+use Rattle.model.specs.Replay.{Entry, Tree, labelKey, isPresent, entryOf, newEntry, stored, renamed, removed, changed, effect, presentOnes}
 use Rattle.log_laws.proofs.Members.{All}
-use Rattle.tree_laws.specs.Replayed.{Has}
-use Rattle.tree_laws.proofs.Labels.{Apart, Clash}
+use Rattle.tree_laws.specs.Replayed.{Has, makers}
+use Rattle.tree_laws.proofs.Labels.{Apart, Clash, Named, has-made}
 use Rattle.tree_laws.proofs.Steps.{effect-elim, withEntries}
-use Rattle.index_model.specs.Index.{labelKey, folderKey, entryBefore, keyBefore, placed, ordered, indexRow, indexRows, indexBytes, indexOf, rowsIn, seek, rowIs}
+use Rattle.index_model.specs.Index.{folderKey, entryBefore, keyBefore, placed, ordered, indexRow, indexRows, indexBytes, indexOf, rowsIn, seek, rowIs}
 use Rattle.index_model.specs.Change.{rowBytes, putIn, takeRow, takeOut, moveIn}
 use Rattle.index_model.specs.Acting.{removedIn, renamedIn, changeIn}
 use Rattle.index_laws.proofs.Sorted.{Sorted, ordered-sorted, ordered-has, has-ordered}
 use Rattle.index_laws.proofs.Reading.{Long, rows-counted, has-at, key-one}
-use Rattle.index_laws.proofs.Exact.{Rowed, low-32, all-has, has-all, has-present, length-ordered, key-label, label-one, There, row-there}
+use Rattle.index_laws.proofs.Exact.{Rowed, low-32, all-has, has-all, has-present, length-ordered, There, row-there}
 use Rattle.index_laws.proofs.Unique.{SameKey, KeysApart, ordered-more, ordered-less, without}
 use Rattle.index_laws.proofs.Changing.{put-right, row-less}
 
@@ -96,7 +96,7 @@ module _ (p : List Entry) (x : Entry) (q : List Entry) where
         let is : y ≡ x =
         ⊎-elim
         (λ z. z)
-        (λ i. absurd (keys-middle p x q keys y i (ap folderKey (sym (w .folder)), ap labelKey (sym (w .label)))))
+        (λ i. absurd (keys-middle p x q keys y i (ap folderKey (sym (w .folder)), sym (w .label))))
         (middle-has y (has-ordered m y (has-at l r d (w .low)))) in
         let o : ordered (p ++ q) ≡ without r l =
         ordered-less m (p ++ q) r d (w .low) keys (keys-less p x q keys)
@@ -229,30 +229,39 @@ present-gone (e ∷ a) x c p =
 
 pub record Fit (es : List Entry) : Type 0 where
   pub apart : Apart es
+  pub named : Named es
   pub rowed : All Rowed (presentOnes es)
   pub few : length (presentOnes es) ≤ 512
 
-same-clash : (e x : Entry) → isPresent e ≡ true → isPresent x ≡ true → Rowed e → Rowed x → SameKey e x → Clash e x
-same-clash e x p q r s k =
-    (p, q, sym (key-one (e .inside) (x .inside) (low-32 (e .inside) (r .1)) (low-32 (x .inside) (s .1)) (k .0)), sym (label-one (e .label) (x .label) (key-label (e .label) (x .label) (k .1))))
-
-keys-of : (es : List Entry) → Apart es → All Rowed (presentOnes es) → KeysApart (presentOnes es)
-unfolding presentOnes
-keys-of [] a r = tt
-keys-of (e ∷ es) a r =
+keys-of : (es : List Entry) → Apart es → Named es → All Rowed (presentOnes es) → KeysApart (presentOnes es)
+unfolding presentOnes makers
+keys-of [] a n r = tt
+keys-of (e ∷ es) a n r =
+    let m : Named es = record { once = n .once .1; none-root = λ y i. n .none-root y (inr i) } in
     ⊎-elim
     (λ (c : isPresent e ≡ true).
     let s : All Rowed (e ∷ presentOnes es) = rw c at r in
     rw c (
-      λ x i k. let (j, q) = has-present es x i in a .0 x j (same-clash e x c q (s .0) (has-all Rowed (presentOnes es) x (s .1) i) k),
-      keys-of es (a .1) (s .1),
+      λ x i k.
+          let (j, q) = has-present es x i in
+          let low = has-all Rowed (presentOnes es) x (s .1) i .1 in
+          a .0 x j (record {
+            here = c;
+            there = q;
+            folder = sym (key-one (e .inside) (x .inside) (low-32 (e .inside) (s .0 .1)) (low-32 (x .inside) low) (k .0));
+            key = sym (k .1);
+            two = λ (z : x .made ≡ e .made). n .once .0 (rw z at (has-made es x j));
+            first = n .none-root e (inl refl);
+            second = n .none-root x (inr j);
+          }),
+      keys-of es (a .1) m (s .1),
     ))
-    (λ (c : isPresent e ≡ false). rw c (keys-of es (a .1) (rw c at r)))
+    (λ (c : isPresent e ≡ false). rw c (keys-of es (a .1) m (rw c at r)))
     (bool-cases (isPresent e))
 
 module _ (es : List Entry) (fit : Fit es) where
   keys : KeysApart (presentOnes es)
-  keys = keys-of es (fit .apart) (fit .rowed)
+  keys = keys-of es (fit .apart) (fit .named) (fit .rowed)
 
 removed-gone : (x : Entry) → isPresent (removed x) ≡ false
 unfolding isPresent removed

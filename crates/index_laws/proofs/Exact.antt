@@ -12,15 +12,15 @@ use lib.ListN.{getD, length, take, drop, replicate}
 use lib.Seq.{drop-nil, take-nil}
 use borrow.Author.Tests.{ltb-true, ltb-false, lt-ltb, le-ltb, eqb-true, eq-eqb, ne-eqb}
 use Rattle.byte_slice.proofs.Numbers.{lt-or-ge, bool-cases, cond-cases, and-true, true-and, and-wrong, not-both, test-false, test-true}
-use Rattle.byte_slice.proofs.Compare.{same-eq, eq-same}
-use Rattle.model.specs.Bytes.{sameBytes}
-use Rattle.model.specs.Replay.{Entry, Tree, isPresent, isIn, sameLabel, holderOf, presentOnes}
+use Rattle.record_label.proofs.Same.{same-key, key-same as same-of-key}
+use Rattle.model.specs.Record.{root}
+use Rattle.model.specs.Replay.{Entry, Tree, labelKey, isPresent, isIn, sameLabel, isHolder, holderOf, presentOnes}
 use Rattle.log_laws.proofs.Members.{All, all-at}
 use Rattle.tree_laws.specs.Replayed.{Has, Distinct, makers}
-use Rattle.tree_laws.proofs.Labels.{Apart, the-holder, one-label}
-use Rattle.index_model.specs.Index.{labelKey, comesBefore, folderKey, keyBefore, entryBefore, placed, ordered, indexBytes, indexOf, rowsIn, folderAt, labelAt, entryAt, rowBefore, rowIs, seek, findIn, firstIn, endIn, entriesIn, listIn, inFolder, madeOf}
+use Rattle.tree_laws.proofs.Labels.{Apart, Named, holds-from, the-holder, holder-key, one-label}
+use Rattle.index_model.specs.Index.{comesBefore, folderKey, keyBefore, entryBefore, placed, ordered, indexBytes, indexOf, rowsIn, folderAt, labelAt, entryAt, rowBefore, rowIs, seek, findIn, firstIn, endIn, entriesIn, listIn, inFolder, madeOf}
 use Rattle.index_laws.specs.Listed.{Rising, Listed}
-use Rattle.index_laws.proofs.Sorted.{Sorted, ordered-sorted, ordered-has, has-ordered, has-placed, Sought, key-same, key-not-self}
+use Rattle.index_laws.proofs.Sorted.{Sorted, ordered-sorted, ordered-has, has-ordered, has-placed, Sought, key-same, key-not-self, key-instead}
 use Rattle.index_laws.proofs.Reading.{Long, rows-counted, folder-back, label-back, entry-back, before-back, entries-back, has-at, place-of, sorted-at, entry-keys, seek-finds, rows-rise, key-one, key-blank}
 
 -- ---- members
@@ -75,18 +75,18 @@ length-ordered (e ∷ l) = length-placed e (ordered l) ∙ ap suc (length-ordere
 
 -- ---- the holder of a label
 
-holder-some : (f : ℕ) (t : List ℕ) (es : List Entry) (h : Entry) → holderOf f t es ≡ some h → Has h es × (isPresent h ≡ true) × (h .inside ≡ f) × (h .label ≡ t)
-unfolding holderOf isIn sameLabel
-holder-some f t [] h e = absurd (let z : _≡_ {A = ℕ} 0 1 = cc in omega arith)
-holder-some f t (x ∷ es) h e =
+holder-some : (k f : ℕ) (t : List ℕ) (es : List Entry) (h : Entry) → holderOf k f t es ≡ some h
+    → Has h es × (isPresent h ≡ true) × (h .inside ≡ f) × (labelKey (h .label) ≡ labelKey t)
+unfolding holderOf
+holder-some k f t [] h e = absurd (let z : _≡_ {A = ℕ} 0 1 = cc in omega arith)
+holder-some k f t (x ∷ es) h e =
     ⊎-elim
     (λ c.
     let q : h ≡ x = cc in
-    let (u, v) = and-true (isPresent x && eqb (x .inside) f) (sameBytes (x .label) t) (c .0) in
-    let (a, b) = and-true (isPresent x) (eqb (x .inside) f) u in
-    (inl q, ap isPresent q ∙ a, ap (λ (y : Entry). y .inside) q ∙ eqb-true (x .inside) f b, ap (λ (y : Entry). y .label) q ∙ same-eq (x .label) t v))
-    (λ c. let u = holder-some f t es h (sym (c .1) ∙ e) in (inr (u .0), u .1, u .2, u .3))
-    (cond-cases ((isPresent x && eqb (x .inside) f) && sameBytes (x .label) t) (some x) (holderOf f t es))
+    let (u, v, w, _) = holds-from k f t x (c .0) in
+    (inl q, ap isPresent q ∙ u, ap (λ (y : Entry). y .inside) q ∙ v, ap (λ (y : Entry). labelKey (y .label)) q ∙ w))
+    (λ c. let u = holder-some k f t es h (sym (c .1) ∙ e) in (inr (u .0), u .1, u .2, u .3))
+    (cond-cases (isHolder k f t x) (some x) (holderOf k f t es))
 
 made-some : (x : Entry) → x .made ≡ madeOf (some x)
 unfolding madeOf
@@ -95,15 +95,6 @@ made-some x = refl
 made-none : 0 ≡ madeOf none
 unfolding madeOf
 made-none = refl
-
--- labels that compare as one are the same label
-pub key-label : (a c : List ℕ) → labelKey a ≡ labelKey c → sameLabel a c ≡ true
-unfolding labelKey sameLabel
-key-label a c e = eq-same a c e
-
-pub label-one : (a c : List ℕ) → sameLabel a c ≡ true → a ≡ c
-unfolding sameLabel
-label-one a c e = same-eq a c e
 
 -- ---- the entries of a folder
 
@@ -225,7 +216,7 @@ distinct-ordered (e ∷ l) u =
 
 -- ---- in label order
 
-module _ (es : List Entry) (a : Apart es) (f : ℕ) where
+module _ (es : List Entry) (a : Apart es) (one : Named es) (f : ℕ) where
   text-rises : (e x : Entry) → Has e es → Has x es → isIn f e ≡ true → isIn f x ≡ true → entryBefore x e ≡ false → (e .made ≡ x .made → ⊥)
       → comesBefore (labelKey (e .label)) (labelKey (x .label)) ≡ true
   unfolding keyBefore
@@ -236,7 +227,7 @@ module _ (es : List Entry) (a : Apart es) (f : ℕ) where
       let m : keyBefore (folderKey (e .inside)) (e .label) (folderKey (x .inside)) (x .label) ≡ false =
       rw (le-ltb (folderKey (e .inside)) (folderKey (x .inside)) (omega arith), c, and-wrong (eqb (folderKey (e .inside)) (folderKey (x .inside)))) in
       let (u, v) = key-same (folderKey (e .inside)) (e .label) (folderKey (x .inside)) (x .label) m (entry-keys x e s) in
-      n (ap (λ (y : Entry). y .made) (one-label es a e x i j (in-present f e p, in-present f x q, in-inside f x q ∙ sym (in-inside f e p), sym (label-one (e .label) (x .label) (key-label (e .label) (x .label) v))))))
+      n (ap (λ (y : Entry). y .made) (one-label es a one e x i j (in-present f e p) (in-present f x q) (in-inside f x q ∙ sym (in-inside f e p)) (sym v))))
 
   rising-of : (l : List Entry) → Sorted l → Distinct (makers l) → ((x : Entry) → Has x l → Has x es × (isIn f x ≡ true)) → Rising l
   unfolding makers
@@ -253,18 +244,18 @@ pub record There (l : List Entry) (f : ℕ) (t : List ℕ) (d : Entry) (r : ℕ)
   pub found : rowIs (indexBytes l) f t r ≡ true
   pub low : r < length l
   pub folder : getD l r d .inside ≡ f
-  pub label : getD l r d .label ≡ t
+  pub label : labelKey (getD l r d .label) ≡ labelKey t
 
 -- where an entry has the folder and the label, seeking finds a row that has them
 pub row-there : (l : List Entry) (few : length l ≤ 512) (long : All Long l) → Sorted l → ((x : Entry) → Has x l → Rowed x) → (f : ℕ) → f < 4294967296 → (d : Entry) (t : List ℕ)
-    → (h : Entry) → Has h l → h .inside ≡ f → h .label ≡ t → There l f t d (seek (indexBytes l) (folderKey f) t)
+    → (h : Entry) → Has h l → h .inside ≡ f → labelKey (h .label) ≡ labelKey t → There l f t d (seek (indexBytes l) (folderKey f) t)
 unfolding rowIs
 row-there l few long sorted rowed f fits d t h i p q =
     let k = folderKey f in
     let r = seek (indexBytes l) k t in
     let w = seek-finds l few long sorted d k t in
     let (j, jn, je) = place-of l h d i in
-    let not-j : rowBefore (indexBytes l) k t j ≡ false = before-back l few long j d jn k t ∙ rw (je, p, q) (key-not-self k t) in
+    let not-j : rowBefore (indexBytes l) k t j ≡ false = before-back l few long j d jn k t ∙ rw (je, p) (key-instead k (h .label) t k t q ∙ key-not-self k t) in
     let rj : r ≤ j =
     ⊎-elim
     (λ (c : j < r). absurd (not-both (rowBefore (indexBytes l) k t j) (w .before j (omega arith) c) not-j))
@@ -273,16 +264,17 @@ row-there l few long sorted rowed f fits d t h i p q =
     let rn : r < length l = omega arith in
     let x = getD l r d in
     let u : keyBefore (folderKey (x .inside)) (x .label) k t ≡ false = sym (before-back l few long r d rn k t) ∙ w .at rn in
-    let v : keyBefore k t (folderKey (x .inside)) (x .label) ≡ false = rw (je, p, q) at (entry-keys (getD l j d) x (sorted-at l sorted r j d rj jn)) in
+    let v : keyBefore k t (folderKey (x .inside)) (x .label) ≡ false =
+    sym (key-instead k (h .label) t (folderKey (x .inside)) (x .label) q) ∙ (rw (je, p) at (entry-keys (getD l j d) x (sorted-at l sorted r j d rj jn))) in
     let (m, o) = key-same (folderKey (x .inside)) (x .label) k t u v in
     let xi : x .inside ≡ f = key-one (x .inside) f (low-32 (x .inside) (rowed x (has-at l r d rn) .1)) fits m in
     record {
       found =
           rw (rows-counted l few long, lt-ltb r (length l) rn, folder-back l few long r d rn, label-back l few long r d rn, eq-eqb (x .inside) f xi)
-          (key-label (x .label) t o);
+          (same-of-key (x .label) t o);
       low = rn;
       folder = xi;
-      label = label-one (x .label) t (key-label (x .label) t o);
+      label = o;
     }
 
 module _ (es : List Entry) (few : length (presentOnes es) ≤ 512) (rowed : All Rowed (presentOnes es)) where
@@ -321,12 +313,12 @@ module _ (es : List Entry) (few : length (presentOnes es) ≤ 512) (rowed : All 
       r = seek b (folderKey f) t
 
       -- where an entry has the folder and the label, seeking finds a row that has them
-      row-found : (h : Entry) → Has h L → h .inside ≡ f → h .label ≡ t → rowIs b f t r ≡ true
+      row-found : (h : Entry) → Has h L → h .inside ≡ f → labelKey (h .label) ≡ labelKey t → rowIs b f t r ≡ true
       unfolding b r
       row-found h i p q = row-there L L-few L-long L-sorted L-rowed f f-fits d t h i p q .found
 
       -- a row that has the folder and the label holds an entry that has them
-      row-holds : rowIs b f t r ≡ true → (x : Entry) × Has x L × (x .inside ≡ f) × (x .label ≡ t) × (entryAt b r ≡ x .made)
+      row-holds : rowIs b f t r ≡ true → (x : Entry) × Has x L × (x .inside ≡ f) × (labelKey (x .label) ≡ labelKey t) × (entryAt b r ≡ x .made)
       unfolding rowIs b r
       row-holds e =
           let k = folderKey f in
@@ -337,32 +329,32 @@ module _ (es : List Entry) (few : length (presentOnes es) ≤ 512) (rowed : All 
             getD L n d,
             has-at L n d rn,
             sym (folder-back L L-few L-long n d rn) ∙ eqb-true (folderAt (indexBytes L) n) f p,
-            sym (label-back L L-few L-long n d rn) ∙ label-one (labelAt (indexBytes L) n) t q,
+            ap labelKey (sym (label-back L L-few L-long n d rn)) ∙ same-key (labelAt (indexBytes L) n) t q,
             entry-back L L-few L-long n d rn,
           )
 
       -- looking up gives the holder's identity, or 0
-      find-L : Apart es → findIn (indexBytes L) f t ≡ madeOf (holderOf f t es)
+      find-L : Apart es → Named es → findIn (indexBytes L) f t ≡ madeOf (holderOf root f t es)
       unfolding findIn b r
-      find-L a =
+      find-L a one =
           ⊎-elim
           (λ (c : rowIs (indexBytes L) f t (seek (indexBytes L) (folderKey f) t) ≡ true).
           let (x, i, p, q, m) = row-holds c in
           let (j, k) = L-has x i in
-          let h : holderOf f t es ≡ some x = rw (p, q) at (the-holder es a x j k) in
+          let h : holderOf root f t es ≡ some x = sym (holder-key root f (x .label) t q es) ∙ (rw p at (the-holder es a one x j k)) in
           rw (c, m, h) (made-some x))
-          (λ (c : rowIs (indexBytes L) f t (seek (indexBytes L) (folderKey f) t) ≡ false). rw c (missing c (holderOf f t es) refl))
+          (λ (c : rowIs (indexBytes L) f t (seek (indexBytes L) (folderKey f) t) ≡ false). rw c (missing c (holderOf root f t es) refl))
           (bool-cases (rowIs (indexBytes L) f t (seek (indexBytes L) (folderKey f) t)))
         where
-          missing : rowIs (indexBytes L) f t (seek (indexBytes L) (folderKey f) t) ≡ false → (o : Option Entry) → holderOf f t es ≡ o → 0 ≡ madeOf o
+          missing : rowIs (indexBytes L) f t (seek (indexBytes L) (folderKey f) t) ≡ false → (o : Option Entry) → holderOf root f t es ≡ o → 0 ≡ madeOf o
           missing c none e = made-none
           missing c (some h) e =
-              let u = holder-some f t es h e in
+              let u = holder-some root f t es h e in
               absurd (not-both (rowIs (indexBytes L) f t (seek (indexBytes L) (folderKey f) t)) (row-found h (has-L h (u .0) (u .1)) (u .2) (u .3)) c)
 
-      pub find-right : Apart es → findIn (indexBytes (ordered (presentOnes es))) f t ≡ madeOf (holderOf f t es)
+      pub find-right : Apart es → Named es → findIn (indexBytes (ordered (presentOnes es))) f t ≡ madeOf (holderOf root f t es)
       unfolding L
-      find-right a = find-L a
+      find-right a one = find-L a one
 
     -- ---- listing
 
@@ -431,18 +423,18 @@ module _ (es : List Entry) (few : length (presentOnes es) ≤ 512) (rowed : All 
       λ i. filter-has f L e (has-L e (i .0) (in-present f e (i .1))) (i .1),
     )
 
-    list-right-L : Apart es → Distinct (makers es) → Listed f es (listIn (indexBytes L) f)
+    list-right-L : Apart es → Named es → Listed f es (listIn (indexBytes L) f)
     unfolding L
-    list-right-L a u =
-        let o : Distinct (makers (inFolder f L)) = distinct-filter f L (distinct-ordered (presentOnes es) (distinct-present es u)) in
+    list-right-L a one =
+        let o : Distinct (makers (inFolder f L)) = distinct-filter f L (distinct-ordered (presentOnes es) (distinct-present es (one .once))) in
         record {
           rows = inFolder f L;
           are = list-L;
           each = in-there;
           once = rw list-L o;
-          rising = rising-of es a f (inFolder f L) (filter-sorted f L L-sorted) o (λ x i. in-there x .0 i);
+          rising = rising-of es a one f (inFolder f L) (filter-sorted f L L-sorted) o (λ x i. in-there x .0 i);
         }
 
-    pub list-right : Apart es → Distinct (makers es) → Listed f es (listIn (indexBytes (ordered (presentOnes es))) f)
+    pub list-right : Apart es → Named es → Listed f es (listIn (indexBytes (ordered (presentOnes es))) f)
     unfolding L
-    list-right a u = list-right-L a u
+    list-right a one = list-right-L a one

@@ -16,12 +16,13 @@ use Rattle.byte_slice.proofs.Parts.{part-front, part-behind, part-whole}
 use Rattle.byte_slice.proofs.Words.{word-two}
 use Rattle.model.specs.Bytes.{word, two, part, padded}
 use Rattle.model.specs.Record.{identity, identityAt}
-use Rattle.model.specs.Replay.{Entry}
+use Rattle.model.specs.Replay.{Entry, lower, labelKey}
+use Rattle.record_label.proofs.Same.{key-length}
 use Rattle.model.specs.Table.{identityBytes}
 use Rattle.log_laws.proofs.Members.{All, all-at}
 use Rattle.tree_laws.specs.Replayed.{Has, makers}
 use Rattle.tree_table.proofs.Rows.{identity-behind}
-use Rattle.index_model.specs.Index.{labelKey, comesBefore, folderKey, keyBefore, entryBefore, indexRow, indexRows, indexBytes, halve, rowsIn, folderAt, labelAt, entryAt, rowBefore, seek, entriesIn}
+use Rattle.index_model.specs.Index.{comesBefore, folderKey, keyBefore, entryBefore, indexRow, indexRows, indexBytes, halve, rowsIn, folderAt, labelAt, entryAt, rowBefore, seek, entriesIn}
 use Rattle.index_laws.proofs.Sorted.{Sorted, Sought, sought, key-trans, key-same, key-not-self, same-keys}
 
 -- ---- rows
@@ -201,9 +202,16 @@ before-zeros [] (suc n) h = absurd (omega arith)
 before-zeros (x ∷ s) zero h = refl
 before-zeros (x ∷ s) (suc n) h = rw (le-ltb x 0 (omega arith), before-zeros s n (omega arith), and-wrong (eqb x 0))
 
+-- zeros are no letters
+key-zeros : (n : ℕ) → labelKey (replicate n 0) ≡ replicate n 0
+unfolding labelKey lower
+key-zeros zero = refl
+key-zeros (suc n) = ap (λ (t : List ℕ). 0 ∷ t) (key-zeros n)
+
 pub key-blank : (f : ℕ) (s : List ℕ) (g : ℕ) → length s ≡ 32 → keyBefore f s g (replicate 32 0) ≡ ltb f g
-unfolding keyBefore labelKey
-key-blank f s g n = rw (before-zeros s 32 (omega arith), and-wrong (eqb f g)) (or-right (ltb f g))
+unfolding keyBefore
+key-blank f s g n =
+    rw (key-zeros 32, before-zeros (labelKey s) 32 (omega (arith, key-length s)), and-wrong (eqb f g)) (or-right (ltb f g))
   where
     or-right : (a : Bool) → (a || false) ≡ a
     or-right true = refl

@@ -10,9 +10,9 @@ use lib.Dec.{ltb, eqb}
 use lib.ListN.{length, getD}
 use borrow.Author.Tests.{eqb-true, eqb-false, eq-eqb, ne-eqb, ltb-true, ltb-false, lt-ltb, le-ltb}
 use Rattle.byte_slice.proofs.Numbers.{lt-or-ge, eq-or-ne, bool-cases, cond-cases, and-true, or-true, true-and, test-false, not-both}
-use Rattle.model.specs.Replay.{Entry}
+use Rattle.model.specs.Replay.{Entry, labelKey}
 use Rattle.tree_laws.specs.Replayed.{Has}
-use Rattle.index_model.specs.Index.{labelKey, comesBefore, folderKey, keyBefore, entryBefore, placed, ordered, halve}
+use Rattle.index_model.specs.Index.{comesBefore, folderKey, keyBefore, entryBefore, placed, ordered, halve}
 
 -- ---- the order of texts
 
@@ -126,6 +126,11 @@ unfolding keyBefore
 key-not-self f t =
     test-false (ltb f f || (eqb f f && comesBefore (labelKey t) (labelKey t)))
     (λ p. ⊎-elim (λ (q : f < f). omega arith) (λ q. not-both (comesBefore (labelKey t) (labelKey t)) (q .1) (text-not-self (labelKey t))) (less f f (comesBefore (labelKey t) (labelKey t)) p))
+
+-- only the key of a label counts
+pub key-instead : (f : ℕ) (t s : List ℕ) (g : ℕ) (r : List ℕ) → labelKey t ≡ labelKey s → keyBefore f t g r ≡ keyBefore f s g r
+unfolding keyBefore
+key-instead f t s g r e = rw e
 
 pub entry-asym : (e x : Entry) → entryBefore e x ≡ true → entryBefore x e ≡ false
 unfolding entryBefore

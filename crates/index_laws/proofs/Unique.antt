@@ -8,9 +8,9 @@ use mathlib.Core.Bool.{Bool, true, false, cond}
 use mathlib.Core.List.{List, [], _∷_, _++_}
 use lib.ListN.{getD, length, take, drop}
 use Rattle.byte_slice.proofs.Numbers.{bool-cases, not-both, test-true}
-use Rattle.model.specs.Replay.{Entry}
+use Rattle.model.specs.Replay.{Entry, labelKey}
 use Rattle.tree_laws.specs.Replayed.{Has}
-use Rattle.index_model.specs.Index.{labelKey, folderKey, keyBefore, entryBefore, placed, ordered}
+use Rattle.index_model.specs.Index.{folderKey, keyBefore, entryBefore, placed, ordered}
 use Rattle.index_laws.proofs.Sorted.{Sorted, key-same, entry-trans, entry-asym, has-placed, placed-has, ordered-has, has-ordered}
 use Rattle.index_laws.proofs.Reading.{entry-keys, entry-not-self, has-at}
 

@@ -5,9 +5,9 @@ use mathlib.Core.Path.{_≡_}
 use mathlib.Core.Bool.{true}
 use mathlib.Core.Logic.{_↔_}
 use mathlib.Core.List.{List, [], _∷_}
-use Rattle.model.specs.Replay.{Entry, isIn}
+use Rattle.model.specs.Replay.{Entry, labelKey, isIn}
 use Rattle.tree_laws.specs.Replayed.{Has, Distinct, makers}
-use Rattle.index_model.specs.Index.{labelKey, comesBefore}
+use Rattle.index_model.specs.Index.{comesBefore}
 
 -- each label comes before all behind it
 abbrev pub Rising : List Entry → Type 0

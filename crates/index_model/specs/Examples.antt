@@ -1,5 +1,5 @@
 -- Examples of the ordered index, as rows of one table.
--- Document 02, K6.
+-- Document 02, K6 and K7.
 -- Assumes nothing.
 use Prim.Native.Nat.{ℕ, _-_}
 use mathlib.Core.Bool.{Bool, true, false, _&&_}
@@ -136,18 +136,33 @@ table =
     ∷ comes (0 · 2) (66 ∷ 66 ∷ []) (0 · 2) B false
     ∷ comes (0 · 2) (66 ∷ 0 ∷ []) (0 · 2) (66 ∷ 32 ∷ []) true
     ∷ comes (0 · 2) (66 ∷ 32 ∷ []) (0 · 2) (66 ∷ 0 ∷ []) false
-    ∷ comes (0 · 2) (97 ∷ []) (0 · 2) (90 ∷ []) false
     ∷ comes (0 · 2) A (0 · 2) A false
     ∷ comes (0 · 2) (replicate 31 65 ++ A) (0 · 2) (replicate 31 65 ++ B) true
     -- six rows, zeros, and the first: the root, "A"
     ∷ writes (folders ++ traces) 0 (6 ∷ 0 ∷ 0 ∷ 0 ∷ 0 ∷ 0 ∷ 0 ∷ 0 ∷ 65 ∷ 0 ∷ [])
     ∷ writes (folders ++ traces) 40 (1 ∷ 0 ∷ 1 ∷ 0 ∷ 0 ∷ 0 ∷ 0 ∷ 0 ∷ 66 ∷ 0 ∷ [])
+    -- capitals as small letters: a before Z, neither of A and a before the other, and the signs between Z and a before all letters
+    ∷ comes (0 · 2) (97 ∷ []) (0 · 2) (90 ∷ []) true
+    ∷ comes (0 · 2) (90 ∷ []) (0 · 2) (97 ∷ []) false
+    ∷ comes (0 · 2) A (0 · 2) (97 ∷ []) false
+    ∷ comes (0 · 2) (97 ∷ []) (0 · 2) A false
+    ∷ comes (0 · 2) (95 ∷ []) (0 · 2) A true
+    ∷ comes (0 · 2) (90 ∷ []) (0 · 2) (95 ∷ []) false
+    ∷ comes (0 · 2) (91 ∷ []) (0 · 2) (123 ∷ []) true
     -- the rows of an index: the root, 0.2, 1.1
     ∷ indexes [] []
     ∷ indexes (folders ++ traces) (1 · 1 ∷ 0 · 2 ∷ 0 · 1 ∷ 0 · 5 ∷ 0 · 4 ∷ 0 · 3 ∷ [])
     -- one that was removed is not listed; one that was renamed stands by its new label
     ∷ indexes (folders ++ (removes 4 (0 · 3) (2 ∷ 1 ∷ []) (0 · 1) ∷ [])) (1 · 1 ∷ 0 · 2 ∷ [])
     ∷ indexes (folders ++ (renames 4 (0 · 3) (2 ∷ 1 ∷ []) (1 · 1) (68 ∷ []) ∷ [])) (0 · 2 ∷ 0 · 1 ∷ 1 · 1 ∷ [])
+    -- in label order whatever the case: the line, then a, B and c
+    ∷ indexes
+    (makesTrace 3 (0 · 1) [] root (99 ∷ [])
+    ∷ makesTrace 3 (0 · 2) (1 ∷ []) root B
+    ∷ makesTrace 3 (0 · 3) (2 ∷ []) root (97 ∷ [])
+    ∷ makesTrace 3 (0 · 4) (3 ∷ []) root (95 ∷ [])
+    ∷ [])
+    (0 · 4 ∷ 0 · 3 ∷ 0 · 2 ∷ 0 · 1 ∷ [])
     -- the root, a folder between others, the last, one without entries, a trace, an entry that is not there
     ∷ lists (folders ++ traces) root 0 (1 · 1 ∷ 0 · 2 ∷ 0 · 1 ∷ [])
     ∷ lists (folders ++ traces) (0 · 2) 3 (0 · 5 ∷ 0 · 4 ∷ [])
@@ -159,6 +174,8 @@ table =
     ∷ finds (folders ++ traces) (0 · 2) (66 ∷ 66 ∷ []) (0 · 4)
     ∷ finds (folders ++ traces) (0 · 2) B (0 · 5)
     ∷ finds (folders ++ traces) root B (0 · 2)
+    ∷ finds (folders ++ traces) (0 · 2) (98 ∷ 66 ∷ []) (0 · 4)
+    ∷ finds (folders ++ traces) root (98 ∷ []) (0 · 2)
     ∷ finds (folders ++ traces) (0 · 2) A 0
     ∷ finds (folders ++ traces) (0 · 1) B 0
     ∷ finds (folders ++ traces) (0 · 2) [] 0
@@ -181,6 +198,8 @@ table =
     ∷ changes (folders ++ traces) (makesFolder 5 (0 · 6) (5 ∷ 1 ∷ []) (0 · 1) A) (1 · 1 ∷ 0 · 2 ∷ 0 · 1 ∷ 0 · 6 ∷ 0 · 5 ∷ 0 · 4 ∷ 0 · 3 ∷ 0 ∷ [])
     ∷ acts (folders ++ traces) (makesTrace 5 (0 · 0) [] (0 · 1) A)
     ∷ acts (folders ++ traces) (renames 5 (0 · 0) [] (0 · 5) C)
+    -- a rename to the own label in another case leaves the order
+    ∷ changes (folders ++ traces) (renames 5 (0 · 6) (5 ∷ 1 ∷ []) (0 · 5) (98 ∷ [])) (1 · 1 ∷ 0 · 2 ∷ 0 · 1 ∷ 0 · 5 ∷ 0 · 4 ∷ 0 · 3 ∷ 0 ∷ [])
     -- lengths
     ∷ lends 0 true
     ∷ lends 20484 true

@@ -1,6 +1,6 @@
 -- The index: 20,484 bytes that list the entries of a tree by folder and label.
 --   0-1 how many rows, 2-3 zero; from 4 on 512 rows of 40 bytes: 0-3 folder, 4-35 label, 36-39 entry. Rows that are not used are zero.
--- Document 02, K6.
+-- Document 02, K6 and K7.
 -- Assumes nothing.
 use Prim.Native.Nat.{ℕ, zero, suc, _+_, _-_, _*_, _/_, _%_, min}
 use mathlib.Core.Bool.{Bool, true, false, cond, _&&_, _||_}
@@ -11,7 +11,7 @@ use lib.ListN.{length, replicate}
 use Rattle.model.specs.Numbers.{badBuffer}
 use Rattle.model.specs.Bytes.{word, two, part, padded}
 use Rattle.model.specs.Record.{identityAt}
-use Rattle.model.specs.Replay.{Entry, Tree, isIn, sameLabel, presentOnes}
+use Rattle.model.specs.Replay.{Entry, Tree, labelKey, isIn, sameLabel, presentOnes}
 use Rattle.model.specs.Table.{identityBytes}
 
 -- the length of an index: 4 bytes and 512 rows of 40
@@ -24,10 +24,6 @@ indexPlaces = 512
 
 -- ---- the order
 
--- what of a label counts when two are compared: all of its bytes
-unfoldable pub labelKey : List ℕ → List ℕ
-labelKey t = t
-
 -- a comes before b, byte by byte; a text comes before one that goes on [F107]
 unfoldable pub comesBefore : List ℕ → List ℕ → Bool
 comesBefore [] [] = false
@@ -39,7 +35,7 @@ comesBefore (x ∷ a) (y ∷ b) = ltb x y || (eqb x y && comesBefore a b)
 unfoldable pub folderKey : ℕ → ℕ
 folderKey k = 536870912 * (k % 8) + k / 8
 
--- the label t in the folder of key f comes before the label s in that of key g [F107]
+-- the label t in the folder of key f comes before the label s in that of key g, A to Z as a to z [F107]
 unfoldable pub keyBefore : ℕ → List ℕ → ℕ → List ℕ → Bool
 keyBefore f t g s = ltb f g || (eqb f g && comesBefore (labelKey t) (labelKey s))
 

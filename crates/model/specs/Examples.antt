@@ -1,5 +1,5 @@
 -- The bench examples of document 01, and some of the same kind, as rows of one table.
--- Document 01, "Bench examples"; document 02, K1.
+-- Document 01, "Bench examples"; document 02, K1 to K3 and K7.
 -- Assumes nothing.
 use Prim.Native.Nat.{ℕ, zero, suc}
 use mathlib.Core.Bool.{Bool, true, false, cond, not, _&&_, _||_}
@@ -11,7 +11,7 @@ use Rattle.model.specs.Vector.{Compared, compareOf, comparisonOf, handed
 use Rattle.model.specs.Date.{isDate}
 use Rattle.model.specs.Record.{Rec, identity, unitOf, numberOf, root, wellFormed}
 use Rattle.model.specs.Log.{recordFault, soundAfter, vectorOf}
-use Rattle.model.specs.Replay.{Entry, Aside, Tree, replay, presentOnes, isDisputed}
+use Rattle.model.specs.Replay.{Entry, Aside, Tree, labelKey, replay, presentOnes, isDisputed}
 use Rattle.model.specs.Table.{identityBytes}
 use Rattle.model.specs.Block.{bodyBytes, archiveIn, senderIn, vectorIn}
 use Rattle.model.specs.File.{Fault, fault, blockCount, headerOf, blockAt}
@@ -151,6 +151,8 @@ pub data Row : Type 0 where
   date : ℕ → ℕ → ℕ → Bool → Row
   -- a record, and whether it is well formed
   formed : Rec → Bool → Row
+  -- a label, and what of it counts
+  counts : List ℕ → List ℕ → Row
   -- the records of a log, and the entries and asides that it shows
   tree : List Rec → List Shown → List Standing → Row
   -- the records of a log, the entries that it shows in every field, each with whether it is disputed, and its asides
@@ -251,6 +253,7 @@ right (whole l es ss) =
     && (showsWhole (replay l .asides) (presentOnes (replay l .entries)) es && showsAsides (replay l .asides) ss)
 right (date y m d b) = sameFlag (isDate y m d) b
 right (formed r b) = sameFlag (wellFormed r) b
+right (counts t k) = sameBytes (labelKey t) k
 right (tree l es ss) = shows l es ss
 right (takes l rs es ss) = soundAfter [] l && showsTaken (takeAll l rs) es ss
 right (refuses l rs n) = soundAfter [] l && isRefused (takeAll l rs) n
@@ -395,10 +398,37 @@ further =
     ∷ tree (makesTrace 3 (0 · 1) [] root A ∷ renames 3 (0 · 2) (1 ∷ []) (0 · 1) B ∷ makesTrace 3 (0 · 3) (2 ∷ []) root A ∷ [])
     ((0 · 1, B, 0 · 1, 0 · 2, false) ∷ (0 · 3, A, 0 · 3, 0 · 3, false) ∷ [])
     []
-    -- a rename to the entry's own label
-    ∷ tree (makesFolder 3 (0 · 1) [] root A ∷ renames 3 (0 · 2) (1 ∷ []) (0 · 1) A ∷ [])
-    ((0 · 1, A, 0 · 1, 0 · 1, true) ∷ [])
-    ((0 · 2, 15, 0 · 1, true) ∷ [])
+    -- capitals count as small letters, from A to Z, and no other byte changes
+    ∷ counts (65 ∷ 90 ∷ 64 ∷ 91 ∷ 95 ∷ 96 ∷ 123 ∷ 97 ∷ 122 ∷ 48 ∷ 0 ∷ []) (97 ∷ 122 ∷ 64 ∷ 91 ∷ 95 ∷ 96 ∷ 123 ∷ 97 ∷ 122 ∷ 48 ∷ 0 ∷ [])
+    -- a rename to the entry's own label, in the same bytes or in small letters, fits and is the last label record
+    ∷ tree (makesFolder 3 (0 · 1) [] root A ∷ renames 3 (0 · 2) (1 ∷ []) (0 · 1) A ∷ renames 3 (1 · 1) (1 ∷ []) (0 · 1) B ∷ [])
+    ((0 · 1, A, 0 · 1, 0 · 2, true) ∷ [])
+    ((1 · 1, 17, 0 · 1, true) ∷ [])
+    ∷ tree (makesFolder 3 (0 · 1) [] root A ∷ renames 3 (0 · 2) (1 ∷ []) (0 · 1) (97 ∷ []) ∷ renames 3 (1 · 1) (1 ∷ []) (0 · 1) B ∷ [])
+    ((0 · 1, 97 ∷ [], 0 · 1, 0 · 2, true) ∷ [])
+    ((1 · 1, 17, 0 · 1, true) ∷ [])
+    ∷ tree (makesTrace 3 (0 · 1) [] root A ∷ renames 3 (0 · 2) (1 ∷ []) (0 · 1) (97 ∷ []) ∷ removes 3 (1 · 1) (1 ∷ []) (0 · 1) ∷ [])
+    ((0 · 1, 97 ∷ [], 0 · 1, 0 · 2, true) ∷ [])
+    ((1 · 1, 17, 0 · 1, true) ∷ [])
+    -- capitals and small letters are the same from A to Z, and not the signs around them
+    ∷ tree (makesTrace 3 (0 · 1) [] root A ∷ makesTrace 3 (0 · 2) (1 ∷ []) root (97 ∷ []) ∷ makesTrace 3 (0 · 3) (2 ∷ []) root (122 ∷ []) ∷ makesTrace 3 (0 · 4) (3 ∷ []) root (90 ∷ []) ∷ [])
+    ((0 · 1, A, 0 · 1, 0 · 1, true) ∷ (0 · 3, 122 ∷ [], 0 · 3, 0 · 3, true) ∷ [])
+    ((0 · 2, 15, 0 · 1, true) ∷ (0 · 4, 15, 0 · 3, true) ∷ [])
+    ∷ tree (makesTrace 3 (0 · 1) [] root (91 ∷ []) ∷ makesTrace 3 (0 · 2) (1 ∷ []) root (123 ∷ []) ∷ makesTrace 3 (0 · 3) (2 ∷ []) root (64 ∷ []) ∷ makesTrace 3 (0 · 4) (3 ∷ []) root (96 ∷ []) ∷ [])
+    ((0 · 1, 91 ∷ [], 0 · 1, 0 · 1, false) ∷ (0 · 2, 123 ∷ [], 0 · 2, 0 · 2, false) ∷ (0 · 3, 64 ∷ [], 0 · 3, 0 · 3, false) ∷ (0 · 4, 96 ∷ [], 0 · 4, 0 · 4, false) ∷ [])
+    []
+    -- a folder's own label does not count in it, and a make there leaves no holder out
+    ∷ tree (makesFolder 3 (0 · 1) [] root A ∷ makesTrace 3 (0 · 2) (1 ∷ []) (0 · 1) (97 ∷ []) ∷ makesTrace 3 (0 · 3) (2 ∷ []) (0 · 1) A ∷ [])
+    ((0 · 1, A, 0 · 1, 0 · 1, false) ∷ (0 · 2, 97 ∷ [], 0 · 2, 0 · 2, true) ∷ [])
+    ((0 · 3, 15, 0 · 2, true) ∷ [])
+    -- a rename to another entry's label, in another case
+    ∷ tree (makesTrace 3 (0 · 1) [] root A ∷ makesTrace 3 (0 · 2) (1 ∷ []) root B ∷ renames 3 (0 · 3) (2 ∷ []) (0 · 2) (97 ∷ []) ∷ [])
+    ((0 · 1, A, 0 · 1, 0 · 1, true) ∷ (0 · 2, B, 0 · 2, 0 · 2, false) ∷ [])
+    ((0 · 3, 15, 0 · 1, true) ∷ [])
+    -- the same of wishes
+    ∷ wishes 0 (makesTrace 3 (0 · 1) [] root A ∷ []) (makesTrace 3 (0 · 0) [] root (97 ∷ [])) 15
+    ∷ wishes 0 (makesTrace 3 (0 · 1) [] root A ∷ []) (renames 3 (0 · 0) [] (0 · 1) A) 0
+    ∷ wishes 0 (makesTrace 3 (0 · 1) [] root A ∷ []) (renames 3 (0 · 0) [] (0 · 1) (97 ∷ [])) 0
     -- a rename to a held label; a second rename that has not seen the first, to the same held label
     ∷ tree (makesTrace 3 (0 · 1) [] root A ∷ makesTrace 3 (0 · 2) (1 ∷ []) root B ∷ renames 3 (0 · 3) (2 ∷ []) (0 · 1) B ∷ [])
     ((0 · 1, A, 0 · 1, 0 · 1, false) ∷ (0 · 2, B, 0 · 2, 0 · 2, true) ∷ [])

@@ -1,6 +1,6 @@
 -- Replay: the tree and the asides that records leave, taken one by one from any tree on.
 -- Assumes nothing.
-use Prim.Native.Nat.{ℕ, zero, suc, _/_, _%_}
+use Prim.Native.Nat.{ℕ, zero, suc, _+_, _/_, _%_}
 use mathlib.Core.Bool.{Bool, true, false, cond, not, _&&_, _||_}
 use mathlib.Core.Option.{Option, none, some}
 use mathlib.Core.List.{List, [], _∷_, _++_}
@@ -48,9 +48,18 @@ pub data Verdict : Type 0 where
 unfoldable pub isPresent : Entry → Bool
 isPresent e = not (eqb (e .kind) 0)
 
--- equal labels [F21]
+-- A to Z as a to z [F21]
+unfoldable pub lower : ℕ → ℕ
+lower x = cond (leb 65 x && leb x 90) (x + 32) x
+
+-- what of a label counts when two are compared [F21]
+unfoldable pub labelKey : List ℕ → List ℕ
+labelKey [] = []
+labelKey (x ∷ t) = lower x ∷ labelKey t
+
+-- labels that differ in A to Z against a to z alone are the same [F21]
 unfoldable pub sameLabel : List ℕ → List ℕ → Bool
-sameLabel a b = sameBytes a b
+sameLabel a b = sameBytes (labelKey a) (labelKey b)
 
 -- the entry k, unless it is absent [F19]
 unfoldable pub entryOf : ℕ → List Entry → Option Entry
@@ -60,10 +69,14 @@ entryOf k (e ∷ l) = cond (eqb (e .made) k && isPresent e) (some e) (entryOf k 
 unfoldable pub isIn : ℕ → Entry → Bool
 isIn f e = isPresent e && eqb (e .inside) f
 
--- the holder of a label in a folder
-unfoldable pub holderOf : ℕ → List ℕ → List Entry → Option Entry
-holderOf f t [] = none
-holderOf f t (e ∷ l) = cond (isIn f e && sameLabel (e .label) t) (some e) (holderOf f t l)
+-- the entry e, which is not k, has the label in the folder f [F116]
+unfoldable pub isHolder : ℕ → ℕ → List ℕ → Entry → Bool
+isHolder k f t e = isIn f e && (not (eqb (e .made) k) && sameLabel (e .label) t)
+
+-- the holder of a label in the folder f, other than the entry k; the root, which is no entry, leaves none out
+unfoldable pub holderOf : ℕ → ℕ → List ℕ → List Entry → Option Entry
+holderOf k f t [] = none
+holderOf k f t (e ∷ l) = cond (isHolder k f t e) (some e) (holderOf k f t l)
 
 unfoldable pub hasEntries : ℕ → List Entry → Bool
 hasEntries f [] = false
@@ -93,12 +106,12 @@ freeLabel (some h) = aside labelHeld (h .made)
 unfoldable pub judgeMakeIn : Rec → List Entry → Option Entry → Verdict
 judgeMakeIn r es none = aside noFolder 0
 judgeMakeIn r es (some f) =
-    cond (eqb (f .kind) 1) (freeLabel (holderOf (folderOf r) (labelOf r) es)) (aside wrongKind (f .made))
+    cond (eqb (f .kind) 1) (freeLabel (holderOf root (folderOf r) (labelOf r) es)) (aside wrongKind (f .made))
 
 -- [F22]
 unfoldable pub judgeMake : Rec → List Entry → Verdict
 judgeMake r es =
-    cond (eqb (folderOf r) root) (freeLabel (holderOf root (labelOf r) es)) (judgeMakeIn r es (entryOf (folderOf r) es))
+    cond (eqb (folderOf r) root) (freeLabel (holderOf root root (labelOf r) es)) (judgeMakeIn r es (entryOf (folderOf r) es))
 
 -- [F23]
 unfoldable pub judgeStore : Rec → Option Entry → Verdict
@@ -118,7 +131,7 @@ judgeRemove r es (some e) =
 unfoldable pub judgeRename : Rec → List Entry → Option Entry → Verdict
 judgeRename r es none = aside noObject 0
 judgeRename r es (some e) =
-    cond (unseen r (e .naming)) (aside unseenChange (e .made)) (freeLabel (holderOf (e .inside) (labelOf r) es))
+    cond (unseen r (e .naming)) (aside unseenChange (e .made)) (freeLabel (holderOf (e .made) (e .inside) (labelOf r) es))
 
 -- [F26]
 unfoldable pub judgeSettle : Rec → List Aside → Verdict
@@ -141,7 +154,7 @@ newEntry r =
       made = selfOf r;
       kind = op r;
       inside = folderOf r;
-      label = labelOf r;
+      label = labelOf r;  -- as the make has it [F117]
       contents = selfOf r;
       date = dateBytes r;
       mark = markOf r;
@@ -169,7 +182,7 @@ renamed r e =
       made = e .made;
       kind = e .kind;
       inside = e .inside;
-      label = labelOf r;
+      label = labelOf r;  -- as the rename has it [F117]
       contents = e .contents;
       date = e .date;
       mark = e .mark;

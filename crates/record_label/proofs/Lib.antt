@@ -1,3 +1,4 @@
 pub mod Label
 pub mod Claims
 pub mod Follow
+pub mod Same

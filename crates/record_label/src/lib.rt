@@ -3,6 +3,7 @@ ghost use mathlib.Core.Path.{_≡_};
 ghost use Prim.Native.Nat.{_+_, _≤_, _<_};
 ghost use lib.ListN.{length};
 ghost use Rattle.model.specs.Record.{textLength, isLabel};
+ghost use Rattle.model.specs.Replay.{lower, sameLabel};
 ghost use Rattle.record_label.specs.Follow.{follows, followTo};
 
 // How many bytes stand before the first zero.
@@ -82,4 +83,26 @@ pub fn is_label(t: &[u8]) -> bool
         return false;
     }
     t[last] != 32
+}
+
+// A to Z as a to z.
+pub fn lower(x: u8) -> u8
+    ensures { λ r. ⌜ r ≡ lower x ⌝ }
+{
+    if (65 <= x) & (x <= 90) {
+        return x + 32;
+    }
+    x
+}
+
+// The same label, in capitals or small letters. No byte ends the loop early: all are compared at once.
+pub fn same_label(a: &[u8], b: &[u8]) -> bool
+    requires { ⌜ (length (now a) ≡ 32) × (length (now b) ≡ 32) ⌝ }
+    ensures { λ r. ⌜ r ≡ sameLabel (now (a .entry)) (now (b .entry)) ⌝ }
+{
+    let mut equal = true;
+    for i in 0..32 {
+        equal = equal & (lower(a[i]) == lower(b[i]));
+    }
+    equal
 }

@@ -38,7 +38,7 @@ make-range r k a h e z =
     ⊎-elim (λ (q : folderOf r ≡ 0). absurd (z (e ∙ q))) (λ (q : InRange (folderOf r)). rw e q) (a .folder h)
 
 module _ (r : Rec) (es : List Entry) (f : ℕ) (e : f ≡ folderOf r) where
-  pub make-root : (v : Verdict) → f ≡ 0 → v ≡ freeLabel (holderOf f (labelOf r) es) → v ≡ judgeMake r es
+  pub make-root : (v : Verdict) → f ≡ 0 → v ≡ freeLabel (holderOf 0 f (labelOf r) es) → v ≡ judgeMake r es
   unfolding judgeMake
   make-root v z h = rw (eq-eqb (folderOf r) 0 (sym e ∙ z)) (rw z at h)
 
@@ -56,7 +56,7 @@ module _ (r : Rec) (es : List Entry) (f : ℕ) (e : f ≡ folderOf r) where
     make-trace h x k p q s =
         rw (make-in z, ← e, ← o, row-some b n row h, ne-eqb (entryIn b (4 + 72 * row) .kind) 1 (λ (y : entryIn b (4 + 72 * row) .kind ≡ 1). q (p ∙ y)), s)
 
-    pub make-folder : row < n → (x : ℕ) (v : Verdict) → x ≡ entryIn b (4 + 72 * row) .kind → x ≡ 1 → v ≡ freeLabel (holderOf f (labelOf r) es) → v ≡ judgeMake r es
+    pub make-folder : row < n → (x : ℕ) (v : Verdict) → x ≡ entryIn b (4 + 72 * row) .kind → x ≡ 1 → v ≡ freeLabel (holderOf 0 f (labelOf r) es) → v ≡ judgeMake r es
     unfolding judgeMakeIn
     make-folder h x v p q s =
         rw (make-in z, ← e, ← o, row-some b n row h, eq-eqb (entryIn b (4 + 72 * row) .kind) 1 (sym p ∙ q)) (rw e at s)
@@ -118,9 +118,9 @@ module _ (r : Rec) (b : List ℕ) (n row : ℕ) where
       unfolding verdictOf judgeRename
       rename-unseen k s g = rw (row-some b n row h, ← c, ← u, g, s)
 
-      pub rename-label : (f : ℕ) (v : Verdict) → f ≡ entryIn b (4 + 72 * row) .inside → t ≡ false → v ≡ freeLabel (holderOf f (labelOf r) es) → v ≡ judgeRename r es (rowIn b n row)
+      pub rename-label : (k f : ℕ) (v : Verdict) → k ≡ entryIn b (4 + 72 * row) .made → f ≡ entryIn b (4 + 72 * row) .inside → t ≡ false → v ≡ freeLabel (holderOf k f (labelOf r) es) → v ≡ judgeRename r es (rowIn b n row)
       unfolding judgeRename
-      rename-label f v s g q = rw (row-some b n row h, ← c, ← u, g, ← s) q
+      rename-label k f v p s g q = rw (row-some b n row h, ← c, ← u, g, ← p, ← s) q
 
 module _ (e : Entry) (l : List ℕ) where
   pub full-no : (x : ℕ) → x ≡ e .kind → (x ≡ 1 → ⊥) → false ≡ fullBy l e

@@ -26,12 +26,12 @@ pub fn is_unseen(rec: &[u8], k: u32) -> bool
     byte_slice::wider(byte_slice::le16(rec, 4 + 2 * ((k % 8) as usize))) < k / 8
 }
 
-// A label in a folder: free, or 15 marks its holder.
-pub fn free_label(rec: &[u8], table: &[u8], register: &[u16], size: Size, f: u32) -> Judged
+// A label in the folder f: free but for the entry k, or 15 marks its holder.
+pub fn free_label(rec: &[u8], table: &[u8], register: &[u16], size: Size, k: u32, f: u32) -> Judged
     requires { ⌜ (length (now rec) ≡ 80) × Holds (now table) (now register) (size .entries) (size .asides) ⌝ }
-    ensures { λ r. ⌜ verdictOf (r .reason) (r .marked) ≡ freeLabel (holderOf f (labelOf (now (rec .entry))) (entriesFrom (now (table .entry)) 0 (size .entries))) ⌝ }
+    ensures { λ r. ⌜ verdictOf (r .reason) (r .marked) ≡ freeLabel (holderOf k f (labelOf (now (rec .entry))) (entriesFrom (now (table .entry)) 0 (size .entries))) ⌝ }
 {
-    let row = tree_lookup::holder(table, register, size, f, &rec[32..64]);
+    let row = tree_lookup::holder(table, register, size, k, f, &rec[32..64]);
     if row < size.entries {
         return Judged {
             reason: 15,
@@ -51,7 +51,7 @@ pub fn judge_make(rec: &[u8], table: &[u8], register: &[u16], size: Size) -> Jud
 {
     let f = tree_table::folder_of(rec);
     if f == 0 {
-        let j = free_label(rec, table, register, size, f);
+        let j = free_label(rec, table, register, size, 0, f);
         return Judged {
             reason: j.reason,
             marked: j.marked,
@@ -70,7 +70,7 @@ pub fn judge_make(rec: &[u8], table: &[u8], register: &[u16], size: Size) -> Jud
             marked: tree_table::made_at(table, row),
         };
     }
-    let j = free_label(rec, table, register, size, f);
+    let j = free_label(rec, table, register, size, 0, f);
     Judged {
         reason: j.reason,
         marked: j.marked,
@@ -159,7 +159,7 @@ pub fn judge_remove(rec: &[u8], table: &[u8], register: &[u16], size: Size, row:
     }
 }
 
-// A rename of the entry in a row: 12 for no entry, 17 for an unseen label, 15 for a label that is held.
+// A rename of the entry in a row: 12 for no entry, 17 for an unseen label, 15 for a label that another entry holds.
 pub fn judge_rename(rec: &[u8], table: &[u8], register: &[u16], size: Size, row: usize) -> Judged
     requires { ⌜ (length (now rec) ≡ 80) × Holds (now table) (now register) (size .entries) (size .asides) ⌝ }
     ensures { λ r. ⌜ verdictOf (r .reason) (r .marked) ≡ judgeRename (now (rec .entry)) (entriesFrom (now (table .entry)) 0 (size .entries)) (rowIn (now (table .entry)) (size .entries) row) ⌝ }
@@ -178,7 +178,7 @@ pub fn judge_rename(rec: &[u8], table: &[u8], register: &[u16], size: Size, row:
             marked: made,
         };
     }
-    let j = free_label(rec, table, register, size, inside);
+    let j = free_label(rec, table, register, size, made, inside);
     Judged {
         reason: j.reason,
         marked: j.marked,

@@ -19,8 +19,8 @@ use Rattle.model.specs.Replay.{Entry, Tree, Verdict, fits, aside, isPresent, en
 use Rattle.model.specs.Outcome.{stamped, wishFits, hasStroke, reasonOf, actNumber}
 use Rattle.log_laws.specs.Members.{Has as Member}
 use Rattle.log_laws.specs.Sound.{SoundAfter, Sound}
-use Rattle.log_laws.proofs.Formed.{well-unit}
-use Rattle.log_laws.proofs.Counts.{unit-of, number-held, numbers, count-own}
+use Rattle.log_laws.proofs.Formed.{well-unit, well-own}
+use Rattle.log_laws.proofs.Counts.{formed, unit-of, number-held, numbers, count-own}
 use Rattle.log_laws.proofs.Act.{stamped-seen, act-zero}
 use Rattle.tree_laws.specs.Replayed.{Has, Distinct, selves}
 use Rattle.tree_laws.proofs.Verdicts.{Under, OneOf, Reason, reason-range, judged, under-map, under-cond, under-free, make-reasons, settle-reasons}
@@ -107,7 +107,7 @@ module _ (r : Rec) (ks : List ℕ) (s : HasSeen r ks) where
   rename-seen es a none q = λ e. omega arith
   rename-seen es a (some e) q =
       let b = among-entry ks (objectOf r) es e a q in
-      rw (s (e .naming) (b .1)) (under-free Not17 (λ z. omega arith) (holderOf (e .inside) (labelOf r) es))
+      rw (s (e .naming) (b .1)) (under-free Not17 (λ z. omega arith) (holderOf (e .made) (e .inside) (labelOf r) es))
 
   pub seen-never-17 : (t : Tree) → Among ks (t .entries) → Under Not17 (judge r t)
   seen-never-17 t a =
@@ -135,6 +135,13 @@ unfolding selves
 selves-member [] k i = absurd i
 selves-member (r ∷ l) k (inl e) = (r, inl refl, e)
 selves-member (r ∷ l) k (inr i) = let (s, j, e) = selves-member l k i in (s, inr j, e)
+
+-- in a sound log no record has the root's identity
+pub self-no-root : (l : List Rec) → Sound l → (k : ℕ) → Has k (selves l) → k ≡ 0 → ⊥
+unfolding selfOf identity
+self-no-root l h k i z =
+    let (s, j, e) = selves-member l k i in
+    omega (arith, well-own s (formed [] l s h j))
 
 -- in a sound log no two records have one identity
 distinct-after : (pre l : List Rec) → SoundAfter pre l → Distinct (selves l)

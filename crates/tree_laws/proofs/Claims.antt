@@ -8,12 +8,13 @@ use mathlib.Core.Option.{some}
 use mathlib.Core.List.{List, [], _∷_, _++_}
 use native.Mathlib.Omega.{arith}
 use lib.ListN.{getD, length}
-use Rattle.model.specs.Record.{Rec, op, selfOf, objectOf, labelOf, usesLabel}
+use Rattle.model.specs.Record.{Rec, root, op, selfOf, objectOf, labelOf, usesLabel}
 use Rattle.model.specs.Log.{soundAfter}
-use Rattle.model.specs.Replay.{Entry, Aside, Tree, Verdict, fits, aside, isPresent, entryOf, judge, standsAside, holderOf, isDisputed, step, emptyTree, replay}
+use Rattle.model.specs.Replay.{Entry, Aside, Tree, Verdict, fits, aside, isPresent, labelKey, entryOf, unseen, judge, standsAside, holderOf, isDisputed, renamed, step, emptyTree, replay}
 use Rattle.model.specs.Table.{tableBytes}
 use Rattle.model.specs.Outcome.{stamped, wishFits, hasStroke, actNumber, taken, takeAll}
 use Rattle.log_laws.specs.Members.{Has as Member}
+use Rattle.log_laws.specs.Sound.{Sound}
 use Rattle.log_laws.proofs.Formed.{well-length}
 use Rattle.log_laws.proofs.Counts.{formed}
 use Rattle.log_laws.proofs.Take.{all-from}
@@ -24,6 +25,7 @@ use Rattle.tree_laws.proofs.Verdicts.{Under, OneOf, Reason, reason-rang
 use Rattle.tree_laws.proofs.Steps.{standings-replay, makers-replay}
 use Rattle.tree_laws.proofs.Identities as Identities
 use Rattle.tree_laws.proofs.Labels as Labels
+use Rattle.tree_laws.proofs.Written.{label-written}
 use Rattle.tree_laws.proofs.Dates.{dates-replay}
 use Rattle.tree_laws.proofs.Tables.{table-hidden, filled-replay, entries-few}
 use Rattle.tree_laws.proofs.Arrival.{takeAll-append}
@@ -75,16 +77,43 @@ no-record-twice l s =
     let d : Distinct (selves l) = Acting.sound-distinct l (sound-means l s) in
     (Identities.asides-distinct l d, Identities.makers-distinct l d, Identities.asides-no-makers l d)
 
--- two present entries of one folder and label are one
-pub one-holder-of-a-label : (l : List Rec) (e x : Entry) → Has e (replay l .entries) → Has x (replay l .entries)
-    → isPresent e ≡ true → isPresent x ≡ true → x .inside ≡ e .inside → x .label ≡ e .label → e ≡ x
+-- no two entries have one identity, and none has the root's
+pub named-of : (l : List Rec) → Sound l → Labels.Named (replay l .entries)
+named-of l h =
+    record {
+      once = Identities.makers-distinct l (Acting.sound-distinct l h);
+      none-root = λ e i z. Acting.self-no-root l h (e .made) (Identities.makers-of l (e .made) (Labels.has-made (replay l .entries) e i)) z;
+    }
+
+named : (l : List Rec) → soundAfter [] l ≡ true → Labels.Named (replay l .entries)
+named l s = named-of l (sound-means l s)
+
+-- two present entries of one folder and label, in capitals or small letters, are one
+pub one-holder-of-a-label : (l : List Rec) → soundAfter [] l ≡ true → (e x : Entry) → Has e (replay l .entries) → Has x (replay l .entries)
+    → isPresent e ≡ true → isPresent x ≡ true → x .inside ≡ e .inside → labelKey (x .label) ≡ labelKey (e .label) → e ≡ x
 unfolding replay emptyTree
-one-holder-of-a-label l e x i j p q f t = Labels.one-label (replay l .entries) (Labels.apart-replay emptyTree l tt) e x i j (p, q, f, t)
+one-holder-of-a-label l s = Labels.one-label (replay l .entries) (Labels.apart-replay emptyTree l tt) (named l s)
 
 -- so a look-up by folder and label finds it
-pub holder-is-found : (l : List Rec) (e : Entry) → Has e (replay l .entries) → isPresent e ≡ true → holderOf (e .inside) (e .label) (replay l .entries) ≡ some e
+pub holder-is-found : (l : List Rec) → soundAfter [] l ≡ true → (e : Entry) → Has e (replay l .entries) → isPresent e ≡ true → holderOf root (e .inside) (e .label) (replay l .entries) ≡ some e
 unfolding replay emptyTree
-holder-is-found l = Labels.the-holder (replay l .entries) (Labels.apart-replay emptyTree l tt)
+holder-is-found l s = Labels.the-holder (replay l .entries) (Labels.apart-replay emptyTree l tt) (named l s)
+
+-- a rename that has seen the last label record fits if it changes nothing but capitals and small letters
+pub own-label-fits : (l : List Rec) → soundAfter [] l ≡ true → (r : Rec) (e : Entry) → op r ≡ 5 → entryOf (objectOf r) (replay l .entries) ≡ some e → unseen r (e .naming) ≡ false
+    → labelKey (labelOf r) ≡ labelKey (e .label) → judge r (replay l) ≡ fits
+unfolding replay emptyTree
+own-label-fits l s r = Labels.own-label r (replay l) (Labels.apart-replay emptyTree l tt) (named l s)
+
+-- and a rename that fits is the last label record of its object, in the bytes that it has
+pub rename-is-last : (t : Tree) (r : Rec) (e : Entry) → op r ≡ 5 → entryOf (objectOf r) (t .entries) ≡ some e → judge r t ≡ fits
+    → (x : Entry) × (entryOf (objectOf r) (step t r .entries) ≡ some x) × (x .naming ≡ selfOf r) × (x .label ≡ labelOf r)
+unfolding renamed
+rename-is-last t r e o q h = (renamed r e, Labels.rename-is-last r t e o q h, refl, refl)
+
+-- the label of an entry is that of a record of the log, its last label record, as it was written
+pub label-as-written : (l : List Rec) (e : Entry) → Has e (replay l .entries) → (s : Rec) × Has s l × (selfOf s ≡ e .naming) × (labelOf s ≡ e .label)
+label-as-written = label-written
 
 -- ---- P3: dates and the order of arrival decide nothing
 

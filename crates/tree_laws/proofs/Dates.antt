@@ -12,7 +12,7 @@ use lib.Seq.{getD-take, drop-drop}
 use Rattle.byte_slice.proofs.Words.{word-same}
 use Rattle.model.specs.Bytes.{word, part}
 use Rattle.model.specs.Record.{Rec, root, identity, unit, num, seen, op, identityAt, selfOf, objectOf, folderOf, labelOf, markOf}
-use Rattle.model.specs.Replay.{Entry, Aside, Tree, Verdict, fits, aside, isPresent, sameLabel, entryOf, isIn, holderOf, hasEntries, unseen, freeLabel, judgeMakeIn, judgeMake, judgeStore, judgeRemove, judgeRename, judgeSettle, judge, newEntry, stored, renamed, removed, changed, settled, effect, apply, step, replayFrom}
+use Rattle.model.specs.Replay.{Entry, Aside, Tree, Verdict, fits, aside, isPresent, sameLabel, entryOf, isIn, isHolder, holderOf, hasEntries, unseen, freeLabel, judgeMakeIn, judgeMake, judgeStore, judgeRemove, judgeRename, judgeSettle, judge, newEntry, stored, renamed, removed, changed, settled, effect, apply, step, replayFrom}
 use Rattle.tree_laws.specs.Replayed.{SameButDate, SameButDates, undated, undatedAll, undatedTree}
 use Rattle.tree_laws.proofs.Steps.{effect-elim, effect-make, effect-store, effect-remove, effect-rename, effect-settle}
 
@@ -111,10 +111,10 @@ unfolding entryOf undatedAll undatedIn undated isPresent
 entry-undated k [] = refl
 entry-undated k (e ∷ es) = undated-cond (eqb (e .made) k && isPresent e) e (entryOf k (undatedAll es)) (entryOf k es) (entry-undated k es)
 
-holder-undated : (g : ℕ) (t : List ℕ) (es : List Entry) → holderOf g t (undatedAll es) ≡ undatedIn (holderOf g t es)
-unfolding holderOf undatedAll undatedIn undated isIn isPresent
-holder-undated g t [] = refl
-holder-undated g t (e ∷ es) = undated-cond (isIn g e && sameLabel (e .label) t) e (holderOf g t (undatedAll es)) (holderOf g t es) (holder-undated g t es)
+holder-undated : (k g : ℕ) (t : List ℕ) (es : List Entry) → holderOf k g t (undatedAll es) ≡ undatedIn (holderOf k g t es)
+unfolding holderOf isHolder undatedAll undatedIn undated isIn isPresent
+holder-undated k g t [] = refl
+holder-undated k g t (e ∷ es) = undated-cond (isHolder k g t e) e (holderOf k g t (undatedAll es)) (holderOf k g t es) (holder-undated k g t es)
 
 has-undated : (g : ℕ) (es : List Entry) → hasEntries g (undatedAll es) ≡ hasEntries g es
 unfolding hasEntries undatedAll undated isIn isPresent
@@ -126,18 +126,18 @@ unfolding freeLabel undatedIn undated
 free-undated none = refl
 free-undated (some e) = refl
 
-free-holder : (g : ℕ) (t : List ℕ) (es : List Entry) → freeLabel (holderOf g t (undatedAll es)) ≡ freeLabel (holderOf g t es)
-free-holder g t es = ap freeLabel (holder-undated g t es) ∙ free-undated (holderOf g t es)
+free-holder : (k g : ℕ) (t : List ℕ) (es : List Entry) → freeLabel (holderOf k g t (undatedAll es)) ≡ freeLabel (holderOf k g t es)
+free-holder k g t es = ap freeLabel (holder-undated k g t es) ∙ free-undated (holderOf k g t es)
 
 module _ (r : Rec) (es : List Entry) where
   make-in-undated : (o : Option Entry) → judgeMakeIn r (undatedAll es) (undatedIn o) ≡ judgeMakeIn r es o
   unfolding judgeMakeIn undatedIn undated
   make-in-undated none = refl
-  make-in-undated (some e) = rw (free-holder (folderOf r) (labelOf r) es)
+  make-in-undated (some e) = rw (free-holder root (folderOf r) (labelOf r) es)
 
   make-undated : judgeMake r (undatedAll es) ≡ judgeMake r es
   unfolding judgeMake
-  make-undated = rw (free-holder root (labelOf r) es, entry-undated (folderOf r) es, make-in-undated (entryOf (folderOf r) es))
+  make-undated = rw (free-holder root root (labelOf r) es, entry-undated (folderOf r) es, make-in-undated (entryOf (folderOf r) es))
 
   store-undated : (o : Option Entry) → judgeStore r (undatedIn o) ≡ judgeStore r o
   unfolding judgeStore undatedIn undated
@@ -152,7 +152,7 @@ module _ (r : Rec) (es : List Entry) where
   rename-undated : (o : Option Entry) → judgeRename r (undatedAll es) (undatedIn o) ≡ judgeRename r es o
   unfolding judgeRename undatedIn undated
   rename-undated none = refl
-  rename-undated (some e) = rw (free-holder (e .inside) (labelOf r) es)
+  rename-undated (some e) = rw (free-holder (e .made) (e .inside) (labelOf r) es)
 
 judge-undated : (r : Rec) (t : Tree) → judge r (undatedTree t) ≡ judge r t
 unfolding judge undatedTree

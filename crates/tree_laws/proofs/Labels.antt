@@ -2,57 +2,54 @@
 -- Assumes nothing.
 use Prim.Native.Nat.{ℕ}
 use mathlib.Core.Path.{_≡_, refl, sym, ap, _∙_}
-use mathlib.Core.Bool.{Bool, true, false, _&&_, false≢true}
+use mathlib.Core.Bool.{Bool, true, false, not, _&&_, false≢true}
 use mathlib.Core.Logic.{_⊎_, inl, inr, ⊎-elim}
 use mathlib.Core.Option.{Option, none, some}
 use mathlib.Core.List.{List, [], _∷_, _++_}
 use native.Mathlib.Omega.{arith}
 use lib.Dec.{eqb}
-use borrow.Author.Tests.{eqb-true, eq-eqb}
-use Rattle.byte_slice.proofs.Numbers.{bool-cases, cond-cases, and-true, true-and, not-both}
-use Rattle.byte_slice.proofs.Compare.{same-eq, eq-same}
-use Rattle.model.specs.Bytes.{sameBytes}
-use Rattle.model.specs.Record.{Rec, root, objectOf, folderOf, labelOf}
-use Rattle.model.specs.Replay.{Entry, Tree, fits, aside, isPresent, sameLabel, entryOf, isIn, holderOf, freeLabel, judgeMakeIn, judgeMake, judgeRename, unseen, newEntry, stored, renamed, removed, changed, step, replayFrom}
-use Rattle.tree_laws.specs.Replayed.{Has}
+use borrow.Author.Tests.{eqb-true, eqb-false, eq-eqb, ne-eqb, not-true}
+use Rattle.byte_slice.proofs.Numbers.{bool-cases, cond-cases, and-true, true-and, not-both, test-false}
+use Rattle.record_label.proofs.Same.{same-key, key-same}
+use Rattle.model.specs.Record.{Rec, root, op, objectOf, folderOf, labelOf}
+use Rattle.model.specs.Replay.{Entry, Tree, fits, aside, isPresent, labelKey, sameLabel, entryOf, isIn, isHolder, holderOf, freeLabel, judgeMakeIn, judgeMake, judgeRename, unseen, judge, newEntry, stored, renamed, removed, changed, step, replayFrom}
+use Rattle.tree_laws.specs.Replayed.{Has, Distinct, makers}
 use Rattle.tree_laws.proofs.Verdicts.{judge-make, judge-rename}
-use Rattle.tree_laws.proofs.Steps.{effect-elim, step-elim}
+use Rattle.tree_laws.proofs.Steps.{effect-elim, step-elim, step-fits, effect-rename}
 
--- e is present in the folder f under the label t
-holds : ℕ → List ℕ → Entry → Bool
-holds f t e = isIn f e && sameLabel (e .label) t
-
-holds-from : (f : ℕ) (t : List ℕ) (e : Entry) → holds f t e ≡ true → (isPresent e ≡ true) × (e .inside ≡ f) × (e .label ≡ t)
-unfolding holds isIn sameLabel
-holds-from f t e h =
-    let (a, b) = and-true (isPresent e && eqb (e .inside) f) (sameBytes (e .label) t) h in
+pub holds-from : (k f : ℕ) (t : List ℕ) (e : Entry) → isHolder k f t e ≡ true → (isPresent e ≡ true) × (e .inside ≡ f) × (labelKey (e .label) ≡ labelKey t) × (e .made ≡ k → ⊥)
+unfolding isHolder isIn
+holds-from k f t e h =
+    let (a, b) = and-true (isPresent e && eqb (e .inside) f) (not (eqb (e .made) k) && sameLabel (e .label) t) h in
     let (c, d) = and-true (isPresent e) (eqb (e .inside) f) a in
-    (c, eqb-true (e .inside) f d, same-eq (e .label) t b)
+    let (m, g) = and-true (not (eqb (e .made) k)) (sameLabel (e .label) t) b in
+    (c, eqb-true (e .inside) f d, same-key (e .label) t g, eqb-false (e .made) k (not-true (eqb (e .made) k) m))
 
-from-holds : (f : ℕ) (t : List ℕ) (e : Entry) → isPresent e ≡ true → e .inside ≡ f → e .label ≡ t → holds f t e ≡ true
-unfolding holds isIn sameLabel
-from-holds f t e a b c =
-    true-and (isPresent e && eqb (e .inside) f) (sameBytes (e .label) t)
+from-holds : (k f : ℕ) (t : List ℕ) (e : Entry) → isPresent e ≡ true → e .inside ≡ f → labelKey (e .label) ≡ labelKey t → (e .made ≡ k → ⊥) → isHolder k f t e ≡ true
+unfolding isHolder isIn
+from-holds k f t e a b c d =
+    true-and (isPresent e && eqb (e .inside) f) (not (eqb (e .made) k) && sameLabel (e .label) t)
     (true-and (isPresent e) (eqb (e .inside) f) a (eq-eqb (e .inside) f b))
-    (eq-same (e .label) t c)
+    (rw (ne-eqb (e .made) k d) (key-same (e .label) t c))
 
 -- ---- a free label
 
-Free : ℕ → List ℕ → List Entry → Type 0
-Free f t es = (e : Entry) → Has e es → holds f t e ≡ false
+-- no entry but k holds the label
+Free : ℕ → ℕ → List ℕ → List Entry → Type 0
+Free k f t es = (e : Entry) → Has e es → isHolder k f t e ≡ false
 
-holder-free : (f : ℕ) (t : List ℕ) (es : List Entry) → holderOf f t es ≡ none → Free f t es
-unfolding Free holderOf holds
-holder-free f t [] h e i = absurd i
-holder-free f t (x ∷ es) h e i =
+holder-free : (k f : ℕ) (t : List ℕ) (es : List Entry) → holderOf k f t es ≡ none → Free k f t es
+unfolding Free holderOf
+holder-free k f t [] h e i = absurd i
+holder-free k f t (x ∷ es) h e i =
     ⊎-elim
     (λ c. absurd (let z : _≡_ {A = ℕ} 0 1 = cc in omega arith))
     (λ c.
     ⊎-elim
     (λ (q : e ≡ x). rw q (c .0))
-    (λ j. holder-free f t es (sym (c .1) ∙ h) e j)
+    (λ j. holder-free k f t es (sym (c .1) ∙ h) e j)
     i)
-    (cond-cases (isIn f x && sameLabel (x .label) t) (some x) (holderOf f t es))
+    (cond-cases (isHolder k f t x) (some x) (holderOf k f t es))
 
 free-fits : (o : Option Entry) → freeLabel o ≡ fits → o ≡ none
 unfolding freeLabel
@@ -67,9 +64,15 @@ has-snoc [] n x (inr i) = absurd i
 has-snoc (e ∷ es) n x (inl q) = inl (inl q)
 has-snoc (e ∷ es) n x (inr i) = ⊎-elim (λ j. inl (inr j)) (λ q. inr q) (has-snoc es n x i)
 
--- both are present in one folder under one label
-abbrev pub Clash : Entry → Entry → Type 0
-Clash e x = (isPresent e ≡ true) × (isPresent x ≡ true) × (x .inside ≡ e .inside) × (x .label ≡ e .label)
+-- two of two identities, neither the root's, are present in one folder under one label
+pub record Clash (e x : Entry) : Type 0 where
+  pub here : isPresent e ≡ true
+  pub there : isPresent x ≡ true
+  pub folder : x .inside ≡ e .inside
+  pub key : labelKey (x .label) ≡ labelKey (e .label)
+  pub two : x .made ≡ e .made → ⊥
+  pub first : e .made ≡ root → ⊥
+  pub second : x .made ≡ root → ⊥
 
 -- no two that stand apart in the list clash
 abbrev pub Apart : List Entry → Type 0
@@ -127,52 +130,61 @@ apart-changed g k (e ∷ es) a s =
 
 -- ---- each record keeps the labels apart
 
-make-free : (r : Rec) (es : List Entry) → judgeMake r es ≡ fits → holderOf (folderOf r) (labelOf r) es ≡ none
+make-free : (r : Rec) (es : List Entry) → judgeMake r es ≡ fits → holderOf root (folderOf r) (labelOf r) es ≡ none
 unfolding judgeMake judgeMakeIn
 make-free r es h =
     ⊎-elim
-    (λ (c : eqb (folderOf r) root ≡ true). rw (eqb-true (folderOf r) root c) (free-fits (holderOf root (labelOf r) es) (rw c at h)))
+    (λ (c : eqb (folderOf r) root ≡ true). rw (eqb-true (folderOf r) root c) (free-fits (holderOf root root (labelOf r) es) (rw c at h)))
     (λ (c : eqb (folderOf r) root ≡ false). inside (entryOf (folderOf r) es) (rw c at h))
     (bool-cases (eqb (folderOf r) root))
   where
-    inside : (o : Option Entry) → judgeMakeIn r es o ≡ fits → holderOf (folderOf r) (labelOf r) es ≡ none
+    inside : (o : Option Entry) → judgeMakeIn r es o ≡ fits → holderOf root (folderOf r) (labelOf r) es ≡ none
     inside none q = absurd (let z : _≡_ {A = ℕ} 0 1 = cc in omega arith)
     inside (some f) q =
         ⊎-elim
-        (λ c. free-fits (holderOf (folderOf r) (labelOf r) es) (sym (c .1) ∙ q))
+        (λ c. free-fits (holderOf root (folderOf r) (labelOf r) es) (sym (c .1) ∙ q))
         (λ c. absurd (let z : _≡_ {A = ℕ} 0 1 = cc in omega arith))
-        (cond-cases (eqb (f .kind) 1) (freeLabel (holderOf (folderOf r) (labelOf r) es)) (aside 14 (f .made)))
+        (cond-cases (eqb (f .kind) 1) (freeLabel (holderOf root (folderOf r) (labelOf r) es)) (aside 14 (f .made)))
 
-rename-free : (r : Rec) (es : List Entry) (x : Entry) → judgeRename r es (some x) ≡ fits → holderOf (x .inside) (labelOf r) es ≡ none
+rename-free : (r : Rec) (es : List Entry) (x : Entry) → judgeRename r es (some x) ≡ fits → holderOf (x .made) (x .inside) (labelOf r) es ≡ none
 unfolding judgeRename
 rename-free r es x h =
     ⊎-elim
     (λ c. absurd (let z : _≡_ {A = ℕ} 0 1 = cc in omega arith))
-    (λ c. free-fits (holderOf (x .inside) (labelOf r) es) (sym (c .1) ∙ h))
-    (cond-cases (unseen r (x .naming)) (aside 17 (x .made)) (freeLabel (holderOf (x .inside) (labelOf r) es)))
+    (λ c. free-fits (holderOf (x .made) (x .inside) (labelOf r) es) (sym (c .1) ∙ h))
+    (cond-cases (unseen r (x .naming)) (aside 17 (x .made)) (freeLabel (holderOf (x .made) (x .inside) (labelOf r) es)))
 
-safe-renamed : (r : Rec) (x : Entry) (es : List Entry) → Free (x .inside) (labelOf r) es → Safe (renamed r) x es
-unfolding Safe Free renamed isPresent
-safe-renamed r x es f = (
-  λ e i n c. not-both (holds (x .inside) (labelOf r) e) (from-holds (x .inside) (labelOf r) e (c .0) (sym (c .2)) (sym (c .3))) (f e i),
-  λ e i n c. not-both (holds (x .inside) (labelOf r) e) (from-holds (x .inside) (labelOf r) e (c .1) (c .2) (c .3)) (f e i),
+-- an entry put where its label is free but for itself clashes with none
+safe-put : (g : Entry → Entry) (x : Entry) (es : List Entry) → g x .made ≡ x .made → Free (x .made) (g x .inside) (g x .label) es → Safe g x es
+unfolding Safe Free
+safe-put g x es m f = (
+  λ e i n c. not-both (isHolder (x .made) (g x .inside) (g x .label) e) (from-holds (x .made) (g x .inside) (g x .label) e (c .here) (sym (c .folder)) (sym (c .key)) (λ (z : e .made ≡ x .made). c .two (m ∙ sym z))) (f e i),
+  λ e i n c. not-both (isHolder (x .made) (g x .inside) (g x .label) e) (from-holds (x .made) (g x .inside) (g x .label) e (c .there) (c .folder) (c .key) (λ (z : e .made ≡ x .made). c .two (z ∙ sym m))) (f e i),
+)
+
+-- an entry that keeps its identity, folder and label clashes with no more than before
+safe-kept : (g : Entry → Entry) (x : Entry) (es : List Entry) → isPresent (g x) ≡ isPresent x → g x .made ≡ x .made → g x .inside ≡ x .inside → g x .label ≡ x .label → Safe g x es
+unfolding Safe
+safe-kept g x es p m f t = (
+  λ e i n c. n (record { here = c .here; there = sym p ∙ c .there; folder = sym f ∙ c .folder; key = rw t at (c .key); two = rw m at (c .two); first = c .first; second = rw m at (c .second) }),
+  λ e i n c. n (record { here = sym p ∙ c .here; there = c .there; folder = c .folder ∙ f; key = rw t at (c .key); two = rw m at (c .two); first = rw m at (c .first); second = c .second }),
 )
 
 pub apart-step : (t : Tree) (r : Rec) → Apart (t .entries) → Apart (step t r .entries)
-unfolding newEntry stored removed isPresent Safe Free
+unfolding newEntry stored removed renamed isPresent Safe Free
 apart-step t r a =
     let es : List Entry = t .entries in
     step-elim (λ (x : Tree). Apart (x .entries)) t r
     (λ h. effect-elim (λ (x : Tree). Apart (x .entries)) r t
     (λ o.
-    let f : Free (folderOf r) (labelOf r) es = holder-free (folderOf r) (labelOf r) es (make-free r es (sym (judge-make r t o) ∙ h)) in
+    let f : Free root (folderOf r) (labelOf r) es = holder-free root (folderOf r) (labelOf r) es (make-free r es (sym (judge-make r t o) ∙ h)) in
     apart-append es (newEntry r) a
-    (λ e i c. not-both (holds (folderOf r) (labelOf r) e) (from-holds (folderOf r) (labelOf r) e (c .0) (sym (c .2)) (sym (c .3))) (f e i)))
-    (λ o. apart-changed (stored r) (objectOf r) es a (λ x q. (λ e i n c. n c, λ e i n c. n c)))
-    (λ o. apart-changed removed (objectOf r) es a (λ x q. (λ e i n c. false≢true (c .1), λ e i n c. false≢true (c .0))))
+    (λ e i c. not-both (isHolder root (folderOf r) (labelOf r) e) (from-holds root (folderOf r) (labelOf r) e (c .here) (sym (c .folder)) (sym (c .key)) (c .first)) (f e i)))
+    (λ o. apart-changed (stored r) (objectOf r) es a (λ x q. safe-kept (stored r) x es refl refl refl refl))
+    (λ o. apart-changed removed (objectOf r) es a (λ x q. (λ e i n c. false≢true (c .there), λ e i n c. false≢true (c .here))))
     (λ o.
     apart-changed (renamed r) (objectOf r) es a
-    (λ x q. safe-renamed r x es (holder-free (x .inside) (labelOf r) es (rename-free r es x (ap (judgeRename r es) (sym q) ∙ sym (judge-rename r t o) ∙ h)))))
+    (λ x q. safe-put (renamed r) x es refl (holder-free (x .made) (x .inside) (labelOf r) es (rename-free r es x (ap (judgeRename r es) (sym q) ∙ sym (judge-rename r t o) ∙ h)))))
     (λ o. a))
     (λ n k h. a)
 
@@ -183,23 +195,109 @@ apart-replay t (r ∷ l) a = apart-replay (step t r) l (apart-step t r a)
 
 -- ---- the holder
 
-pub the-holder : (es : List Entry) → Apart es → (e : Entry) → Has e es → isPresent e ≡ true → holderOf (e .inside) (e .label) es ≡ some e
-unfolding holderOf holds
-the-holder [] a e i p = absurd i
-the-holder (x ∷ es) a e (inl q) p =
-    let t : holds (e .inside) (e .label) x ≡ true =
-    from-holds (e .inside) (e .label) x (ap isPresent (sym q) ∙ p) (ap (λ (y : Entry). y .inside) (sym q)) (ap (λ (y : Entry). y .label) (sym q)) in
-    rw t (ap {B = Option Entry} some (sym q))
-the-holder (x ∷ es) a e (inr j) p =
-    ⊎-elim
-    (λ (c : holds (e .inside) (e .label) x ≡ true).
-    let (u, v, w) = holds-from (e .inside) (e .label) x c in
-    absurd (a .0 e j (u, p, sym v, sym w)))
-    (λ (c : holds (e .inside) (e .label) x ≡ false). rw c (the-holder es (a .1) e j p))
-    (bool-cases (holds (e .inside) (e .label) x))
+pub has-made : (es : List Entry) (e : Entry) → Has e es → Has (e .made) (makers es)
+unfolding makers
+has-made [] e i = absurd i
+has-made (x ∷ es) e (inl q) = inl (ap (λ (y : Entry). y .made) q)
+has-made (x ∷ es) e (inr j) = inr (has-made es e j)
 
--- two present entries of one folder and label are one
-pub one-label : (es : List Entry) → Apart es → (e x : Entry) → Has e es → Has x es → Clash e x → e ≡ x
-one-label es a e x i j (p, q, u, v) =
-    let f : some e ≡ some x = sym (the-holder es a e i p) ∙ rw (sym u, sym v) (the-holder es a x j q) in
+-- no two entries have one identity, and none has the root's
+pub record Named (es : List Entry) : Type 0 where
+  pub once : Distinct (makers es)
+  pub none-root : (e : Entry) → Has e es → e .made ≡ root → ⊥
+
+pub the-holder : (es : List Entry) → Apart es → Named es → (e : Entry) → Has e es → isPresent e ≡ true → holderOf root (e .inside) (e .label) es ≡ some e
+unfolding holderOf makers
+the-holder [] a d e i p = absurd i
+the-holder (x ∷ es) a d e (inl q) p =
+    let t : isHolder root (e .inside) (e .label) x ≡ true =
+    from-holds root (e .inside) (e .label) x (ap isPresent (sym q) ∙ p) (ap (λ (y : Entry). y .inside) (sym q)) (ap (λ (y : Entry). labelKey (y .label)) (sym q)) (d .none-root x (inl refl)) in
+    rw t (ap {B = Option Entry} some (sym q))
+the-holder (x ∷ es) a d e (inr j) p =
+    ⊎-elim
+    (λ (c : isHolder root (e .inside) (e .label) x ≡ true).
+    let (u, v, w, _) = holds-from root (e .inside) (e .label) x c in
+    absurd (a .0 e j (record {
+      here = u;
+      there = p;
+      folder = sym v;
+      key = sym w;
+      two = λ (z : e .made ≡ x .made). d .once .0 (rw z at (has-made es e j));
+      first = d .none-root x (inl refl);
+      second = d .none-root e (inr j);
+    })))
+    (λ (c : isHolder root (e .inside) (e .label) x ≡ false). rw c (the-holder es (a .1) (record { once = d .once .1; none-root = λ y i. d .none-root y (inr i) }) e j p))
+    (bool-cases (isHolder root (e .inside) (e .label) x))
+
+pub holder-key : (k f : ℕ) (t u : List ℕ) → labelKey t ≡ labelKey u → (es : List Entry) → holderOf k f t es ≡ holderOf k f u es
+unfolding holderOf isHolder sameLabel
+holder-key k f t u e [] = refl
+holder-key k f t u e (x ∷ es) = rw (e, holder-key k f t u e es)
+
+-- two present entries of one folder and label, in capitals or small letters, are one
+pub one-label : (es : List Entry) → Apart es → Named es → (e x : Entry) → Has e es → Has x es → isPresent e ≡ true → isPresent x ≡ true → x .inside ≡ e .inside → labelKey (x .label) ≡ labelKey (e .label) → e ≡ x
+one-label es a d e x i j p q u v =
+    let g : holderOf root (x .inside) (x .label) es ≡ some x = the-holder es a d x j q in
+    let h : holderOf root (e .inside) (x .label) es ≡ some x = ap (λ (y : ℕ). holderOf root y (x .label) es) (sym u) ∙ g in
+    let f : some e ≡ some x = sym (the-holder es a d e i p) ∙ sym (holder-key root (e .inside) (x .label) (e .label) v es) ∙ h in
     cc
+
+-- ---- its own label is free for an entry, in capitals or small letters
+
+entry-has : (k : ℕ) (es : List Entry) (e : Entry) → entryOf k es ≡ some e → Has e es × (isPresent e ≡ true)
+unfolding entryOf
+entry-has k [] e h = absurd (let z : _≡_ {A = ℕ} 0 1 = cc in omega arith)
+entry-has k (x ∷ es) e h =
+    ⊎-elim
+    (λ c. let q : e ≡ x = cc in (inl q, rw q (and-true (eqb (x .made) k) (isPresent x) (c .0) .1)))
+    (λ c. let (i, p) = entry-has k es e (sym (c .1) ∙ h) in (inr i, p))
+    (cond-cases (eqb (x .made) k && isPresent x) (some x) (entryOf k es))
+
+holder-none : (k f : ℕ) (t : List ℕ) (es : List Entry) → Free k f t es → holderOf k f t es ≡ none
+unfolding Free holderOf
+holder-none k f t [] h = refl
+holder-none k f t (x ∷ es) h = rw (h x (inl refl)) (holder-none k f t es (λ e i. h e (inr i)))
+
+own-free : (es : List Entry) → Apart es → Named es → (e : Entry) → Has e es → isPresent e ≡ true → (t : List ℕ) → labelKey t ≡ labelKey (e .label) → holderOf (e .made) (e .inside) t es ≡ none
+unfolding Free
+own-free es a d e i p t q =
+    holder-none (e .made) (e .inside) t es
+    (λ x j.
+    test-false (isHolder (e .made) (e .inside) t x)
+    (λ h.
+    let (u, v, w, n) = holds-from (e .made) (e .inside) t x h in
+    let z : e ≡ x = one-label es a d e x i j p u v (w ∙ q) in
+    n (ap (λ (y : Entry). y .made) (sym z))))
+
+pub own-label : (r : Rec) (t : Tree) → Apart (t .entries) → Named (t .entries) → (e : Entry) → op r ≡ 5 → entryOf (objectOf r) (t .entries) ≡ some e → unseen r (e .naming) ≡ false
+    → labelKey (labelOf r) ≡ labelKey (e .label) → judge r t ≡ fits
+unfolding judgeRename freeLabel
+own-label r t a d e o q s k =
+    let (i, p) = entry-has (objectOf r) (t .entries) e q in
+    judge-rename r t o ∙ rw (q, s, own-free (t .entries) a d e i p (labelOf r) k)
+
+-- ---- and it is the last label record from then on
+
+changed-finds : (g : Entry → Entry) (k : ℕ) (es : List Entry) (e : Entry) → entryOf k es ≡ some e → g e .made ≡ e .made → isPresent (g e) ≡ isPresent e
+    → entryOf k (changed g k es) ≡ some (g e)
+unfolding entryOf changed
+changed-finds g k [] e h m p = absurd (let z : _≡_ {A = ℕ} 0 1 = cc in omega arith)
+changed-finds g k (x ∷ es) e h m p =
+    ⊎-elim
+    (λ (c : (eqb (x .made) k && isPresent x) ≡ true).
+    let s : some x ≡ some e = rw c at h in
+    let q : x ≡ e = cc in
+    let u : (eqb (e .made) k && isPresent e) ≡ true = ap (λ (y : Entry). eqb (y .made) k && isPresent y) (sym q) ∙ c in
+    let v : (eqb (g e .made) k && isPresent (g e)) ≡ true =
+    ap (λ (n : ℕ). eqb n k && isPresent (g e)) m ∙ ap (λ (b : Bool). eqb (e .made) k && b) p ∙ u in
+    let d : (eqb (g x .made) k && isPresent (g x)) ≡ true = ap (λ (y : Entry). eqb (g y .made) k && isPresent (g y)) q ∙ v in
+    rw (c, d) (ap (λ (y : Entry). some (g y)) q))
+    (λ (c : (eqb (x .made) k && isPresent x) ≡ false). rw (c, c) (changed-finds g k es e (rw c at h) m p))
+    (bool-cases (eqb (x .made) k && isPresent x))
+
+-- a rename that fits is the last label record of its object, and its label is the object's
+pub rename-is-last : (r : Rec) (t : Tree) (e : Entry) → op r ≡ 5 → entryOf (objectOf r) (t .entries) ≡ some e → judge r t ≡ fits
+    → entryOf (objectOf r) (step t r .entries) ≡ some (renamed r e)
+unfolding renamed isPresent
+rename-is-last r t e o q h =
+    rw (step-fits t r h, effect-rename r t o) (changed-finds (renamed r) (objectOf r) (t .entries) e q refl refl)

@@ -8,4 +8,5 @@ pub mod Acting
 pub mod Strokes
 pub mod Tables
 pub mod Arrival
+pub mod Written
 pub mod Claims

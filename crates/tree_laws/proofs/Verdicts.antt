@@ -37,15 +37,15 @@ make-in : (r : Rec) (es : List Entry) (o : Option Entry) → Under (OneOf 13 14 
 unfolding judgeMakeIn
 make-in r es none = inl refl
 make-in r es (some f) =
-    under-cond (OneOf 13 14 15) (eqb (f .kind) 1) (freeLabel (holderOf (folderOf r) (labelOf r) es)) (aside 14 (f .made))
-    (under-free (OneOf 13 14 15) (inr (inr refl)) (holderOf (folderOf r) (labelOf r) es))
+    under-cond (OneOf 13 14 15) (eqb (f .kind) 1) (freeLabel (holderOf root (folderOf r) (labelOf r) es)) (aside 14 (f .made))
+    (under-free (OneOf 13 14 15) (inr (inr refl)) (holderOf root (folderOf r) (labelOf r) es))
     (inr (inl refl))
 
 pub make-reasons : (r : Rec) (es : List Entry) → Under (OneOf 13 14 15) (judgeMake r es)
 unfolding judgeMake
 make-reasons r es =
-    under-cond (OneOf 13 14 15) (eqb (folderOf r) root) (freeLabel (holderOf root (labelOf r) es)) (judgeMakeIn r es (entryOf (folderOf r) es))
-    (under-free (OneOf 13 14 15) (inr (inr refl)) (holderOf root (labelOf r) es))
+    under-cond (OneOf 13 14 15) (eqb (folderOf r) root) (freeLabel (holderOf root root (labelOf r) es)) (judgeMakeIn r es (entryOf (folderOf r) es))
+    (under-free (OneOf 13 14 15) (inr (inr refl)) (holderOf root root (labelOf r) es))
     (make-in r es (entryOf (folderOf r) es))
 
 pub store-reasons : (r : Rec) (o : Option Entry) → Under (OneOf 12 14 17) (judgeStore r o)
@@ -69,9 +69,9 @@ pub rename-reasons : (r : Rec) (es : List Entry) (o : Option Entry) → Under (O
 unfolding judgeRename
 rename-reasons r es none = inl refl
 rename-reasons r es (some e) =
-    under-cond (OneOf 12 17 15) (unseen r (e .naming)) (aside 17 (e .made)) (freeLabel (holderOf (e .inside) (labelOf r) es))
+    under-cond (OneOf 12 17 15) (unseen r (e .naming)) (aside 17 (e .made)) (freeLabel (holderOf (e .made) (e .inside) (labelOf r) es))
     (inr (inl refl))
-    (under-free (OneOf 12 17 15) (inr (inr refl)) (holderOf (e .inside) (labelOf r) es))
+    (under-free (OneOf 12 17 15) (inr (inr refl)) (holderOf (e .made) (e .inside) (labelOf r) es))
 
 pub settle-reasons : (r : Rec) (l : List Aside) → Under (λ n. n ≡ 18) (judgeSettle r l)
 unfolding judgeSettle

@@ -3,11 +3,11 @@
 use Prim.Native.Nat.{ℕ, zero, suc, _+_, _*_, _≤_}
 use mathlib.Core.Path.{_≡_}
 use mathlib.Core.Logic.{_⊎_}
-use mathlib.Core.Bool.{Bool, cond, _&&_}
+use mathlib.Core.Bool.{Bool, cond}
 use mathlib.Core.List.{List, [], _∷_}
 use lib.Dec.{leb, eqb}
 use lib.ListN.{getD, length}
-use Rattle.model.specs.Replay.{Entry, Aside, Tree, isIn, sameLabel}
+use Rattle.model.specs.Replay.{Entry, Aside, Tree, isHolder}
 use Rattle.tree_table.specs.Rows.{entryIn, treeIn, workBytes, InRange, AllProper}
 use Rattle.tree_maps.specs.Keys.{slotOf, Keyed}
 
@@ -36,13 +36,13 @@ behindRows (suc n) = 513 + n
 unfoldable pub roleOf : ℕ → Tree → ℕ
 roleOf k t = rowOf k t + behindRows (noteOf k t)
 
--- the entry in row i holds a label in the folder f
-unfoldable pub holdsAt : List ℕ → ℕ → List ℕ → ℕ → Bool
-holdsAt b f t i = isIn f (entryIn b (4 + 72 * i)) && sameLabel (entryIn b (4 + 72 * i) .label) t
+-- the entry in row i, which is not k, holds a label in the folder f
+unfoldable pub holdsAt : List ℕ → ℕ → ℕ → List ℕ → ℕ → Bool
+holdsAt b k f t i = isHolder k f t (entryIn b (4 + 72 * i))
 
 -- of two rows the first, if it stands before the other and holds the label
-unfoldable pub earlierOf : List ℕ → ℕ → List ℕ → ℕ → ℕ → ℕ
-earlierOf b f t row best = cond (leb best row) best (cond (holdsAt b f t row) row best)
+unfoldable pub earlierOf : List ℕ → ℕ → ℕ → List ℕ → ℕ → ℕ → ℕ
+earlierOf b k f t row best = cond (leb best row) best (cond (holdsAt b k f t row) row best)
 
 -- no entry is k
 abbrev pub Absent : ℕ → List Entry → Type 0

@@ -47,43 +47,46 @@ pub fn is_in(table: &[u8], i: usize, f: u32) -> bool
     tree_table::inside_at(table, i) == f
 }
 
-// The entry in row i holds a label in the folder f.
-pub fn holds_label(table: &[u8], i: usize, f: u32, label: &[u8]) -> bool
-    requires { ⌜ (length (now table) ≡ 43012) × (i < 512) ⌝ }
-    ensures { λ r. ⌜ r ≡ holdsAt (now (table .entry)) f (now (label .entry)) i ⌝ }
+// The entry in row i, which is not k, holds a label in the folder f.
+pub fn holds_label(table: &[u8], i: usize, k: u32, f: u32, label: &[u8]) -> bool
+    requires { ⌜ (length (now table) ≡ 43012) × (i < 512) × (length (now label) ≡ 32) ⌝ }
+    ensures { λ r. ⌜ r ≡ holdsAt (now (table .entry)) k f (now (label .entry)) i ⌝ }
 {
     if !is_in(table, i, f) {
         return false;
     }
+    if tree_table::made_at(table, i) == k {
+        return false;
+    }
     let at = 4 + 72 * i + 24;
-    byte_slice::same(&table[at..at + 32], label)
+    record_label::same_label(&table[at..at + 32], label)
 }
 
-// Of two rows the first, if it stands before the other and its entry holds a label in the folder f; otherwise the other.
-pub fn earlier(table: &[u8], row: usize, best: usize, f: u32, label: &[u8]) -> usize
-    requires { ⌜ (length (now table) ≡ 43012) × (row < 512) ⌝ }
-    ensures { λ r. ⌜ r ≡ earlierOf (now (table .entry)) f (now (label .entry)) row best ⌝ }
+// Of two rows the first, if it stands before the other and its entry, which is not k, holds a label in the folder f; otherwise the other.
+pub fn earlier(table: &[u8], row: usize, best: usize, k: u32, f: u32, label: &[u8]) -> usize
+    requires { ⌜ (length (now table) ≡ 43012) × (row < 512) × (length (now label) ≡ 32) ⌝ }
+    ensures { λ r. ⌜ r ≡ earlierOf (now (table .entry)) k f (now (label .entry)) row best ⌝ }
 {
     if best <= row {
         return best;
     }
-    if holds_label(table, row, f, label) {
+    if holds_label(table, row, k, f, label) {
         return row;
     }
     best
 }
 
-// The row of the holder of a label in the folder f, or the number of rows if the label is free.
-pub fn holder(table: &[u8], register: &[u16], size: Size, f: u32, label: &[u8]) -> usize
+// The row of the holder of a label in the folder f, other than the entry k, or the number of rows if the label is free.
+pub fn holder(table: &[u8], register: &[u16], size: Size, k: u32, f: u32, label: &[u8]) -> usize
     requires { ⌜ Holds (now table) (now register) (size .entries) (size .asides) × (length (now label) ≡ 32) ⌝ }
-    ensures { λ r. ⌜ (r ≡ rowAmong (entriesFrom (now (table .entry)) 0 (size .entries)) (holderOf f (now (label .entry)) (entriesFrom (now (table .entry)) 0 (size .entries)))) × (rowIn (now (table .entry)) (size .entries) r ≡ holderOf f (now (label .entry)) (entriesFrom (now (table .entry)) 0 (size .entries))) ⌝ }
+    ensures { λ r. ⌜ (r ≡ rowAmong (entriesFrom (now (table .entry)) 0 (size .entries)) (holderOf k f (now (label .entry)) (entriesFrom (now (table .entry)) 0 (size .entries)))) × (rowIn (now (table .entry)) (size .entries) r ≡ holderOf k f (now (label .entry)) (entriesFrom (now (table .entry)) 0 (size .entries))) ⌝ }
 {
     let h = tree_maps::hash(f, label);
     let mut best = size.entries;
     let mut q = hash_chains::first_of(register, h);
     while 0 < q {
         let row = hash_chains::row_at(register, q);
-        best = earlier(table, row, best, f, label);
+        best = earlier(table, row, best, k, f, label);
         q = hash_chains::node_behind(register, q);
     }
     best

@@ -13,7 +13,7 @@ use borrow.Author.Tests.{eq-eqb, ne-eqb, le-leb, lt-leb, lt-ltb, leb-true, ltb-t
 use Rattle.model.specs.Replay.{Entry, isPresent, isIn, hasEntries}
 use Rattle.byte_slice.proofs.Numbers.{eq-or-ne, lt-or-ge, bool-cases, and-true}
 use Rattle.tree_table.specs.Rows.{InRange}
-use Rattle.tree_maps.specs.Keys.{slotOf, hashOf, childrenOf, hasSlot, withCount, countedUp, countedDown}
+use Rattle.tree_maps.specs.Keys.{slotOf, mixed, hashOf, childrenOf, hasSlot, withCount, countedUp, countedDown}
 
 -- ---- slots
 
@@ -65,7 +65,7 @@ remainder-low : (x : ℕ) → x % 509 < 512
 remainder-low x = omega arith
 
 pub hash-low : (f : ℕ) (t : List ℕ) → hashOf f t < 512
-unfolding hashOf
+unfolding hashOf mixed
 hash-low f t = remainder-low _
 
 -- ---- another number of entries

@@ -1,2 +1,3 @@
+pub mod Labels
 pub mod Counts
 pub mod Keeping

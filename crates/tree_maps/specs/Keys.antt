@@ -17,9 +17,13 @@ slotOf k = 512 * (k % 8) + (k / 8 - 1)
 
 -- ---- labels
 
--- the chain of a label in a folder. Labels that are the same must have the same chain: this and `sameLabel` change together
-unfoldable pub hashOf : ℕ → List ℕ → ℕ
-hashOf f t =
+-- of each byte what a capital and its small letter have in common
+unfoldable pub coarse : List ℕ → List ℕ
+coarse [] = []
+coarse (x ∷ t) = x % 32 ∷ coarse t
+
+unfoldable pub mixed : ℕ → List ℕ → ℕ
+mixed f t =
     (long t 0 * 40503
     + long t 4 * 30011
     + long t 8 * 52967
@@ -29,6 +33,10 @@ hashOf f t =
     + long t 24 * 14551
     + long t 28 * 47221
     + f * 57413) % 509
+
+-- the chain of a label in a folder. Labels that are the same must have the same chain: this and `labelKey` change together
+unfoldable pub hashOf : ℕ → List ℕ → ℕ
+hashOf f t = mixed f (coarse t)
 
 unfoldable pub chainOf : Entry → ℕ
 chainOf e = hashOf (e .inside) (e .label)

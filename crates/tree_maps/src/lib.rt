@@ -5,7 +5,7 @@ ghost use lib.ListN.{length, getD};
 ghost use Rattle.model.specs.Bytes.{long};
 ghost use Rattle.tree_table.specs.Rows.{InRange};
 ghost use Rattle.hash_chains.specs.Chains.{nodesIn, Chains};
-ghost use Rattle.tree_maps.specs.Keys.{slotOf, hashOf, hasSlot, countedUp, countedDown, entered, relabelled, left};
+ghost use Rattle.tree_maps.specs.Keys.{slotOf, coarse, mixed, hashOf, hasSlot, countedUp, countedDown, entered, relabelled, left};
 
 // The slot of an identity.
 pub fn slot(k: u32) -> usize
@@ -30,10 +30,27 @@ fn wide(k: u32) -> u64
     k as u64
 }
 
-// The chain of a label in the folder f.
-pub fn hash(f: u32, label: &[u8]) -> usize
+// The bytes of a label, each modulo 32.
+struct Letters {
+    bytes: [u8; 32],
+}
+
+// Of each byte of a label what a capital and its small letter have in common.
+fn coarse(label: &[u8]) -> Letters
     requires { ⌜ length (now label) ≡ 32 ⌝ }
-    ensures { λ r. ⌜ (r ≡ hashOf f (now (label .entry))) × (r < 509) ⌝ }
+    ensures { λ r. ⌜ r .bytes ≡ coarse (now (label .entry)) ⌝ }
+{
+    let mut bytes = [0u8; 32];
+    for i in 0..32 {
+        bytes[i] = label[i] % 32;
+    }
+    Letters { bytes }
+}
+
+// The chain of 32 bytes in the folder f.
+fn mix(f: u32, label: &[u8]) -> usize
+    requires { ⌜ length (now label) ≡ 32 ⌝ }
+    ensures { λ r. ⌜ (r ≡ mixed f (now (label .entry))) × (r < 509) ⌝ }
 {
     let sum = word(label, 0) * 40503
         + word(label, 4) * 30011
@@ -45,6 +62,16 @@ pub fn hash(f: u32, label: &[u8]) -> usize
         + word(label, 28) * 47221
         + wide(f) * 57413;
     (sum % 509) as usize
+}
+
+// The chain of a label in the folder f.
+pub fn hash(f: u32, label: &[u8]) -> usize
+    requires { ⌜ length (now label) ≡ 32 ⌝ }
+    ensures { λ r. ⌜ (r ≡ hashOf f (now (label .entry))) × (r < 509) ⌝ }
+{
+    let c = coarse(label);
+    let bytes = c.bytes;
+    mix(f, &bytes)
 }
 
 // The identity k has a slot. The root has none.

@@ -9,7 +9,7 @@ use mathlib.Core.List.{List, [], _∷_}
 use lib.Dec.{leb, eqb}
 use borrow.Author.Tests.{ne-eqb}
 use Rattle.model.specs.Record.{Rec, op, objectOf, folderOf, labelOf}
-use Rattle.model.specs.Replay.{Entry, Tree, Verdict, fits, aside, isPresent, isIn, sameLabel, entryOf, holderOf, hasEntries, standsAside, unseen, freeLabel, judgeMakeIn, judgeMake, judgeStore, judgeRemove, judgeRename, judgeSettle, judge}
+use Rattle.model.specs.Replay.{Entry, Tree, Verdict, fits, aside, isPresent, isHolder, entryOf, holderOf, hasEntries, standsAside, unseen, freeLabel, judgeMakeIn, judgeMake, judgeStore, judgeRemove, judgeRename, judgeSettle, judge}
 use Rattle.tree_laws.proofs.Steps.{cond-elim}
 use Rattle.tree_table.specs.Rows.{InRange, Proper, AllProper}
 use Rattle.tree_judge.specs.Judged.{verdictOf}
@@ -29,11 +29,11 @@ entry-found k [] p = tt
 entry-found k (e ∷ l) p =
     cond-elim (λ (o : Option Entry). Found o) (eqb (e .made) k && isPresent e) (some e) (entryOf k l) (λ _. p .0) (λ _. entry-found k l (p .1))
 
-holder-found : (f : ℕ) (t : List ℕ) (l : List Entry) → AllProper l → Found (holderOf f t l)
+holder-found : (k f : ℕ) (t : List ℕ) (l : List Entry) → AllProper l → Found (holderOf k f t l)
 unfolding holderOf
-holder-found f t [] p = tt
-holder-found f t (e ∷ l) p =
-    cond-elim (λ (o : Option Entry). Found o) (isIn f e && sameLabel (e .label) t) (some e) (holderOf f t l) (λ _. p .0) (λ _. holder-found f t l (p .1))
+holder-found k f t [] p = tt
+holder-found k f t (e ∷ l) p =
+    cond-elim (λ (o : Option Entry). Found o) (isHolder k f t e) (some e) (holderOf k f t l) (λ _. p .0) (λ _. holder-found k f t l (p .1))
 
 free-mark : (o : Option Entry) → Found o → MarkFits (freeLabel o)
 unfolding freeLabel
@@ -47,14 +47,14 @@ make-in-mark : (r : Rec) (es : List Entry) (o : Option Entry) → AllProper es �
 unfolding judgeMakeIn
 make-in-mark r es none p h = inl refl
 make-in-mark r es (some f) p h =
-    mark-if (eqb (f .kind) 1) (freeLabel (holderOf (folderOf r) (labelOf r) es)) (aside 14 (f .made))
-    (free-mark (holderOf (folderOf r) (labelOf r) es) (holder-found (folderOf r) (labelOf r) es p)) (inr (h .range))
+    mark-if (eqb (f .kind) 1) (freeLabel (holderOf 0 (folderOf r) (labelOf r) es)) (aside 14 (f .made))
+    (free-mark (holderOf 0 (folderOf r) (labelOf r) es) (holder-found 0 (folderOf r) (labelOf r) es p)) (inr (h .range))
 
 make-mark : (r : Rec) (es : List Entry) → AllProper es → MarkFits (judgeMake r es)
 unfolding judgeMake
 make-mark r es p =
-    mark-if (eqb (folderOf r) 0) (freeLabel (holderOf 0 (labelOf r) es)) (judgeMakeIn r es (entryOf (folderOf r) es))
-    (free-mark (holderOf 0 (labelOf r) es) (holder-found 0 (labelOf r) es p)) (make-in-mark r es (entryOf (folderOf r) es) p (entry-found (folderOf r) es p))
+    mark-if (eqb (folderOf r) 0) (freeLabel (holderOf 0 0 (labelOf r) es)) (judgeMakeIn r es (entryOf (folderOf r) es))
+    (free-mark (holderOf 0 0 (labelOf r) es) (holder-found 0 0 (labelOf r) es p)) (make-in-mark r es (entryOf (folderOf r) es) p (entry-found (folderOf r) es p))
 
 store-mark : (r : Rec) (o : Option Entry) → Found o → MarkFits (judgeStore r o)
 unfolding judgeStore
@@ -75,8 +75,8 @@ rename-mark : (r : Rec) (es : List Entry) (o : Option Entry) → AllProper es �
 unfolding judgeRename
 rename-mark r es none p h = inl refl
 rename-mark r es (some e) p h =
-    mark-if (unseen r (e .naming)) (aside 17 (e .made)) (freeLabel (holderOf (e .inside) (labelOf r) es)) (inr (h .range))
-    (free-mark (holderOf (e .inside) (labelOf r) es) (holder-found (e .inside) (labelOf r) es p))
+    mark-if (unseen r (e .naming)) (aside 17 (e .made)) (freeLabel (holderOf (e .made) (e .inside) (labelOf r) es)) (inr (h .range))
+    (free-mark (holderOf (e .made) (e .inside) (labelOf r) es) (holder-found (e .made) (e .inside) (labelOf r) es p))
 
 settle-mark : (r : Rec) (t : Tree) → MarkFits (judgeSettle r (t .asides))
 unfolding judgeSettle

@@ -5,10 +5,10 @@ use Rattle.tree_lookup.proofs.holder.Statement.{statement}
 use Rattle.tree_lookup.proofs.holder.Tie as tie
 
 abbrev Inv-loop : tie.InvT-loop
-Inv-loop table register f label h best₀ q₀ best q = Seeking table register best₀ f label best q
+Inv-loop table register k f label h best₀ q₀ best q = Seeking table register best₀ k f label best q
 
 abbrev μ-loop : tie.MeasureT-loop
-μ-loop table register f label h best₀ q₀ best q = q
+μ-loop table register k f label h best₀ q₀ best q = q
 
 hash-requires : tie.Need-hash-requires Inv-loop μ-loop
 hash-requires c κs = search needs
@@ -23,7 +23,7 @@ row-at-requires : tie.Need-row-at-requires Inv-loop μ-loop
 row-at-requires c κs = search needs
 
 earlier-requires : tie.Need-earlier-requires Inv-loop μ-loop
-earlier-requires c κs = (search (works-long), search (seek-row))
+earlier-requires c κs = (search (works-long), search (seek-row), search needs)
 
 node-behind-requires : tie.Need-node-behind-requires Inv-loop μ-loop
 node-behind-requires c κs = search needs

@@ -1,4 +1,4 @@
-use Rattle.tree_lookup.proofs.Labels.{holds-not, holds-same}
+use Rattle.tree_lookup.proofs.Labels.{holds-not, holds-itself, holds-same}
 use borrow.Author.Needs.{needs}
 use Rattle.tree_lookup.proofs.holds_label.Statement.{statement}
 use Rattle.tree_lookup.proofs.holds_label.Tie as tie
@@ -9,6 +9,12 @@ is-in-requires c κs = search needs
 returns : tie.Need-returns
 returns c = search (holds-not)
 
+made-at-requires : tie.Need-made-at-requires
+made-at-requires c κs = search needs
+
+returns-2 : tie.Need-returns-2
+returns-2 c = search (holds-itself)
+
 mul-at : tie.Need-mul-at
 mul-at c = search needs
 
@@ -18,23 +24,23 @@ add-at c = search needs
 add-at-2 : tie.Need-add-at-2
 add-at-2 c = search needs
 
-add-same : tie.Need-add-same
-add-same c = search needs
+add-same-label : tie.Need-add-same-label
+add-same-label c = search needs
 
-sub-same : tie.Need-sub-same
-sub-same c = search needs
+sub-same-label : tie.Need-sub-same-label
+sub-same-label c = search needs
 
-part-same-start : tie.Need-part-same-start
-part-same-start c = search needs
+part-same-label-start : tie.Need-part-same-label-start
+part-same-label-start c = search needs
 
-part-same-end : tie.Need-part-same-end
-part-same-end c = search needs
+part-same-label-end : tie.Need-part-same-label-end
+part-same-label-end c = search needs
 
-same-requires : tie.Need-same-requires
-same-requires c κs = search needs
+same-label-requires : tie.Need-same-label-requires
+same-label-requires c κs = search needs
 
-returns-2 : tie.Need-returns-2
-returns-2 c = search (holds-same)
+returns-3 : tie.Need-returns-3
+returns-3 c = search (holds-same)
 
 pub holds-label-spec : {M : Type 1} → statement M
 holds-label-spec =
@@ -42,12 +48,14 @@ holds-label-spec =
     (tie.spec
     is-in-requires
     returns
+    made-at-requires
+    returns-2
     mul-at
     add-at
     add-at-2
-    add-same
-    sub-same
-    part-same-start
-    part-same-end
-    same-requires
-    returns-2)
+    add-same-label
+    sub-same-label
+    part-same-label-start
+    part-same-label-end
+    same-label-requires
+    returns-3)
