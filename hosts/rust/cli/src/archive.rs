@@ -4,7 +4,8 @@ use crate::failure::{Failure, Outcome, Refused, of_library};
 use crate::files::{self, Bytes, Held, Over};
 use crate::json::Object;
 use crate::numbers::Case;
-use crate::out::shown;
+use crate::out::{Out, shown};
+use crate::records::Story;
 use crate::system::System;
 use crate::why;
 use sab::{Answer, Log, Tree, Vector, raw};
@@ -16,6 +17,10 @@ pub const LIMIT: usize = raw::FILE + 1;
 
 /// How many records a log holds.
 pub const ROOM: usize = 512;
+
+/// What to do about a file that reads otherwise.
+const CHANGE_OVER: &str = "capitals and small letters are one label since version 4: change all units over, then \
+                           look at what stands aside (`sab explain 15`)";
 
 /// An archive file that was accepted.
 pub struct Archive {
@@ -59,6 +64,22 @@ impl Archive {
     /// The tree of its records.
     pub fn tree(&self) -> Outcome<Tree> {
         self.log.show().map_err(of_library(&self.name, Case::File))
+    }
+
+    /// Says if it reads otherwise than up to version 3.
+    pub fn tell_otherwise(&self, out: &mut Out) -> Outcome<()> {
+        let tree = self.tree()?;
+        let otherwise = Story::new(&self.log, &tree).otherwise();
+        if let Some(words) = otherwise.words() {
+            out.object(|| {
+                Object::new("otherwise")
+                    .text("file", self.shown())
+                    .texts("aside", &otherwise.aside)
+                    .texts("acting", &otherwise.acting)
+            });
+            out.complain(Some(&self.name), words, Some(CHANGE_OVER));
+        }
+        Ok(())
     }
 
     /// Its name for messages.
