@@ -66,7 +66,7 @@ impl Archive {
         self.log.show().map_err(of_library(&self.name, Case::File))
     }
 
-    /// Says if it reads otherwise than up to version 3.
+    /// Says if it reads otherwise than before version 4.
     pub fn tell_otherwise(&self, out: &mut Out) -> Outcome<()> {
         let tree = self.tree()?;
         let otherwise = Story::new(&self.log, &tree).otherwise();

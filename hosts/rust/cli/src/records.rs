@@ -230,9 +230,10 @@ impl<'a> Story<'a> {
         aside.reason() == 15 && held != record.label()
     }
 
-    /// The records that were judged otherwise up to version 3, which told capitals
-    /// from small letters and let an entry hold its label against its own rename.
-    /// If there are none, the file reads as it did.
+    /// The records that were judged otherwise before version 4, when capitals were
+    /// told from small letters and an entry held its label against its own rename.
+    /// If there are none, the file reads as it did: the first record that is judged
+    /// otherwise is always among them.
     pub fn otherwise(&self) -> Otherwise {
         let mut otherwise = Otherwise::default();
         for &record in &self.records {
@@ -570,7 +571,7 @@ impl<'a> Story<'a> {
     }
 }
 
-/// The records of a file that were judged otherwise up to version 3, by rank.
+/// The records of a file that were judged otherwise before version 4, by rank.
 #[derive(Debug, Default)]
 pub struct Otherwise {
     /// They stand aside now, because of capitals and small letters alone.
@@ -584,20 +585,20 @@ impl Otherwise {
     pub fn words(&self) -> Option<String> {
         let (aside, acting) = (named(&self.aside), named(&self.acting));
         let parts: Vec<String> = [
-            aside.map(|(names, verb)| {
-                let verb = if verb { "stands" } else { "stand" };
-                format!("{names} {verb} aside by capitals and small letters alone")
+            aside.map(|(names, one)| {
+                let stand = if one { "stands" } else { "stand" };
+                format!("{names} {stand} aside because of capitals and small letters alone")
             }),
-            acting.map(|(names, verb)| {
-                let verb = if verb { "acts" } else { "act" };
-                format!("{names} {verb}, to a label that the entry had")
+            acting.map(|(names, one)| match one {
+                true => format!("{names} acts, a rename to the label that the entry had"),
+                false => format!("{names} act, renames to the label that the entry had"),
             }),
         ]
         .into_iter()
         .flatten()
         .collect();
         let parts = parts.join("; ");
-        (!parts.is_empty()).then(|| format!("reads otherwise than up to version 3: {parts}"))
+        (!parts.is_empty()).then(|| format!("reads otherwise than before version 4: {parts}"))
     }
 }
 

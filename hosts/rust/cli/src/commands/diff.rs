@@ -16,7 +16,7 @@ pub const COMMAND: Command = Command {
     page: "\
 Prints the lines in which the listings of two files differ: - for a line that only
 the first has, + for one that only the second has. Entries come first, then asides.
-Both are read by the rules of now; a file that an analyser up to version 3 shows
+Both are read by the rules of now; a file that an analyser before version 4 shows
 otherwise, since it tells capitals from small letters, is named on standard error.
 
     $ sab diff card0.sab card1.sab
