@@ -19,8 +19,8 @@ pub const LIMIT: usize = raw::FILE + 1;
 pub const ROOM: usize = 512;
 
 /// What to do about a file that reads otherwise.
-const CHANGE_OVER: &str = "capitals and small letters are one label since version 4: change all units over, then \
-                           look at what stands aside (`sab explain 15`)";
+const CHANGE_OVER: &str = "if a unit of this archive is older than version 4, change it over; then look at what \
+                           stands aside (`sab explain 15`)";
 
 /// An archive file that was accepted.
 pub struct Archive {
