@@ -18,10 +18,6 @@ pub const LIMIT: usize = raw::FILE + 1;
 /// How many records a log holds.
 pub const ROOM: usize = 512;
 
-/// What to do about a file that reads otherwise.
-const CHANGE_OVER: &str = "if a unit of this archive is older than version 4, change it over; then look at what \
-                           stands aside (`sab explain 15`)";
-
 /// An archive file that was accepted.
 pub struct Archive {
     /// Its name, as it was given.
@@ -66,7 +62,7 @@ impl Archive {
         self.log.show().map_err(of_library(&self.name, Case::File))
     }
 
-    /// Says if it reads otherwise than before version 4.
+    /// Says in a line if it reads otherwise than before version 4.
     pub fn tell_otherwise(&self, out: &mut Out) -> Outcome<()> {
         let tree = self.tree()?;
         let otherwise = Story::new(&self.log, &tree).otherwise();
@@ -77,7 +73,7 @@ impl Archive {
                     .texts("aside", &otherwise.aside)
                     .texts("acting", &otherwise.acting)
             });
-            out.complain(Some(&self.name), words, Some(CHANGE_OVER));
+            out.line(format_args!("{}: {words} (sab explain 15)", self.shown()));
         }
         Ok(())
     }

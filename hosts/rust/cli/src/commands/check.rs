@@ -37,8 +37,8 @@ the line of the file; so one sees how much of a damaged card is whole. sab
 salvage makes a file of what is whole.
 
 A good file that reads otherwise than before version 4, when capitals were told
-from small letters in labels, is told on standard error too, with the records that
-make the difference; it stays good.
+from small letters in labels, has a second line with the records that make the
+difference; it stays good.
 
 A file that a cut left beside this one while it was being replaced is named too;
 it can be removed.",

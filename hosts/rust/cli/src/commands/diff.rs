@@ -16,8 +16,8 @@ pub const COMMAND: Command = Command {
     page: "\
 Prints the lines in which the listings of two files differ: - for a line that only
 the first has, + for one that only the second has. Entries come first, then asides.
-Both are read by the rules of now; a file that an analyser before version 4 shows
-otherwise, since it tells capitals from small letters, is named on standard error.
+Both are read by the rules of now. A file that an analyser before version 4 shows
+otherwise, since it tells capitals from small letters, is named in a last line.
 
     $ sab diff card0.sab card1.sab
     --- card0.sab: archive 12 unit 0 records 2
