@@ -180,7 +180,8 @@ static void test_full(struct lent index)
     rows(index, id_of(1, 1), 0);
     rows(index, id_of(7, 65535), 0);
     expect(index, id_of(0, 0), "Bench", id_of(0, 1));
-    expect(index, id_of(0, 0), "bench", id_of(0, 0));
+    expect(index, id_of(0, 0), "bench", id_of(0, 1));
+    expect(index, id_of(0, 0), "bench ", id_of(0, 0));
     expect(index, id_of(0, 0), "", id_of(0, 0));
     expect(index, id_of(1, 1), "T1", id_of(0, 0));
 }
