@@ -56,6 +56,9 @@
  *   lacks some of the other's for good.
  * - A record that fitted when it was made may stand aside after a meeting, and
  *   the other way round. Show the tree again after every accepted take.
+ * - Libraries before 4.0.0 tell capitals from small letters in labels. They pass
+ *   the same blocks and hold the same records, but may show another tree of
+ *   them: change all units of an archive over.
  * - Dates are shown and order nothing.
  *
  * Calls may run at the same time on different buffers. Bytes need no alignment.
@@ -166,8 +169,10 @@
  *   An identity is four bytes: unit, zero, number (2). Rows not used are zero.
  *
  * Rows stand by the folder's unit, then its number, then the bytes of the label
- * as numbers, those of a shorter label before one that goes on. No two rows have
- * the same folder and label. A row refers to no place in a log or in a tree.
+ * as numbers, A to Z as a to z, those of a shorter label before one that goes on.
+ * So [ \ ] ^ _ and the backquote stand before all letters. No two rows have the
+ * same folder and label, in any case. A row refers to no place in a log or in a
+ * tree, and has the label as it was written.
  *
  * Who keeps one lends it to every call that changes the log: sab_start, sab_act,
  * sab_take, sab_take_row. If it was right before, it is right after, whether the
@@ -219,10 +224,10 @@ extern "C" {
 
 /* ---- The version of this header and of its calls ---- */
 
-#define SAB_VERSION_MAJOR 3
+#define SAB_VERSION_MAJOR 4
 #define SAB_VERSION_MINOR 0
 #define SAB_VERSION_PATCH 0
-#define SAB_VERSION "3.0.0"
+#define SAB_VERSION "4.0.0"
 
 /* ---- Lengths in bytes ---- */
 
@@ -276,7 +281,8 @@ extern "C" {
 #define SAB_NO_FOLDER 13u     /*   the folder is not in the tree */
 #define SAB_WRONG_KIND 14u    /*   a trace used as a folder, or a store on a
                                    folder */
-#define SAB_LABEL_HELD 15u    /*   an entry of that folder has the label */
+#define SAB_LABEL_HELD 15u    /*   an entry of that folder has the label, in
+                                   capitals or small letters */
 #define SAB_NOT_EMPTY 16u     /*   a folder to remove has entries */
 #define SAB_UNSEEN_CHANGE 17u /*   only a reason for standing aside: the object
                                    was changed by a record that its maker had
@@ -391,8 +397,9 @@ uint32_t sab_start(uint8_t *log, size_t log_len, uint8_t *index,
  *   12 store, remove, rename: the object is not in the tree;
  *   13 make: the folder is not in the tree;
  *   14 make: the folder is a trace; store: the object is a folder;
- *   15 make, rename: an entry of the folder has the label; to rename an entry to
- *      the label it has is 15 too;
+ *   15 make, rename: an entry of the folder has the label, A to Z as a to z; in
+ *      a rename an entry other than the object: to rename an entry to the label
+ *      it has, in the same bytes or another case, is no 15;
  *   16 remove: the folder has entries;
  *   18 settle: the object is no record that stands aside.
  */
@@ -595,7 +602,7 @@ uint32_t sab_merge(const uint8_t *first, size_t first_len,
  *       12-15  the last contents record: the make or the last store that fitted
  *       16-19  the last label record: the make or the last rename that fitted
  *       20-23  date of the last contents record: year (2), month, day
- *       24-55  label, then zeros
+ *       24-55  label as it was written, then zeros
  *       56-71  mark of the last contents record; of a folder zeros
  *   36868 + 12 j   aside j, by rank
  *       0-3    identity
@@ -640,8 +647,8 @@ uint32_t sab_index(const uint8_t *log, size_t log_len, uint8_t *index,
  * number   of the folder; the root is 0. Of a trace, and of what is not in the
  *          tree, no entry is found; nor of a unit above 7 or a number above
  *          65,535, so that a wider number is not to be cut before the call
- * label    32 bytes, only read: a label, then zeros; any others are no label, and
- *          no entry has them
+ * label    32 bytes, only read: a label, in capitals or small letters, then
+ *          zeros; any others are no label, and no entry has them
  *
  * Returns 0, and the entry: SAB_PLACE is its unit, SAB_COUNT its number; both are
  * 0 if the folder has no entry of that label. 1 index or label not of its length.

@@ -54,13 +54,14 @@ static void test_reasons(struct lent log, struct lent wish)
     CHECK(act_on(log, 0, wish) == SAB_NOT_EMPTY);
     wish_on(wish.bytes, 0, SAB_RENAME, id_of(1, 1), "x");
     CHECK(act_on(log, 0, wish) == SAB_NO_OBJECT);
-    wish_on(wish.bytes, 0, SAB_RENAME, id_of(0, 1), "Bench");
+    wish_make(wish.bytes, 0, SAB_MAKE_FOLDER, id_of(0, 0), "bENCH");
     CHECK(act_on(log, 0, wish) == SAB_LABEL_HELD);
     wish_on(wish.bytes, 0, SAB_SETTLE, id_of(0, 2), "");
     CHECK(act_on(log, 0, wish) == SAB_NOT_ASIDE);
 }
 
-/* Every operation accepted once: 0.3 to 0.9. */
+/* Every operation accepted once, 0.3 to 0.9; then renames to the own label, in the
+ * same bytes and in another case. */
 static void test_operations(struct lent log, struct lent wish)
 {
     wish_on(wish.bytes, 0, SAB_SETTLE, id_of(1, 1), "");
@@ -80,6 +81,10 @@ static void test_operations(struct lent log, struct lent wish)
     wish_on(wish.bytes, 0, SAB_REMOVE, id_of(0, 4), "");
     CHECK(act_on(log, 0, wish) == SAB_NO_OBJECT);
     CHECK(held(log.bytes) == 10);
+    wish_on(wish.bytes, 0, SAB_RENAME, id_of(0, 1), "Bench");
+    CHECK(act_on(log, 0, wish) == SAB_OK);
+    wish_on(wish.bytes, 0, SAB_RENAME, id_of(0, 1), "bENCH");
+    CHECK(act_on(log, 0, wish) == SAB_OK);
 }
 
 /* A stroke at every byte of a label, and with a bad date. */

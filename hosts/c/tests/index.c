@@ -95,11 +95,13 @@ static void test_acts(struct lent log, struct lent index)
         unsigned answer;
     } wishes[] = {
         {SAB_MAKE_TRACE, 1, "Noise", 0}, {SAB_MAKE_FOLDER, 1, "Noise", 15},
+        {SAB_MAKE_TRACE, 1, "nOISE", 15}, {SAB_MAKE_FOLDER, 1, "GAIN \"a\"", 15},
         {SAB_MAKE_FOLDER, 0, "Attic", 0}, {SAB_MAKE_TRACE, 4, "z", 0},
         {SAB_RENAME, 4, "Roof", 0},      {SAB_RENAME, 3, "Gain \"A\"", 15},
         {SAB_RENAME, 3, "Gain", 0},      {SAB_STORE, 3, "", 0},
         {SAB_REMOVE, 4, "", 16},         {SAB_REMOVE, 5, "", 0},
         {SAB_REMOVE, 4, "", 0},          {SAB_MAKE_TRACE, 0, "a/b", 24},
+        {SAB_RENAME, 3, "gAIN", 0},      {SAB_RENAME, 3, "gAIN", 0},
     };
     uint8_t wish[SAB_RECORD_BYTES];
     size_t i;
@@ -116,6 +118,7 @@ static void test_acts(struct lent log, struct lent index)
         right(log.bytes, index.bytes);
     }
     expect(index, id_of(0, 1), "Gain", id_of(0, 3));
+    expect(index, id_of(0, 1), "gain", id_of(0, 3));
     expect(index, id_of(0, 1), "Noise", id_of(0, 0));
 }
 
@@ -166,7 +169,8 @@ static void test_full(struct lent index)
     rows(index, id_of(1, 1), 0);
     rows(index, id_of(7, 65535), 0);
     expect(index, id_of(0, 0), "Bench", id_of(0, 1));
-    expect(index, id_of(0, 0), "bench", id_of(0, 0));
+    expect(index, id_of(0, 0), "bench", id_of(0, 1));
+    expect(index, id_of(0, 0), "bench ", id_of(0, 0));
     expect(index, id_of(0, 0), "", id_of(0, 0));
     expect(index, id_of(1, 1), "T1", id_of(0, 0));
     for (i = 0; i < WIDE_UNITS; i++) {

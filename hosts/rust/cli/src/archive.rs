@@ -4,7 +4,8 @@ use crate::failure::{Failure, Outcome, Refused, of_library};
 use crate::files::{self, Bytes, Held, Over};
 use crate::json::Object;
 use crate::numbers::Case;
-use crate::out::shown;
+use crate::out::{Out, shown};
+use crate::records::Story;
 use crate::system::System;
 use crate::why;
 use sab::{Answer, Log, Tree, Vector, raw};
@@ -59,6 +60,22 @@ impl Archive {
     /// The tree of its records.
     pub fn tree(&self) -> Outcome<Tree> {
         self.log.show().map_err(of_library(&self.name, Case::File))
+    }
+
+    /// Says in a line if it reads otherwise than before version 4.
+    pub fn tell_otherwise(&self, out: &mut Out) -> Outcome<()> {
+        let tree = self.tree()?;
+        let otherwise = Story::new(&self.log, &tree).otherwise();
+        if let Some(words) = otherwise.words() {
+            out.object(|| {
+                Object::new("otherwise")
+                    .text("file", self.shown())
+                    .texts("aside", &otherwise.aside)
+                    .texts("acting", &otherwise.acting)
+            });
+            out.line(format_args!("{}: {words} (sab explain 15)", self.shown()));
+        }
+        Ok(())
     }
 
     /// Its name for messages.

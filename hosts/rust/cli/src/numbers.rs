@@ -64,6 +64,11 @@ pub const SECTIONS: &[Section] = &[
         title: "the log is full",
         text: include_str!("card/11.md"),
     },
+    Section {
+        number: 15,
+        title: "capitals and small letters are one label",
+        text: include_str!("card/15.md"),
+    },
 ];
 
 /// The section of a number.
@@ -218,9 +223,9 @@ pub const ROWS: &[Row] = &[
     },
     Row {
         number: 15,
-        cause: Always("the label is already in that folder"),
+        cause: Always("the label, in any case, is already in that folder"),
         fault: "wish",
-        advice: Always("choose another label"),
+        advice: Always("choose another label: capitals and small letters are the same"),
     },
     Row {
         number: 16,

@@ -161,7 +161,10 @@ impl<'a> Story<'a> {
     /// The entries of a folder: folders first, then by label.
     pub fn inside(&self, folder: Identity) -> Vec<Entry<'a>> {
         let mut inside: Vec<Entry> = self.tree.entries_in(folder).collect();
-        inside.sort_by_key(|entry| (entry.kind() == Kind::Trace, entry.label()));
+        inside.sort_by_key(|entry| {
+            let label = entry.label().to_ascii_lowercase();
+            (entry.kind() == Kind::Trace, label)
+        });
         inside
     }
 
@@ -202,19 +205,53 @@ impl<'a> Story<'a> {
         }
     }
 
-    /// An identity with the label that its entry had when a record came.
-    fn name_before(&self, identity: Identity, record: Record) -> String {
+    /// The label that an entry had when a record came.
+    fn label_before(&self, identity: Identity, record: Record) -> Option<&'a str> {
         let labels = |one: Record| {
             one.identity() == identity
                 || one.operation() == Operation::Rename && one.object() == Some(identity)
         };
-        match self
-            .last_before(Some(record), labels)
-            .and_then(Record::label)
-        {
+        let last = self.last_before(Some(record), labels);
+        last.and_then(Record::label)
+    }
+
+    /// An identity with the label that its entry had when a record came.
+    fn name_before(&self, identity: Identity, record: Record) -> String {
+        match self.label_before(identity, record) {
             Some(label) => format!("{identity} {}", quoted(label)),
             None => self.name(identity),
         }
+    }
+
+    /// Whether a record stands aside under 15 before a label that differs from its
+    /// own in capitals and small letters.
+    fn by_case(&self, aside: Aside, record: Record) -> bool {
+        let held = aside
+            .marks()
+            .and_then(|marked| self.label_before(marked, record));
+        aside.reason() == 15 && held != record.label()
+    }
+
+    /// The records that were judged otherwise before version 4, when capitals were
+    /// told from small letters and an entry held its label against its own rename.
+    /// If there are none, the file reads as it did: the first record that is judged
+    /// otherwise is always among them.
+    pub fn otherwise(&self) -> Otherwise {
+        let mut otherwise = Otherwise::default();
+        for &record in &self.records {
+            let identity = record.identity();
+            match (self.aside(identity), record.object()) {
+                (Some(aside), _) if self.by_case(aside, record) => otherwise.aside.push(identity),
+                (None, Some(object))
+                    if record.operation() == Operation::Rename
+                        && self.label_before(object, record) == record.label() =>
+                {
+                    otherwise.acting.push(identity)
+                }
+                _ => {}
+            }
+        }
+        otherwise
     }
 
     /// What a record did, or wanted to do if it stands aside; without who and
@@ -339,11 +376,17 @@ impl<'a> Story<'a> {
                 format!("but {marked} is a trace, not a folder")
             }
             14 => format!("but {marked} is a folder, not a trace"),
-            15 if aside.marks() == record.object() => "but it had this label already".to_string(),
-            15 => format!(
-                "but that folder had an entry of this label: {marked}{}",
-                self.from(aside)
-            ),
+            15 => {
+                let case = if self.by_case(aside, record) {
+                    " in another case"
+                } else {
+                    ""
+                };
+                format!(
+                    "but that folder had an entry of this label{case}: {marked}{}",
+                    self.from(aside)
+                )
+            }
             16 => "but it had entries".to_string(),
             17 => match self.unseen_change(record) {
                 Some((change, what)) => format!(
@@ -432,7 +475,6 @@ impl<'a> Story<'a> {
                     "use {marked}, or make it again under another label"
                 ));
             }
-            (15, _) if aside.marks() == record.object() => return None,
             (15, _) => "if it is still wanted, rename it to another label",
             (16, _) => "if the folder is still to go, remove its entries first, then the folder",
             (17, Operation::Store) => "look at both; store again what shall stay",
@@ -529,6 +571,51 @@ impl<'a> Story<'a> {
             open: self.asides.values().filter(|aside| aside.is_open()).count(),
         }
     }
+}
+
+/// The records of a file that were judged otherwise before version 4, by rank.
+#[derive(Debug, Default)]
+pub struct Otherwise {
+    /// They stand aside now, because of capitals and small letters alone.
+    pub aside: Vec<Identity>,
+    /// They act now: renames to the label that the entry had.
+    pub acting: Vec<Identity>,
+}
+
+impl Otherwise {
+    /// In words; none if the file reads as it did.
+    pub fn words(&self) -> Option<String> {
+        let (aside, acting) = (named(&self.aside), named(&self.acting));
+        let parts: Vec<String> = [
+            aside.map(|(names, one)| {
+                let stand = if one { "stands" } else { "stand" };
+                format!("{names} {stand} aside because of capitals and small letters alone")
+            }),
+            acting.map(|(names, one)| match one {
+                true => format!("{names} acts, a rename to the label that the entry had"),
+                false => format!("{names} act, renames to the label that the entry had"),
+            }),
+        ]
+        .into_iter()
+        .flatten()
+        .collect();
+        let parts = parts.join("; ");
+        (!parts.is_empty()).then(|| format!("reads otherwise than before version 4: {parts}"))
+    }
+}
+
+/// How many identities are named before the rest is only counted.
+const NAMED: usize = 6;
+
+/// Identities in a row, and whether there is one alone.
+fn named(identities: &[Identity]) -> Option<(String, bool)> {
+    let first = identities.iter().take(NAMED);
+    let names: Vec<String> = first.map(Identity::to_string).collect();
+    let mut text = names.join(", ");
+    if identities.len() > NAMED {
+        text += &format!(" and {} more", identities.len() - NAMED);
+    }
+    (!identities.is_empty()).then_some((text, identities.len() == 1))
 }
 
 /// Open or settled.

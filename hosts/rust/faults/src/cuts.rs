@@ -8,10 +8,10 @@ use workload::{Chance, Mix};
 
 /// Two units that have been apart.
 fn pair(round: u64, plan: &Plan, records: usize) -> Vec<Vec<u8>> {
-    let mix = if round.is_multiple_of(2) {
-        &Mix::CONFLICTS
-    } else {
-        &Mix::BENCH
+    let mix = match round % 4 {
+        0 => &Mix::CONFLICTS,
+        2 => &Mix::CASES,
+        _ => &Mix::BENCH,
     };
     apart(2, records, mix, 1000 * plan.seed + round)
 }

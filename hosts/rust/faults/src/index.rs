@@ -23,7 +23,7 @@ pub fn kept(library: &dyn Library, plan: &Plan) -> Tally {
     let mut tally = Tally::default();
     for life in 0..plan.count(12, 600) {
         let mut chance = Chance::new(700 * plan.seed + life);
-        let mix = *chance.pick(&[Mix::BENCH, Mix::CONFLICTS]);
+        let mix = *chance.pick(&[Mix::BENCH, Mix::CONFLICTS, Mix::CASES]);
         let none = Unit {
             log: vec![0; LOG],
             index: vec![0; INDEX],
@@ -120,16 +120,23 @@ fn take(
     Ok(())
 }
 
-/// Every entry is found, and one folder lists its entries by label.
+/// Every entry is found, under its label in any case, and one folder lists its
+/// entries by label.
 fn asked(library: &dyn Library, unit: &Unit, chance: &mut Chance) -> Result<(), Wrong> {
     let tree = tree_of(library, &unit.log)?;
     let count = usize::from(u16::from_le_bytes([tree[0], tree[1]]));
     let entries: Vec<&[u8]> = tree[4..].chunks(ENTRY_ROW).take(count).collect();
     for entry in &entries {
-        let found = library.find(&unit.index, folder_of(&entry[8..12]), &entry[24..56]);
         let (own, number) = folder_of(&entry[4..8]);
-        if found != Ok(Some((own as u8, number as u16))) {
-            return incorrect(format!("{found:?} found for {:?}", &entry[4..8]));
+        let mut label = entry[24..56].to_vec();
+        for byte in label.iter_mut().filter(|byte| byte.is_ascii_alphabetic()) {
+            *byte ^= (chance.below(2) as u8) << 5;
+        }
+        for label in [&entry[24..56], &label] {
+            let found = library.find(&unit.index, folder_of(&entry[8..12]), label);
+            if found != Ok(Some((own as u8, number as u16))) {
+                return incorrect(format!("{found:?} found for {:?}", &entry[4..8]));
+            }
         }
     }
     let folder = match entries.is_empty() || chance.one_in(3) {
@@ -137,7 +144,7 @@ fn asked(library: &dyn Library, unit: &Unit, chance: &mut Chance) -> Result<(), 
         false => std::array::from_fn(|i| chance.pick(&entries)[4 + i]),
     };
     let mut inside: Vec<&&[u8]> = entries.iter().filter(|row| row[8..12] == folder).collect();
-    inside.sort_by_key(|row| &row[24..56]);
+    inside.sort_by_key(|row| row[24..56].to_ascii_lowercase());
     let Ok(range) = library.list(&unit.index, folder_of(&folder)) else {
         return incorrect("the folder is not listed");
     };

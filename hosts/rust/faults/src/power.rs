@@ -104,6 +104,7 @@ fn wishes(seed: u64, count: usize) -> Vec<Vec<[u8; 80]>> {
     let mix = Mix {
         weights: [1, 1, 0, 0, 0, 0],
         labels: 1,
+        cases: false,
     };
     let label = |unit: u64, i: usize| match i % 3 {
         1 => format!("W{i}"),

@@ -61,7 +61,8 @@ pub fn meetings(library: &dyn Library, plan: &Plan) -> Tally {
             return tally;
         }
         let size = [3, 16, 60, 200, 400][round % 5];
-        let mut logs = apart(2, size, &Mix::CONFLICTS, plan.seed + round as u64);
+        let mix = [Mix::CONFLICTS, Mix::CASES][round % 2];
+        let mut logs = apart(2, size, &mix, plan.seed + round as u64);
         let goal = Goal::of(&logs);
         let end = meet(library, &mut logs).and_then(|()| goal.reached(library, &logs));
         tally.count(|| format!("meeting {round}"), end);

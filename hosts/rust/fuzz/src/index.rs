@@ -65,6 +65,7 @@ fn asked(input: &mut Input, index: &[u8]) -> (Folder, Vec<u8>) {
         1 => input.patch(&mut label, 32),
         2 => folder.copy_from_slice(&row[36..]),
         3 => label.fill(input.byte()),
+        4 => label[input.below(32)] ^= 32,
         _ => (),
     }
     let mut folder = folder_of(&folder);

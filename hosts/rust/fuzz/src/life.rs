@@ -18,7 +18,7 @@ pub struct Life {
 /// A log that all units know at first: of 0, 20, 500, 507 or 512 records.
 fn common(which: usize) -> &'static [[u8; RECORD]] {
     static FULL: OnceLock<Vec<u8>> = OnceLock::new();
-    let full = FULL.get_or_init(|| log_of(RECORDS, 4, 6, &Mix::CONFLICTS, 5));
+    let full = FULL.get_or_init(|| log_of(RECORDS, 4, 6, &Mix::CASES, 5));
     let records = [0, 20, 500, 507, 512][which];
     &full.as_chunks().0[..records]
 }
@@ -32,14 +32,24 @@ fn rank(record: &[u8; RECORD]) -> (u32, u8) {
     (sum, record[0])
 }
 
-const LABELS: [&[u8]; 7] = [
+/// Some in capitals and small letters, and signs that stand beside the letters.
+const LABELS: [&[u8]; 16] = [
     b"A",
+    b"a",
     b"B",
     b"Gain \"A\"",
+    b"gAIN \"a\"",
     b"\\",
     b"12345678901234567890123456789012",
     b"C",
     b"A/B",
+    b"[",
+    b"{",
+    b"@",
+    b"`",
+    b"_",
+    b"Z",
+    b"z",
 ];
 
 impl Life {

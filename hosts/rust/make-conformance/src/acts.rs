@@ -14,6 +14,7 @@ pub fn list() -> Written {
     malformed(&mut calls);
     refused(&mut calls);
     strokes(&mut calls);
+    cases(&mut calls);
     accepted(&mut calls);
     calls.written("acts", "wishes given to an act")
 }
@@ -137,11 +138,6 @@ fn refused(calls: &mut Calls) {
         wish(0, 2, ROOT, "Bench 0", 1),
     );
     call(
-        15,
-        "a rename to the label that the entry has",
-        wish(0, 5, (0, 1), "Bench 0", 0),
-    );
-    call(
         16,
         "a remove of a folder with an entry",
         wish(0, 4, (0, 1), "", 0),
@@ -222,6 +218,76 @@ fn strokes(calls: &mut Calls) {
     );
     calls.call(0, "its entry is renamed", |list| {
         list.act(5, Lent::Own, 7, 5, &wish(5, 5, (5, 1), "A B", 0))
+    });
+}
+
+/// Labels that differ in capitals and small letters alone. Unit 4: the folder 4.1
+/// Bench, the traces 4.2 Gain and 4.3 [A] in it.
+fn cases(calls: &mut Calls) {
+    let log = held();
+    let mut call = |number, shows, wish: [u8; 80]| calls.call(number, shows, act(&log, &wish));
+    call(
+        0,
+        "a rename to the label that the entry has, in the same bytes",
+        wish(0, 5, (0, 1), "Bench 0", 0),
+    );
+    call(0, "in other cases", wish(0, 5, (0, 1), "bENCH 0", 0));
+    call(
+        15,
+        "a make of it in small letters",
+        wish(0, 1, ROOT, "bench 0", 0),
+    );
+    call(
+        15,
+        "a make of it in capitals",
+        wish(0, 2, ROOT, "BENCH 0", 1),
+    );
+    call(0, "in another folder", wish(0, 2, (0, 1), "BENCH 0", 1));
+    call(0, "with a space more", wish(0, 2, ROOT, "BENCH  0", 1));
+
+    let mut call = |number, shows: &str, wish: [u8; 80]| {
+        calls.call(number, shows, |list| list.act(4, Lent::Own, 7, 4, &wish))
+    };
+    call(
+        0,
+        "4.1 makes the folder Bench",
+        wish(4, 1, ROOT, "Bench", 0),
+    );
+    call(
+        0,
+        "4.2 makes the trace Gain in it",
+        wish(4, 2, (4, 1), "Gain", 1),
+    );
+    call(0, "4.3 makes the trace [A]", wish(4, 2, (4, 1), "[A]", 2));
+    call(15, "a trace GAIN in Bench", wish(4, 2, (4, 1), "GAIN", 3));
+    call(15, "a rename of [A] to gain", wish(4, 5, (4, 3), "gain", 0));
+    call(15, "a trace [a]", wish(4, 2, (4, 1), "[a]", 3));
+    call(
+        0,
+        "4.4 makes {A}: brackets are no capitals",
+        wish(4, 2, (4, 1), "{A}", 3),
+    );
+    call(0, "4.5 makes @", wish(4, 2, (4, 1), "@", 4));
+    call(0, "4.6 makes the backquote", wish(4, 2, (4, 1), "`", 5));
+    call(0, "4.7 renames Gain to gAIN", wish(4, 5, (4, 2), "gAIN", 0));
+    call(
+        0,
+        "4.8 renames it to gAIN again",
+        wish(4, 5, (4, 2), "gAIN", 0),
+    );
+    call(
+        15,
+        "it still has the label Gain",
+        wish(4, 1, (4, 1), "Gain", 0),
+    );
+    call(0, "4.9 renames it to Loss", wish(4, 5, (4, 2), "Loss", 0));
+    call(
+        0,
+        "4.10 makes GAIN: the label is free",
+        wish(4, 1, (4, 1), "GAIN", 0),
+    );
+    calls.call(0, "what is shown then, labels as written", |list| {
+        list.show(4, Lent::Own)
     });
 }
 

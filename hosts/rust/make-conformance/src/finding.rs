@@ -20,6 +20,7 @@ pub fn list() -> Written {
     odd_labels(&mut calls);
     changes(&mut calls);
     meeting(&mut calls);
+    cases(&mut calls);
     restart(&mut calls);
     calls.written("finding", "folders listed and labels looked up")
 }
@@ -71,7 +72,7 @@ fn order(calls: &mut Calls) {
         calls.call(0, shows, act(0, operation, folder, label));
     };
     make(calls, "0.1 makes the folder b", 1, ROOT, "b");
-    for label in ["~", "ab", "B", "a", LONG, "a b"] {
+    for label in ["~", "ab", "B_", "a", LONG, "a b"] {
         make(
             calls,
             &format!("the trace {label} in the root"),
@@ -93,8 +94,8 @@ fn order(calls: &mut Calls) {
         calls,
         0,
         TOP,
-        "0.6,0.4,0.5,0.7,0.3,0.1,0.2",
-        "by bytes: digits, capitals, small letters, ~; a before a b before ab; a folder among traces",
+        "0.6,0.5,0.7,0.3,0.1,0.4,0.2",
+        "digits, letters, ~; a before a b before ab, b before B_; a folder among traces",
     );
     lists(
         calls,
@@ -160,7 +161,9 @@ fn odd_folders(calls: &mut Calls) {
 
 fn odd_labels(calls: &mut Calls) {
     finds(calls, 0, TOP, b"", "-", "an empty label");
-    finds(calls, 0, TOP, b"A", "-", "a capital for a small letter");
+    finds(calls, 0, TOP, b"A", "0.5", "a capital for a small letter");
+    finds(calls, 0, TOP, b"b_", "0.4", "a small letter for a capital");
+    finds(calls, 0, (0, 1), b"AB", "0.8", "the same in another folder");
     finds(calls, 0, TOP, b"a ", "-", "a space behind");
     finds(calls, 0, TOP, b" a", "-", "a space before");
     finds(calls, 0, TOP, b"a\0b", "-", "a zero inside");
@@ -194,19 +197,20 @@ fn changes(calls: &mut Calls) {
         "a make of a label that is held is refused",
         act(0, 2, ROOT, "a"),
     );
+    calls.call(15, "and of one in another case", act(0, 2, ROOT, "AB"));
     lists(
         calls,
         0,
         TOP,
-        "0.6,0.4,0.5,0.7,0.3,0.1,0.2",
-        "as before the refusal",
+        "0.6,0.5,0.7,0.3,0.1,0.4,0.2",
+        "as before the refusals",
     );
     calls.call(0, "0.11 renames 0.5, a, to z", act(0, 5, (0, 5), "z"));
     lists(
         calls,
         0,
         TOP,
-        "0.6,0.4,0.7,0.3,0.1,0.5,0.2",
+        "0.6,0.7,0.3,0.1,0.4,0.5,0.2",
         "the renamed one at its new place",
     );
     finds(calls, 0, TOP, b"a", "-", "the old label");
@@ -220,7 +224,7 @@ fn changes(calls: &mut Calls) {
         calls,
         0,
         TOP,
-        "0.6,0.4,0.1,0.7,0.3,0.5,0.2",
+        "0.6,0.7,0.3,0.4,0.1,0.5,0.2",
         "the renamed folder",
     );
     lists(calls, 0, (0, 1), "0.10,0.8,0.9", "what lies in it");
@@ -284,11 +288,78 @@ fn meeting(calls: &mut Calls) {
         calls,
         0,
         TOP,
-        "0.6,0.4,0.1,3.3,2.1,0.7,0.3,0.5,0.2",
+        "0.6,0.7,0.3,0.4,0.1,3.3,2.1,0.5,0.2",
         "entries of three units in one folder",
     );
     lists(calls, 0, (2, 1), "2.2", "a folder of another unit");
     lists(calls, 0, (0, 1), "0.10,0.9", "a folder of the own unit");
+}
+
+/// Unit 5: signs around the letters, capitals and small letters; then unit 6, which
+/// gave one label in another case.
+fn cases(calls: &mut Calls) {
+    for label in [
+        "b", "A", "_", "C", "{", "[", "z", "@", "`", "Y", "^", "a_", "Ab",
+    ] {
+        calls.call(
+            0,
+            &format!("the trace {label} of unit 5"),
+            act(5, 2, ROOT, label),
+        );
+    }
+    lists(
+        calls,
+        5,
+        TOP,
+        "5.8,5.6,5.11,5.3,5.9,5.2,5.12,5.13,5.1,5.4,5.10,5.7,5.5",
+        "@ [ ^ _ and the backquote before all letters, A a_ Ab b C Y z, then {",
+    );
+    finds(calls, 5, TOP, b"Z", "5.7", "a capital");
+    finds(calls, 5, TOP, b"y", "5.10", "a small letter");
+    finds(calls, 5, TOP, b"aB", "5.13", "one of each");
+    finds(calls, 5, TOP, b"[", "5.6", "a bracket");
+    finds(calls, 5, TOP, b"{", "5.5", "a brace");
+    finds(calls, 5, TOP, b"]", "-", "another bracket");
+    finds(calls, 5, TOP, b"@", "5.8", "the byte before A");
+    finds(calls, 5, TOP, b"`", "5.9", "the byte before a");
+    finds(
+        calls,
+        5,
+        TOP,
+        &[b'A' | 0x80],
+        "-",
+        "a capital with its upper bit set",
+    );
+    calls.call(15, "a trace B of unit 5", act(5, 2, ROOT, "B"));
+    calls.call(0, "5.14 renames Ab to aB", act(5, 5, (5, 13), "aB"));
+    calls.call(0, "5.15 renames it to aB again", act(5, 5, (5, 13), "aB"));
+    lists(
+        calls,
+        5,
+        TOP,
+        "5.8,5.6,5.11,5.3,5.9,5.2,5.12,5.13,5.1,5.4,5.10,5.7,5.5",
+        "the order stays",
+    );
+    finds(calls, 5, TOP, b"AB", "5.13", "the renamed one");
+    calls.call(0, "6.1 makes the trace Z", act(6, 2, ROOT, "Z"));
+    calls.call(0, "unit 6 takes six records of unit 5", take(5, 6));
+    lists(
+        calls,
+        6,
+        TOP,
+        "5.6,5.3,5.2,5.1,5.4,6.1,5.5",
+        "Z of unit 6 is the last of the letters",
+    );
+    calls.call(0, "unit 6 takes six more", take(5, 6));
+    lists(
+        calls,
+        6,
+        TOP,
+        "5.8,5.6,5.11,5.3,5.9,5.2,5.12,5.1,5.4,5.10,6.1,5.5",
+        "z of unit 5 stands aside: 6.1 has the label",
+    );
+    finds(calls, 6, TOP, b"z", "6.1", "the one that has it");
+    calls.call(0, "what unit 6 shows", |list| list.show(6, Lent::Own));
 }
 
 fn restart(calls: &mut Calls) {

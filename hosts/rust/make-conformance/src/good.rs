@@ -123,8 +123,8 @@ fn fields() -> Vec<Case> {
         ),
         good(
             "labels",
-            "labels of 1 and 32 bytes, every printable kind of byte, spaces within, capitals that \
-             differ from small letters",
+            "labels of 1 and 32 bytes, every printable kind of byte, spaces within; of a small letter and \
+             its capital the later one stands aside (15)",
             file_of(&labelled, 7, 0),
         ),
         good(
@@ -248,11 +248,78 @@ fn trees() -> Vec<Case> {
         ),
         good(
             "own-label",
-            "a rename to the label that the entry has: 15, marks the entry itself",
+            "a rename to the label that the entry has, in the same bytes: it fits",
             file_of(
                 &[
                     record(0, &[], 1, ROOT, "F", 0, 3),
                     record(0, &[1], 5, (0, 1), "F", 0, 4),
+                ],
+                7,
+                0,
+            ),
+        ),
+        good(
+            "own-label-last",
+            "a rename to the own label is the last label record: a rename and a remove that have not seen \
+             it stand aside (17)",
+            file_of(
+                &[
+                    record(0, &[], 2, ROOT, "Gain", 1, 3),
+                    record(0, &[1], 5, (0, 1), "Gain", 0, 4),
+                    record(1, &[1], 5, (0, 1), "Loss", 0, 4),
+                    record(2, &[1], 4, (0, 1), "", 0, 4),
+                ],
+                7,
+                0,
+            ),
+        ),
+        good(
+            "case",
+            "a make and a rename whose label differs from a held one in capitals and small letters alone \
+             stand aside (15); labels are shown as they were written; a rename to another case of the own \
+             label fits, and is the last label record (17)",
+            file_of(
+                &[
+                    record(0, &[], 2, ROOT, "Noise Figure", 1, 3),
+                    record(1, &[], 2, ROOT, "NOISE fIGURE", 2, 3),
+                    record(0, &[1, 1], 2, ROOT, "azAZ", 3, 4),
+                    record(1, &[2, 1], 5, (0, 2), "noise figure", 0, 4),
+                    record(0, &[2, 2], 5, (0, 2), "AZaz", 0, 5),
+                    record(1, &[2, 2], 5, (0, 2), "b", 0, 5),
+                ],
+                7,
+                0,
+            ),
+        ),
+        good(
+            "brackets",
+            "@ and the backquote, brackets and braces, backslash and bar, ^ and ~ stay different, also \
+             before letters; so do digits and letters",
+            file_of(
+                &[
+                    "@A", "`a", "[A", "{a", "\\a", "|A", "]a", "}A", "^a", "~A", "_a", "0", "P",
+                ]
+                .into_iter()
+                .zip(0..)
+                .map(|(label, seen)| trace(seen, (2025, 3, 3), label, [0; 16]))
+                .collect::<Vec<_>>(),
+                7,
+                0,
+            ),
+        ),
+        good(
+            "case-in-folders",
+            "a label in another case is free in another folder, in the folder that has it as its own label, \
+             and again after a rename and a remove",
+            file_of(
+                &[
+                    record(0, &[], 1, ROOT, "Bench", 0, 3),
+                    record(0, &[1], 2, (0, 1), "BENCH", 1, 3),
+                    record(0, &[2], 5, (0, 2), "Spare", 0, 4),
+                    record(0, &[3], 2, (0, 1), "bench", 2, 4),
+                    record(0, &[4], 4, (0, 4), "", 0, 5),
+                    record(0, &[5], 1, (0, 1), "bEnch", 0, 5),
+                    record(0, &[6], 2, (0, 6), "SPARE", 3, 5),
                 ],
                 7,
                 0,

@@ -22,6 +22,16 @@ pub fn all() -> Vec<(&'static str, String)> {
                 &Mix::CONFLICTS,
             ),
         ),
+        (
+            "cases",
+            meetings(
+                "demand 3, three units, few labels in capitals and small letters",
+                14,
+                3,
+                120,
+                &Mix::CASES,
+            ),
+        ),
         ("damage", damage("anything goes, four units", 13, 110)),
         ("refusals", refusals()),
         ("full", full()),
@@ -240,7 +250,8 @@ fn refused_wishes(list: &mut List, sound: &[u8], make: &[u8; 80]) {
         (14, changed(&[(26, 2)])),
         (14, changed(&[(1, 3), (22, 1), (32, 0)])),
         (15, labelled(changed(&[]))),
-        (15, labelled(changed(&[(1, 5), (22, 1)]))),
+        // A rename to the own label.
+        (0, labelled(changed(&[(1, 5), (22, 1)]))),
         (16, changed(&[(1, 4), (22, 1), (32, 0)])),
         (18, changed(&[(1, 6), (22, 1), (32, 0)])),
         (0, changed(&[(26, 1)])),

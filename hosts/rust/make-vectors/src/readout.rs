@@ -68,6 +68,8 @@ fn good() -> Vec<Case> {
             file_of(&records_of(log_of(512, 8, 4, &Mix::CONFLICTS, 31)), 9, 2),
         ),
     ];
+    let log = log_of(80, 4, 3, &Mix::CASES, 37);
+    cases.push(good("cases", file_of(&records_of(log), 5, 4)));
     for (records, seed) in [(1, 32), (6, 33), (7, 34), (40, 35), (60, 36)] {
         let log = log_of(records, 4, 3, &Mix::CONFLICTS, seed);
         cases.push(good(
@@ -88,7 +90,8 @@ fn wished(unit: u8, operation: u8, named: Option<usize>, label: &str, mark: u8) 
     }
 }
 
-/// An aside settled twice, a settle that stands aside, and its settle.
+/// An aside settled twice, a settle that stands aside, and its settle; last a
+/// rename to the own label, which fits.
 fn settles() -> Vec<[u8; 80]> {
     chain(&[
         wished(0, 1, None, "\\\"\\\"", 0),

@@ -1,6 +1,6 @@
-//! The ordered index: the entries of a tree by folder and label. It is made
-//! afresh from a replay, changed by one record, and asked by halving. Any bytes
-//! may be asked.
+//! The ordered index: the entries of a tree by folder and label, A to Z as a to
+//! z. It is made afresh from a replay, changed by one record, and asked by
+//! halving. Any bytes may be asked.
 
 use crate::bytes::{get16, get32, put16, put32};
 use crate::calls::scan;
@@ -66,15 +66,25 @@ fn rows(index: &[u8]) -> &[Row] {
     index[4..].as_chunks().0
 }
 
-/// The row comes before a label in the folder of a key.
+/// What of a label's 32 bytes counts: A to Z as a to z, any other byte as it is.
 #[inline(always)]
-fn is_before(row: &Row, key: u64, label: &[u8]) -> bool {
+fn lower(label: &[u8]) -> [u8; 32] {
+    let mut lower = [0; 32];
+    lower.copy_from_slice(label);
+    lower.make_ascii_lowercase();
+    lower
+}
+
+/// The row comes before what counts of a label in the folder of a key.
+#[inline(always)]
+fn is_before(row: &Row, key: u64, label: &[u8; 32]) -> bool {
     let own = key_of(name_of(get32(row, 0)));
-    own < key || own == key && row[4..36] < *label
+    own < key || own == key && lower(&row[4..36]) < *label
 }
 
 /// The first row that does not come before a label in the folder of a key.
 fn seek(index: &[u8], key: u64, label: &[u8]) -> usize {
+    let label = &lower(label);
     let rows = rows(index);
     let (mut low, mut high) = (0, rows_in(index));
     for _ in 0..HALVINGS {
@@ -95,7 +105,8 @@ fn seek(index: &[u8], key: u64, label: &[u8]) -> usize {
 fn row_of(index: &[u8], folder: Name, label: &[u8]) -> Option<usize> {
     let at = seek(index, key_of(folder), label);
     let row = &rows(index)[..rows_in(index)].get(at)?;
-    (name_of(get32(*row, 0)) == folder && row[4..36] == *label).then_some(at)
+    let is_here = name_of(get32(*row, 0)) == folder;
+    (is_here && lower(&row[4..36]) == lower(label)).then_some(at)
 }
 
 /// Looks up the entry of a folder that has a label: its unit and number, if there
@@ -154,7 +165,7 @@ fn label_in(record: &Record) -> &[u8] {
 
 /// The first bytes of a label, in the order of labels.
 fn front(label: &[u8]) -> u64 {
-    label
+    lower(label)
         .first_chunk()
         .map_or(0, |front| u64::from_be_bytes(*front))
 }
@@ -179,7 +190,7 @@ fn write(index: &mut [u8], records: usize, replay: &Replay, store: &impl Store) 
     let order = &mut order[..count];
     order.sort_unstable_by(|a, b| {
         let fronts = (a.0, a.1).cmp(&(b.0, b.1));
-        fronts.then_with(|| label(a.2).cmp(label(b.2)))
+        fronts.then_with(|| lower(label(a.2)).cmp(&lower(label(b.2))))
     });
     let (head, rows) = index.split_at_mut(4);
     put32(head, 0, count as u32);

@@ -59,8 +59,8 @@ fn rule(operation: u8) -> &'static Rule {
     &RULES[(operation & 7) as usize]
 }
 
-/// A label's 32 bytes.
-pub type Label = [u64; 4];
+/// What of a label counts: its 32 bytes, A to Z as a to z.
+pub type LabelKey = [u64; 4];
 
 /// The fields of a well-formed record that later steps use.
 #[derive(Clone, Copy)]
@@ -115,14 +115,25 @@ pub fn rank_of(record: &Record) -> u32 {
     Vector::read(record, 4).small_total() << 3 | (record[0] & 7) as u32
 }
 
+/// What of a well-formed record's label counts.
 #[inline(always)]
-pub fn label_of(record: &Record) -> Label {
+pub fn label_key(record: &Record) -> LabelKey {
     [
-        get64(record, 32),
-        get64(record, 40),
-        get64(record, 48),
-        get64(record, 56),
+        lower(get64(record, 32)),
+        lower(get64(record, 40)),
+        lower(get64(record, 48)),
+        lower(get64(record, 56)),
     ]
+}
+
+/// Eight bytes below 80, A to Z as a to z.
+#[inline(always)]
+fn lower(bytes: u64) -> u64 {
+    const EACH: u64 = 0x0101_0101_0101_0101;
+    // The upper bit of a byte, where it is at least A, and above Z.
+    let from_a = bytes + EACH * (0x80 - b'A' as u64);
+    let above_z = bytes + EACH * (0x7f - b'Z' as u64);
+    bytes | (from_a & !above_z & EACH * 0x80) >> 2
 }
 
 /// A real Gregorian date from 1990 to 2199.

@@ -2,7 +2,7 @@
 
 use crate::RECORDS;
 use crate::held::{Places, Store};
-use crate::record::{Fields, Label, MAKE_FOLDER, MAKE_TRACE, REMOVE, RENAME, STORE, label_of};
+use crate::record::{Fields, LabelKey, MAKE_FOLDER, MAKE_TRACE, REMOVE, RENAME, STORE, label_key};
 
 /// The root's place among the entries.
 pub const ROOT: u16 = RECORDS as u16;
@@ -77,7 +77,7 @@ pub struct Replay {
 
 /// Hash of a label in a folder.
 #[inline(always)]
-fn hash_of(folder: u16, label: &Label) -> u32 {
+fn hash_of(folder: u16, label: &LabelKey) -> u32 {
     const ODD: [u64; 4] = [
         0x9e37_79b9_7f4a_7c15,
         0xbf58_476d_1ce4_e5b9,
@@ -110,15 +110,24 @@ impl Replay {
         replay
     }
 
-    /// The entry in a folder that has a label, plus 1.
+    /// The entry in a folder that has a label, plus 1; one entry does not count.
+    /// The root, which is in no folder, leaves none out.
     #[inline(always)]
-    fn holder(&self, store: &impl Store, folder: u16, label: &Label, hash: u32) -> u16 {
+    fn holder(
+        &self,
+        store: &impl Store,
+        but: u16,
+        folder: u16,
+        label: &LabelKey,
+        hash: u32,
+    ) -> u16 {
         let mut link = self.heads[head_of(hash)];
         while link != 0 {
             let entry = &self.entries[link as usize - 1];
             if entry.hash == hash
                 && entry.folder == folder
-                && label_of(store.record(entry.label as usize)) == *label
+                && link != but + 1
+                && label_key(store.record(entry.label as usize)) == *label
             {
                 break;
             }
@@ -192,9 +201,9 @@ impl Replay {
             Kind::Trace => return (14, folder + 1),
             Kind::Folder => (),
         }
-        let label = label_of(fields.record);
+        let label = label_key(fields.record);
         let hash = hash_of(folder, &label);
-        let holder = self.holder(store, folder, &label, hash);
+        let holder = self.holder(store, ROOT, folder, &label, hash);
         if holder != 0 {
             return (15, holder);
         }
@@ -257,9 +266,9 @@ impl Replay {
         if self.unseen(fields, entry.label) {
             return (17, object + 1);
         }
-        let label = label_of(fields.record);
+        let label = label_key(fields.record);
         let hash = hash_of(entry.folder, &label);
-        let holder = self.holder(store, entry.folder, &label, hash);
+        let holder = self.holder(store, object, entry.folder, &label, hash);
         if holder != 0 {
             return (15, holder);
         }

@@ -7,8 +7,8 @@ use std::fmt;
 const ROW: usize = 40;
 
 /// The entries of a tree by folder, then by label: by the folder's unit, its
-/// number, and the bytes of the label. [`Log::keep_index`](crate::Log::keep_index)
-/// has one kept with a log.
+/// number, and the bytes of the label, A to Z as a to z.
+/// [`Log::keep_index`](crate::Log::keep_index) has one kept with a log.
 ///
 /// ```
 /// use sab::{Date, Identity, Log, Mark, Unit, Wish};
@@ -22,6 +22,7 @@ const ROW: usize = 40;
 ///
 /// let index = van.index().expect("one is kept");
 /// assert_eq!(index.find(bench, "Gain"), Some(gain));
+/// assert_eq!(index.find(bench, "GAIN"), Some(gain));
 /// assert_eq!(index.find(Identity::ROOT, "Gain"), None);
 /// let labels: Vec<&str> = index.entries_in(bench).map(|entry| entry.label()).collect();
 /// assert_eq!(labels, ["Gain", "Noise"]);
@@ -74,8 +75,8 @@ impl Index {
         self.rows()[first..][..count].iter().map(Indexed)
     }
 
-    /// The entry of a folder, or of the root, that has a label. No entry has one
-    /// that is empty, longer than 32 bytes, or has a zero.
+    /// The entry of a folder, or of the root, that has a label, in capitals or small
+    /// letters. No entry has one that is empty, longer than 32 bytes, or has a zero.
     pub fn find(&self, folder: Identity, label: &str) -> Option<Identity> {
         let mut padded = [0; 32];
         let place = padded.get_mut(..label.len())?;
@@ -111,7 +112,7 @@ impl<'a> Indexed<'a> {
         Identity::of(self.0)
     }
 
-    /// Its label.
+    /// Its label, as it was written.
     pub fn label(self) -> &'a str {
         text_of(&self.0[4..36])
     }

@@ -75,7 +75,7 @@ pub const fn in_words(number: u8) -> &'static str {
         12 => "the object is not in the tree",
         13 => "the folder is not in the tree",
         14 => "a trace is used as a folder, or a folder is stored to",
-        15 => "an entry of that folder has the label",
+        15 => "an entry of that folder has the label, in any case",
         16 => "the folder to remove has entries",
         17 => "the object was changed by a record that its maker had not seen",
         18 => "the record to settle does not stand aside",

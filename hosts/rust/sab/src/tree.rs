@@ -55,9 +55,11 @@ impl Tree {
         self.entries().filter(move |entry| entry.folder() == folder)
     }
 
-    /// The entry of that label in a folder, or in the root.
+    /// The entry of that label, in capitals or small letters, in a folder or in
+    /// the root.
     pub fn find(&self, folder: Identity, label: &str) -> Option<Entry<'_>> {
-        self.entries_in(folder).find(|entry| entry.label() == label)
+        let has = |entry: &Entry| entry.label().eq_ignore_ascii_case(label);
+        self.entries_in(folder).find(has)
     }
 }
 
@@ -113,7 +115,7 @@ impl<'a> Entry<'a> {
         Date::of(&self.0[20..])
     }
 
-    /// Its label.
+    /// Its label, as it was written.
     pub fn label(self) -> &'a str {
         text_of(&self.0[24..56])
     }

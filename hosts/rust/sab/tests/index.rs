@@ -21,7 +21,8 @@ fn plainly(log: &[u8]) -> Vec<u8> {
 #[test]
 fn afresh() {
     for seed in 0..6 {
-        let log = log_of(60 + 90 * seed as usize, 6, 6, &Mix::CONFLICTS, seed);
+        let mix = [Mix::CONFLICTS, Mix::CASES][seed as usize % 2];
+        let log = log_of(60 + 90 * seed as usize, 6, 6, &mix, seed);
         let mut index = vec![7; raw::INDEX];
         assert_eq!(raw::index(&log, &mut index), Ok(()));
         assert!(index == plainly(&log));
@@ -80,7 +81,7 @@ fn kept() {
         let unit = chance.below(8);
         let mut tree = [0; plain::TREE];
         plain::show(&logs[unit], &mut tree).unwrap();
-        let mut wish = wish(&mut chance, &Mix::CONFLICTS, unit as u8, &tree);
+        let mut wish = wish(&mut chance, &Mix::CASES, unit as u8, &tree);
         if chance.one_in(8) {
             wish[chance.below(80)] ^= 1;
         }
@@ -113,8 +114,8 @@ fn kept() {
     }
 }
 
-/// Every entry is found by its folder and label, and every folder lists exactly
-/// its entries by label.
+/// Every entry is found by its folder and label, in capitals and in small letters,
+/// and every folder lists exactly its entries by label.
 fn agrees(log: &Log, tree: &Tree) {
     let index = log.index().unwrap();
     assert_eq!(*index, log.make_index().unwrap());
@@ -125,7 +126,7 @@ fn agrees(log: &Log, tree: &Tree) {
             .entries_in(folder)
             .map(|entry| (entry.label(), entry.identity()))
             .collect();
-        inside.sort_by_key(|(label, _)| label.as_bytes());
+        inside.sort_by_key(|(label, _)| label.to_ascii_lowercase());
         let listed: Vec<(&str, Identity)> = index
             .entries_in(folder)
             .map(|entry| (entry.label(), entry.identity()))
@@ -137,12 +138,15 @@ fn agrees(log: &Log, tree: &Tree) {
                 .all(|entry| entry.folder() == folder)
         );
         for (label, identity) in inside {
-            assert_eq!(index.find(folder, label), Some(identity));
-            assert_eq!(
-                index.find(folder, &format!("{label}~")),
-                tree.find(folder, &format!("{label}~"))
-                    .map(|entry| entry.identity())
-            );
+            let others = [label.to_ascii_uppercase(), label.to_ascii_lowercase()];
+            for label in [label, &others[0], &others[1]] {
+                assert_eq!(index.find(folder, label), Some(identity));
+                let found = tree.find(folder, label).map(|entry| entry.identity());
+                assert_eq!(found, Some(identity));
+            }
+            let behind = format!("{label}~");
+            let found = tree.find(folder, &behind).map(|entry| entry.identity());
+            assert_eq!(index.find(folder, &behind), found);
         }
     }
 }
@@ -161,6 +165,36 @@ fn looked_up() {
     for label in ["", "A\0", "\0", "123456789012345678901234567890123"] {
         assert_eq!(index.find(Identity::ROOT, label), None);
     }
+}
+
+/// A label is the same in any case, kept as written, and its own entry may be
+/// renamed to it.
+#[test]
+fn any_case() {
+    let mut log = Log::start(ARCHIVE, Unit::ALL[0]);
+    log.keep_index().unwrap();
+    let folder = |label| Wish::make_folder(Identity::ROOT, label, DAY).unwrap();
+    let bench = log.act(&folder("Bench")).unwrap();
+    let brackets = log.act(&folder("[A]")).unwrap();
+    for label in ["BENCH", "bench", "[a]"] {
+        assert_eq!(log.act(&folder(label)), refused(15));
+    }
+    let braces = log.act(&folder("{A}")).unwrap();
+    let rename = |entry, label| Wish::rename(entry, label, DAY).unwrap();
+    assert_eq!(log.act(&rename(brackets, "bench")), refused(15));
+    for label in ["bENCH", "bENCH"] {
+        let last = log.act(&rename(bench, label)).unwrap();
+        let tree = log.show().unwrap();
+        let entry = tree.entry(bench).unwrap();
+        assert_eq!((entry.label(), entry.last_label()), (label, last));
+    }
+    let index = log.index().unwrap();
+    let listed: Vec<Identity> = index
+        .entries_in(Identity::ROOT)
+        .map(|entry| entry.identity())
+        .collect();
+    assert_eq!(listed, [brackets, bench, braces]);
+    agrees(&log, &log.show().unwrap());
 }
 
 #[test]

@@ -9,6 +9,8 @@ pub struct Mix {
     /// Weights of make folder, make trace, store, remove, rename, settle.
     pub weights: [usize; 6],
     pub labels: usize,
+    /// Each letter of a label is a capital or a small letter by chance.
+    pub cases: bool,
 }
 
 impl Mix {
@@ -16,11 +18,18 @@ impl Mix {
     pub const BENCH: Mix = Mix {
         weights: [10, 45, 25, 6, 8, 6],
         labels: 4000,
+        cases: false,
     };
     /// Few labels, so that many records stand aside after a meeting.
     pub const CONFLICTS: Mix = Mix {
         weights: [20, 30, 16, 12, 14, 8],
         labels: 12,
+        cases: false,
+    };
+    /// The same, each label in many cases.
+    pub const CASES: Mix = Mix {
+        cases: true,
+        ..Mix::CONFLICTS
     };
 }
 
@@ -41,6 +50,11 @@ fn label(chance: &mut Chance, mix: &Mix, into: &mut [u8]) {
         _ => format!("Trace {drawn}"),
     };
     into[..text.len()].copy_from_slice(text.as_bytes());
+    if mix.cases {
+        for byte in into.iter_mut().filter(|byte| byte.is_ascii_alphabetic()) {
+            *byte ^= (chance.below(2) as u8) << 5;
+        }
+    }
 }
 
 /// A wish of a unit whose log shows this tree. If nothing stands that the drawn

@@ -5,6 +5,16 @@ use plain::{BLOCK, ENTRY_ROW, INDEX, LOG, TREE};
 use workload::{Chance, Mix, Units, log_of, vector_of, wish};
 
 const ROW: usize = 40;
+const MIXES: [Mix; 3] = [Mix::BENCH, Mix::CONFLICTS, Mix::CASES];
+
+/// What of a label counts.
+fn folded(label: &[u8]) -> Vec<u8> {
+    let fold = |byte: &u8| match byte {
+        b'A'..=b'Z' => byte + 32,
+        _ => *byte,
+    };
+    label.iter().map(fold).collect()
+}
 
 /// The index of a log: the rows of its tree, sorted.
 fn sorted(log: &[u8]) -> Vec<u8> {
@@ -18,7 +28,7 @@ fn sorted(log: &[u8]) -> Vec<u8> {
         .collect();
     rows.sort_by_key(|row| {
         let number = u16::from_le_bytes([row[2], row[3]]);
-        (row[0], number, row[4..36].to_vec())
+        (row[0], number, folded(&row[4..36]))
     });
     let mut index = vec![tree[0], tree[1], 0, 0];
     index.extend(rows.concat());
@@ -56,7 +66,7 @@ fn halved(p: &dyn Fn(usize) -> bool, left: usize, low: usize, high: usize) -> us
 fn seek(index: &[u8], folder: u64, label: &[u8]) -> usize {
     let before = |at: usize| {
         let row = row(index, at);
-        (key(name(row)), &row[4..36]) < (folder, label)
+        (key(name(row)), folded(&row[4..36])) < (folder, folded(label))
     };
     halved(&before, 10, 0, rows(index))
 }
@@ -72,7 +82,7 @@ fn find(index: &[u8], folder: &[u8], label: &[u8]) -> u64 {
         return 0;
     }
     let row = row(index, at);
-    match name(row) == name(folder) && row[4..36] == *label {
+    match name(row) == name(folder) && folded(&row[4..36]) == folded(label) {
         true => name(&row[36..]),
         false => 0,
     }
@@ -113,7 +123,7 @@ fn asked(index: &[u8], folder: &[u8], label: &[u8]) {
 #[test]
 fn afresh() {
     for seed in 0..12 {
-        let mix = [Mix::BENCH, Mix::CONFLICTS][seed as usize % 2];
+        let mix = MIXES[seed as usize % 3];
         let log = log_of(100 + 34 * seed as usize, 5, 6, &mix, seed);
         let mut index = vec![7; INDEX];
         plain::index(&log, &mut index).expect("a sound log");
@@ -128,7 +138,7 @@ fn kept() {
     let mut accepted = 0;
     for seed in 0..24 {
         let mut chance = Chance::new(100 + seed);
-        let mix = [Mix::BENCH, Mix::CONFLICTS][seed as usize % 2];
+        let mix = MIXES[seed as usize % 3];
         let mut logs = vec![vec![0; LOG]; 8];
         let mut indexes = vec![vec![0; INDEX]; 8];
         for _ in 0..300 {
@@ -181,8 +191,13 @@ fn looked_up() {
         let row = row(&index, at);
         let (unit, number) = pair(row);
         let found = plain::find(&index, unit, number, &row[4..36]).expect("lengths");
-        let (unit, number) = pair(&row[36..]);
-        assert_eq!(found, Some((unit as u8, number as u16)));
+        let (own, own_number) = pair(&row[36..]);
+        assert_eq!(found, Some((own as u8, own_number as u16)));
+        let mut case = row[4..36].to_vec();
+        for byte in case.iter_mut().filter(|byte| byte.is_ascii_alphabetic()) {
+            *byte ^= 32;
+        }
+        assert_eq!(plain::find(&index, unit, number, &case), Ok(found));
         let mut other = row[4..36].to_vec();
         other[31] ^= 1;
         asked(&index, &row[..4], &other);
@@ -208,7 +223,7 @@ fn looked_up() {
 #[test]
 fn any_bytes() {
     let mut chance = Chance::new(9);
-    let good = sorted(&log_of(512, 6, 6, &Mix::BENCH, 3));
+    let good = sorted(&log_of(512, 6, 6, &Mix::CASES, 3));
     for round in 0..2000 {
         let mut index = vec![0; INDEX];
         match round % 3 {
@@ -229,7 +244,9 @@ fn any_bytes() {
             }
         }
         for _ in 0..8 {
-            let row = row(&index, chance.below(512)).to_vec();
+            let mut row = row(&index, chance.below(512)).to_vec();
+            asked(&index, &row[..4], &row[4..36]);
+            row[4 + chance.below(32)] ^= 32;
             asked(&index, &row[..4], &row[4..36]);
             let folder = [
                 chance.below(9) as u8,

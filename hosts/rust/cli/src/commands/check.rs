@@ -36,6 +36,10 @@ With --blocks there is a line for each 512 bytes, each judged by itself, before
 the line of the file; so one sees how much of a damaged card is whole. sab
 salvage makes a file of what is whole.
 
+A good file that reads otherwise than before version 4, when capitals were told
+from small letters in labels, has a second line with the records that make the
+difference; it stays good.
+
 A file that a cut left beside this one while it was being replaced is named too;
 it can be removed.",
     options: &[flag("blocks", None, "judge each block by itself too")],
@@ -68,7 +72,7 @@ fn check(session: &mut Session, name: &Path) -> Outcome<()> {
     let good = session.out.ink(Ink::Well, "good");
     let line = format!("{}: {good}: {}", archive.shown(), archive.summary());
     session.out.line(line);
-    Ok(())
+    archive.tell_otherwise(&mut session.out)
 }
 
 fn tell_blocks(session: &mut Session, name: &Path, bytes: &[u8]) {

@@ -16,6 +16,9 @@ pub const COMMAND: Command = Command {
     page: "\
 Prints the lines in which the listings of two files differ: - for a line that only
 the first has, + for one that only the second has. Entries come first, then asides.
+Both are read by the rules of now. Where they differ, a file that an analyser before
+version 4 shows otherwise, since it tells capitals from small letters, is named in a
+last line.
 
     $ sab diff card0.sab card1.sab
     --- card0.sab: archive 12 unit 0 records 2
@@ -55,6 +58,10 @@ fn run(session: &mut Session) -> Outcome<Status> {
         let ink = if *sign == '-' { Ink::Alarm } else { Ink::Well };
         let text = session.out.ink(ink, format_args!("{sign}{line}"));
         session.out.line(text);
+    }
+    if !lines.is_empty() {
+        first.tell_otherwise(&mut session.out)?;
+        second.tell_otherwise(&mut session.out)?;
     }
     Ok(Status::no_if(
         session.args.has("exit-code") && !lines.is_empty(),

@@ -17,11 +17,11 @@ pub const COMMAND: Command = Command {
 Prints what was found, whose fault it is and what to do next, for each number.
 With --all it prints the whole field card, docs/FIELD-CARD.md.
 
-    $ sab explain 15
-    15: the label is already in that folder
+    $ sab explain 16
+    16: the folder to remove still has entries
         whose fault: wish
-        what to do: choose another label
-        of an aside: two people gave one label in one folder; sab asides tells what to do",
+        what to do: remove or leave its entries first
+        of an aside: a folder was removed while someone put an entry in it: it stays; sab asides tells what to do",
     options: &[flag("all", None, "print the field card")],
     statuses: "0 printed; 2 there is no such number",
     run,
@@ -62,7 +62,7 @@ fn of_aside(number: u8) -> Option<&'static str> {
         12 => "the entry was removed, or its make stands aside",
         13 => "the folder was removed, or its make stands aside",
         14 => "a trace was used as a folder, or a folder stored to: made by other software",
-        15 => "two people gave one label in one folder",
+        15 => "two people gave one label in one folder, in any case",
         16 => "a folder was removed while someone put an entry in it: it stays",
         17 => "two people changed one entry",
         18 => "a settle of something that does not stand aside, or no longer does",

@@ -19,9 +19,10 @@ pub const COMMAND: Command = Command {
 Prints the line of the listing of one entry. ENTRY is a path, as /Bench/Gain, or an
 identity, as 0.2. With FOLDER, a path or an identity, and LABEL it is the entry of
 that folder that has the label; so an old label with a stroke in it is found, which
-no path can name. The root is 0.0 or /. Labels are the same if their bytes are.
+no path can name. The root is 0.0 or /. Labels are the same if they differ in
+capitals and small letters, A to Z, alone.
 
-    $ sab find bench.sab '/Bench/Gain \"A\"'
+    $ sab find bench.sab '/bench/gain \"a\"'
     trace 0.2 in 0.1 \"Gain \\\"A\\\"\" 2025-03-04 11111111111111111111111111111111 disputed
     $ sab find bench.sab 0.1 Noise
     sab: bench.sab: no entry \"Noise\" in 0.1",

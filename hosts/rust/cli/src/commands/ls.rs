@@ -17,9 +17,9 @@ pub const COMMAND: Command = Command {
     summary: "the entries of a folder, by label",
     page: "\
 Prints the line of the listing of each entry of a folder, by label: the labels'
-bytes decide, so capitals stand before small letters. FOLDER is a path, as /Bench,
-or the identity of a folder; without it the root is meant. What lies deeper is not
-printed.
+bytes decide, capitals as small letters, so that _ stands before all letters. FOLDER
+is a path, as /Bench, or the identity of a folder; without it the root is meant.
+What lies deeper is not printed.
 
     $ sab ls bench.sab /Bench
     trace 0.2 in 0.1 \"Gain \\\"A\\\"\" 2025-03-04 11111111111111111111111111111111 disputed",

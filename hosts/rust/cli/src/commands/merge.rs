@@ -82,6 +82,7 @@ fn run(session: &mut Session) -> Outcome<Status> {
         shown(&names[0]),
         shown(&names[1])
     ));
+    both.tell_otherwise(&mut session.out)?;
     Ok(Status::Yes)
 }
 
