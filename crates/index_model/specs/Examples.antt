@@ -198,6 +198,7 @@ table =
     ∷ changes (folders ++ traces) (makesFolder 5 (0 · 6) (5 ∷ 1 ∷ []) (0 · 1) A) (1 · 1 ∷ 0 · 2 ∷ 0 · 1 ∷ 0 · 6 ∷ 0 · 5 ∷ 0 · 4 ∷ 0 · 3 ∷ 0 ∷ [])
     ∷ acts (folders ++ traces) (makesTrace 5 (0 · 0) [] (0 · 1) A)
     ∷ acts (folders ++ traces) (renames 5 (0 · 0) [] (0 · 5) C)
+    ∷ acts (folders ++ traces) (renames 5 (0 · 0) [] (0 · 5) (98 ∷ []))
     -- a rename to the own label in another case leaves the order
     ∷ changes (folders ++ traces) (renames 5 (0 · 6) (5 ∷ 1 ∷ []) (0 · 5) (98 ∷ [])) (1 · 1 ∷ 0 · 2 ∷ 0 · 1 ∷ 0 · 5 ∷ 0 · 4 ∷ 0 · 3 ∷ 0 ∷ [])
     -- lengths

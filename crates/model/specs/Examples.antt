@@ -17,7 +17,7 @@ use Rattle.model.specs.Block.{bodyBytes, archiveIn, senderIn, vectorIn}
 use Rattle.model.specs.File.{Fault, fault, blockCount, headerOf, blockAt}
 use Rattle.model.specs.Outcome.{lacking, Took, refused, taken, takeAll, actNumber, acted, actOf}
 use Rattle.model.specs.Merge.{Merged, merged, union, recordsClash, unlessAny, mergeFiles, mergeOf}
-use Rattle.model.specs.Listing.{decimal, headLine, seenLine}
+use Rattle.model.specs.Listing.{decimal, labelText, headLine, seenLine}
 
 infix 90 _·_
 -- the identity unit.number
@@ -400,6 +400,9 @@ further =
     []
     -- capitals count as small letters, from A to Z, and no other byte changes
     ∷ counts (65 ∷ 90 ∷ 64 ∷ 91 ∷ 95 ∷ 96 ∷ 123 ∷ 97 ∷ 122 ∷ 48 ∷ 0 ∷ []) (97 ∷ 122 ∷ 64 ∷ 91 ∷ 95 ∷ 96 ∷ 123 ∷ 97 ∷ 122 ∷ 48 ∷ 0 ∷ [])
+    ∷ counts (replicate 32 77) (replicate 32 109)
+    ∷ counts (92 ∷ 93 ∷ 94 ∷ 124 ∷ 125 ∷ 126 ∷ []) (92 ∷ 93 ∷ 94 ∷ 124 ∷ 125 ∷ 126 ∷ [])
+    ∷ counts (192 ∷ 222 ∷ 255 ∷ []) (192 ∷ 222 ∷ 255 ∷ [])
     -- a rename to the entry's own label, in the same bytes or in small letters, fits and is the last label record
     ∷ tree (makesFolder 3 (0 · 1) [] root A ∷ renames 3 (0 · 2) (1 ∷ []) (0 · 1) A ∷ renames 3 (1 · 1) (1 ∷ []) (0 · 1) B ∷ [])
     ((0 · 1, A, 0 · 1, 0 · 2, true) ∷ [])
@@ -429,13 +432,31 @@ further =
     ∷ wishes 0 (makesTrace 3 (0 · 1) [] root A ∷ []) (makesTrace 3 (0 · 0) [] root (97 ∷ [])) 15
     ∷ wishes 0 (makesTrace 3 (0 · 1) [] root A ∷ []) (renames 3 (0 · 0) [] (0 · 1) A) 0
     ∷ wishes 0 (makesTrace 3 (0 · 1) [] root A ∷ []) (renames 3 (0 · 0) [] (0 · 1) (97 ∷ [])) 0
-    -- a rename to a held label; a second rename that has not seen the first, to the same held label
+    -- a rename to a held label; a second rename that has not seen the first, to the label that the object has, and to one that another has
     ∷ tree (makesTrace 3 (0 · 1) [] root A ∷ makesTrace 3 (0 · 2) (1 ∷ []) root B ∷ renames 3 (0 · 3) (2 ∷ []) (0 · 1) B ∷ [])
     ((0 · 1, A, 0 · 1, 0 · 1, false) ∷ (0 · 2, B, 0 · 2, 0 · 2, true) ∷ [])
     ((0 · 3, 15, 0 · 2, true) ∷ [])
     ∷ tree (makesTrace 3 (0 · 1) [] root A ∷ renames 3 (0 · 2) (1 ∷ []) (0 · 1) B ∷ renames 3 (1 · 1) (1 ∷ []) (0 · 1) B ∷ [])
     ((0 · 1, B, 0 · 1, 0 · 2, true) ∷ [])
     ((1 · 1, 17, 0 · 1, true) ∷ [])
+    ∷ tree
+    (makesTrace 3 (0 · 1) [] root A
+    ∷ makesTrace 3 (0 · 2) (1 ∷ []) root B
+    ∷ renames 3 (0 · 3) (2 ∷ []) (0 · 1) C
+    ∷ renames 3 (1 · 1) (2 ∷ []) (0 · 1) (98 ∷ [])
+    ∷ [])
+    ((0 · 1, C, 0 · 1, 0 · 3, true) ∷ (0 · 2, B, 0 · 2, 0 · 2, false) ∷ [])
+    ((1 · 1, 17, 0 · 1, true) ∷ [])
+    -- inside a folder too the object is no holder; a folder holds its label against a trace
+    ∷ tree (makesFolder 3 (0 · 1) [] root A ∷ makesTrace 3 (0 · 2) (1 ∷ []) (0 · 1) B ∷ renames 3 (0 · 3) (2 ∷ []) (0 · 2) (98 ∷ []) ∷ [])
+    ((0 · 1, A, 0 · 1, 0 · 1, false) ∷ (0 · 2, 98 ∷ [], 0 · 2, 0 · 3, false) ∷ [])
+    []
+    ∷ tree (makesFolder 3 (0 · 1) [] root A ∷ makesTrace 3 (0 · 2) (1 ∷ []) root (97 ∷ []) ∷ [])
+    ((0 · 1, A, 0 · 1, 0 · 1, true) ∷ [])
+    ((0 · 2, 15, 0 · 1, true) ∷ [])
+    -- a wish is judged alike: a rename, and a make inside a folder
+    ∷ wishes 0 (makesTrace 3 (0 · 1) [] root A ∷ makesTrace 3 (0 · 2) (1 ∷ []) root B ∷ []) (renames 3 (0 · 0) [] (0 · 2) (97 ∷ [])) 15
+    ∷ wishes 0 (makesFolder 3 (0 · 1) [] root A ∷ makesTrace 3 (0 · 2) (1 ∷ []) (0 · 1) B ∷ []) (makesTrace 3 (0 · 0) [] (0 · 1) (98 ∷ [])) 15
     -- a store asks only about contents, a rename only about the label, a remove about both
     ∷ tree (makesTrace 3 (0 · 1) [] root A ∷ renames 3 (0 · 2) (1 ∷ []) (0 · 1) B ∷ stores 3 (1 · 1) (1 ∷ []) (0 · 1) ∷ [])
     ((0 · 1, B, 1 · 1, 0 · 2, false) ∷ [])
@@ -536,6 +557,7 @@ further =
     ∷ prints (decimal 10) (49 ∷ 48 ∷ [])
     ∷ prints (decimal 4294967295) (52 ∷ 50 ∷ 57 ∷ 52 ∷ 57 ∷ 54 ∷ 55 ∷ 50 ∷ 57 ∷ 53 ∷ [])
     -- archive 7 unit 0 records 3
+    ∷ prints (labelText (padded 32 (65 ∷ 97 ∷ []))) (34 ∷ 65 ∷ 97 ∷ 34 ∷ [])
     ∷ prints (headLine 7 0 3)
     (97 ∷ 114 ∷ 99 ∷ 104 ∷ 105 ∷ 118 ∷ 101 ∷ 32 ∷ 55 ∷ 32 ∷ 117 ∷ 110 ∷ 105 ∷ 116 ∷ 32 ∷ 48 ∷ 32 ∷ 114 ∷ 101 ∷ 99 ∷ 111 ∷ 114 ∷ 100 ∷ 115 ∷ 32 ∷ 51 ∷ 10 ∷ [])
     -- seen 2 1 0 0 0 0 0 0
