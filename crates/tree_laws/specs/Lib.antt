@@ -1,1 +1,3 @@
 pub mod Replayed
+pub mod Roots
+pub mod Places
