@@ -8,7 +8,7 @@ ghost use Rattle.tree_table.specs.Rows.{entriesFrom, asidesFrom, treeIn};
 ghost use Rattle.hash_chains.specs.Chains.{nodesIn};
 ghost use Rattle.tree_lookup.specs.Roles.{Works, Holds};
 ghost use Rattle.tree_amend.specs.Effects.{withEntries, withAsides, Takes};
-ghost use Rattle.tree_amend.specs.Registers.{renamedOn, removedOn};
+ghost use Rattle.tree_amend.specs.Registers.{renamedOn, removedOn, movedOn};
 use tree_table::Size;
 
 // A store: contents record, date and mark of the object's row.
@@ -47,7 +47,7 @@ pub fn rename(rec: &[u8], table: &mut [u8], register: &mut [u16], size: Size)
 // A move: folder, label and place record of the object's row.
 pub fn move_entry(rec: &[u8], table: &mut [u8], register: &mut [u16], size: Size)
     requires { ⌜ Takes (treeIn (now table) (size .entries) (size .asides)) (now rec) × Holds (now table) (now register) (size .entries) (size .asides) × (size .entries < 512) × (nodesIn (now register) < 512) × (getD (now rec) 1 0 ≡ 7) ⌝ }
-    ensures { λ _. ⌜ Works (now (table .exit)) (now (register .exit)) (size .entries) (size .asides) (withEntries (treeIn (now (table .entry)) (size .entries) (size .asides)) (changed (moved (now (rec .entry))) (objectOf (now (rec .entry))) (entriesFrom (now (table .entry)) 0 (size .entries)))) × (nodesIn (now (register .exit)) ≤ nodesIn (now (register .entry)) + 1) ⌝ }
+    ensures { λ _. ⌜ Works (now (table .exit)) (now (register .exit)) (size .entries) (size .asides) (withEntries (treeIn (now (table .entry)) (size .entries) (size .asides)) (changed (moved (now (rec .entry))) (objectOf (now (rec .entry))) (entriesFrom (now (table .entry)) 0 (size .entries)))) × (nodesIn (now (register .exit)) ≤ nodesIn (now (register .entry)) + 1) × (now (register .exit) ≡ movedOn (now (rec .entry)) (treeIn (now (table .entry)) (size .entries) (size .asides)) (now (register .entry))) ⌝ }
 {
     let row = tree_lookup::entry_of(table, register, size, tree_table::object_of(rec));
     if size.entries <= row {

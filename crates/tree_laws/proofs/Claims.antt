@@ -21,6 +21,7 @@ use Rattle.log_laws.proofs.Take.{all-from}
 use Rattle.log_laws.proofs.Tests.{sound-means, means-sound}
 use Rattle.log_laws.proofs.Claims.{order-fixed}
 use Rattle.tree_laws.specs.Replayed.{Has, Distinct, selves, makers, whos, standings, standAside, makesFit, openOf, settledIn, SameButDates, undatedTree, hideDates}
+use Rattle.tree_laws.specs.Before.{replayBefore}
 use Rattle.tree_laws.specs.Places.{PlacedBy, PlaceKept}
 use Rattle.tree_laws.specs.Roots.{Way, Reaches, Stands, Rooted}
 use Rattle.tree_laws.proofs.Verdicts.{Under, OneOf, Reason, reason-range, judge-make, judge-store, judge-remove, judge-rename, judge-settle, judge-move, Moving, move-reasons, make-reasons, store-reasons, remove-reasons, rename-reasons, settle-reasons}
@@ -30,6 +31,7 @@ use Rattle.tree_laws.proofs.Labels as Labels
 use Rattle.tree_laws.proofs.Written.{label-written}
 use Rattle.tree_laws.proofs.Roots as Roots
 use Rattle.tree_laws.proofs.Places as Places
+use Rattle.tree_laws.proofs.Before.{replay-before}
 use Rattle.tree_laws.proofs.Dates.{dates-replay}
 use Rattle.tree_laws.proofs.Tables.{table-hidden, filled-replay, entries-few}
 use Rattle.tree_laws.proofs.Arrival.{takeAll-append}
@@ -152,6 +154,11 @@ below-exactly = Roots.below-exactly
 pub last-place-record : (t : Tree) (r : Rec) → Rooted (t .entries) → (Has (selfOf r) (makers (t .entries)) → ⊥) → (k : ℕ) (x : Entry) → entryOf k (step t r .entries) ≡ some x
     → PlacedBy k r t x ⊎ PlaceKept k r t x
 last-place-record t r w fresh k x q = Places.place-step t r (w .alone) fresh k x q
+
+-- where no record is a move, the tree is that of the rules before there were moves
+pub replay-without-moves : (l : List Rec) → ((r : Rec) → Has r l → op r ≤ 6) → replay l ≡ replayBefore emptyTree l
+unfolding replay
+replay-without-moves l h = replay-before emptyTree l h
 
 -- ---- P3: dates and the order of arrival decide nothing
 

@@ -1,3 +1,4 @@
+use Rattle.tree_amend.proofs.Registers.{move-leaves, move-register}
 use Rattle.tree_amend.proofs.Amending.{unchanged, moved-object, moved-folder, move-done, move-nodes, shift-counts, leave-counts, row-end, label-end, works-chains}
 use Rattle.tree_lookup.proofs.Working.{works-long}
 use Rattle.model.specs.Record.{labelOf}
@@ -20,7 +21,7 @@ same-length-2 : tie.Need-same-length-2
 same-length-2 c = search needs
 
 returns : tie.Need-returns
-returns c = (search (unchanged), omega arith)
+returns c = (search (unchanged), omega arith, search (move-leaves))
 
 mul-at : tie.Need-mul-at
 mul-at c = search needs
@@ -90,8 +91,9 @@ returns-2 c =
     let e = d .before .before .before .before .before .before .before .before in
     let o = e .before .before in
     let s = o .before .before .before .before .before .before .before in (
-      move-done _ _ _ _ (s .pre .1) _ (s .pre .0) _ _ (o .before .object-of .ensures) (o .entry-of .ensures) _ _ _ (e .if1 .left) (s .pre .3) (d .before .before .before .before .before .inside-at .ensures) _ (d .before .before .folder-of .ensures) (d .shift .ensures) _ (a .move-row .ensures),
+      move-done _ _ _ _ (s .pre .1) _ (s .pre .0) _ _ (o .before .object-of .ensures) (o .entry-of .ensures .1) _ _ _ (e .if1 .left) (s .pre .3) (d .before .before .before .before .before .inside-at .ensures) _ (d .before .before .folder-of .ensures) (d .shift .ensures) _ (a .move-row .ensures),
       search (move-nodes),
+      move-register _ _ _ _ _ _ _ (o .before .object-of .ensures) (o .entry-of .ensures .0) (o .entry-of .ensures .1) (e .if1 .left) _ (d .before .before .before .before .before .inside-at .ensures) _ _ (d .before .before .folder-of .ensures) (d .shift .ensures),
     )
 
 pub move-entry-spec : {M : Type 1} → statement M

@@ -3,7 +3,7 @@ use Rattle.tree_effect.proofs.Effects.{effect-make, effect-store, effec
 use borrow.Author.Needs.{needs}
 use Rattle.tree_effect.proofs.effect.Statement.{statement}
 use Rattle.tree_effect.proofs.effect.Tie as tie
-use Rattle.tree_effect.proofs.Registers.{make-turns, store-turns, remove-turns, rename-turns, settle-turns}
+use Rattle.tree_effect.proofs.Registers.{make-turns, store-turns, remove-turns, rename-turns, settle-turns, move-turns}
 
 shared-slice-read-op : tie.Need-shared-slice-read-op
 shared-slice-read-op c = search needs
@@ -78,7 +78,7 @@ same-length-12 : tie.Need-same-length-12
 same-length-12 c = search needs
 
 returns-6 : tie.Need-returns-6
-returns-6 c = (search (effect-move, is-move), omega arith)
+returns-6 c = (search (effect-move, is-move), omega arith, search (move-turns, is-move))
 
 pub effect-spec : {M : Type 1} → statement M
 effect-spec =
