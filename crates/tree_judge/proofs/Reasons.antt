@@ -5,7 +5,7 @@ use native.Mathlib.Omega.{arith}
 use mathlib.Core.Path.{_≡_, refl, sym, _∙_}
 use mathlib.Core.Logic.{_⊎_, ⊎-elim}
 use mathlib.Core.Bool.{Bool, true, false, cond, not, _&&_, _||_}
-use mathlib.Core.Option.{Option}
+use mathlib.Core.Option.{Option, none, some}
 use mathlib.Core.List.{List}
 use lib.Dec.{ltb, eqb}
 use lib.ListN.{getD}
@@ -18,7 +18,10 @@ use Rattle.tree_maps.specs.Keys.{slotOf}
 use Rattle.tree_lookup.proofs.Places.{stands, stands-not}
 use Rattle.tree_maps.proofs.Counts.{has-children}
 use Rattle.tree_lookup.proofs.Working.{works-range, row-none, row-some, role-note, role-no-note}
+use Rattle.model.specs.Outcome.{reasonOf}
+use Rattle.byte_slice.proofs.Numbers.{bool-cases}
 use Rattle.tree_judge.specs.Judged.{verdictOf, fullBy, Asks}
+use Rattle.tree_judge.proofs.Verdicts.{verdict-numbers}
 
 -- ---- a label
 
@@ -61,9 +64,26 @@ module _ (n k : ℕ) (x : Verdict) (e : verdictOf n k ≡ x) where
   unfolding verdictOf andThen
   then-stops h v = rw (← e, ne-eqb n 0 h)
 
-  then-goes : n ≡ 0 → (v : Verdict) → v ≡ andThen x v
-  unfolding verdictOf andThen
-  then-goes h v = rw (← e, eq-eqb n 0 h)
+-- no folder is refused under the reason 0
+stands-zero : (f : ℕ) (es : List Entry) → reasonOf (folderStands f es) ≡ 0 → folderStands f es ≡ fits
+unfolding folderStands isFolder reasonOf
+stands-zero f es h =
+    ⊎-elim
+    (λ (c : eqb f 0 ≡ true). rw c)
+    (λ (c : eqb f 0 ≡ false). rw c (found (entryOf f es) (rw c at h)))
+    (bool-cases (eqb f 0))
+  where
+    found : (o : Option Entry) → reasonOf (isFolder o) ≡ 0 → isFolder o ≡ fits
+    found none z = absurd (omega arith)
+    found (some g) z =
+        ⊎-elim
+        (λ (c : eqb (g .kind) 1 ≡ true). rw c)
+        (λ (c : eqb (g .kind) 1 ≡ false). absurd (let y : _≡_ {A = ℕ} 14 0 = rw c at z in omega arith))
+        (bool-cases (eqb (g .kind) 1))
+
+then-goes : (n k f : ℕ) (es : List Entry) → verdictOf n k ≡ folderStands f es → n ≡ 0 → (v : Verdict) → v ≡ andThen (folderStands f es) v
+unfolding andThen
+then-goes n k f es e h v = rw (stands-zero f es (sym (verdict-numbers n k (folderStands f es) e .0) ∙ h))
 
 -- ---- make
 
@@ -78,7 +98,7 @@ module _ (r : Rec) (es : List Entry) (f : ℕ) (e : f ≡ folderOf r) (n k : ℕ
 
   pub make-goes : n ≡ 0 → (v : Verdict) → v ≡ freeLabel (holderOf 0 f (labelOf r) es) → v ≡ judgeMake r es
   unfolding judgeMake
-  make-goes h v q = q ∙ rw (← e) (then-goes n k (folderStands f es) s h (freeLabel (holderOf 0 f (labelOf r) es)))
+  make-goes h v q = q ∙ rw (← e) (then-goes n k f es s h (freeLabel (holderOf 0 f (labelOf r) es)))
 
 -- ---- store, remove and rename of the entry in a row
 
@@ -167,7 +187,7 @@ module _ (r : Rec) (b : List ℕ) (n row : ℕ) (es : List Entry) where
 
       module _ (z : x ≡ 0) (q : Bool) (i : q ≡ isBelow k f es) where
         placed : judgePlace r es (entryIn b (4 + 72 * row)) ≡ judgeMove r es (rowIn b n row)
-        placed = rw move-in (then-goes x j (folderStands f es) s z (judgePlace r es (entryIn b (4 + 72 * row))))
+        placed = rw move-in (then-goes x j f es s z (judgePlace r es (entryIn b (4 + 72 * row))))
 
         pub move-below : q ≡ true → verdictOf 25 k ≡ judgeMove r es (rowIn b n row)
         unfolding verdictOf judgePlace
