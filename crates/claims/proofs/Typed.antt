@@ -23,7 +23,7 @@ use Rattle.byte_slice.proofs.Numbers.{bool-cases, lt-or-ge, eq-or-ne, and-true,
 use Rattle.log_laws.proofs.Members.{All, all-append, all-map, all-at, has-append, has-take}
 use Rattle.log_laws.proofs.Lacking.{has-lacking}
 use Rattle.log_laws.proofs.Take.{takeAll-nil, takeAll-goes, takeAll-stops, all-from}
-use Rattle.tree_laws.proofs.Verdicts.{Under, Reason, reason-range}
+use Rattle.tree_laws.proofs.Verdicts.{Under, Reason, reason-most, reason-range}
 use Rattle.log_admit.proofs.Counts.{count-few}
 use Rattle.encoding_laws.specs.Keeps.{Good}
 use Rattle.encoding_laws.proofs.Logs.{sound-proper, proper-sized, sound-records, sound-few}
@@ -50,7 +50,7 @@ reason-few r l = go (judge r (replay l)) (reason-range r (replay l))
   where
     go : (v : Verdict) → Under Reason v → reasonOf v < 256
     go fits h = omega arith
-    go (aside n k) h = omega arith
+    go (aside n k) h = omega (arith, reason-most n h)
 
 first-few : (m n : ℕ) → m < 256 → n < 256 → firstOf m n < 256
 first-few zero n h k = k

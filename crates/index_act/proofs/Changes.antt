@@ -9,12 +9,12 @@ use lib.ListN.{getD, length, take, drop}
 use borrow.Author.Tests.{le-leb, lt-leb, eq-eqb, ne-eqb, lt-ltb, le-ltb}
 use Rattle.byte_slice.proofs.Parts.{part-is}
 use Rattle.model.specs.Bytes.{part}
-use Rattle.model.specs.Record.{Rec, op, selfOf, objectOf, folderOf, labelOf}
+use Rattle.model.specs.Record.{Rec, op, selfOf, objectOf, folderOf, labelOf, usesFolder}
 use Rattle.model.specs.Replay.{Entry, Tree, entryOf}
 use Rattle.tree_table.specs.Rows.{InRange, entryIn, entriesFrom, rowIn, treeIn}
 use Rattle.tree_judge.specs.Judged.{Asks}
 use Rattle.index_model.specs.Change.{putIn, takeOut, moveIn}
-use Rattle.index_model.specs.Acting.{removedIn, renamedIn, changeIn}
+use Rattle.index_model.specs.Acting.{removedIn, renamedIn, movedIn, changeIn}
 use Rattle.index_act.specs.Inside.{Inside}
 
 -- ---- the entry in a row
@@ -44,6 +44,17 @@ module _ (b T : List ℕ) (n row : ℕ) where
   unfolding renamedIn rowIn labelOf part
   rename-there h r x k m e f q = rw (lt-ltb row n h) (q ∙ rw (e, f, label-lent))
 
+module _ (b T : List ℕ) (n row : ℕ) (r : Rec) where
+  pub move-none : n ≤ row → b ≡ movedIn r b (rowIn T n row)
+  unfolding movedIn rowIn
+  move-none h = rw (le-ltb row n h)
+
+  pub move-there : row < n → (x : List ℕ) (k m g : ℕ) → k ≡ entryIn T (4 + 72 * row) .inside → m ≡ entryIn T (4 + 72 * row) .made → g ≡ folderOf r
+      → x ≡ moveIn b k (take (4 + 72 * row + 24 + 32 - (4 + 72 * row + 24)) (drop (4 + 72 * row + 24) T)) g (take 32 (drop 32 r)) m
+      → x ≡ movedIn r b (rowIn T n row)
+  unfolding movedIn rowIn labelOf part
+  move-there h x k m g e f p q = rw (lt-ltb row n h) (q ∙ rw (e, f, p, label-lent b T n row))
+
 pub folder-low : (T : List ℕ) (n row k : ℕ) → Inside T n → row < n → k ≡ entryIn T (4 + 72 * row) .inside → k < 524288
 folder-low T n row k w h e = rw e (w .folder row h)
 
@@ -53,8 +64,12 @@ entry-low T n row k w h e = rw e (w .entry row h)
 -- ---- by operation
 
 pub asked-folder : (r : Rec) (k : ℕ) → Asks r → getD r 1 0 ≤ 2 → k ≡ folderOf r → k < 524288
-unfolding op
-asked-folder r k a h e = ⊎-elim (λ (z : folderOf r ≡ 0). omega arith) (λ z. let u = z .high in omega arith) (a .folder h)
+unfolding op usesFolder
+asked-folder r k a h e = ⊎-elim (λ (z : folderOf r ≡ 0). omega arith) (λ z. let u = z .high in omega arith) (a .folder (rw (le-leb (getD r 1 0) 2 h)))
+
+pub moved-folder : (r : Rec) (k : ℕ) → Asks r → getD r 1 0 ≡ 7 → k ≡ folderOf r → k < 524288
+unfolding op usesFolder
+moved-folder r k a h e = ⊎-elim (λ (z : folderOf r ≡ 0). omega arith) (λ z. let u = z .high in omega arith) (a .folder (rw h))
 
 pub own-low : (r : Rec) (k : ℕ) → InRange (selfOf r) → k ≡ selfOf r → k < 524288
 own-low r k a e = let u = a .high in omega arith
@@ -78,6 +93,12 @@ module _ (r : Rec) (T : List ℕ) (n m : ℕ) (b x : List ℕ) where
       unfolding changeIn op treeIn
       change-rename h k row p q e = e ∙ rw (q, p, lt-leb (getD r 1 0) 2 o, ne-eqb (getD r 1 0) 4 g, eq-eqb (getD r 1 0) 5 h)
 
-pub change-none : (r : Rec) (T : List ℕ) (n m : ℕ) (b : List ℕ) → 2 < getD r 1 0 → (getD r 1 0 ≡ 4 → ⊥) → (getD r 1 0 ≡ 5 → ⊥) → b ≡ changeIn r (treeIn T n m) b
+pub change-move : (r : Rec) (T : List ℕ) (n m : ℕ) (b x : List ℕ) → getD r 1 0 ≡ 7 → (k row : ℕ) → k ≡ objectOf r → rowIn T n row ≡ entryOf k (entriesFrom T 0 n) → x ≡ movedIn r b (rowIn T n row) → x ≡ changeIn r (treeIn T n m) b
 unfolding changeIn op treeIn
-change-none r T n m b o g h = rw (lt-leb (getD r 1 0) 2 o, ne-eqb (getD r 1 0) 4 g, ne-eqb (getD r 1 0) 5 h)
+change-move r T n m b x h k row p q e = e ∙ rw (q, p, h)
+
+pub change-none : (r : Rec) (T : List ℕ) (n m : ℕ) (b : List ℕ) → Asks r → 2 < getD r 1 0 → (getD r 1 0 ≡ 4 → ⊥) → (getD r 1 0 ≡ 5 → ⊥) → (getD r 1 0 ≡ 7 → ⊥) → b ≡ changeIn r (treeIn T n m) b
+unfolding changeIn op treeIn
+change-none r T n m b a o g h i =
+    let to : getD r 1 0 ≤ 7 = a .to in
+    rw (lt-leb (getD r 1 0) 2 o, ne-eqb (getD r 1 0) 4 g, ne-eqb (getD r 1 0) 5 h, lt-leb 7 (getD r 1 0) (omega arith))

@@ -16,7 +16,7 @@ use Rattle.encoding_laws.proofs.Logs.{sound-records, sound-few}
 use Rattle.tree_table.specs.Rows.{entryIn, entriesFrom, treeIn}
 use Rattle.tree_lookup.specs.Roles.{Works}
 use Rattle.tree_lookup.proofs.Working.{works-tree, proper-at}
-use Rattle.tree_laws.proofs.Verdicts.{Under, Reason, reason-range}
+use Rattle.tree_laws.proofs.Verdicts.{Under, Reason, reason-least, reason-range}
 use Rattle.tree_judge.specs.Judged.{verdictOf}
 use Rattle.tree_judge.proofs.Verdicts.{verdict-numbers}
 use Rattle.index_model.specs.Acting.{changeIn, stepIn}
@@ -49,7 +49,7 @@ laid-inside log b register n m s w =
 reason-zero : (v : Verdict) → Under Reason v → reasonOf v ≡ 0 → v ≡ fits
 unfolding reasonOf
 reason-zero fits h e = refl
-reason-zero (aside n k) h e = absurd (omega arith)
+reason-zero (aside n k) h e = absurd (omega (arith, reason-least n h))
 
 module _ (r b register : List ℕ) (n m : ℕ) (t : Tree) (w : Works b register n m t) (x k : ℕ) (e : verdictOf x k ≡ judge r (treeIn b n m)) (index : List ℕ) where
   tree : treeIn b n m ≡ t

@@ -2,7 +2,7 @@
 ghost use mathlib.Core.Path.{_≡_};
 ghost use mathlib.Core.Bool.{true};
 ghost use Prim.Native.Nat.{_≤_, _<_};
-ghost use lib.ListN.{length};
+ghost use lib.ListN.{length, getD};
 ghost use Rattle.model.specs.Lengths.{logSize, treeSize};
 ghost use Rattle.model.specs.Record.{selfOf};
 ghost use Rattle.model.specs.Log.{recordsOf, soundLog};
@@ -12,7 +12,7 @@ ghost use Rattle.tree_table.specs.Rows.{InRange, rowIn, treeIn};
 ghost use Rattle.tree_lookup.specs.Roles.{Holds};
 ghost use Rattle.tree_judge.specs.Judged.{Asks};
 ghost use Rattle.index_model.specs.Index.{indexSize};
-ghost use Rattle.index_model.specs.Acting.{removedIn, renamedIn, changeIn, stepIn};
+ghost use Rattle.index_model.specs.Acting.{removedIn, renamedIn, movedIn, changeIn, stepIn};
 ghost use Rattle.index_model.specs.Kept.{indexFits, ifLent};
 ghost use Rattle.index_act.specs.Inside.{Inside};
 use model::TREE_BYTES;
@@ -52,6 +52,28 @@ fn rename_in(rec: &[u8], table: &[u8], n: usize, row: usize, index: &mut [u8])
     );
 }
 
+// The entry in a row, if it is one of n, gets the folder and the label of a record in the index.
+fn move_to(rec: &[u8], table: &[u8], n: usize, row: usize, index: &mut [u8])
+    requires { ⌜ Asks (now rec) × (getD (now rec) 1 0 ≡ 7) × (length (now table) ≡ treeSize) × (n ≤ 512) × Inside (now table) n × (length (now index) ≡ indexSize) ⌝ }
+    ensures { λ _. ⌜ now (index .exit) ≡ movedIn (now (rec .entry)) (now (index .entry)) (rowIn (now (table .entry)) n row) ⌝ }
+{
+    if n <= row {
+        return;
+    }
+    let folder = tree_table::inside_at(table, row);
+    let entry = tree_table::made_at(table, row);
+    let to = tree_table::folder_of(rec);
+    let from = 4 + 72 * row + 24;
+    index_change::move_in(
+        index,
+        folder,
+        &table[from..from + 32],
+        to,
+        &rec[32..64],
+        entry,
+    );
+}
+
 // A record that fits does to the index of the tree in a table what it does to the tree.
 fn change_index(rec: &[u8], table: &[u8], register: &[u16], size: Size, index: &mut [u8])
     requires { ⌜ Asks (now rec) × InRange (selfOf (now rec)) × Holds (now table) (now register) (size .entries) (size .asides) × Inside (now table) (size .entries) × (length (now index) ≡ indexSize) ⌝ }
@@ -76,6 +98,11 @@ fn change_index(rec: &[u8], table: &[u8], register: &[u16], size: Size, index: &
     if op == 5 {
         let row = tree_lookup::entry_of(table, register, size, tree_table::object_of(rec));
         rename_in(rec, table, n, row, index);
+        return;
+    }
+    if op == 7 {
+        let row = tree_lookup::entry_of(table, register, size, tree_table::object_of(rec));
+        move_to(rec, table, n, row, index);
     }
 }
 

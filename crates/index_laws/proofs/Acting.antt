@@ -13,14 +13,14 @@ use borrow.Author.Tests.{le-leb, lt-leb, eq-eqb, ne-eqb}
 use Rattle.byte_slice.proofs.Numbers.{bool-cases, cond-cases, and-true}
 use Rattle.model.specs.Bytes.{two, padded}
 use Rattle.model.specs.Record.{Rec, op, selfOf, objectOf, folderOf, labelOf}
-use Rattle.model.specs.Replay.{Entry, Tree, labelKey, isPresent, entryOf, newEntry, stored, renamed, removed, changed, effect, presentOnes}
+use Rattle.model.specs.Replay.{Entry, Tree, labelKey, isPresent, entryOf, newEntry, stored, renamed, moved, removed, changed, effect, presentOnes}
 use Rattle.log_laws.proofs.Members.{All}
 use Rattle.tree_laws.specs.Replayed.{Has, makers}
 use Rattle.tree_laws.proofs.Labels.{Apart, Clash, Named, has-made}
 use Rattle.tree_laws.proofs.Steps.{effect-elim, withEntries}
 use Rattle.index_model.specs.Index.{folderKey, entryBefore, keyBefore, placed, ordered, indexRow, indexRows, indexBytes, indexOf, rowsIn, seek, rowIs}
 use Rattle.index_model.specs.Change.{rowBytes, putIn, takeRow, takeOut, moveIn}
-use Rattle.index_model.specs.Acting.{removedIn, renamedIn, changeIn}
+use Rattle.index_model.specs.Acting.{removedIn, renamedIn, movedIn, changeIn}
 use Rattle.index_laws.proofs.Sorted.{Sorted, ordered-sorted, ordered-has, has-ordered}
 use Rattle.index_laws.proofs.Reading.{Long, rows-counted, has-at, key-one}
 use Rattle.index_laws.proofs.Exact.{Rowed, low-32, all-has, has-all, has-present, length-ordered, There, row-there}
@@ -271,6 +271,10 @@ renamed-there : (r : Rec) (x : Entry) → isPresent x ≡ true → isPresent (re
 unfolding isPresent renamed
 renamed-there r x p = p
 
+moved-there : (r : Rec) (x : Entry) → isPresent x ≡ true → isPresent (moved r x) ≡ true
+unfolding isPresent moved
+moved-there r x p = p
+
 stored-there : (r : Rec) (x : Entry) → isPresent x ≡ true → isPresent (stored r x) ≡ true
 unfolding isPresent stored
 stored-there r x p = p
@@ -328,6 +332,15 @@ module _ (d : Entry) where
         rw (less, q)
         (put-middle (presentOnes (w .front)) (renamed r x) (presentOnes (w .back)) (rw q at (fit′ .few)) (rw q at (fit′ .rowed)) (rw q at (keys (changed (renamed r) k es) fit′)) d)
 
+    move-right : (r : Rec) → Fit (changed (moved r) k es)
+        → moveIn (indexBytes (ordered (presentOnes es))) (x .inside) (x .label) (folderOf r) (labelOf r) (x .made) ≡ indexBytes (ordered (presentOnes (changed (moved r) k es)))
+    unfolding moveIn moved
+    move-right r fit′ =
+        let q : presentOnes (changed (moved r) k es) ≡ presentOnes (w .front) ++ (moved r x ∷ presentOnes (w .back)) =
+        ap presentOnes (w .change (moved r)) ∙ present-middle (w .front) (moved r x) (w .back) (moved-there r x (w .there)) in
+        rw (less, q)
+        (put-middle (presentOnes (w .front)) (moved r x) (presentOnes (w .back)) (rw q at (fit′ .few)) (rw q at (fit′ .rowed)) (rw q at (keys (changed (moved r) k es) fit′)) d)
+
   -- ---- a record
 
   module _ (r : Rec) (t : Tree) (one : 1 ≤ op r) (fit : Fit (t .entries)) where
@@ -350,13 +363,20 @@ module _ (d : Entry) where
     renames none e f = rw (changed-none (renamed r) (objectOf r) (t .entries) e)
     renames (some x) e f = rename-right (t .entries) (objectOf r) x e fit r f
 
+    moves : (o : Option Entry) → entryOf (objectOf r) (t .entries) ≡ o → Fit (changed (moved r) (objectOf r) (t .entries))
+        → movedIn r b o ≡ indexBytes (ordered (presentOnes (changed (moved r) (objectOf r) (t .entries))))
+    unfolding movedIn b
+    moves none e f = rw (changed-none (moved r) (objectOf r) (t .entries) e)
+    moves (some x) e f = move-right (t .entries) (objectOf r) x e fit r f
+
     -- what a record that fits does to the index leaves the index of the tree that it leaves
     pub effect-right : Fit (effect r t .entries) → changeIn r t (indexOf t) ≡ indexOf (effect r t)
     unfolding changeIn indexOf newEntry b
     effect-right =
         effect-elim (λ (x : Tree). Fit (x .entries) → changeIn r t (indexOf t) ≡ indexOf x) r t
         (λ o f. rw (le-leb (op r) 2 o) (make-right (t .entries) (newEntry r) f (new-there r one)))
-        (λ o f. rw (lt-leb (op r) 2 (omega arith), ne-eqb (op r) 4 (omega arith), ne-eqb (op r) 5 (omega arith)) (stores (entryOf (objectOf r) (t .entries)) refl))
+        (λ o f. rw (lt-leb (op r) 2 (omega arith), ne-eqb (op r) 4 (omega arith), ne-eqb (op r) 5 (omega arith), lt-leb 7 (op r) (omega arith)) (stores (entryOf (objectOf r) (t .entries)) refl))
         (λ o f. rw (lt-leb (op r) 2 (omega arith), eq-eqb (op r) 4 o) (removes (entryOf (objectOf r) (t .entries)) refl))
         (λ o f. rw (lt-leb (op r) 2 (omega arith), ne-eqb (op r) 4 (omega arith), eq-eqb (op r) 5 o) (renames (entryOf (objectOf r) (t .entries)) refl f))
-        (λ o f. rw (lt-leb (op r) 2 (omega arith), ne-eqb (op r) 4 (omega arith), ne-eqb (op r) 5 (omega arith)))
+        (λ o f. rw (lt-leb (op r) 2 (omega arith), ne-eqb (op r) 4 (omega arith), ne-eqb (op r) 5 (omega arith), lt-leb 7 (op r) (omega arith)))
+        (λ o f. rw (lt-leb (op r) 2 (omega arith), ne-eqb (op r) 4 (omega arith), ne-eqb (op r) 5 (omega arith), le-leb 7 (op r) (omega arith)) (moves (entryOf (objectOf r) (t .entries)) refl f))

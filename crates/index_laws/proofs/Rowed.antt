@@ -8,9 +8,10 @@ use mathlib.Core.Bool.{true, false, _&&_}
 use mathlib.Core.List.{List, [], _∷_, _++_}
 use lib.Dec.{eqb}
 use lib.ListN.{length}
+use borrow.Author.Tests.{le-leb}
 use Rattle.byte_slice.proofs.Parts.{part-length}
-use Rattle.model.specs.Record.{Rec, root, op, objectOf, folderOf, labelOf}
-use Rattle.model.specs.Replay.{Entry, Tree, isPresent, newEntry, stored, renamed, removed, changed, step, emptyTree, replayFrom, replay, presentOnes}
+use Rattle.model.specs.Record.{Rec, root, op, objectOf, folderOf, labelOf, usesFolder}
+use Rattle.model.specs.Replay.{Entry, Tree, isPresent, newEntry, stored, renamed, moved, removed, changed, step, emptyTree, replayFrom, replay, presentOnes}
 use Rattle.log_laws.specs.Members.{Has as Member}
 use Rattle.log_laws.specs.Sound.{Sound}
 use Rattle.log_laws.proofs.Members.{All, all-append}
@@ -33,18 +34,26 @@ label-long : (r : Rec) → length r ≡ 80 → length (labelOf r) ≡ 32
 unfolding labelOf
 label-long r n = part-length r 32 32 (omega arith)
 
+seven : (o : ℕ) → o ≡ 7 → usesFolder o ≡ true
+unfolding usesFolder
+seven o e = rw e
+
+folder-low : (r : Rec) → Asks r → usesFolder (op r) ≡ true → folderOf r < 524288
+folder-low r k u = ⊎-elim (λ (z : folderOf r ≡ root). omega arith) (λ z. let h = z .high in omega arith) (k .folder u)
+
 rowed-step : (t : Tree) (r : Rec) → Asks r → All Rowed (t .entries) → All Rowed (step t r .entries)
-unfolding newEntry stored renamed removed
+unfolding newEntry stored renamed moved removed usesFolder
 rowed-step t r k a =
     let P : Tree → Type 0 = λ (x : Tree). All Rowed (x .entries) in
     let n = label-long r (k .long) in
     step-elim P t r
     (λ _. effect-elim P r t
-    (λ o. all-append Rowed (t .entries) (newEntry r ∷ []) a ((n, ⊎-elim (λ (z : folderOf r ≡ root). omega arith) (λ z. let h = z .high in omega arith) (k .folder o)), tt))
+    (λ o. all-append Rowed (t .entries) (newEntry r ∷ []) a ((n, folder-low r k (rw (le-leb (op r) 2 o))), tt))
     (λ _. rowed-changed (stored r) (λ e f. f) (objectOf r) (t .entries) a)
     (λ _. rowed-changed removed (λ e f. f) (objectOf r) (t .entries) a)
     (λ _. rowed-changed (renamed r) (λ e f. (n, f .1)) (objectOf r) (t .entries) a)
-    (λ _. a))
+    (λ _. a)
+    (λ o. rowed-changed (moved r) (λ e f. (n, folder-low r k (seven (op r) (let to : op r ≤ 7 = k .to in omega arith)))) (objectOf r) (t .entries) a))
     (λ x y _. a)
 
 rowed-replay : (t : Tree) (l : List Rec) → ((r : Rec) → Member r l → Asks r) → All Rowed (t .entries) → All Rowed (replayFrom t l .entries)

@@ -11,7 +11,7 @@ use Rattle.model.specs.Record.{Rec, root}
 use Rattle.model.specs.Log.{soundAfter, logBytes}
 use Rattle.model.specs.Replay.{judge, replay}
 use Rattle.model.specs.Outcome.{outcome, stamped}
-use Rattle.model.specs.Examples.{_·_, makesFolder, makesTrace, stores, removes, renames, sameFlag, A, B, C}
+use Rattle.model.specs.Examples.{_·_, makesFolder, makesTrace, stores, removes, renames, moves, sameFlag, A, B, C}
 use Rattle.row_model.specs.Row.{rowTaken}
 use Rattle.index_model.specs.Index.{folderKey, keyBefore, indexOf, rowsIn, firstIn, endIn, listIn, entriesIn, findIn, findOf, rangeOf}
 use Rattle.index_model.specs.Change.{putIn}
@@ -201,6 +201,9 @@ table =
     ∷ acts (folders ++ traces) (renames 5 (0 · 0) [] (0 · 5) (98 ∷ []))
     -- a rename to the own label in another case leaves the order
     ∷ changes (folders ++ traces) (renames 5 (0 · 6) (5 ∷ 1 ∷ []) (0 · 5) (98 ∷ [])) (1 · 1 ∷ 0 · 2 ∷ 0 · 1 ∷ 0 · 5 ∷ 0 · 4 ∷ 0 · 3 ∷ 0 ∷ [])
+    -- a move to another folder, and within its own
+    ∷ changes (folders ++ traces) (moves 5 (0 · 6) (5 ∷ 1 ∷ []) (0 · 5) (1 · 1) C) (1 · 1 ∷ 0 · 2 ∷ 0 · 1 ∷ 0 · 4 ∷ 0 · 3 ∷ 0 · 5 ∷ 0 ∷ [])
+    ∷ changes (folders ++ traces) (moves 5 (0 · 6) (5 ∷ 1 ∷ []) (0 · 5) (0 · 2) C) (1 · 1 ∷ 0 · 2 ∷ 0 · 1 ∷ 0 · 4 ∷ 0 · 5 ∷ 0 · 3 ∷ 0 ∷ [])
     -- lengths
     ∷ lends 0 true
     ∷ lends 20484 true

@@ -13,7 +13,7 @@ use Rattle.model.specs.Log.{recordsOf, soundLog, vectorOf, count}
 use Rattle.model.specs.Replay.{Tree, Verdict, fits, aside, judge, replay}
 use Rattle.model.specs.Outcome.{Outcome, outcome, refusal, stamped, wishNumber, reasonOf, actNumber, acted, actOf}
 use Rattle.log_laws.proofs.Act.{stamped-unit, stamped-num, wish-fits, wish-zero}
-use Rattle.tree_laws.proofs.Verdicts.{Under, Reason, reason-range}
+use Rattle.tree_laws.proofs.Verdicts.{Under, Reason, reason-least, reason-range}
 use Rattle.tree_table.specs.Rows.{InRange}
 use Rattle.tree_replay.proofs.Sound.{count-few}
 use Rattle.act_wish.specs.Stamp.{stampedBy, numberAs}
@@ -30,7 +30,7 @@ use Rattle.keep_lent.proofs.Lent.{fits-by, lent-same, wrong-index, kept-accepte
 reason-zero : (v : Verdict) → Under Reason v → reasonOf v ≡ 0 → v ≡ fits
 unfolding reasonOf
 reason-zero fits h e = refl
-reason-zero (aside n k) h e = absurd (omega arith)
+reason-zero (aside n k) h e = absurd (omega (arith, reason-least n h))
 
 aside-leaves : (v : Verdict) (r : Rec) (t : Tree) (i : List ℕ) → (reasonOf v ≡ 0 → ⊥) → stepIn v r t i ≡ i
 unfolding reasonOf stepIn

@@ -10,7 +10,7 @@ use lib.Dec.{eqb}
 use lib.ListN.{length, getD, replicate, length-append}
 use Rattle.model.specs.Bytes.{word, two, part, padded}
 use Rattle.model.specs.Record.{Rec, unit, identity, selfOf, objectOf}
-use Rattle.model.specs.Replay.{Entry, Aside, Tree, emptyTree, isPresent, changed, settled, newEntry, stored, renamed, removed, step, replayFrom, replay, presentOnes}
+use Rattle.model.specs.Replay.{Entry, Aside, Tree, emptyTree, isPresent, changed, settled, newEntry, stored, renamed, moved, removed, step, replayFrom, replay, presentOnes}
 use Rattle.model.specs.Table.{identityBytes, entryRow, entryRows, asideRows, tableBytes}
 use Rattle.model.specs.Listing.{entryLine}
 use Rattle.byte_slice.proofs.Parts.{part-front, part-behind}
@@ -23,7 +23,7 @@ use Rattle.record.proofs.Fields.{well-head}
 use Rattle.tree_table.specs.Rows.{InRange, Proper, AllProper, flagOf}
 use Rattle.tree_table.proofs.Rows.{rows-length}
 use Rattle.tree_table.proofs.Writes.{rows-part}
-use Rattle.tree_table.proofs.Fields.{new-proper, stored-proper, renamed-proper, removed-proper}
+use Rattle.tree_table.proofs.Fields.{new-proper, stored-proper, renamed-proper, moved-proper, removed-proper}
 use Rattle.tree_laws.proofs.Steps.{cond-elim, step-elim, effect-elim}
 use Rattle.tree_lookup.proofs.Working.{proper-at}
 use Rattle.tree_replay.proofs.Sound.{count-few}
@@ -58,7 +58,8 @@ proper-step t r n k a =
     (λ _. proper-changed (stored r) (stored-proper r n) (objectOf r) (t .entries) a)
     (λ _. proper-changed removed removed-proper (objectOf r) (t .entries) a)
     (λ _. proper-changed (renamed r) (renamed-proper r n) (objectOf r) (t .entries) a)
-    (λ _. a))
+    (λ _. a)
+    (λ _. proper-changed (moved r) (moved-proper r n) (objectOf r) (t .entries) a))
     (λ x y _. a)
 
 proper-replay : (t : Tree) (l : List Rec) → ((r : Rec) → Has r l → (length r ≡ 80) × InRange (selfOf r)) → AllProper (t .entries) → AllProper (replayFrom t l .entries)
@@ -112,7 +113,8 @@ step-size t r =
     (λ _. omega (arith, length-changed (stored r) (objectOf r) (t .entries)))
     (λ _. omega (arith, length-changed removed (objectOf r) (t .entries)))
     (λ _. omega (arith, length-changed (renamed r) (objectOf r) (t .entries)))
-    (λ _. omega (arith, length-settled (objectOf r) (t .asides))))
+    (λ _. omega (arith, length-settled (objectOf r) (t .asides)))
+    (λ _. omega (arith, length-changed (moved r) (objectOf r) (t .entries))))
     (λ n k _. omega (arith, length-append (t .asides) (record { who = selfOf r; reason = n; marked = k; isOpen = true } ∷ [])))
 
 replay-size : (t : Tree) (l : List Rec) → size (replayFrom t l) ≤ size t + length l

@@ -38,16 +38,24 @@ well-label r e =
 pub well-unit : (r : Rec) → wellFormed r ≡ true → unit r < 8
 unfolding headFits
 well-unit r e =
-    let (a, b) = and-true (leb (unit r) 7) (leb 1 (op r) && (leb (op r) 6 && (leb 1 (num r) && eqb (seen r (unit r)) (num r - 1)))) (well-head r e) in
+    let (a, b) = and-true (leb (unit r) 7) (leb 1 (op r) && (leb (op r) 7 && (leb 1 (num r) && eqb (seen r (unit r)) (num r - 1)))) (well-head r e) in
     omega (arith, leb-true (unit r) 7 a)
+
+-- the operation is one of those known
+pub well-op : (r : Rec) → wellFormed r ≡ true → 0 < op r
+unfolding headFits
+well-op r e =
+    let (a, b) = and-true (leb (unit r) 7) (leb 1 (op r) && (leb (op r) 7 && (leb 1 (num r) && eqb (seen r (unit r)) (num r - 1)))) (well-head r e) in
+    let (c, d) = and-true (leb 1 (op r)) (leb (op r) 7 && (leb 1 (num r) && eqb (seen r (unit r)) (num r - 1))) b in
+    omega (arith, leb-true 1 (op r) c)
 
 -- the number is one above what was seen of the own unit
 pub well-own : (r : Rec) → wellFormed r ≡ true → num r ≡ suc (seen r (unit r))
 unfolding headFits
 well-own r e =
-    let (a, b) = and-true (leb (unit r) 7) (leb 1 (op r) && (leb (op r) 6 && (leb 1 (num r) && eqb (seen r (unit r)) (num r - 1)))) (well-head r e) in
-    let (c, d) = and-true (leb 1 (op r)) (leb (op r) 6 && (leb 1 (num r) && eqb (seen r (unit r)) (num r - 1))) b in
-    let (f, g) = and-true (leb (op r) 6) (leb 1 (num r) && eqb (seen r (unit r)) (num r - 1)) d in
+    let (a, b) = and-true (leb (unit r) 7) (leb 1 (op r) && (leb (op r) 7 && (leb 1 (num r) && eqb (seen r (unit r)) (num r - 1)))) (well-head r e) in
+    let (c, d) = and-true (leb 1 (op r)) (leb (op r) 7 && (leb 1 (num r) && eqb (seen r (unit r)) (num r - 1))) b in
+    let (f, g) = and-true (leb (op r) 7) (leb 1 (num r) && eqb (seen r (unit r)) (num r - 1)) d in
     let (h, i) = and-true (leb 1 (num r)) (eqb (seen r (unit r)) (num r - 1)) g in
     omega (arith, leb-true 1 (num r) h, eqb-true (seen r (unit r)) (num r - 1) i)
 

@@ -1,5 +1,5 @@
 -- The bench examples of document 01, and some of the same kind, as rows of one table.
--- Document 01, "Bench examples"; document 02, K1 to K3 and K7.
+-- Document 01, "Bench examples"; document 02, K1 to K3, K7 and K8.
 -- Assumes nothing.
 use Prim.Native.Nat.{ℕ, zero, suc}
 use mathlib.Core.Bool.{Bool, true, false, cond, not, _&&_, _||_}
@@ -80,6 +80,10 @@ renames day k s o t = march day 5 k s o root t []
 
 unfoldable pub settles : ℕ → ℕ → List ℕ → ℕ → Rec
 settles day k s o = march day 6 k s o root [] []
+
+-- a move is given its object, new folder and label
+unfoldable pub moves : ℕ → ℕ → List ℕ → ℕ → ℕ → List ℕ → Rec
+moves day k s o f t = march day 7 k s o f t []
 
 -- ---- what a tree shows
 
@@ -377,8 +381,14 @@ further =
     -- a label and a mark that are not used
     ∷ formed (march 3 4 (0 · 2) (1 ∷ []) (0 · 1) root A []) false
     ∷ formed (march 3 4 (0 · 2) (1 ∷ []) (0 · 1) root [] A) false
-    -- no operation 7, nor 0
-    ∷ formed (march 3 7 (0 · 2) (1 ∷ []) (0 · 1) root [] []) false
+    -- no operation 8, nor 0
+    ∷ formed (march 3 8 (0 · 2) (1 ∷ []) (0 · 1) root [] []) false
+    -- a move to the root and to a folder; without a label, with a mark, to a folder that was not seen
+    ∷ formed (moves 3 (0 · 2) (1 ∷ []) (0 · 1) root A) true
+    ∷ formed (moves 3 (0 · 3) (2 ∷ []) (0 · 1) (0 · 2) A) true
+    ∷ formed (moves 3 (0 · 2) (1 ∷ []) (0 · 1) root []) false
+    ∷ formed (march 3 7 (0 · 2) (1 ∷ []) (0 · 1) root A (replicate 16 1)) false
+    ∷ formed (moves 3 (0 · 2) (1 ∷ []) (0 · 1) (1 · 1) A) false
     ∷ formed (march 3 0 (0 · 1) [] root root A []) false
     -- a record does not name itself, and not the root as object
     ∷ formed (stores 3 (0 · 2) (1 ∷ []) (0 · 2)) false
@@ -457,6 +467,69 @@ further =
     -- a wish is judged alike: a rename, and a make inside a folder
     ∷ wishes 0 (makesTrace 3 (0 · 1) [] root A ∷ makesTrace 3 (0 · 2) (1 ∷ []) root B ∷ []) (renames 3 (0 · 0) [] (0 · 2) (97 ∷ [])) 15
     ∷ wishes 0 (makesFolder 3 (0 · 1) [] root A ∷ makesTrace 3 (0 · 2) (1 ∷ []) (0 · 1) B ∷ []) (makesTrace 3 (0 · 0) [] (0 · 1) (98 ∷ [])) 15
+    -- a move to another folder, under another label
+    ∷ tree (makesFolder 3 (0 · 1) [] root A ∷ makesTrace 3 (0 · 2) (1 ∷ []) root B ∷ moves 3 (0 · 3) (2 ∷ []) (0 · 2) (0 · 1) C ∷ makesTrace 3 (0 · 4) (3 ∷ []) (0 · 1) C ∷ makesTrace 3 (0 · 5) (4 ∷ []) root B ∷ [])
+    ((0 · 1, A, 0 · 1, 0 · 1, false) ∷ (0 · 2, C, 0 · 2, 0 · 3, true) ∷ (0 · 5, B, 0 · 5, 0 · 5, false) ∷ [])
+    ((0 · 4, 15, 0 · 2, true) ∷ [])
+    -- a folder into itself and into one below it: 25; a trace into itself: 14; into an absent folder: 13
+    ∷ tree (makesFolder 3 (0 · 1) [] root A ∷ makesFolder 3 (0 · 2) (1 ∷ []) (0 · 1) B ∷ moves 3 (0 · 3) (2 ∷ []) (0 · 1) (0 · 1) C ∷ moves 3 (0 · 4) (3 ∷ []) (0 · 1) (0 · 2) C ∷ [])
+    ((0 · 1, A, 0 · 1, 0 · 1, true) ∷ (0 · 2, B, 0 · 2, 0 · 2, false) ∷ [])
+    ((0 · 3, 25, 0 · 1, true) ∷ (0 · 4, 25, 0 · 1, true) ∷ [])
+    ∷ tree (makesTrace 3 (0 · 1) [] root A ∷ moves 3 (0 · 2) (1 ∷ []) (0 · 1) (0 · 1) A ∷ moves 3 (0 · 3) (2 ∷ []) (0 · 1) (0 · 2) A ∷ moves 3 (0 · 4) (3 ∷ []) (0 · 2) root A ∷ [])
+    ((0 · 1, A, 0 · 1, 0 · 1, true) ∷ [])
+    ((0 · 2, 14, 0 · 1, true) ∷ (0 · 3, 13, 0, true) ∷ (0 · 4, 12, 0, true) ∷ [])
+    -- crossing moves of two folders: the later in rank stands aside; an unseen move is 17 before 13
+    ∷ tree (makesFolder 3 (0 · 1) [] root A ∷ makesFolder 3 (0 · 2) (1 ∷ []) root B ∷ moves 3 (0 · 3) (2 ∷ []) (0 · 1) (0 · 2) A ∷ moves 3 (1 · 1) (2 ∷ []) (0 · 2) (0 · 1) B ∷ [])
+    ((0 · 1, A, 0 · 1, 0 · 3, false) ∷ (0 · 2, B, 0 · 2, 0 · 2, true) ∷ [])
+    ((1 · 1, 25, 0 · 2, true) ∷ [])
+    ∷ tree (makesTrace 3 (0 · 1) [] root A ∷ removes 3 (0 · 2) (1 ∷ []) (0 · 1) ∷ makesTrace 3 (0 · 3) (2 ∷ []) root A ∷ renames 3 (0 · 4) (3 ∷ []) (0 · 3) B ∷ moves 3 (1 · 1) (3 ∷ []) (0 · 3) (0 · 1) C ∷ [])
+    ((0 · 3, B, 0 · 3, 0 · 4, true) ∷ [])
+    ((1 · 1, 17, 0 · 3, true) ∷ [])
+    -- a folder into a trace below it is 14, an unseen move into itself 17, and 25 comes before 15
+    ∷ tree (makesFolder 3 (0 · 1) [] root A ∷ makesTrace 3 (0 · 2) (1 ∷ []) (0 · 1) B ∷ moves 3 (0 · 3) (2 ∷ []) (0 · 1) (0 · 2) A ∷ moves 3 (0 · 4) (3 ∷ []) (0 · 1) (0 · 1) B ∷ [])
+    ((0 · 1, A, 0 · 1, 0 · 1, true) ∷ (0 · 2, B, 0 · 2, 0 · 2, true) ∷ [])
+    ((0 · 3, 14, 0 · 2, true) ∷ (0 · 4, 25, 0 · 1, true) ∷ [])
+    ∷ tree (makesFolder 3 (0 · 1) [] root A ∷ renames 3 (0 · 2) (1 ∷ []) (0 · 1) B ∷ moves 3 (1 · 1) (1 ∷ []) (0 · 1) (0 · 1) A ∷ [])
+    ((0 · 1, B, 0 · 1, 0 · 2, true) ∷ [])
+    ((1 · 1, 17, 0 · 1, true) ∷ [])
+    -- into a folder two steps below it
+    ∷ tree (makesFolder 3 (0 · 1) [] root A ∷ makesFolder 3 (0 · 2) (1 ∷ []) (0 · 1) A ∷ makesFolder 3 (0 · 3) (2 ∷ []) (0 · 2) A ∷ moves 3 (0 · 4) (3 ∷ []) (0 · 1) (0 · 3) B ∷ [])
+    ((0 · 1, A, 0 · 1, 0 · 1, true) ∷ (0 · 2, A, 0 · 2, 0 · 2, false) ∷ (0 · 3, A, 0 · 3, 0 · 3, false) ∷ [])
+    ((0 · 4, 25, 0 · 1, true) ∷ [])
+    -- a move in its own folder to its own label, in any case, fits; to another's label it marks the holder
+    ∷ tree (makesTrace 3 (0 · 1) [] root A ∷ moves 3 (0 · 2) (1 ∷ []) (0 · 1) root (97 ∷ []) ∷ [])
+    ((0 · 1, 97 ∷ [], 0 · 1, 0 · 2, false) ∷ [])
+    []
+    ∷ tree (makesTrace 3 (0 · 1) [] root A ∷ makesTrace 3 (0 · 2) (1 ∷ []) root B ∷ moves 3 (0 · 3) (2 ∷ []) (0 · 2) root (97 ∷ []) ∷ [])
+    ((0 · 1, A, 0 · 1, 0 · 1, true) ∷ (0 · 2, B, 0 · 2, 0 · 2, false) ∷ [])
+    ((0 · 3, 15, 0 · 1, true) ∷ [])
+    -- a folder moves with what is in it, which is then found under it; and the folder that it left can be removed
+    ∷ whole
+    (makesFolder 3 (0 · 1) [] root A
+    ∷ makesFolder 3 (0 · 2) (1 ∷ []) root B
+    ∷ makesTrace 4 (0 · 3) (2 ∷ []) (0 · 1) A
+    ∷ moves 5 (0 · 4) (3 ∷ []) (0 · 1) (0 · 2) C
+    ∷ moves 5 (0 · 5) (4 ∷ []) (0 · 3) root A
+    ∷ removes 5 (0 · 6) (5 ∷ []) (0 · 2)
+    ∷ removes 5 (0 · 7) (6 ∷ []) (0 · 1)
+    ∷ removes 5 (0 · 8) (7 ∷ []) (0 · 2)
+    ∷ [])
+    ((record { made = 0 · 3; kind = 2; inside = root; label = padded 32 A; contents = 0 · 3; date = two 2025 ++ (3 ∷ 4 ∷ []); mark = replicate 16 (0 · 3); naming = 0 · 5 }, false) ∷ [])
+    ((0 · 6, 16, 0 · 2, true) ∷ [])
+    ∷ whole (makesFolder 3 (0 · 1) [] root A ∷ makesTrace 4 (0 · 2) (1 ∷ []) root B ∷ moves 5 (0 · 3) (2 ∷ []) (0 · 2) (0 · 1) C ∷ [])
+    ((record { made = 0 · 1; kind = 1; inside = root; label = padded 32 A; contents = 0 · 1; date = two 2025 ++ (3 ∷ 3 ∷ []); mark = replicate 16 0; naming = 0 · 1 }, false)
+    ∷ (record { made = 0 · 2; kind = 2; inside = 0 · 1; label = padded 32 C; contents = 0 · 2; date = two 2025 ++ (3 ∷ 4 ∷ []); mark = replicate 16 (0 · 2); naming = 0 · 3 }, false)
+    ∷ [])
+    []
+    -- an unseen move stops a rename, a move and a remove, and no store
+    ∷ tree (makesTrace 3 (0 · 1) [] root A ∷ moves 3 (0 · 2) (1 ∷ []) (0 · 1) root B ∷ renames 3 (1 · 1) (1 ∷ []) (0 · 1) C ∷ moves 3 (2 · 1) (1 ∷ []) (0 · 1) root C ∷ removes 3 (3 · 1) (1 ∷ []) (0 · 1) ∷ stores 3 (4 · 1) (1 ∷ []) (0 · 1) ∷ [])
+    ((0 · 1, B, 4 · 1, 0 · 2, true) ∷ [])
+    ((1 · 1, 17, 0 · 1, true) ∷ (2 · 1, 17, 0 · 1, true) ∷ (3 · 1, 17, 0 · 1, true) ∷ [])
+    -- wishes: into itself, a stroke first, one that fits
+    ∷ wishes 0 (makesFolder 3 (0 · 1) [] root A ∷ []) (moves 3 (0 · 0) [] (0 · 1) (0 · 1) B) 25
+    ∷ wishes 0 (makesFolder 3 (0 · 1) [] root A ∷ []) (moves 3 (0 · 0) [] (0 · 1) (0 · 1) (47 ∷ [])) 24
+    ∷ wishes 0 (makesFolder 3 (0 · 1) [] root A ∷ []) (moves 3 (0 · 0) [] (0 · 1) root B) 0
+    ∷ turnsAway 25
     -- a store asks only about contents, a rename only about the label, a remove about both
     ∷ tree (makesTrace 3 (0 · 1) [] root A ∷ renames 3 (0 · 2) (1 ∷ []) (0 · 1) B ∷ stores 3 (1 · 1) (1 ∷ []) (0 · 1) ∷ [])
     ((0 · 1, B, 1 · 1, 0 · 2, false) ∷ [])

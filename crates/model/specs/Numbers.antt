@@ -75,6 +75,10 @@ unseenChange = 17
 abbrev pub notAside : ℕ
 notAside = 18
 
+-- the folder of a move is its object or lies below it
+abbrev pub intoItself : ℕ
+intoItself = 25
+
 -- the lent log is not sound
 abbrev pub unsoundLog : ℕ
 unsoundLog = 19

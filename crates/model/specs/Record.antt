@@ -33,7 +33,7 @@ root = 0
 unfoldable pub unit : Rec → ℕ
 unit r = getD r 0 0
 
--- 1 make folder, 2 make trace, 3 store, 4 remove, 5 rename, 6 settle
+-- 1 make folder, 2 make trace, 3 store, 4 remove, 5 rename, 6 settle, 7 move
 unfoldable pub op : Rec → ℕ
 op r = getD r 1 0
 
@@ -98,10 +98,10 @@ unfoldable pub usesObject : ℕ → Bool
 usesObject o = leb 3 o
 
 unfoldable pub usesFolder : ℕ → Bool
-usesFolder o = leb o 2
+usesFolder o = leb o 2 || eqb o 7
 
 unfoldable pub usesLabel : ℕ → Bool
-usesLabel o = leb o 2 || eqb o 5
+usesLabel o = leb o 2 || (eqb o 5 || eqb o 7)
 
 unfoldable pub usesMark : ℕ → Bool
 usesMark o = eqb o 2 || eqb o 3
@@ -140,7 +140,7 @@ dateFits r = isDate (word r 28) (getD r 30 0) (getD r 31 0)
 unfoldable pub headFits : Rec → Bool
 headFits r =
     leb (unit r) 7
-    && (leb 1 (op r) && (leb (op r) 6 && (leb 1 (num r) && eqb (seen r (unit r)) (num r - 1))))
+    && (leb 1 (op r) && (leb (op r) 7 && (leb 1 (num r) && eqb (seen r (unit r)) (num r - 1))))
 
 unfoldable pub wellFormed : Rec → Bool
 wellFormed r =

@@ -5,7 +5,8 @@ use mathlib.Core.Bool.{Bool, true, false, cond, not, _&&_, _||_}
 use mathlib.Core.Option.{Option, none, some}
 use mathlib.Core.List.{List, [], _∷_, _++_}
 use lib.Dec.{ltb, leb, eqb}
-use Rattle.model.specs.Numbers.{noObject, noFolder, wrongKind, labelHeld, notEmpty, unseenChange, notAside}
+use lib.ListN.{length}
+use Rattle.model.specs.Numbers.{noObject, noFolder, wrongKind, labelHeld, notEmpty, unseenChange, notAside, intoItself}
 use Rattle.model.specs.Bytes.{sameBytes}
 use Rattle.model.specs.Record.{Rec, root, seen, op, selfOf, objectOf, folderOf, dateBytes, labelOf, markOf}
 
@@ -16,11 +17,11 @@ pub record Entry : Type 0 where
   pub made : ℕ  -- its identity, that of its making record
   pub kind : ℕ  -- 1 folder, 2 trace, 0 removed
   pub inside : ℕ  -- the identity of its folder
-  pub label : List ℕ  -- that of the last label record
+  pub label : List ℕ  -- that of the last place record
   pub contents : ℕ  -- the last contents record
   pub date : List ℕ  -- the date of that record
   pub mark : List ℕ  -- the content mark of that record
-  pub naming : ℕ  -- the last label record
+  pub naming : ℕ  -- the last place record
 
 -- a record that stands aside
 pub record Aside : Type 0 where
@@ -103,15 +104,22 @@ unfoldable pub freeLabel : Option Entry → Verdict
 freeLabel none = fits
 freeLabel (some h) = aside labelHeld (h .made)
 
-unfoldable pub judgeMakeIn : Rec → List Entry → Option Entry → Verdict
-judgeMakeIn r es none = aside noFolder 0
-judgeMakeIn r es (some f) =
-    cond (eqb (f .kind) 1) (freeLabel (holderOf root (folderOf r) (labelOf r) es)) (aside wrongKind (f .made))
+-- a verdict, and behind one that fits the next
+unfoldable pub andThen : Verdict → Verdict → Verdict
+andThen fits v = v
+andThen (aside n k) v = aside n k
+
+unfoldable pub isFolder : Option Entry → Verdict
+isFolder none = aside noFolder 0
+isFolder (some f) = cond (eqb (f .kind) 1) fits (aside wrongKind (f .made))
+
+-- the folder f is the root, or is there and a folder
+unfoldable pub folderStands : ℕ → List Entry → Verdict
+folderStands f es = cond (eqb f root) fits (isFolder (entryOf f es))
 
 -- [F22]
 unfoldable pub judgeMake : Rec → List Entry → Verdict
-judgeMake r es =
-    cond (eqb (folderOf r) root) (freeLabel (holderOf root root (labelOf r) es)) (judgeMakeIn r es (entryOf (folderOf r) es))
+judgeMake r es = andThen (folderStands (folderOf r) es) (freeLabel (holderOf root (folderOf r) (labelOf r) es))
 
 -- [F23]
 unfoldable pub judgeStore : Rec → Option Entry → Verdict
@@ -133,18 +141,39 @@ judgeRename r es none = aside noObject 0
 judgeRename r es (some e) =
     cond (unseen r (e .naming)) (aside unseenChange (e .made)) (freeLabel (holderOf (e .made) (e .inside) (labelOf r) es))
 
+-- going up from the identity f, in at most n steps, one comes to the entry k
+unfoldable pub comesTo : ℕ → ℕ → ℕ → List Entry → Bool
+comesTo zero k f es = false
+comesTo (suc n) k f es = eqb f k || elim (entryOf f es) [ none ↦ false | some g ↦ comesTo n k (g .inside) es ]
+
+-- the folder f is the entry k or lies below it
+unfoldable pub isBelow : ℕ → ℕ → List Entry → Bool
+isBelow k f es = comesTo (suc (length es)) k f es
+
+-- where an entry may be put: not at or below itself, and where no other has the label
+unfoldable pub judgePlace : Rec → List Entry → Entry → Verdict
+judgePlace r es e =
+    cond (isBelow (e .made) (folderOf r) es) (aside intoItself (e .made)) (freeLabel (holderOf (e .made) (folderOf r) (labelOf r) es))
+
+-- [F121]
+unfoldable pub judgeMove : Rec → List Entry → Option Entry → Verdict
+judgeMove r es none = aside noObject 0
+judgeMove r es (some e) =
+    cond (unseen r (e .naming)) (aside unseenChange (e .made)) (andThen (folderStands (folderOf r) es) (judgePlace r es e))
+
 -- [F26]
 unfoldable pub judgeSettle : Rec → List Aside → Verdict
 judgeSettle r l = cond (standsAside (objectOf r) l) fits (aside notAside 0)
 
--- by operation: 1 make folder, 2 make trace, 3 store, 4 remove, 5 rename, 6 settle
+-- by operation: 1 make folder, 2 make trace, 3 store, 4 remove, 5 rename, 6 settle, 7 move
 unfoldable pub judge : Rec → Tree → Verdict
 judge r t =
     cond (leb (op r) 2) (judgeMake r (t .entries))
     (cond (eqb (op r) 3) (judgeStore r (entryOf (objectOf r) (t .entries)))
     (cond (eqb (op r) 4) (judgeRemove r (t .entries) (entryOf (objectOf r) (t .entries)))
     (cond (eqb (op r) 5) (judgeRename r (t .entries) (entryOf (objectOf r) (t .entries)))
-    (judgeSettle r (t .asides)))))
+    (cond (eqb (op r) 6) (judgeSettle r (t .asides))
+    (judgeMove r (t .entries) (entryOf (objectOf r) (t .entries)))))))
 
 -- ---- what a record that fits does
 
@@ -189,6 +218,20 @@ renamed r e =
       naming = selfOf r;
     }
 
+-- [F121]
+unfoldable pub moved : Rec → Entry → Entry
+moved r e =
+    record {
+      made = e .made;
+      kind = e .kind;
+      inside = folderOf r;
+      label = labelOf r;
+      contents = e .contents;
+      date = e .date;
+      mark = e .mark;
+      naming = selfOf r;
+    }
+
 unfoldable pub removed : Entry → Entry
 removed e =
     record {
@@ -220,7 +263,8 @@ effect r t =
     (cond (eqb (op r) 3) (record { entries = changed (stored r) (objectOf r) (t .entries); asides = t .asides })
     (cond (eqb (op r) 4) (record { entries = changed removed (objectOf r) (t .entries); asides = t .asides })
     (cond (eqb (op r) 5) (record { entries = changed (renamed r) (objectOf r) (t .entries); asides = t .asides })
-    (record { entries = t .entries; asides = settled (objectOf r) (t .asides) }))))
+    (cond (eqb (op r) 6) (record { entries = t .entries; asides = settled (objectOf r) (t .asides) })
+    (record { entries = changed (moved r) (objectOf r) (t .entries); asides = t .asides })))))
 
 -- ---- the fold
 

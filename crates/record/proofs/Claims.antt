@@ -14,7 +14,7 @@ use Rattle.record_date.proofs.Claims.{date-means, real-date}
 use Rattle.record_label.proofs.Claims.{label-means, a-label}
 use Rattle.record_label.specs.Label.{Label}
 use Rattle.record.specs.WellFormed.{Zero, Named, Folder, Used, WellFormed}
-use Rattle.record.specs.WellFormed.Used.{make-folder, make-trace, store, remove, rename, settle}
+use Rattle.record.specs.WellFormed.Used.{make-folder, make-trace, store, remove, rename, settle, move}
 use Rattle.record.proofs.Fields.{judged, all-judged, zero-is, names-is, head-is, well-head, well-object, well-no-object, well-folder, well-no-folder, well-label, well-no-label, well-no-mark, well-date}
 
 -- ---- the test holds only of what is well formed
@@ -48,6 +48,10 @@ module _ (r : Rec) (e : wellFormed r ≡ true) where
   unfolding usesObject usesFolder usesLabel usesMark
   used-6 o = settle o (well-object r e (rw o)) (well-no-folder r e (rw o)) (well-no-label r e (rw o)) (well-no-mark r e (rw o))
 
+  used-7 : op r ≡ 7 → Used r
+  unfolding usesObject usesFolder usesLabel usesMark
+  used-7 o = move o (well-object r e (rw o)) (well-folder r e (rw o)) (label-text (rw o)) (well-no-mark r e (rw o))
+
   well-used : Used r
   well-used =
       let lo = well-head r e .op-from in
@@ -56,8 +60,9 @@ module _ (r : Rec) (e : wellFormed r ≡ true) where
       ⊎-elim used-2 (λ n2.
       ⊎-elim used-3 (λ n3.
       ⊎-elim used-4 (λ n4.
-      ⊎-elim used-5 (λ n5. used-6 (omega arith))
-      (eq-or-ne (op r) 5)) (eq-or-ne (op r) 4)) (eq-or-ne (op r) 3)) (eq-or-ne (op r) 2)) (eq-or-ne (op r) 1)
+      ⊎-elim used-5 (λ n5.
+      ⊎-elim used-6 (λ n6. used-7 (omega arith))
+      (eq-or-ne (op r) 6)) (eq-or-ne (op r) 5)) (eq-or-ne (op r) 4)) (eq-or-ne (op r) 3)) (eq-or-ne (op r) 2)) (eq-or-ne (op r) 1)
 
   pub well-means : WellFormed r
   unfolding dateFits
@@ -76,13 +81,14 @@ module _ (r : Rec) (n : length r ≡ 80) where
   zero : (at k : ℕ) → at + k ≤ 80 → Zero r at k → unused r at k ≡ true
   zero at k h z = zero-is r at k (omega arith) z
 
-  used-op : Used r → (1 ≤ op r) × (op r ≤ 6)
+  used-op : Used r → (1 ≤ op r) × (op r ≤ 7)
   used-op (make-folder o a b c d) = (omega arith, omega arith)
   used-op (make-trace o a b c) = (omega arith, omega arith)
   used-op (store o a b c) = (omega arith, omega arith)
   used-op (remove o a b c d) = (omega arith, omega arith)
   used-op (rename o a b c d) = (omega arith, omega arith)
   used-op (settle o a b c d) = (omega arith, omega arith)
+  used-op (move o a b c d) = (omega arith, omega arith)
 
   used-object : Used r → objectFits r ≡ true
   unfolding objectFits usesObject
@@ -92,6 +98,7 @@ module _ (r : Rec) (n : length r ≡ 80) where
   used-object (remove o a b c d) = rw o (names-is r 20 a)
   used-object (rename o a b c d) = rw o (names-is r 20 a)
   used-object (settle o a b c d) = rw o (names-is r 20 a)
+  used-object (move o a b c d) = rw o (names-is r 20 a)
 
   root-or-named : Folder r → (unused r 24 4 || names r 24) ≡ true
   root-or-named = ⊎-elim (λ z. rw (zero 24 4 (omega arith) z)) (λ m. rw (names-is r 24 m) (go (unused r 24 4)))
@@ -108,6 +115,7 @@ module _ (r : Rec) (n : length r ≡ 80) where
   used-folder (remove o a b c d) = rw o (zero 24 4 (omega arith) b)
   used-folder (rename o a b c d) = rw o (zero 24 4 (omega arith) b)
   used-folder (settle o a b c d) = rw o (zero 24 4 (omega arith) b)
+  used-folder (move o a b c d) = rw o (root-or-named b)
 
   used-label : Used r → labelFits r ≡ true
   unfolding labelFits usesLabel labelOf
@@ -117,6 +125,7 @@ module _ (r : Rec) (n : length r ≡ 80) where
   used-label (remove o a b c d) = rw o (zero 32 32 (omega arith) c)
   used-label (rename o a b c d) = rw o (a-label (part r 32 32) c)
   used-label (settle o a b c d) = rw o (zero 32 32 (omega arith) c)
+  used-label (move o a b c d) = rw o (a-label (part r 32 32) c)
 
   used-mark : Used r → markFits r ≡ true
   unfolding markFits usesMark
@@ -126,6 +135,7 @@ module _ (r : Rec) (n : length r ≡ 80) where
   used-mark (remove o a b c d) = rw o (zero 64 16 (omega arith) d)
   used-mark (rename o a b c d) = rw o (zero 64 16 (omega arith) d)
   used-mark (settle o a b c d) = rw o (zero 64 16 (omega arith) d)
+  used-mark (move o a b c d) = rw o (zero 64 16 (omega arith) d)
 
 pub well-is : (r : Rec) → WellFormed r → wellFormed r ≡ true
 unfolding dateFits
@@ -158,12 +168,12 @@ pub object-named : (r : Rec) → wellFormed r ≡ true → 3 ≤ op r → Named 
 unfolding usesObject objectOf
 object-named r e h = let n = well-object r e (le-leb 3 (op r) h) in (n, named-not-root r 20 n)
 
-pub folder-root-or-named : (r : Rec) → wellFormed r ≡ true → op r ≤ 2 → (folderOf r ≡ root) ⊎ (Named r 24 × (folderOf r ≡ root → ⊥))
-unfolding usesFolder folderOf identityAt identity word
+pub folder-root-or-named : (r : Rec) → wellFormed r ≡ true → usesFolder (op r) ≡ true → (folderOf r ≡ root) ⊎ (Named r 24 × (folderOf r ≡ root → ⊥))
+unfolding folderOf identityAt identity word
 folder-root-or-named r e h = ⊎-elim
     (λ z. inl (omega (arith, z 0 (omega arith), z 2 (omega arith), z 3 (omega arith))))
     (λ n. inr (n, named-not-root r 24 n))
-    (well-folder r e (le-leb (op r) 2 h))
+    (well-folder r e h)
 
 -- no record names itself
 pub names-not-itself : (r : Rec) (at : ℕ) → wellFormed r ≡ true → Named r at → getD r at 0 ≡ unit r → word r (at + 2) ≡ num r → ⊥

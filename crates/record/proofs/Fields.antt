@@ -46,26 +46,26 @@ all-judged r j = rw (eq-eqb (length r) 80 (j .size), j .head, j .object, j .fold
 pub record Head (r : Rec) : Type 0 where
   pub unit-known : unit r ≤ 7
   pub op-from : 1 ≤ op r
-  pub op-to : op r ≤ 6
+  pub op-to : op r ≤ 7
   pub number : 1 ≤ num r
   pub own : num r ≡ suc (seen r (unit r))
 
 pub head-means : (r : Rec) → headFits r ≡ true → Head r
 unfolding headFits
 head-means r e =
-    let (a, e1) = and-true (leb (unit r) 7) (leb 1 (op r) && (leb (op r) 6 && (leb 1 (num r) && eqb (seen r (unit r)) (num r - 1)))) e in
-    let (b, e2) = and-true (leb 1 (op r)) (leb (op r) 6 && (leb 1 (num r) && eqb (seen r (unit r)) (num r - 1))) e1 in
-    let (c, e3) = and-true (leb (op r) 6) (leb 1 (num r) && eqb (seen r (unit r)) (num r - 1)) e2 in
+    let (a, e1) = and-true (leb (unit r) 7) (leb 1 (op r) && (leb (op r) 7 && (leb 1 (num r) && eqb (seen r (unit r)) (num r - 1)))) e in
+    let (b, e2) = and-true (leb 1 (op r)) (leb (op r) 7 && (leb 1 (num r) && eqb (seen r (unit r)) (num r - 1))) e1 in
+    let (c, e3) = and-true (leb (op r) 7) (leb 1 (num r) && eqb (seen r (unit r)) (num r - 1)) e2 in
     let (d, f) = and-true (leb 1 (num r)) (eqb (seen r (unit r)) (num r - 1)) e3 in
     let n = leb-true 1 (num r) d in
     let s = eqb-true (seen r (unit r)) (num r - 1) f in
-    record { unit-known = leb-true (unit r) 7 a; op-from = leb-true 1 (op r) b; op-to = leb-true (op r) 6 c; number = n; own = omega arith }
+    record { unit-known = leb-true (unit r) 7 a; op-from = leb-true 1 (op r) b; op-to = leb-true (op r) 7 c; number = n; own = omega arith }
 
 pub head-is : (r : Rec) → Head r → headFits r ≡ true
 unfolding headFits
 head-is r h =
     let s : seen r (unit r) ≡ num r - 1 = omega (arith, h .own) in
-    rw (le-leb (unit r) 7 (h .unit-known), le-leb 1 (op r) (h .op-from), le-leb (op r) 6 (h .op-to), le-leb 1 (num r) (h .number), eq-eqb (seen r (unit r)) (num r - 1) s)
+    rw (le-leb (unit r) 7 (h .unit-known), le-leb 1 (op r) (h .op-from), le-leb (op r) 7 (h .op-to), le-leb 1 (num r) (h .number), eq-eqb (seen r (unit r)) (num r - 1) s)
 
 pub well-head : (r : Rec) → wellFormed r ≡ true → Head r
 well-head r e = head-means r (judged r e .head)

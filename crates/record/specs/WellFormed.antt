@@ -32,6 +32,7 @@ pub data Used (r : Rec) : Type 0 where
   remove : op r ≡ 4 → Named r 20 → Zero r 24 4 → Zero r 32 32 → Zero r 64 16 → Used r
   rename : op r ≡ 5 → Named r 20 → Zero r 24 4 → Label (part r 32 32) → Zero r 64 16 → Used r
   settle : op r ≡ 6 → Named r 20 → Zero r 24 4 → Zero r 32 32 → Zero r 64 16 → Used r
+  move : op r ≡ 7 → Named r 20 → Folder r → Label (part r 32 32) → Zero r 64 16 → Used r
 
 pub record WellFormed (r : Rec) : Type 0 where
   pub size : length r ≡ 80

@@ -43,18 +43,18 @@ module _ (r : Rec) where
     unfolding headFits unit op
     head-no-op b = rw (le-leb (getD r 0 0) 7 a, lt-leb 1 (getD r 1 0) b)
 
-    pub head-op-above : 1 ≤ getD r 1 0 → 6 < getD r 1 0 → false ≡ headFits r
+    pub head-op-above : 1 ≤ getD r 1 0 → 7 < getD r 1 0 → false ≡ headFits r
     unfolding headFits unit op
-    head-op-above b d = rw (le-leb (getD r 0 0) 7 a, le-leb 1 (getD r 1 0) b, lt-leb (getD r 1 0) 6 d)
+    head-op-above b d = rw (le-leb (getD r 0 0) 7 a, le-leb 1 (getD r 1 0) b, lt-leb (getD r 1 0) 7 d)
 
-    module _ {n : ℕ} (b : 1 ≤ getD r 1 0) (d : getD r 1 0 ≤ 6) (e : n ≡ word r 2) where
+    module _ {n : ℕ} (b : 1 ≤ getD r 1 0) (d : getD r 1 0 ≤ 7) (e : n ≡ word r 2) where
       pub head-number : n < 1 → false ≡ headFits r
       unfolding headFits unit op num
-      head-number h = rw (le-leb (getD r 0 0) 7 a, le-leb 1 (getD r 1 0) b, le-leb (getD r 1 0) 6 d, ← e, lt-leb 1 n h)
+      head-number h = rw (le-leb (getD r 0 0) 7 a, le-leb 1 (getD r 1 0) b, le-leb (getD r 1 0) 7 d, ← e, lt-leb 1 n h)
 
       pub head-seen : {s : ℕ} → 1 ≤ n → s ≡ word r (4 + 2 * getD r 0 0) → eqb s (n - 1) ≡ headFits r
       unfolding headFits unit op num seen
-      head-seen h f = rw (le-leb (getD r 0 0) 7 a, le-leb 1 (getD r 1 0) b, le-leb (getD r 1 0) 6 d, ← e, le-leb 1 n h, ← f)
+      head-seen h f = rw (le-leb (getD r 0 0) 7 a, le-leb 1 (getD r 1 0) b, le-leb (getD r 1 0) 7 d, ← e, le-leb 1 n h, ← f)
 
 -- ---- the fields; u is the test whether the operation uses the field, b what the field's own test says
 

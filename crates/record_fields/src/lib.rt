@@ -63,7 +63,7 @@ pub fn head_fits(rec: &[u8]) -> bool
     if op < 1 {
         return false;
     }
-    if 6 < op {
+    if 7 < op {
         return false;
     }
     let number = le16(rec, 2);

@@ -2,25 +2,25 @@
 ghost use mathlib.Core.Path.{_≡_};
 ghost use Rattle.model.specs.Record.{usesObject, usesFolder, usesLabel, usesMark};
 
-// Store, remove, rename and settle.
+// Store, remove, rename, settle and move.
 pub fn uses_object(op: u8) -> bool
     ensures { λ r. ⌜ r ≡ usesObject op ⌝ }
 {
     3 <= op
 }
 
-// The makes.
+// The makes and move.
 pub fn uses_folder(op: u8) -> bool
     ensures { λ r. ⌜ r ≡ usesFolder op ⌝ }
 {
-    op <= 2
+    (op <= 2) | (op == 7)
 }
 
-// The makes and rename.
+// The makes, rename and move.
 pub fn uses_label(op: u8) -> bool
     ensures { λ r. ⌜ r ≡ usesLabel op ⌝ }
 {
-    op <= 2 || op == 5
+    (op <= 2) | ((op == 5) | (op == 7))
 }
 
 // Make trace and store.

@@ -4,6 +4,7 @@ use Prim.Native.Nat.{ℕ, suc, _+_, _-_, _*_, _≤_, _<_}
 use native.Mathlib.Nat.{zero-add, sub-zero}
 use native.Mathlib.Omega.{arith}
 use mathlib.Core.Path.{_≡_, refl, sym, ap, _∙_}
+use mathlib.Core.Logic.{⊎-elim}
 use mathlib.Core.Bool.{Bool, true, false, cond, _&&_}
 use mathlib.Core.Option.{none, some}
 use mathlib.Core.List.{List, [], _∷_}
@@ -12,22 +13,24 @@ use lib.ListN.{getD, length, set, take, drop}
 use borrow.Author.Tests.{eq-eqb, eqb-true}
 use borrow.Rule.Slice.PartMut.{putMid}
 use Rattle.model.specs.Bytes.{part}
-use Rattle.model.specs.Record.{Rec, objectOf, labelOf}
-use Rattle.model.specs.Replay.{Entry, isPresent, isIn, entryOf, changed, settled, stored, renamed, removed}
+use Rattle.model.specs.Record.{Rec, objectOf, folderOf, labelOf}
+use Rattle.model.specs.Replay.{Entry, isPresent, isIn, entryOf, changed, settled, stored, renamed, moved, removed}
 use Rattle.model.specs.Table.{entryRow, asideRow}
 use Rattle.byte_slice.proofs.Numbers.{and-true}
 use Rattle.byte_slice.proofs.Parts.{part-is}
 use Rattle.byte_slice.proofs.PutAt.{mid-put}
-use Rattle.tree_table.specs.Rows.{entryIn, entriesFrom, asidesFrom, treeIn, rowIn, storedRow, renamedRow, InRange, Proper}
+use Rattle.tree_table.specs.Rows.{entryIn, entriesFrom, asidesFrom, treeIn, rowIn, storedRow, renamedRow, movedRow, InRange, Proper}
 use Rattle.tree_table.proofs.Rows.{row-length, aside-row-length}
-use Rattle.tree_table.proofs.Fields.{settledOne, store-entry, rename-entry, remove-entry, settle-aside, stored-proper, renamed-proper, removed-proper}
+use Rattle.tree_table.proofs.Fields.{settledOne, store-entry, rename-entry, move-entry, remove-entry, settle-aside, stored-proper, renamed-proper, moved-proper, removed-proper}
 use Rattle.tree_lookup.specs.Roles.{rowFrom, noteOf, Works, Holds}
 use Rattle.hash_chains.specs.Chains.{nodesIn, Chains}
-use Rattle.tree_maps.specs.Keys.{slotOf, relabelled, left, Keyed}
-use Rattle.tree_maps.proofs.Counts.{children-some, present-in}
-use Rattle.tree_maps.proofs.Keeping.{keyed-same, keyed-relabelled, keyed-left, relabelled-role, relabelled-long, relabelled-nodes, left-role, left-long, left-nodes}
+use Rattle.tree_maps.specs.Keys.{slotOf, relabelled, left, shifted, Keyed}
+use Rattle.tree_maps.proofs.Counts.{children-some, children-few, present-in}
+use Rattle.tree_maps.proofs.Keeping.{keyed-same, keyed-relabelled, keyed-left, keyed-shifted, relabelled-role, relabelled-long, relabelled-nodes, left-role, left-long, left-nodes, shifted-role, shifted-long, shifted-nodes}
 use Rattle.tree_lookup.proofs.Places.{row-lone, change-at, note-at, not-settled}
 use Rattle.tree_lookup.proofs.Working.{blankEntry, blankAside, proper-at, row-none, row-some, works-long, works-row, role-note, role-no-note}
+use Rattle.tree_judge.specs.Judged.{Asks}
+use Rattle.tree_judge.proofs.Reasons.{object-range, move-names}
 use Rattle.tree_amend.specs.Effects.{withEntries, withAsides, Takes}
 use Rattle.tree_amend.proofs.Changes.{works-part, works-part-aside, works-change, works-settle}
 
@@ -118,6 +121,10 @@ module _ (r : Rec) (long : length r ≡ 80) where
   pub renamed-writes : Writes (renamed r) (λ x. renamedRow x r)
   unfolding renamed
   renamed-writes = record { row = λ e p. rename-entry r long 0 e p; made = λ e. refl; fit = λ e p. renamed-proper r long e p }
+
+  pub moved-writes : Writes (moved r) (λ x. movedRow x r)
+  unfolding moved
+  moved-writes = record { row = λ e p. move-entry r long 0 e p; made = λ e. refl; fit = λ e p. moved-proper r long e p }
 
 pub removed-writes : Writes removed (λ x. set x 0 0)
 unfolding removed
@@ -218,6 +225,31 @@ module _ (b register : List ℕ) (n m : ℕ) (w : Holds b register n m) (r : Rec
     pub rename-nodes : nodesIn register < 512 → l ≡ relabelled register f old (labelOf r) row → nodesIn l ≤ nodesIn register + 1
     rename-nodes nodes x = omega (arith, ap nodesIn x, relabelled-nodes register f (labelOf r) row old (w .keyed .chains) nodes)
 
+    pub move-done : row < n → nodesIn register < 512 → f ≡ entryIn b (4 + 72 * row) .inside → (g : ℕ) → g ≡ folderOf r → l ≡ shifted register f old g (labelOf r) row
+        → (ys : List ℕ) → ys ≡ movedRow (take (4 + 72 * row + 72 - (4 + 72 * row)) (drop (4 + 72 * row) b)) r
+        → Works
+        (putMid (4 + 72 * row) (4 + 72 * row + 72 - (4 + 72 * row)) b ys)
+        l
+        n
+        m
+        (withEntries (treeIn b n m) (changed (moved r) (objectOf r) (entriesFrom b 0 n)))
+    unfolding moved removed isPresent treeIn
+    move-done g nodes q to u x ys y =
+        let es = entriesFrom b 0 n in
+        let e = getD es row blankEntry in
+        let here : isPresent e ≡ true = here-some b register n m w k row o g .1 in
+        let i : f ≡ e .inside = q ∙ ap (λ (z : Entry). z .inside) (sym (here-is b register n m w k row o g)) in
+        let key = keyed-shifted register n es (w .keyed) row (removed e) (moved r e) blankEntry f old (here-low b register n m w k row o g) g here refl here i nodes in
+        rw (← p, x, u)
+        (row-changed b register n m w k row o (moved r) (λ x. movedRow x r) (moved-writes r (h .asks .long)) g
+        (shifted register f old (folderOf r) (labelOf r) row)
+        (shifted-long register f old (folderOf r) (labelOf r) row)
+        (shifted-role register f old (folderOf r) (labelOf r) row)
+        key ys y)
+
+    pub move-nodes : nodesIn register < 512 → (g : ℕ) → l ≡ shifted register f old g (labelOf r) row → nodesIn l ≤ nodesIn register + 1
+    move-nodes nodes g x = omega (arith, ap nodesIn x, shifted-nodes register f old g (labelOf r) row (w .keyed .chains) nodes)
+
     pub remove-done : row < n → f ≡ entryIn b (4 + 72 * row) .inside → l ≡ left register f old row
         → (ys : List ℕ) → ys ≡ set (take (4 + 72 * row + 72 - (4 + 72 * row)) (drop (4 + 72 * row) b)) 0 0
         → Works
@@ -249,6 +281,13 @@ module _ (b register : List ℕ) (n m : ℕ) (w : Holds b register n m) where
   pub label-end : (row : ℕ) → row < n → 4 + 72 * row + 56 ≤ length b
   label-end row h = omega (arith, row-end row h)
 
+  -- the register is asked to let an entry come to a folder
+  pub shift-counts : n < 512 → (g : ℕ) → InRange g → getD register (4096 + slotOf g) 0 < 512
+  unfolding treeIn
+  shift-counts h g u =
+      let rows = w .rows in
+      omega (arith, w .keyed .counted g u, children-few g (entriesFrom b 0 n))
+
   pub works-chains : Chains register
   works-chains = w .keyed .chains
 
@@ -256,3 +295,12 @@ module _ (b register : List ℕ) (n m : ℕ) (w : Holds b register n m) where
   note-end k u role e h =
       let f = w .notes-fit in
       omega (arith, works-long b register n m (treeIn b n m) w, note-inside b register n m w k u role e h)
+
+-- ---- what a move names
+
+pub moved-object : (r : Rec) (k : ℕ) → Asks r → getD r 1 0 ≡ 7 → k ≡ objectOf r → InRange k
+moved-object r k a h e = object-range r k a (omega arith) e
+
+pub moved-folder : (r : Rec) → Asks r → getD r 1 0 ≡ 7 → folderOf r < 524288
+moved-folder r a h =
+    ⊎-elim (λ (q : folderOf r ≡ 0). omega arith) (λ (q : InRange (folderOf r)). let z = q .high in omega arith) (move-names r (folderOf r) a h refl)

@@ -1,4 +1,4 @@
--- The register after a rename and after a remove.
+-- The register after a rename, after a move and after a remove.
 -- Assumes nothing.
 use Prim.Native.Nat.{ℕ, _+_, _-_, _*_, _≤_, _<_}
 use native.Mathlib.Omega.{arith}
@@ -7,14 +7,14 @@ use mathlib.Core.Option.{some}
 use mathlib.Core.List.{List}
 use lib.ListN.{length, take, drop}
 use Rattle.model.specs.Bytes.{part}
-use Rattle.model.specs.Record.{Rec, objectOf, labelOf}
+use Rattle.model.specs.Record.{Rec, objectOf, folderOf, labelOf}
 use Rattle.model.specs.Replay.{Entry, entryOf}
 use Rattle.tree_table.specs.Rows.{entryIn, entriesFrom, treeIn, rowIn}
-use Rattle.tree_maps.specs.Keys.{relabelled, left}
+use Rattle.tree_maps.specs.Keys.{relabelled, left, shifted}
 use Rattle.tree_lookup.specs.Roles.{Holds}
 use Rattle.tree_lookup.specs.Lookup.{rowAmong}
 use Rattle.tree_lookup.proofs.Working.{row-none, row-some}
-use Rattle.tree_amend.specs.Registers.{forFound, renamedOn, removedOn}
+use Rattle.tree_amend.specs.Registers.{forFound, renamedOn, removedOn, movedOn}
 use Rattle.tree_amend.proofs.Amending.{row-end}
 
 -- a part of a row lies within the table
@@ -46,6 +46,10 @@ module _ (b : List ℕ) (n m : ℕ) (register : List ℕ) (r : Rec) (k row : ℕ
   unfolding removedOn treeIn
   remove-leaves h = found-none h _
 
+  pub move-leaves : n ≤ row → register ≡ movedOn r (treeIn b n m) register
+  unfolding movedOn treeIn
+  move-leaves h = found-none h _
+
   module _ (h : row < n) (f : ℕ) (q : f ≡ entryIn b (4 + 72 * row) .inside) (l : List ℕ) where
     pub rename-register : l ≡ relabelled register f (take (4 + 72 * row + 56 - (4 + 72 * row + 24)) (drop (4 + 72 * row + 24) b)) (labelOf r) row
         → l ≡ renamedOn r (treeIn b n m) register
@@ -56,3 +60,8 @@ module _ (b : List ℕ) (n m : ℕ) (register : List ℕ) (r : Rec) (k row : ℕ
         → l ≡ removedOn r (treeIn b n m) register
     unfolding removedOn treeIn
     remove-register x = (rw (q, label-lent b (4 + 72 * row)) at x) ∙ found-some h _
+
+    pub move-register : (g : ℕ) → g ≡ folderOf r → l ≡ shifted register f (take (4 + 72 * row + 56 - (4 + 72 * row + 24)) (drop (4 + 72 * row + 24) b)) g (labelOf r) row
+        → l ≡ movedOn r (treeIn b n m) register
+    unfolding movedOn treeIn
+    move-register g z x = (rw (q, z, label-lent b (4 + 72 * row)) at x) ∙ found-some h _

@@ -8,7 +8,7 @@ use lib.Dec.{leb, eqb}
 use lib.ListN.{length, set}
 use Rattle.model.specs.Record.{Rec, op, selfOf, objectOf, folderOf, labelOf}
 use Rattle.model.specs.Replay.{Entry, Tree, entryOf}
-use Rattle.tree_maps.specs.Keys.{slotOf, entered, relabelled, left}
+use Rattle.tree_maps.specs.Keys.{slotOf, entered, relabelled, left, shifted}
 use Rattle.tree_lookup.specs.Lookup.{rowAmong}
 
 -- what is done for an entry and its row, if one was found; the register as it is, if none was
@@ -31,12 +31,18 @@ unfoldable pub removedOn : Rec → Tree → List ℕ → List ℕ
 removedOn r t l =
     forFound (λ e row. left l (e .inside) (e .label) row) l (t .entries) (entryOf (objectOf r) (t .entries))
 
+-- a move: its object leaves its folder for another, under another label
+unfoldable pub movedOn : Rec → Tree → List ℕ → List ℕ
+movedOn r t l =
+    forFound (λ e row. shifted l (e .inside) (e .label) (folderOf r) (labelOf r) row) l (t .entries) (entryOf (objectOf r) (t .entries))
+
 -- a record that fits; a store and a settle leave the register as it is
 unfoldable pub effectOn : Rec → Tree → List ℕ → List ℕ
 effectOn r t l =
     cond (leb (op r) 2) (madeOn r t l)
     (cond (eqb (op r) 4) (removedOn r t l)
-    (cond (eqb (op r) 5) (renamedOn r t l) l))
+    (cond (eqb (op r) 5) (renamedOn r t l)
+    (cond (leb 7 (op r)) (movedOn r t l) l)))
 
 -- a record that stands aside: its role
 unfoldable pub asideOn : Rec → Tree → List ℕ → List ℕ

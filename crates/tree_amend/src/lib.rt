@@ -3,12 +3,12 @@ ghost use mathlib.Core.Path.{_≡_};
 ghost use Prim.Native.Nat.{_+_, _≤_, _<_};
 ghost use lib.ListN.{length, getD, set};
 ghost use Rattle.model.specs.Record.{objectOf};
-ghost use Rattle.model.specs.Replay.{stored, renamed, removed, changed, settled};
+ghost use Rattle.model.specs.Replay.{stored, renamed, moved, removed, changed, settled};
 ghost use Rattle.tree_table.specs.Rows.{entriesFrom, asidesFrom, treeIn};
 ghost use Rattle.hash_chains.specs.Chains.{nodesIn};
 ghost use Rattle.tree_lookup.specs.Roles.{Works, Holds};
 ghost use Rattle.tree_amend.specs.Effects.{withEntries, withAsides, Takes};
-ghost use Rattle.tree_amend.specs.Registers.{renamedOn, removedOn};
+ghost use Rattle.tree_amend.specs.Registers.{renamedOn, removedOn, movedOn};
 use tree_table::Size;
 
 // A store: contents record, date and mark of the object's row.
@@ -24,7 +24,7 @@ pub fn store(rec: &[u8], table: &mut [u8], register: &[u16], size: Size)
     tree_table::store_row(&mut table[at..at + 72], rec);
 }
 
-// A rename: label record and label of the object's row.
+// A rename: place record and label of the object's row.
 pub fn rename(rec: &[u8], table: &mut [u8], register: &mut [u16], size: Size)
     requires { ⌜ Takes (treeIn (now table) (size .entries) (size .asides)) (now rec) × Holds (now table) (now register) (size .entries) (size .asides) × (nodesIn (now register) < 512) × (2 < getD (now rec) 1 0) ⌝ }
     ensures { λ _. ⌜ Works (now (table .exit)) (now (register .exit)) (size .entries) (size .asides) (withEntries (treeIn (now (table .entry)) (size .entries) (size .asides)) (changed (renamed (now (rec .entry))) (objectOf (now (rec .entry))) (entriesFrom (now (table .entry)) 0 (size .entries)))) × (nodesIn (now (register .exit)) ≤ nodesIn (now (register .entry)) + 1) × (now (register .exit) ≡ renamedOn (now (rec .entry)) (treeIn (now (table .entry)) (size .entries) (size .asides)) (now (register .entry))) ⌝ }
@@ -42,6 +42,27 @@ pub fn rename(rec: &[u8], table: &mut [u8], register: &mut [u16], size: Size)
         row,
     );
     tree_table::rename_row(&mut table[at..at + 72], rec);
+}
+
+// A move: folder, label and place record of the object's row.
+pub fn move_entry(rec: &[u8], table: &mut [u8], register: &mut [u16], size: Size)
+    requires { ⌜ Takes (treeIn (now table) (size .entries) (size .asides)) (now rec) × Holds (now table) (now register) (size .entries) (size .asides) × (size .entries < 512) × (nodesIn (now register) < 512) × (getD (now rec) 1 0 ≡ 7) ⌝ }
+    ensures { λ _. ⌜ Works (now (table .exit)) (now (register .exit)) (size .entries) (size .asides) (withEntries (treeIn (now (table .entry)) (size .entries) (size .asides)) (changed (moved (now (rec .entry))) (objectOf (now (rec .entry))) (entriesFrom (now (table .entry)) 0 (size .entries)))) × (nodesIn (now (register .exit)) ≤ nodesIn (now (register .entry)) + 1) × (now (register .exit) ≡ movedOn (now (rec .entry)) (treeIn (now (table .entry)) (size .entries) (size .asides)) (now (register .entry))) ⌝ }
+{
+    let row = tree_lookup::entry_of(table, register, size, tree_table::object_of(rec));
+    if size.entries <= row {
+        return;
+    }
+    let at = 4 + 72 * row;
+    tree_maps::shift(
+        register,
+        tree_table::inside_at(table, row),
+        &table[at + 24..at + 56],
+        tree_table::folder_of(rec),
+        &rec[32..64],
+        row,
+    );
+    tree_table::move_row(&mut table[at..at + 72], rec);
 }
 
 // A row of a removed entry: kind 0.

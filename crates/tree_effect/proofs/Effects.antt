@@ -7,11 +7,11 @@ use mathlib.Core.Logic.{_⊎_, ⊎-elim}
 use mathlib.Core.Bool.{true}
 use mathlib.Core.List.{List, [], _∷_, _++_}
 use lib.ListN.{getD, length, set, take, drop}
-use borrow.Author.Tests.{ne-eqb, lt-leb, le-leb}
+use borrow.Author.Tests.{ne-eqb, le-leb}
 use borrow.Rule.Slice.PartMut.{putMid}
 use Rattle.model.specs.Bytes.{part}
-use Rattle.model.specs.Record.{Rec, op, selfOf, objectOf, folderOf, labelOf}
-use Rattle.model.specs.Replay.{Tree, isPresent, changed, settled, newEntry, stored, renamed, removed, effect}
+use Rattle.model.specs.Record.{Rec, op, selfOf, objectOf, folderOf, labelOf, usesFolder}
+use Rattle.model.specs.Replay.{Tree, isPresent, changed, settled, newEntry, stored, renamed, moved, removed, effect}
 use Rattle.model.specs.Table.{entryRow, asideRow}
 use Rattle.byte_slice.proofs.Parts.{part-is, part-length}
 use Rattle.byte_slice.proofs.PutAt.{mid-put}
@@ -36,9 +36,9 @@ pub who-low : (t : Tree) (r : Rec) (k : ℕ) → Takes t r → k ≡ selfOf r �
 who-low t r k h e = let q = h .own .high in omega arith
 
 pub folder-low : (t : Tree) (r : Rec) → Takes t r → getD r 1 0 ≤ 2 → folderOf r < 524288
-unfolding op
+unfolding op usesFolder
 folder-low t r h g =
-    ⊎-elim (λ (q : folderOf r ≡ 0). omega arith) (λ (q : InRange (folderOf r)). let z = q .high in omega arith) (h .asks .folder g)
+    ⊎-elim (λ (q : folderOf r ≡ 0). omega arith) (λ (q : InRange (folderOf r)). let z = q .high in omega arith) (h .asks .folder (rw (le-leb (getD r 1 0) 2 g)))
 
 pub marked-low : (k : ℕ) → (k ≡ 0) ⊎ InRange k → k < 524288
 marked-low k h = ⊎-elim (λ (q : k ≡ 0). omega arith) (λ (q : InRange k). let z = q .high in omega arith) h
@@ -137,8 +137,15 @@ module _ (b b' register register' : List ℕ) (n m n' m' : ℕ) (r : Rec) where
   unfolding effect op withEntries treeIn
   effect-rename h v = rw h v
 
-  pub effect-settle : 2 < getD r 1 0 → (getD r 1 0 ≡ 3 → ⊥) → (getD r 1 0 ≡ 4 → ⊥) → (getD r 1 0 ≡ 5 → ⊥)
-      → Works b' register' n' m' (withAsides (treeIn b n m) (settled (objectOf r) (asidesFrom b 0 m))) → Works b' register' n' m' (effect r (treeIn b n m))
+  pub effect-settle : getD r 1 0 ≡ 6 → Works b' register' n' m' (withAsides (treeIn b n m) (settled (objectOf r) (asidesFrom b 0 m))) → Works b' register' n' m' (effect r (treeIn b n m))
   unfolding effect op withAsides treeIn
-  effect-settle h h3 h4 h5 v =
-      rw (lt-leb (getD r 1 0) 2 h, ne-eqb (getD r 1 0) 3 h3, ne-eqb (getD r 1 0) 4 h4, ne-eqb (getD r 1 0) 5 h5) v
+  effect-settle h v = rw h v
+
+  pub effect-move : getD r 1 0 ≡ 7 → Works b' register' n' m' (withEntries (treeIn b n m) (changed (moved r) (objectOf r) (entriesFrom b 0 n))) → Works b' register' n' m' (effect r (treeIn b n m))
+  unfolding effect op withEntries treeIn
+  effect-move h v = rw h v
+
+-- a record of none of the operations before is a move
+pub is-move : (t : Tree) (r : Rec) → Takes t r → 2 < getD r 1 0 → (getD r 1 0 ≡ 3 → ⊥) → (getD r 1 0 ≡ 4 → ⊥) → (getD r 1 0 ≡ 5 → ⊥) → (getD r 1 0 ≡ 6 → ⊥) → getD r 1 0 ≡ 7
+unfolding op
+is-move t r h g h3 h4 h5 h6 = let z = h .asks .to in omega arith

@@ -4,13 +4,13 @@ use Prim.Native.Nat.{ℕ, _+_, _≤_, _<_}
 use mathlib.Core.Path.{_≡_}
 use mathlib.Core.List.{List}
 use lib.ListN.{getD, set}
-use borrow.Author.Tests.{ne-eqb, lt-leb, le-leb}
+use borrow.Author.Tests.{le-leb}
 use Rattle.model.specs.Record.{Rec, op, selfOf, folderOf, labelOf}
 use Rattle.model.specs.Replay.{Tree}
 use Rattle.tree_table.specs.Rows.{treeIn}
 use Rattle.tree_lookup.specs.Roles.{Holds}
 use Rattle.tree_maps.specs.Keys.{slotOf, entered}
-use Rattle.tree_amend.specs.Registers.{madeOn, renamedOn, removedOn, effectOn, asideOn}
+use Rattle.tree_amend.specs.Registers.{madeOn, renamedOn, removedOn, movedOn, effectOn, asideOn}
 
 module _ (b register : List ℕ) (n m : ℕ) (w : Holds b register n m) (r : Rec) (me s : ℕ) (q : me ≡ selfOf r) (p : s ≡ slotOf me) (l : List ℕ) where
   pub make-register : l ≡ set register s (n + 1) → (f : ℕ) → f ≡ folderOf r → (l' : List ℕ) → l' ≡ entered l f (labelOf r) n → l' ≡ madeOn r (treeIn b n m) register
@@ -36,11 +36,15 @@ module _ (r : Rec) (t : Tree) (register l : List ℕ) where
   unfolding effectOn op
   rename-turns h x = rw h x
 
+  pub move-turns : getD r 1 0 ≡ 7 → l ≡ movedOn r t register → l ≡ effectOn r t register
+  unfolding effectOn op
+  move-turns h x = rw h x
+
 module _ (r : Rec) (t : Tree) (register : List ℕ) where
   pub store-turns : getD r 1 0 ≡ 3 → register ≡ effectOn r t register
   unfolding effectOn op
   store-turns h = rw h
 
-  pub settle-turns : 2 < getD r 1 0 → (getD r 1 0 ≡ 4 → ⊥) → (getD r 1 0 ≡ 5 → ⊥) → register ≡ effectOn r t register
+  pub settle-turns : getD r 1 0 ≡ 6 → register ≡ effectOn r t register
   unfolding effectOn op
-  settle-turns h h4 h5 = rw (lt-leb (getD r 1 0) 2 h, ne-eqb (getD r 1 0) 4 h4, ne-eqb (getD r 1 0) 5 h5)
+  settle-turns h = rw h

@@ -70,7 +70,8 @@ pub fn effect(rec: &[u8], table: &mut [u8], register: &mut [u16], size: Size) ->
         3 => tree_amend::store(rec, table, register, size),
         4 => tree_amend::remove(rec, table, register, size),
         5 => tree_amend::rename(rec, table, register, size),
-        _ => tree_amend::settle(rec, table, register, size),
+        6 => tree_amend::settle(rec, table, register, size),
+        _ => tree_amend::move_entry(rec, table, register, size),
     }
     size
 }

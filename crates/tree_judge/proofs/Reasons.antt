@@ -1,23 +1,27 @@
 -- Each way out of a judgement: the tests on the way, and the reason and mark that they lead to.
 -- Assumes nothing.
 use Prim.Native.Nat.{ℕ, _+_, _-_, _*_, _≤_, _<_}
+use native.Mathlib.Omega.{arith}
 use mathlib.Core.Path.{_≡_, refl, sym, _∙_}
-use mathlib.Core.Logic.{⊎-elim}
+use mathlib.Core.Logic.{_⊎_, ⊎-elim}
 use mathlib.Core.Bool.{Bool, true, false, cond, not, _&&_, _||_}
-use mathlib.Core.Option.{Option}
+use mathlib.Core.Option.{Option, none, some}
 use mathlib.Core.List.{List}
 use lib.Dec.{ltb, eqb}
 use lib.ListN.{getD}
 use borrow.Author.Tests.{eq-eqb, ne-eqb, lt-ltb, le-ltb, le-leb, lt-leb, ltb-true, ltb-false}
-use Rattle.model.specs.Record.{Rec, op, objectOf, folderOf, labelOf}
-use Rattle.model.specs.Replay.{Entry, Verdict, fits, aside, entryOf, holderOf, hasEntries, standsAside, unseen, freeLabel, judgeMakeIn, judgeMake, judgeStore, judgeRemove, judgeRename, judgeSettle, judge}
+use Rattle.model.specs.Record.{Rec, op, objectOf, folderOf, labelOf, usesFolder}
+use Rattle.model.specs.Replay.{Entry, Verdict, fits, aside, entryOf, holderOf, hasEntries, standsAside, unseen, freeLabel, andThen, isFolder, folderStands, isBelow, judgePlace, judgeMake, judgeStore, judgeRemove, judgeRename, judgeMove, judgeSettle, judge}
 use Rattle.tree_table.specs.Rows.{entryIn, entriesFrom, asidesFrom, rowIn, treeIn, InRange}
 use Rattle.tree_lookup.specs.Roles.{noteOf, Holds}
 use Rattle.tree_maps.specs.Keys.{slotOf}
 use Rattle.tree_lookup.proofs.Places.{stands, stands-not}
 use Rattle.tree_maps.proofs.Counts.{has-children}
 use Rattle.tree_lookup.proofs.Working.{works-range, row-none, row-some, role-note, role-no-note}
+use Rattle.model.specs.Outcome.{reasonOf}
+use Rattle.byte_slice.proofs.Numbers.{bool-cases}
 use Rattle.tree_judge.specs.Judged.{verdictOf, fullBy, Asks}
+use Rattle.tree_judge.proofs.Verdicts.{verdict-numbers}
 
 -- ---- a label
 
@@ -30,36 +34,71 @@ module _ (b : List ℕ) (n row : ℕ) (o : Option Entry) (e : rowIn b n row ≡ 
   unfolding verdictOf freeLabel
   label-free h = rw (← e, row-none b n row h)
 
+-- ---- a folder
+
+module _ (b : List ℕ) (n f : ℕ) where
+  pub folder-root : f ≡ 0 → verdictOf 0 0 ≡ folderStands f (entriesFrom b 0 n)
+  unfolding verdictOf folderStands
+  folder-root z = rw (eq-eqb f 0 z)
+
+  module _ (row : ℕ) (z : f ≡ 0 → ⊥) (o : rowIn b n row ≡ entryOf f (entriesFrom b 0 n)) where
+    pub folder-absent : n ≤ row → verdictOf 13 0 ≡ folderStands f (entriesFrom b 0 n)
+    unfolding verdictOf folderStands isFolder
+    folder-absent h = rw (ne-eqb f 0 z, ← o, row-none b n row h)
+
+    pub folder-trace : row < n → (x k : ℕ) → x ≡ entryIn b (4 + 72 * row) .kind → (x ≡ 1 → ⊥) → k ≡ entryIn b (4 + 72 * row) .made → verdictOf 14 k ≡ folderStands f (entriesFrom b 0 n)
+    unfolding verdictOf folderStands isFolder
+    folder-trace h x k p q s =
+        rw (ne-eqb f 0 z, ← o, row-some b n row h, ne-eqb (entryIn b (4 + 72 * row) .kind) 1 (λ (y : entryIn b (4 + 72 * row) .kind ≡ 1). q (p ∙ y)), s)
+
+    pub folder-found : row < n → (x : ℕ) → x ≡ entryIn b (4 + 72 * row) .kind → x ≡ 1 → verdictOf 0 0 ≡ folderStands f (entriesFrom b 0 n)
+    unfolding verdictOf folderStands isFolder
+    folder-found h x p q = rw (ne-eqb f 0 z, ← o, row-some b n row h, eq-eqb (entryIn b (4 + 72 * row) .kind) 1 (sym p ∙ q))
+
+pub folder-range : (f : ℕ) → (f ≡ 0) ⊎ InRange f → (f ≡ 0 → ⊥) → InRange f
+folder-range f a z = ⊎-elim (λ (q : f ≡ 0). absurd (z q)) (λ (q : InRange f). q) a
+
+-- a verdict that is a reason stops, one that fits goes on
+module _ (n k : ℕ) (x : Verdict) (e : verdictOf n k ≡ x) where
+  then-stops : (n ≡ 0 → ⊥) → (v : Verdict) → verdictOf n k ≡ andThen x v
+  unfolding verdictOf andThen
+  then-stops h v = rw (← e, ne-eqb n 0 h)
+
+-- no folder is refused under the reason 0
+stands-zero : (f : ℕ) (es : List Entry) → reasonOf (folderStands f es) ≡ 0 → folderStands f es ≡ fits
+unfolding folderStands isFolder reasonOf
+stands-zero f es h =
+    ⊎-elim
+    (λ (c : eqb f 0 ≡ true). rw c)
+    (λ (c : eqb f 0 ≡ false). rw c (found (entryOf f es) (rw c at h)))
+    (bool-cases (eqb f 0))
+  where
+    found : (o : Option Entry) → reasonOf (isFolder o) ≡ 0 → isFolder o ≡ fits
+    found none z = absurd (omega arith)
+    found (some g) z =
+        ⊎-elim
+        (λ (c : eqb (g .kind) 1 ≡ true). rw c)
+        (λ (c : eqb (g .kind) 1 ≡ false). absurd (let y : _≡_ {A = ℕ} 14 0 = rw c at z in omega arith))
+        (bool-cases (eqb (g .kind) 1))
+
+then-goes : (n k f : ℕ) (es : List Entry) → verdictOf n k ≡ folderStands f es → n ≡ 0 → (v : Verdict) → v ≡ andThen (folderStands f es) v
+unfolding andThen
+then-goes n k f es e h v = rw (stands-zero f es (sym (verdict-numbers n k (folderStands f es) e .0) ∙ h))
+
 -- ---- make
 
-pub make-range : (r : Rec) (k : ℕ) → Asks r → getD r 1 0 ≤ 2 → k ≡ folderOf r → (k ≡ 0 → ⊥) → InRange k
-unfolding op
-make-range r k a h e z =
-    ⊎-elim (λ (q : folderOf r ≡ 0). absurd (z (e ∙ q))) (λ (q : InRange (folderOf r)). rw e q) (a .folder h)
+pub make-names : (r : Rec) (f : ℕ) → Asks r → getD r 1 0 ≤ 2 → f ≡ folderOf r → (f ≡ 0) ⊎ InRange f
+unfolding op usesFolder
+make-names r f a h e = rw e (a .folder (rw (le-leb (getD r 1 0) 2 h)))
 
-module _ (r : Rec) (es : List Entry) (f : ℕ) (e : f ≡ folderOf r) where
-  pub make-root : (v : Verdict) → f ≡ 0 → v ≡ freeLabel (holderOf 0 f (labelOf r) es) → v ≡ judgeMake r es
+module _ (r : Rec) (es : List Entry) (f : ℕ) (e : f ≡ folderOf r) (n k : ℕ) (s : verdictOf n k ≡ folderStands f es) where
+  pub make-stops : (n ≡ 0 → ⊥) → verdictOf n k ≡ judgeMake r es
   unfolding judgeMake
-  make-root v z h = rw (eq-eqb (folderOf r) 0 (sym e ∙ z)) (rw z at h)
+  make-stops h = rw (← e) (then-stops n k (folderStands f es) s h (freeLabel (holderOf 0 f (labelOf r) es)))
 
-  make-in : (f ≡ 0 → ⊥) → judgeMake r es ≡ judgeMakeIn r es (entryOf (folderOf r) es)
+  pub make-goes : n ≡ 0 → (v : Verdict) → v ≡ freeLabel (holderOf 0 f (labelOf r) es) → v ≡ judgeMake r es
   unfolding judgeMake
-  make-in z = rw (ne-eqb (folderOf r) 0 (λ (q : folderOf r ≡ 0). z (e ∙ q)))
-
-  module _ (b : List ℕ) (n row : ℕ) (z : f ≡ 0 → ⊥) (o : rowIn b n row ≡ entryOf f es) where
-    pub make-absent : n ≤ row → verdictOf 13 0 ≡ judgeMake r es
-    unfolding verdictOf judgeMakeIn
-    make-absent h = rw (make-in z, ← e, ← o, row-none b n row h)
-
-    pub make-trace : row < n → (x k : ℕ) → x ≡ entryIn b (4 + 72 * row) .kind → (x ≡ 1 → ⊥) → k ≡ entryIn b (4 + 72 * row) .made → verdictOf 14 k ≡ judgeMake r es
-    unfolding verdictOf judgeMakeIn
-    make-trace h x k p q s =
-        rw (make-in z, ← e, ← o, row-some b n row h, ne-eqb (entryIn b (4 + 72 * row) .kind) 1 (λ (y : entryIn b (4 + 72 * row) .kind ≡ 1). q (p ∙ y)), s)
-
-    pub make-folder : row < n → (x : ℕ) (v : Verdict) → x ≡ entryIn b (4 + 72 * row) .kind → x ≡ 1 → v ≡ freeLabel (holderOf 0 f (labelOf r) es) → v ≡ judgeMake r es
-    unfolding judgeMakeIn
-    make-folder h x v p q s =
-        rw (make-in z, ← e, ← o, row-some b n row h, eq-eqb (entryIn b (4 + 72 * row) .kind) 1 (sym p ∙ q)) (rw e at s)
+  make-goes h v q = q ∙ rw (← e) (then-goes n k f es s h (freeLabel (holderOf 0 f (labelOf r) es)))
 
 -- ---- store, remove and rename of the entry in a row
 
@@ -121,6 +160,42 @@ module _ (r : Rec) (b : List ℕ) (n row : ℕ) where
       pub rename-label : (k f : ℕ) (v : Verdict) → k ≡ entryIn b (4 + 72 * row) .made → f ≡ entryIn b (4 + 72 * row) .inside → t ≡ false → v ≡ freeLabel (holderOf k f (labelOf r) es) → v ≡ judgeRename r es (rowIn b n row)
       unfolding judgeRename
       rename-label k f v p s g q = rw (row-some b n row h, ← c, ← u, g, ← p, ← s) q
+
+-- ---- move of the entry in a row
+
+pub move-names : (r : Rec) (f : ℕ) → Asks r → getD r 1 0 ≡ 7 → f ≡ folderOf r → (f ≡ 0) ⊎ InRange f
+unfolding op usesFolder
+move-names r f a h e = rw e (a .folder (rw h))
+
+module _ (r : Rec) (b : List ℕ) (n row : ℕ) (es : List Entry) where
+  pub move-absent : n ≤ row → verdictOf 12 0 ≡ judgeMove r es (rowIn b n row)
+  unfolding verdictOf judgeMove
+  move-absent h = rw (row-none b n row h)
+
+  module _ (h : row < n) (y k : ℕ) (p : k ≡ entryIn b (4 + 72 * row) .made) (c : y ≡ entryIn b (4 + 72 * row) .naming) (t : Bool) (u : t ≡ unseen r y) where
+    pub move-unseen : t ≡ true → verdictOf 17 k ≡ judgeMove r es (rowIn b n row)
+    unfolding verdictOf judgeMove
+    move-unseen g = rw (row-some b n row h, ← c, ← u, g, p)
+
+    module _ (g : t ≡ false) (f x j : ℕ) (e : f ≡ folderOf r) (s : verdictOf x j ≡ folderStands f es) where
+      move-in : judgeMove r es (rowIn b n row) ≡ andThen (folderStands f es) (judgePlace r es (entryIn b (4 + 72 * row)))
+      unfolding judgeMove
+      move-in = rw (row-some b n row h, ← c, ← u, g, ← e)
+
+      pub move-stops : (x ≡ 0 → ⊥) → verdictOf x j ≡ judgeMove r es (rowIn b n row)
+      move-stops z = rw move-in (then-stops x j (folderStands f es) s z (judgePlace r es (entryIn b (4 + 72 * row))))
+
+      module _ (z : x ≡ 0) (q : Bool) (i : q ≡ isBelow k f es) where
+        placed : judgePlace r es (entryIn b (4 + 72 * row)) ≡ judgeMove r es (rowIn b n row)
+        placed = rw move-in (then-goes x j f es s z (judgePlace r es (entryIn b (4 + 72 * row))))
+
+        pub move-below : q ≡ true → verdictOf 25 k ≡ judgeMove r es (rowIn b n row)
+        unfolding verdictOf judgePlace
+        move-below d = rw (← placed, ← p, ← e, ← i, d)
+
+        pub move-label : (v : Verdict) → q ≡ false → v ≡ freeLabel (holderOf k f (labelOf r) es) → v ≡ judgeMove r es (rowIn b n row)
+        unfolding judgePlace
+        move-label v d a = a ∙ rw (← placed, ← p, ← e, ← i, d)
 
 module _ (e : Entry) (l : List ℕ) where
   pub full-no : (x : ℕ) → x ≡ e .kind → (x ≡ 1 → ⊥) → false ≡ fullBy l e
@@ -184,9 +259,16 @@ module _ (r : Rec) (b : List ℕ) (n m : ℕ) (v : Verdict) where
     unfolding judge op treeIn
     judged-rename h e = rw (h, ← p, ← o) e
 
-  pub judged-settle : (register : List ℕ) (k : ℕ) → Holds b register n m → InRange k → k ≡ objectOf r
-      → 2 < getD r 1 0 → (getD r 1 0 ≡ 3 → ⊥) → (getD r 1 0 ≡ 4 → ⊥) → (getD r 1 0 ≡ 5 → ⊥)
+    pub judged-move : getD r 1 0 ≡ 7 → v ≡ judgeMove r (entriesFrom b 0 n) (rowIn b n row) → v ≡ judge r (treeIn b n m)
+    unfolding judge op treeIn
+    judged-move h e = rw (h, ← p, ← o) e
+
+  pub judged-settle : (register : List ℕ) (k : ℕ) → Holds b register n m → InRange k → k ≡ objectOf r → getD r 1 0 ≡ 6
       → v ≡ cond (ltb 512 (getD register (slotOf k) 0)) fits (aside 18 0) → v ≡ judge r (treeIn b n m)
   unfolding judge op treeIn judgeSettle
-  judged-settle register k w u p h h3 h4 h5 e =
-      rw (lt-leb (getD r 1 0) 2 h, ne-eqb (getD r 1 0) 3 h3, ne-eqb (getD r 1 0) 4 h4, ne-eqb (getD r 1 0) 5 h5, ← p, stands-role b register n m w k u) e
+  judged-settle register k w u p h e = rw (h, ← p, stands-role b register n m w k u) e
+
+-- a record of none of the operations before is a move
+pub is-move : (r : Rec) → Asks r → 2 < getD r 1 0 → (getD r 1 0 ≡ 3 → ⊥) → (getD r 1 0 ≡ 4 → ⊥) → (getD r 1 0 ≡ 5 → ⊥) → (getD r 1 0 ≡ 6 → ⊥) → getD r 1 0 ≡ 7
+unfolding op
+is-move r a h h3 h4 h5 h6 = let z = a .to in omega arith

@@ -3,11 +3,11 @@
 use Prim.Native.Nat.{ℕ, _+_, _≤_, _<_}
 use mathlib.Core.Path.{_≡_}
 use mathlib.Core.Logic.{_⊎_}
-use mathlib.Core.Bool.{Bool, cond, not, _&&_}
+use mathlib.Core.Bool.{Bool, true, cond, not, _&&_}
 use mathlib.Core.List.{List}
 use lib.Dec.{eqb}
 use lib.ListN.{getD, length}
-use Rattle.model.specs.Record.{Rec, op, objectOf, folderOf}
+use Rattle.model.specs.Record.{Rec, op, objectOf, folderOf, usesFolder}
 use Rattle.model.specs.Replay.{Entry, Verdict, fits, aside}
 use Rattle.tree_table.specs.Rows.{InRange}
 use Rattle.tree_maps.specs.Keys.{slotOf}
@@ -25,9 +25,10 @@ markedOf (aside n k) = k
 unfoldable pub fullBy : List ℕ → Entry → Bool
 fullBy l e = eqb (e .kind) 1 && not (eqb (getD l (4096 + slotOf (e .made)) 0) 0)
 
--- a record of 80 bytes of a known operation that names identities in range: a make the root or a folder, any other an object
+-- a record of 80 bytes of a known operation that names identities in range: a make or a move the root or a folder, all but a make an object
 pub record Asks (r : Rec) : Type 0 where
   pub long : length r ≡ 80
   pub known : 1 ≤ op r
-  pub folder : op r ≤ 2 → (folderOf r ≡ 0) ⊎ InRange (folderOf r)
+  pub to : op r ≤ 7
+  pub folder : usesFolder (op r) ≡ true → (folderOf r ≡ 0) ⊎ InRange (folderOf r)
   pub object : 2 < op r → InRange (objectOf r)

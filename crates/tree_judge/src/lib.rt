@@ -1,11 +1,12 @@
 // A record is judged: it fits, or stands aside under the first reason that holds.
 ghost use mathlib.Core.Path.{_≡_};
 ghost use mathlib.Core.Bool.{cond, _||_};
+ghost use mathlib.Core.Logic.{_⊎_};
 ghost use Prim.Native.Nat.{_+_, _*_, _≤_, _<_};
 ghost use lib.Dec.{ltb};
 ghost use lib.ListN.{length, getD};
 ghost use Rattle.model.specs.Record.{labelOf};
-ghost use Rattle.model.specs.Replay.{fits, aside, unseen, holderOf, freeLabel, judgeMake, judgeStore, judgeRemove, judgeRename, judge as judgeOf};
+ghost use Rattle.model.specs.Replay.{fits, aside, unseen, holderOf, freeLabel, folderStands, judgeMake, judgeStore, judgeRemove, judgeRename, judgeMove, judge as judgeOf};
 ghost use Rattle.tree_table.specs.Rows.{entryIn, entriesFrom, rowIn, treeIn, InRange};
 ghost use Rattle.tree_lookup.specs.Roles.{Holds};
 ghost use Rattle.tree_maps.specs.Keys.{slotOf};
@@ -44,17 +45,15 @@ pub fn free_label(rec: &[u8], table: &[u8], register: &[u16], size: Size, k: u32
     }
 }
 
-// A make: 13 for an absent folder, 14 for a trace as folder, 15 for a label that is held.
-pub fn judge_make(rec: &[u8], table: &[u8], register: &[u16], size: Size) -> Judged
-    requires { ⌜ Asks (now rec) × (getD (now rec) 1 0 ≤ 2) × Holds (now table) (now register) (size .entries) (size .asides) ⌝ }
-    ensures { λ r. ⌜ verdictOf (r .reason) (r .marked) ≡ judgeMake (now (rec .entry)) (entriesFrom (now (table .entry)) 0 (size .entries)) ⌝ }
+// The folder f is the root, or is there and a folder: 13 if it is absent, 14 for a trace.
+pub fn folder_stands(table: &[u8], register: &[u16], size: Size, f: u32) -> Judged
+    requires { ⌜ ((f ≡ 0) ⊎ InRange f) × Holds (now table) (now register) (size .entries) (size .asides) ⌝ }
+    ensures { λ r. ⌜ verdictOf (r .reason) (r .marked) ≡ folderStands f (entriesFrom (now (table .entry)) 0 (size .entries)) ⌝ }
 {
-    let f = tree_table::folder_of(rec);
     if f == 0 {
-        let j = free_label(rec, table, register, size, 0, f);
         return Judged {
-            reason: j.reason,
-            marked: j.marked,
+            reason: 0,
+            marked: 0,
         };
     }
     let row = tree_lookup::entry_of(table, register, size, f);
@@ -70,11 +69,23 @@ pub fn judge_make(rec: &[u8], table: &[u8], register: &[u16], size: Size) -> Jud
             marked: tree_table::made_at(table, row),
         };
     }
-    let j = free_label(rec, table, register, size, 0, f);
     Judged {
-        reason: j.reason,
-        marked: j.marked,
+        reason: 0,
+        marked: 0,
     }
+}
+
+// A make: 13 for an absent folder, 14 for a trace as folder, 15 for a label that is held.
+pub fn judge_make(rec: &[u8], table: &[u8], register: &[u16], size: Size) -> Judged
+    requires { ⌜ Asks (now rec) × (getD (now rec) 1 0 ≤ 2) × Holds (now table) (now register) (size .entries) (size .asides) ⌝ }
+    ensures { λ r. ⌜ verdictOf (r .reason) (r .marked) ≡ judgeMake (now (rec .entry)) (entriesFrom (now (table .entry)) 0 (size .entries)) ⌝ }
+{
+    let f = tree_table::folder_of(rec);
+    let s = folder_stands(table, register, size, f);
+    if s.reason != 0 {
+        return s;
+    }
+    free_label(rec, table, register, size, 0, f)
 }
 
 // A store on the entry in a row: 12 for no entry, 14 for a folder, 17 for unseen contents.
@@ -118,7 +129,7 @@ pub fn is_full(table: &[u8], register: &[u16], row: usize) -> bool
     tree_maps::children(register, tree_table::made_at(table, row)) != 0
 }
 
-// The last contents or label record of the entry in a row is unseen.
+// The last contents or place record of the entry in a row is unseen.
 pub fn is_changed(rec: &[u8], table: &[u8], row: usize) -> bool
     requires { ⌜ (length (now rec) ≡ 80) × (length (now table) ≡ 43012) × (row < 512) ⌝ }
     ensures { λ r. ⌜ r ≡ (unseen (now (rec .entry)) (entryIn (now (table .entry)) (4 + 72 * row) .contents) || unseen (now (rec .entry)) (entryIn (now (table .entry)) (4 + 72 * row) .naming)) ⌝ }
@@ -129,7 +140,7 @@ pub fn is_changed(rec: &[u8], table: &[u8], row: usize) -> bool
     is_unseen(rec, tree_table::naming_at(table, row))
 }
 
-// A remove of the entry in a row: 12 for no entry, 16 for a folder with entries, 17 for unseen contents or label.
+// A remove of the entry in a row: 12 for no entry, 16 for a folder with entries, 17 for unseen contents or place.
 pub fn judge_remove(rec: &[u8], table: &[u8], register: &[u16], size: Size, row: usize) -> Judged
     requires { ⌜ (length (now rec) ≡ 80) × Holds (now table) (now register) (size .entries) (size .asides) ⌝ }
     ensures { λ r. ⌜ verdictOf (r .reason) (r .marked) ≡ judgeRemove (now (rec .entry)) (entriesFrom (now (table .entry)) 0 (size .entries)) (rowIn (now (table .entry)) (size .entries) row) ⌝ }
@@ -159,7 +170,7 @@ pub fn judge_remove(rec: &[u8], table: &[u8], register: &[u16], size: Size, row:
     }
 }
 
-// A rename of the entry in a row: 12 for no entry, 17 for an unseen label, 15 for a label that another entry holds.
+// A rename of the entry in a row: 12 for no entry, 17 for an unseen place, 15 for a label that another entry holds.
 pub fn judge_rename(rec: &[u8], table: &[u8], register: &[u16], size: Size, row: usize) -> Judged
     requires { ⌜ (length (now rec) ≡ 80) × Holds (now table) (now register) (size .entries) (size .asides) ⌝ }
     ensures { λ r. ⌜ verdictOf (r .reason) (r .marked) ≡ judgeRename (now (rec .entry)) (entriesFrom (now (table .entry)) 0 (size .entries)) (rowIn (now (table .entry)) (size .entries) row) ⌝ }
@@ -183,6 +194,38 @@ pub fn judge_rename(rec: &[u8], table: &[u8], register: &[u16], size: Size, row:
         reason: j.reason,
         marked: j.marked,
     }
+}
+
+// A move of the entry in a row: 12 for no entry, 17 for an unseen place, 13 for an absent folder, 14 for a trace as folder, 25 for a folder at or below the entry, 15 for a label that another entry holds.
+pub fn judge_move(rec: &[u8], table: &[u8], register: &[u16], size: Size, row: usize) -> Judged
+    requires { ⌜ Asks (now rec) × (getD (now rec) 1 0 ≡ 7) × Holds (now table) (now register) (size .entries) (size .asides) ⌝ }
+    ensures { λ r. ⌜ verdictOf (r .reason) (r .marked) ≡ judgeMove (now (rec .entry)) (entriesFrom (now (table .entry)) 0 (size .entries)) (rowIn (now (table .entry)) (size .entries) row) ⌝ }
+{
+    if size.entries <= row {
+        return Judged {
+            reason: 12,
+            marked: 0,
+        };
+    }
+    let made = tree_table::made_at(table, row);
+    if is_unseen(rec, tree_table::naming_at(table, row)) {
+        return Judged {
+            reason: 17,
+            marked: made,
+        };
+    }
+    let f = tree_table::folder_of(rec);
+    let s = folder_stands(table, register, size, f);
+    if s.reason != 0 {
+        return s;
+    }
+    if tree_lookup::is_below(table, register, size, made, f) {
+        return Judged {
+            reason: 25,
+            marked: made,
+        };
+    }
+    free_label(rec, table, register, size, made, f)
 }
 
 // A settle of the record k: 18 if it does not stand aside.
@@ -217,6 +260,7 @@ pub fn judge(rec: &[u8], table: &[u8], register: &[u16], size: Size) -> Judged
         3 => judge_store(rec, table, size.entries, row),
         4 => judge_remove(rec, table, register, size, row),
         5 => judge_rename(rec, table, register, size, row),
-        _ => judge_settle(register, k),
+        6 => judge_settle(register, k),
+        _ => judge_move(rec, table, register, size, row),
     }
 }

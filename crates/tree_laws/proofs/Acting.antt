@@ -13,9 +13,9 @@ use Rattle.log_laws.proofs.Act.{act-numbers}
 use borrow.Author.Tests.{le-ltb, lt-ltb}
 use Rattle.byte_slice.proofs.Numbers.{cond-cases}
 use Rattle.model.specs.Numbers.{fullLog, malformed}
-use Rattle.model.specs.Record.{Rec, identity, unit, num, selfOf, objectOf, labelOf}
+use Rattle.model.specs.Record.{Rec, identity, unit, num, selfOf, objectOf, folderOf, labelOf}
 use Rattle.model.specs.Log.{count}
-use Rattle.model.specs.Replay.{Entry, Tree, Verdict, fits, aside, isPresent, entryOf, unseen, judgeMake, judgeStore, judgeRemove, judgeRename, judgeSettle, judge, newEntry, stored, renamed, removed, changed, hasEntries, holderOf, step, emptyTree, replayFrom, replay}
+use Rattle.model.specs.Replay.{Entry, Tree, Verdict, fits, aside, isPresent, entryOf, unseen, judgeMake, judgeStore, judgeRemove, judgeRename, judgeMove, judgeSettle, judgePlace, folderStands, judge, newEntry, stored, renamed, moved, removed, changed, hasEntries, holderOf, step, emptyTree, replayFrom, replay}
 use Rattle.model.specs.Outcome.{stamped, wishFits, hasStroke, reasonOf, actNumber}
 use Rattle.log_laws.specs.Members.{Has as Member}
 use Rattle.log_laws.specs.Sound.{SoundAfter, Sound}
@@ -23,12 +23,12 @@ use Rattle.log_laws.proofs.Formed.{well-unit, well-own}
 use Rattle.log_laws.proofs.Counts.{formed, unit-of, number-held, numbers, count-own}
 use Rattle.log_laws.proofs.Act.{stamped-seen, act-zero}
 use Rattle.tree_laws.specs.Replayed.{Has, Distinct, selves}
-use Rattle.tree_laws.proofs.Verdicts.{Under, OneOf, Reason, reason-range, judged, under-map, under-cond, under-free, make-reasons, settle-reasons}
+use Rattle.tree_laws.proofs.Verdicts.{Under, OneOf, Reason, reason-range, judged, under-map, under-cond, under-free, under-then, under-stands, under-place, make-reasons, settle-reasons}
 use Rattle.tree_laws.proofs.Steps.{cond-elim, effect-elim, step-elim}
 
 -- ---- the records that a tree names
 
--- the last contents and label records of the entries are among the identities ks
+-- the last contents and place records of the entries are among the identities ks
 abbrev pub Among : List ℕ → List Entry → Type 0
 Among ks [] = Unit {0}
 Among ks (e ∷ es) = (Has (e .contents) ks × Has (e .naming) ks) × Among ks es
@@ -47,7 +47,7 @@ among-changed ks g h k (e ∷ es) a =
     (λ _. (a .0, among-changed ks g h k es (a .1)))
 
 among-step : (ks : List ℕ) (t : Tree) (r : Rec) → Has (selfOf r) ks → Among ks (t .entries) → Among ks (step t r .entries)
-unfolding newEntry stored renamed removed
+unfolding newEntry stored renamed moved removed
 among-step ks t r i a =
     let P : Tree → Type 0 = λ (x : Tree). Among ks (x .entries) in
     step-elim P t r
@@ -56,7 +56,8 @@ among-step ks t r i a =
     (λ _. among-changed ks (stored r) (λ e b. (i, b .1)) (objectOf r) (t .entries) a)
     (λ _. among-changed ks removed (λ e b. b) (objectOf r) (t .entries) a)
     (λ _. among-changed ks (renamed r) (λ e b. (b .0, i)) (objectOf r) (t .entries) a)
-    (λ _. a))
+    (λ _. a)
+    (λ _. among-changed ks (moved r) (λ e b. (b .0, i)) (objectOf r) (t .entries) a))
     (λ n k _. a)
 
 among-replay : (ks : List ℕ) (t : Tree) (l : List Rec) → ((k : ℕ) → Has k (selves l) → Has k ks) → Among ks (t .entries) → Among ks (replayFrom t l .entries)
@@ -109,6 +110,15 @@ module _ (r : Rec) (ks : List ℕ) (s : HasSeen r ks) where
       let b = among-entry ks (objectOf r) es e a q in
       rw (s (e .naming) (b .1)) (under-free Not17 (λ z. omega arith) (holderOf (e .made) (e .inside) (labelOf r) es))
 
+  move-seen : (es : List Entry) → Among ks es → (o : Option Entry) → entryOf (objectOf r) es ≡ o → Under Not17 (judgeMove r es o)
+  unfolding judgeMove
+  move-seen es a none q = λ e. omega arith
+  move-seen es a (some e) q =
+      let b = among-entry ks (objectOf r) es e a q in
+      rw (s (e .naming) (b .1))
+      (under-then Not17 (folderStands (folderOf r) es) (judgePlace r es e) (under-stands Not17 (λ z. omega arith) (λ z. omega arith) (folderOf r) es)
+      (under-place Not17 (λ z. omega arith) (λ z. omega arith) r es e))
+
   pub seen-never-17 : (t : Tree) → Among ks (t .entries) → Under Not17 (judge r t)
   seen-never-17 t a =
       let es : List Entry = t .entries in
@@ -119,6 +129,7 @@ module _ (r : Rec) (ks : List ℕ) (s : HasSeen r ks) where
       (remove-seen es a o refl)
       (rename-seen es a o refl)
       (under-map (λ n. n ≡ 18) Not17 (λ n q e. omega arith) (judgeSettle r (t .asides)) (settle-reasons r (t .asides)))
+      (move-seen es a o refl)
 
 -- ---- the record of an act has seen the whole log
 
@@ -173,7 +184,7 @@ act-never-17 u l w n h =
 reason-zero : (v : Verdict) → Under Reason v → reasonOf v ≡ 0 → v ≡ fits
 unfolding reasonOf
 reason-zero fits h e = refl
-reason-zero (aside n k) h e = absurd (omega arith)
+reason-zero (aside n k) h e = absurd (⊎-elim (λ z. omega arith) (λ z. omega arith) h)
 
 -- an act is accepted exactly when its wish passes the checks of a wish, a place is free and its record fits
 pub act-accepted : (u : ℕ) (l : List Rec) (w : List ℕ)

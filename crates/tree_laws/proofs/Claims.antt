@@ -10,22 +10,28 @@ use native.Mathlib.Omega.{arith}
 use lib.ListN.{getD, length}
 use Rattle.model.specs.Record.{Rec, root, op, selfOf, objectOf, labelOf, usesLabel}
 use Rattle.model.specs.Log.{soundAfter}
-use Rattle.model.specs.Replay.{Entry, Aside, Tree, Verdict, fits, aside, isPresent, labelKey, entryOf, unseen, judge, standsAside, holderOf, isDisputed, renamed, step, emptyTree, replay}
+use Rattle.model.specs.Replay.{Entry, Aside, Tree, Verdict, fits, aside, isPresent, labelKey, entryOf, unseen, isBelow, judge, standsAside, holderOf, isDisputed, renamed, step, emptyTree, replay}
 use Rattle.model.specs.Table.{tableBytes}
 use Rattle.model.specs.Outcome.{stamped, wishFits, hasStroke, actNumber, taken, takeAll}
 use Rattle.log_laws.specs.Members.{Has as Member}
 use Rattle.log_laws.specs.Sound.{Sound}
-use Rattle.log_laws.proofs.Formed.{well-length}
+use Rattle.log_laws.proofs.Formed.{well-length, well-op}
 use Rattle.log_laws.proofs.Counts.{formed}
 use Rattle.log_laws.proofs.Take.{all-from}
 use Rattle.log_laws.proofs.Tests.{sound-means, means-sound}
 use Rattle.log_laws.proofs.Claims.{order-fixed}
 use Rattle.tree_laws.specs.Replayed.{Has, Distinct, selves, makers, whos, standings, standAside, makesFit, openOf, settledIn, SameButDates, undatedTree, hideDates}
-use Rattle.tree_laws.proofs.Verdicts.{Under, OneOf, Reason, reason-range, judge-make, judge-store, judge-remove, judge-rename, judge-settle, make-reasons, store-reasons, remove-reasons, rename-reasons, settle-reasons}
+use Rattle.tree_laws.specs.Before.{replayBefore}
+use Rattle.tree_laws.specs.Places.{PlacedBy, PlaceKept}
+use Rattle.tree_laws.specs.Roots.{Way, Reaches, Stands, Rooted}
+use Rattle.tree_laws.proofs.Verdicts.{Under, OneOf, Reason, reason-range, judge-make, judge-store, judge-remove, judge-rename, judge-settle, judge-move, Moving, move-reasons, make-reasons, store-reasons, remove-reasons, rename-reasons, settle-reasons}
 use Rattle.tree_laws.proofs.Steps.{standings-replay, makers-replay}
 use Rattle.tree_laws.proofs.Identities as Identities
 use Rattle.tree_laws.proofs.Labels as Labels
 use Rattle.tree_laws.proofs.Written.{label-written}
+use Rattle.tree_laws.proofs.Roots as Roots
+use Rattle.tree_laws.proofs.Places as Places
+use Rattle.tree_laws.proofs.Before.{replay-before}
 use Rattle.tree_laws.proofs.Dates.{dates-replay}
 use Rattle.tree_laws.proofs.Tables.{table-hidden, filled-replay, entries-few}
 use Rattle.tree_laws.proofs.Arrival.{takeAll-append}
@@ -35,13 +41,13 @@ use Rattle.tree_laws.proofs.Strokes as Strokes
 
 -- ---- P2: each record acts or stands aside under one reason
 
--- a record fits, or stands aside under one of the reasons 12 to 18
-pub fits-or-stands-aside : (r : Rec) (t : Tree) → (judge r t ≡ fits) ⊎ ((n : ℕ) × (k : ℕ) × (judge r t ≡ aside n k) × (12 ≤ n) × (n ≤ 18))
+-- a record fits, or stands aside under one of the reasons 12 to 18 or 25
+pub fits-or-stands-aside : (r : Rec) (t : Tree) → (judge r t ≡ fits) ⊎ ((n : ℕ) × (k : ℕ) × (judge r t ≡ aside n k) × (((12 ≤ n) × (n ≤ 18)) ⊎ (n ≡ 25)))
 fits-or-stands-aside r t = go (judge r t) refl (reason-range r t)
   where
-    go : (v : Verdict) → judge r t ≡ v → Under Reason v → (judge r t ≡ fits) ⊎ ((n : ℕ) × (k : ℕ) × (judge r t ≡ aside n k) × (12 ≤ n) × (n ≤ 18))
+    go : (v : Verdict) → judge r t ≡ v → Under Reason v → (judge r t ≡ fits) ⊎ ((n : ℕ) × (k : ℕ) × (judge r t ≡ aside n k) × (((12 ≤ n) × (n ≤ 18)) ⊎ (n ≡ 25)))
     go fits e h = inl e
-    go (aside n k) e h = inr (n, k, e, h .0, h .1)
+    go (aside n k) e h = inr (n, k, e, h)
 
 -- the reasons of each operation
 pub reasons-by-operation : (r : Rec) (t : Tree)
@@ -49,13 +55,15 @@ pub reasons-by-operation : (r : Rec) (t : Tree)
     × (op r ≡ 3 → Under (OneOf 12 14 17) (judge r t))
     × (op r ≡ 4 → Under (OneOf 12 16 17) (judge r t))
     × (op r ≡ 5 → Under (OneOf 12 17 15) (judge r t))
-    × (5 < op r → Under (λ n. n ≡ 18) (judge r t))
+    × (op r ≡ 6 → Under (λ n. n ≡ 18) (judge r t))
+    × (6 < op r → Under Moving (judge r t))
 reasons-by-operation r t = (
   λ o. rw (judge-make r t o) (make-reasons r (t .entries)),
   λ o. rw (judge-store r t o) (store-reasons r (entryOf (objectOf r) (t .entries))),
   λ o. rw (judge-remove r t o) (remove-reasons r (t .entries) (entryOf (objectOf r) (t .entries))),
   λ o. rw (judge-rename r t o) (rename-reasons r (t .entries) (entryOf (objectOf r) (t .entries))),
   λ o. rw (judge-settle r t o) (settle-reasons r (t .asides)),
+  λ o. rw (judge-move r t o) (move-reasons r (t .entries) (entryOf (objectOf r) (t .entries))),
 )
 
 -- the asides are the records that did not fit, by rank, each with its reason and mark, also when the marked entry is gone
@@ -99,21 +107,58 @@ pub holder-is-found : (l : List Rec) → soundAfter [] l ≡ true → (e : Entry
 unfolding replay emptyTree
 holder-is-found l s = Labels.the-holder (replay l .entries) (Labels.apart-replay emptyTree l tt) (named l s)
 
--- a rename that has seen the last label record fits if it changes nothing but capitals and small letters
+-- a rename that has seen the last place record fits if it changes nothing but capitals and small letters
 pub own-label-fits : (l : List Rec) → soundAfter [] l ≡ true → (r : Rec) (e : Entry) → op r ≡ 5 → entryOf (objectOf r) (replay l .entries) ≡ some e → unseen r (e .naming) ≡ false
     → labelKey (labelOf r) ≡ labelKey (e .label) → judge r (replay l) ≡ fits
 unfolding replay emptyTree
 own-label-fits l s r = Labels.own-label r (replay l) (Labels.apart-replay emptyTree l tt) (named l s)
 
--- and a rename that fits is the last label record of its object, in the bytes that it has
+-- and a rename that fits is the last place record of its object, in the bytes that it has
 pub rename-is-last : (t : Tree) (r : Rec) (e : Entry) → op r ≡ 5 → entryOf (objectOf r) (t .entries) ≡ some e → judge r t ≡ fits
     → (x : Entry) × (entryOf (objectOf r) (step t r .entries) ≡ some x) × (x .naming ≡ selfOf r) × (x .label ≡ labelOf r)
 unfolding renamed
 rename-is-last t r e o q h = (renamed r e, Labels.rename-is-last r t e o q h, refl, refl)
 
--- the label of an entry is that of a record of the log, its last label record, as it was written
+-- the label of an entry is that of a record of the log, its last place record, as it was written
 pub label-as-written : (l : List Rec) (e : Entry) → Has e (replay l .entries) → (s : Rec) × Has s l × (selfOf s ≡ e .naming) × (labelOf s ≡ e .label)
 label-as-written = label-written
+
+-- ---- the way to the root
+
+pub rooted : (l : List Rec) → soundAfter [] l ≡ true → Rooted (replay l .entries)
+unfolding replay emptyTree makers
+rooted l s =
+    let h = sound-means l s in
+    Roots.replay-rooted emptyTree l Roots.no-entries (Acting.sound-distinct l h) (λ i. Acting.self-no-root l h root i refl)
+    (λ r i z. omega (arith, well-op r (formed [] l r h i)))
+    (λ k i. absurd i)
+
+-- each entry reaches the root in fewer steps than there are entries, the root included
+pub every-entry-reaches : (l : List Rec) → soundAfter [] l ≡ true → Reaches (replay l .entries)
+every-entry-reaches l s = Roots.rooted-reaches (replay l .entries) (rooted l s)
+
+-- a record that is new keeps this of any tree that has it, not of the empty one alone
+pub step-rooted : (t : Tree) (r : Rec) → Rooted (t .entries) → (Has (selfOf r) (makers (t .entries)) → ⊥) → (selfOf r ≡ root → ⊥) → (op r ≡ 0 → ⊥)
+    → Rooted (step t r .entries)
+step-rooted t r w fresh proper one = Roots.step-rooted t r w fresh proper one
+
+pub rooted-reaches : (es : List Entry) → Rooted es → Reaches es
+rooted-reaches = Roots.rooted-reaches
+
+-- a folder is at or below an entry exactly when steps lead from it to the entry, so 25 is said of no other move
+pub below-exactly : (es : List Entry) → Rooted es → (k f : ℕ) → Stands f es → (isBelow k f es ≡ true) ↔ ((s : ℕ) × Way s k f es)
+below-exactly = Roots.below-exactly
+
+-- a record that fits and makes, renames or moves an entry is its last place record, whose label and folder it has; every other leaves these.
+-- So the last place record is the make or the last rename or move that fitted
+pub last-place-record : (t : Tree) (r : Rec) → Rooted (t .entries) → (Has (selfOf r) (makers (t .entries)) → ⊥) → (k : ℕ) (x : Entry) → entryOf k (step t r .entries) ≡ some x
+    → PlacedBy k r t x ⊎ PlaceKept k r t x
+last-place-record t r w fresh k x q = Places.place-step t r (w .alone) fresh k x q
+
+-- where no record is a move, the tree is that of the rules before there were moves
+pub replay-without-moves : (l : List Rec) → ((r : Rec) → Has r l → op r ≤ 6) → replay l ≡ replayBefore emptyTree l
+unfolding replay
+replay-without-moves l h = replay-before emptyTree l h
 
 -- ---- P3: dates and the order of arrival decide nothing
 
@@ -160,17 +205,17 @@ pub open-until-settled : (before : List Rec) (r : Rec) (after : List Rec) (n k :
 open-until-settled before r after n k s = Settling.open-until-settled before r after n k (Acting.sound-distinct (before ++ (r ∷ after)) (sound-means (before ++ (r ∷ after)) s))
 
 -- a second settle fits and changes nothing
-pub second-settle-changes-nothing : (r : Rec) (t : Tree) → 5 < op r → standsAside (objectOf r) (t .asides) ≡ true → openOf (objectOf r) (t .asides) ≡ false
+pub second-settle-changes-nothing : (r : Rec) (t : Tree) → op r ≡ 6 → standsAside (objectOf r) (t .asides) ≡ true → openOf (objectOf r) (t .asides) ≡ false
     → (judge r t ≡ fits) × (step t r ≡ t)
 second-settle-changes-nothing = Settling.second-settle
 
 -- a record that stands aside, and so a settle that does, can be settled
-pub settle-of-an-aside : (t : Tree) (r s : Rec) (n k : ℕ) → judge r t ≡ aside n k → 5 < op s → objectOf s ≡ selfOf r
+pub settle-of-an-aside : (t : Tree) (r s : Rec) (n k : ℕ) → judge r t ≡ aside n k → op s ≡ 6 → objectOf s ≡ selfOf r
     → (judge s (step t r) ≡ fits) × (openOf (selfOf r) (step (step t r) s .asides) ≡ false)
 settle-of-an-aside = Settling.settle-aside
 
 -- a record that fitted, and so a settle that did, cannot
-pub settle-of-a-fitted-record : (t : Tree) (r s : Rec) → judge r t ≡ fits → standsAside (selfOf r) (t .asides) ≡ false → 5 < op s → objectOf s ≡ selfOf r
+pub settle-of-a-fitted-record : (t : Tree) (r s : Rec) → judge r t ≡ fits → standsAside (selfOf r) (t .asides) ≡ false → op s ≡ 6 → objectOf s ≡ selfOf r
     → judge s (step t r) ≡ aside 18 0
 settle-of-a-fitted-record = Settling.settle-fitted
 

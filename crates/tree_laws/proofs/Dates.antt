@@ -1,20 +1,20 @@
 -- Dates decide nothing: records that differ only in dates leave trees that differ only in dates.
 -- Assumes nothing.
-use Prim.Native.Nat.{ℕ, _+_, _*_, _/_, _%_, _<_}
+use Prim.Native.Nat.{ℕ, zero, suc, _+_, _*_, _/_, _%_, _<_}
 use mathlib.Core.Path.{_≡_, refl, sym, ap, ap₂, _∙_}
 use mathlib.Core.Bool.{Bool, true, false, cond, _&&_, _||_}
 use mathlib.Core.Option.{Option, none, some}
 use mathlib.Core.List.{List, [], _∷_, _++_}
 use native.Mathlib.Omega.{arith}
 use lib.Dec.{ltb, eqb}
-use lib.ListN.{getD, take, drop}
+use lib.ListN.{getD, length, take, drop}
 use lib.Seq.{getD-take, drop-drop}
 use Rattle.byte_slice.proofs.Words.{word-same}
 use Rattle.model.specs.Bytes.{word, part}
 use Rattle.model.specs.Record.{Rec, root, identity, unit, num, seen, op, identityAt, selfOf, objectOf, folderOf, labelOf, markOf}
-use Rattle.model.specs.Replay.{Entry, Aside, Tree, Verdict, fits, aside, isPresent, sameLabel, entryOf, isIn, isHolder, holderOf, hasEntries, unseen, freeLabel, judgeMakeIn, judgeMake, judgeStore, judgeRemove, judgeRename, judgeSettle, judge, newEntry, stored, renamed, removed, changed, settled, effect, apply, step, replayFrom}
+use Rattle.model.specs.Replay.{Entry, Aside, Tree, Verdict, fits, aside, isPresent, sameLabel, entryOf, isIn, isHolder, holderOf, hasEntries, unseen, freeLabel, isFolder, folderStands, comesTo, isBelow, judgePlace, judgeMake, judgeStore, judgeRemove, judgeRename, judgeMove, judgeSettle, judge, newEntry, stored, renamed, moved, removed, changed, settled, effect, apply, step, replayFrom}
 use Rattle.tree_laws.specs.Replayed.{SameButDate, SameButDates, undated, undatedAll, undatedTree}
-use Rattle.tree_laws.proofs.Steps.{effect-elim, effect-make, effect-store, effect-remove, effect-rename, effect-settle}
+use Rattle.tree_laws.proofs.Steps.{effect-elim, effect-make, effect-store, effect-remove, effect-rename, effect-settle, effect-move}
 
 -- ---- the fields but for the date
 
@@ -53,14 +53,9 @@ unseen-same r s f k = ap (λ (n : ℕ). ltb n (k / 8)) (f .seen-same (k % 8) (om
 -- ---- the same fields, the same judgement
 
 module _ (r s : Rec) (f : SameFields r s) where
-  make-in-same : (es : List Entry) (o : Option Entry) → judgeMakeIn r es o ≡ judgeMakeIn s es o
-  unfolding judgeMakeIn
-  make-in-same es none = refl
-  make-in-same es (some e) = rw (f .folder-same, f .label-same)
-
   make-same : (es : List Entry) → judgeMake r es ≡ judgeMake s es
   unfolding judgeMake
-  make-same es = rw (make-in-same es (entryOf (folderOf r) es), f .folder-same, f .label-same)
+  make-same es = rw (f .folder-same, f .label-same)
 
   store-same : (o : Option Entry) → judgeStore r o ≡ judgeStore s o
   unfolding judgeStore
@@ -77,6 +72,15 @@ module _ (r s : Rec) (f : SameFields r s) where
   rename-same es none = refl
   rename-same es (some e) = rw (unseen-same r s f (e .naming), f .label-same)
 
+  place-same : (es : List Entry) (e : Entry) → judgePlace r es e ≡ judgePlace s es e
+  unfolding judgePlace
+  place-same es e = rw (f .folder-same, f .label-same)
+
+  move-same : (es : List Entry) (o : Option Entry) → judgeMove r es o ≡ judgeMove s es o
+  unfolding judgeMove
+  move-same es none = refl
+  move-same es (some e) = rw (unseen-same r s f (e .naming), f .folder-same, place-same es e)
+
   settle-same : (l : List Aside) → judgeSettle r l ≡ judgeSettle s l
   unfolding judgeSettle
   settle-same l = rw (f .object-same)
@@ -91,6 +95,7 @@ module _ (r s : Rec) (f : SameFields r s) where
         remove-same es (entryOf (objectOf r) es),
         rename-same es (entryOf (objectOf r) es),
         settle-same (t .asides),
+        move-same es (entryOf (objectOf r) es),
         f .op-same,
         f .object-same,
       )
@@ -129,15 +134,38 @@ free-undated (some e) = refl
 free-holder : (k g : ℕ) (t : List ℕ) (es : List Entry) → freeLabel (holderOf k g t (undatedAll es)) ≡ freeLabel (holderOf k g t es)
 free-holder k g t es = ap freeLabel (holder-undated k g t es) ∙ free-undated (holderOf k g t es)
 
-module _ (r : Rec) (es : List Entry) where
-  make-in-undated : (o : Option Entry) → judgeMakeIn r (undatedAll es) (undatedIn o) ≡ judgeMakeIn r es o
-  unfolding judgeMakeIn undatedIn undated
-  make-in-undated none = refl
-  make-in-undated (some e) = rw (free-holder root (folderOf r) (labelOf r) es)
+is-undated : (o : Option Entry) → isFolder (undatedIn o) ≡ isFolder o
+unfolding isFolder undatedIn undated
+is-undated none = refl
+is-undated (some e) = refl
 
+stands-undated : (g : ℕ) (es : List Entry) → folderStands g (undatedAll es) ≡ folderStands g es
+unfolding folderStands
+stands-undated g es = rw (entry-undated g es, is-undated (entryOf g es))
+
+length-undated : (es : List Entry) → length (undatedAll es) ≡ length es
+unfolding undatedAll
+length-undated [] = refl
+length-undated (e ∷ es) = ap suc (length-undated es)
+
+comes-undated : (n k g : ℕ) (es : List Entry) → comesTo n k g (undatedAll es) ≡ comesTo n k g es
+unfolding comesTo undatedIn undated
+comes-undated zero k g es = refl
+comes-undated (suc n) k g es = rw (entry-undated g es) (go (entryOf g es) (λ i. comes-undated n k i es))
+  where
+    go : (o : Option Entry) → ((i : ℕ) → comesTo n k i (undatedAll es) ≡ comesTo n k i es)
+        → (eqb g k || elim (undatedIn o) [ none ↦ false | some x ↦ comesTo n k (x .inside) (undatedAll es) ]) ≡ (eqb g k || elim o [ none ↦ false | some x ↦ comesTo n k (x .inside) es ])
+    go none h = refl
+    go (some e) h = ap (λ (x : Bool). eqb g k || x) (h (e .inside))
+
+below-undated : (k g : ℕ) (es : List Entry) → isBelow k g (undatedAll es) ≡ isBelow k g es
+unfolding isBelow
+below-undated k g es = ap (λ (n : ℕ). comesTo (suc n) k g (undatedAll es)) (length-undated es) ∙ comes-undated (suc (length es)) k g es
+
+module _ (r : Rec) (es : List Entry) where
   make-undated : judgeMake r (undatedAll es) ≡ judgeMake r es
   unfolding judgeMake
-  make-undated = rw (free-holder root root (labelOf r) es, entry-undated (folderOf r) es, make-in-undated (entryOf (folderOf r) es))
+  make-undated = rw (stands-undated (folderOf r) es, free-holder root (folderOf r) (labelOf r) es)
 
   store-undated : (o : Option Entry) → judgeStore r (undatedIn o) ≡ judgeStore r o
   unfolding judgeStore undatedIn undated
@@ -154,12 +182,21 @@ module _ (r : Rec) (es : List Entry) where
   rename-undated none = refl
   rename-undated (some e) = rw (free-holder (e .made) (e .inside) (labelOf r) es)
 
+  place-undated : (e : Entry) → judgePlace r (undatedAll es) (undated e) ≡ judgePlace r es e
+  unfolding judgePlace undated
+  place-undated e = rw (below-undated (e .made) (folderOf r) es, free-holder (e .made) (folderOf r) (labelOf r) es)
+
+  move-undated : (o : Option Entry) → judgeMove r (undatedAll es) (undatedIn o) ≡ judgeMove r es o
+  unfolding judgeMove undatedIn undated
+  move-undated none = refl
+  move-undated (some e) = rw (stands-undated (folderOf r) es, place-undated e)
+
 judge-undated : (r : Rec) (t : Tree) → judge r (undatedTree t) ≡ judge r t
 unfolding judge undatedTree
 judge-undated r t =
     let es : List Entry = t .entries in
     let o : Option Entry = entryOf (objectOf r) es in
-    rw (make-undated r es, entry-undated (objectOf r) es, store-undated r es o, remove-undated r es o, rename-undated r es o)
+    rw (make-undated r es, entry-undated (objectOf r) es, store-undated r es o, remove-undated r es o, rename-undated r es o, move-undated r es o)
 
 -- ---- an effect does not either
 
@@ -228,6 +265,20 @@ module _ (r s : Rec) (f : SameFields r s) where
         naming = f .self-same i;
       }
 
+  moved-alike : (e : Entry) → undated (moved r e) ≡ undated (moved s (undated e))
+  unfolding undated moved
+  moved-alike e =
+      λ i. record {
+        made = e .made;
+        kind = e .kind;
+        inside = f .folder-same i;
+        label = f .label-same i;
+        contents = e .contents;
+        date = 0 ∷ 0 ∷ 0 ∷ 0 ∷ [];
+        mark = e .mark;
+        naming = f .self-same i;
+      }
+
   changed-alike : (g h : Entry → Entry) → ((e : Entry) → undated (g e) ≡ undated (h (undated e))) → (es : List Entry)
       → undatedAll (changed g (objectOf r) es) ≡ undatedAll (changed h (objectOf s) (undatedAll es))
   changed-alike g h q es =
@@ -251,8 +302,9 @@ module _ (r s : Rec) (f : SameFields r s) where
       (λ o. rw (effect-remove s u (sym (f .op-same) ∙ o)) (ap same-asides (changed-alike removed removed (λ e. refl) es)))
       (λ o. rw (effect-rename s u (sym (f .op-same) ∙ o)) (ap same-asides (changed-alike (renamed r) (renamed s) renamed-alike es)))
       (λ o.
-      rw (effect-settle s u (omega (arith, f .op-same)))
+      rw (effect-settle s u (sym (f .op-same) ∙ o))
       (λ i. record { entries = sym (undated-twice es) i; asides = settled (f .object-same i) (t .asides) }))
+      (λ o. rw (effect-move s u (omega (arith, f .op-same))) (ap same-asides (changed-alike (moved r) (moved s) moved-alike es)))
 
   step-alike : (t : Tree) → undatedTree (step t r) ≡ undatedTree (step (undatedTree t) s)
   unfolding step apply undatedTree

@@ -12,9 +12,9 @@ use borrow.Author.Tests.{eqb-true, eqb-false, eq-eqb, ne-eqb, not-true}
 use Rattle.byte_slice.proofs.Numbers.{bool-cases, cond-cases, and-true, true-and, not-both, test-false}
 use Rattle.record_label.proofs.Same.{same-key, key-same}
 use Rattle.model.specs.Record.{Rec, root, op, objectOf, folderOf, labelOf}
-use Rattle.model.specs.Replay.{Entry, Tree, fits, aside, isPresent, labelKey, sameLabel, entryOf, isIn, isHolder, holderOf, freeLabel, judgeMakeIn, judgeMake, judgeRename, unseen, judge, newEntry, stored, renamed, removed, changed, step, replayFrom}
+use Rattle.model.specs.Replay.{Entry, Tree, fits, aside, isPresent, labelKey, sameLabel, entryOf, isIn, isHolder, holderOf, Verdict, freeLabel, andThen, folderStands, isBelow, judgePlace, judgeMake, judgeRename, judgeMove, unseen, judge, newEntry, stored, renamed, moved, removed, changed, step, replayFrom}
 use Rattle.tree_laws.specs.Replayed.{Has, Distinct, makers}
-use Rattle.tree_laws.proofs.Verdicts.{judge-make, judge-rename}
+use Rattle.tree_laws.proofs.Verdicts.{judge-make, judge-rename, judge-move}
 use Rattle.tree_laws.proofs.Steps.{effect-elim, step-elim, step-fits, effect-rename}
 
 pub holds-from : (k f : ℕ) (t : List ℕ) (e : Entry) → isHolder k f t e ≡ true → (isPresent e ≡ true) × (e .inside ≡ f) × (labelKey (e .label) ≡ labelKey t) × (e .made ≡ k → ⊥)
@@ -130,21 +130,34 @@ apart-changed g k (e ∷ es) a s =
 
 -- ---- each record keeps the labels apart
 
+then-fits : (x y : Verdict) → andThen x y ≡ fits → y ≡ fits
+unfolding andThen
+then-fits fits y h = h
+then-fits (aside n k) y h = absurd (let z : _≡_ {A = ℕ} 0 1 = cc in omega arith)
+
 make-free : (r : Rec) (es : List Entry) → judgeMake r es ≡ fits → holderOf root (folderOf r) (labelOf r) es ≡ none
-unfolding judgeMake judgeMakeIn
+unfolding judgeMake
 make-free r es h =
+    let o = holderOf root (folderOf r) (labelOf r) es in
+    free-fits o (then-fits (folderStands (folderOf r) es) (freeLabel o) h)
+
+place-free : (r : Rec) (es : List Entry) (x : Entry) → judgePlace r es x ≡ fits → holderOf (x .made) (folderOf r) (labelOf r) es ≡ none
+unfolding judgePlace
+place-free r es x h =
+    let o = holderOf (x .made) (folderOf r) (labelOf r) es in
     ⊎-elim
-    (λ (c : eqb (folderOf r) root ≡ true). rw (eqb-true (folderOf r) root c) (free-fits (holderOf root root (labelOf r) es) (rw c at h)))
-    (λ (c : eqb (folderOf r) root ≡ false). inside (entryOf (folderOf r) es) (rw c at h))
-    (bool-cases (eqb (folderOf r) root))
-  where
-    inside : (o : Option Entry) → judgeMakeIn r es o ≡ fits → holderOf root (folderOf r) (labelOf r) es ≡ none
-    inside none q = absurd (let z : _≡_ {A = ℕ} 0 1 = cc in omega arith)
-    inside (some f) q =
-        ⊎-elim
-        (λ c. free-fits (holderOf root (folderOf r) (labelOf r) es) (sym (c .1) ∙ q))
-        (λ c. absurd (let z : _≡_ {A = ℕ} 0 1 = cc in omega arith))
-        (cond-cases (eqb (f .kind) 1) (freeLabel (holderOf root (folderOf r) (labelOf r) es)) (aside 14 (f .made)))
+    (λ c. absurd (let z : _≡_ {A = ℕ} 0 1 = cc in omega arith))
+    (λ c. free-fits o (sym (c .1) ∙ h))
+    (cond-cases (isBelow (x .made) (folderOf r) es) (aside 25 (x .made)) (freeLabel o))
+
+move-free : (r : Rec) (es : List Entry) (x : Entry) → judgeMove r es (some x) ≡ fits → holderOf (x .made) (folderOf r) (labelOf r) es ≡ none
+unfolding judgeMove
+move-free r es x h =
+    let v = andThen (folderStands (folderOf r) es) (judgePlace r es x) in
+    ⊎-elim
+    (λ c. absurd (let z : _≡_ {A = ℕ} 0 1 = cc in omega arith))
+    (λ c. place-free r es x (then-fits (folderStands (folderOf r) es) (judgePlace r es x) (sym (c .1) ∙ h)))
+    (cond-cases (unseen r (x .naming)) (aside 17 (x .made)) v)
 
 rename-free : (r : Rec) (es : List Entry) (x : Entry) → judgeRename r es (some x) ≡ fits → holderOf (x .made) (x .inside) (labelOf r) es ≡ none
 unfolding judgeRename
@@ -171,7 +184,7 @@ safe-kept g x es p m f t = (
 )
 
 pub apart-step : (t : Tree) (r : Rec) → Apart (t .entries) → Apart (step t r .entries)
-unfolding newEntry stored removed renamed isPresent Safe Free
+unfolding newEntry stored removed renamed moved isPresent Safe Free
 apart-step t r a =
     let es : List Entry = t .entries in
     step-elim (λ (x : Tree). Apart (x .entries)) t r
@@ -185,7 +198,10 @@ apart-step t r a =
     (λ o.
     apart-changed (renamed r) (objectOf r) es a
     (λ x q. safe-put (renamed r) x es refl (holder-free (x .made) (x .inside) (labelOf r) es (rename-free r es x (ap (judgeRename r es) (sym q) ∙ sym (judge-rename r t o) ∙ h)))))
-    (λ o. a))
+    (λ o. a)
+    (λ o.
+    apart-changed (moved r) (objectOf r) es a
+    (λ x q. safe-put (moved r) x es refl (holder-free (x .made) (folderOf r) (labelOf r) es (move-free r es x (ap (judgeMove r es) (sym q) ∙ sym (judge-move r t o) ∙ h))))))
     (λ n k h. a)
 
 pub apart-replay : (t : Tree) (l : List Rec) → Apart (t .entries) → Apart (replayFrom t l .entries)

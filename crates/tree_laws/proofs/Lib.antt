@@ -8,5 +8,8 @@ pub mod Acting
 pub mod Strokes
 pub mod Tables
 pub mod Arrival
+pub mod Before
+pub mod Roots
+pub mod Places
 pub mod Written
 pub mod Claims

@@ -1,13 +1,13 @@
 -- Open, settled and disputed.
 -- Assumes nothing.
-use Prim.Native.Nat.{ℕ, _≤_, _<_}
+use Prim.Native.Nat.{ℕ}
 use mathlib.Core.Path.{_≡_, refl, sym, ap, _∙_, subst}
 use mathlib.Core.Bool.{Bool, true, false, cond, not, _&&_, _||_, false≢true}
 use mathlib.Core.Logic.{inl, inr, ⊎-elim, _↔_}
 use mathlib.Core.List.{List, [], _∷_, _++_}
 use native.Mathlib.Omega.{arith}
-use lib.Dec.{leb, eqb}
-use borrow.Author.Tests.{eqb-true, eqb-false, eq-eqb, ne-eqb, le-leb, lt-leb}
+use lib.Dec.{eqb}
+use borrow.Author.Tests.{eqb-true, eqb-false, eq-eqb, ne-eqb}
 use Rattle.byte_slice.proofs.Numbers.{bool-cases, and-true, true-and, and-right, and-wrong, test-false}
 use Rattle.model.specs.Record.{Rec, op, selfOf, objectOf}
 use Rattle.model.specs.Replay.{Aside, Tree, fits, aside, judge, judgeSettle, standsAside, settled, step, emptyTree, replayFrom, replay, isDisputed}
@@ -98,7 +98,7 @@ pub stands-step : (k : ℕ) (t : Tree) (r : Rec) → standsAside k (t .asides) �
 stands-step k t r h =
     let P : Tree → Type 0 = λ (x : Tree). standsAside k (x .asides) ≡ true in
     step-elim P t r
-    (λ _. effect-elim P r t (λ _. h) (λ _. h) (λ _. h) (λ _. h) (λ _. stands-settled k (objectOf r) (t .asides) ∙ h))
+    (λ _. effect-elim P r t (λ _. h) (λ _. h) (λ _. h) (λ _. h) (λ _. stands-settled k (objectOf r) (t .asides) ∙ h) (λ _. h))
     (λ n m _. stands-front k (t .asides) (record { who = selfOf r; reason = n; marked = m; isOpen = true } ∷ []) h)
 
 -- an aside is closed by a settle that names it and fits, and by nothing else
@@ -106,21 +106,22 @@ pub open-step : (k : ℕ) (t : Tree) (r : Rec) → standsAside k (t .asides) ≡
 unfolding settles isSettle isFit
 open-step k t r h =
     let l : List Aside = t .asides in
-    let P : Tree → Type 0 = λ (x : Tree). openOf k (x .asides) ≡ (openOf k l && not (not (leb (op r) 5) && (eqb (objectOf r) k && isFit (judge r t)))) in
-    let other : op r ≤ 5 → openOf k l ≡ (openOf k l && not (not (leb (op r) 5) && (eqb (objectOf r) k && isFit (judge r t)))) =
-    λ o. rw (le-leb (op r) 5 o) (sym (and-right (openOf k l))) in
+    let P : Tree → Type 0 = λ (x : Tree). openOf k (x .asides) ≡ (openOf k l && not (eqb (op r) 6 && (eqb (objectOf r) k && isFit (judge r t)))) in
+    let other : (op r ≡ 6 → ⊥) → openOf k l ≡ (openOf k l && not (eqb (op r) 6 && (eqb (objectOf r) k && isFit (judge r t)))) =
+    λ o. rw (ne-eqb (op r) 6 o) (sym (and-right (openOf k l))) in
     step-elim P t r
     (λ f. effect-elim P r t
-    (λ o. other (omega arith))
-    (λ o. other (omega arith))
-    (λ o. other (omega arith))
-    (λ o. other (omega arith))
+    (λ o. other (λ z. omega arith))
+    (λ o. other (λ z. omega arith))
+    (λ o. other (λ z. omega arith))
+    (λ o. other (λ z. omega arith))
     (λ o.
-    rw (lt-leb (op r) 5 o, f)
+    rw (eq-eqb (op r) 6 o, f)
     (⊎-elim
     (λ (c : eqb (objectOf r) k ≡ true). rw (c, eqb-true (objectOf r) k c) (open-settled k l ∙ sym (and-wrong (openOf k l))))
     (λ (c : eqb (objectOf r) k ≡ false). rw c (open-others k (objectOf r) l (eqb-false (objectOf r) k c) ∙ sym (and-right (openOf k l))))
-    (bool-cases (eqb (objectOf r) k)))))
+    (bool-cases (eqb (objectOf r) k))))
+    (λ o. other (λ z. omega arith)))
     (λ n m f.
     rw (f, and-wrong, and-wrong)
     (open-front k l (record { who = selfOf r; reason = n; marked = m; isOpen = true } ∷ []) h ∙ sym (and-right (openOf k l))))
@@ -186,17 +187,17 @@ settled-again k (a ∷ l) h =
     (λ (c : eqb (a .who) k ≡ false). rw c (ap (λ (x : List Aside). a ∷ x) (settled-again k l (rw c at h))))
     (bool-cases (eqb (a .who) k))
 
-judge-settles : (r : Rec) (t : Tree) → 5 < op r → standsAside (objectOf r) (t .asides) ≡ true → judge r t ≡ fits
+judge-settles : (r : Rec) (t : Tree) → op r ≡ 6 → standsAside (objectOf r) (t .asides) ≡ true → judge r t ≡ fits
 unfolding judgeSettle
 judge-settles r t o h = judge-settle r t o ∙ rw h
 
 -- a settle that fits settles, and leaves all else
-pub step-settles : (r : Rec) (t : Tree) → 5 < op r → standsAside (objectOf r) (t .asides) ≡ true
+pub step-settles : (r : Rec) (t : Tree) → op r ≡ 6 → standsAside (objectOf r) (t .asides) ≡ true
     → step t r ≡ record { entries = t .entries; asides = settled (objectOf r) (t .asides) }
 step-settles r t o h = step-fits t r (judge-settles r t o h) ∙ effect-settle r t o
 
 -- a second settle fits and changes nothing
-pub second-settle : (r : Rec) (t : Tree) → 5 < op r → standsAside (objectOf r) (t .asides) ≡ true → openOf (objectOf r) (t .asides) ≡ false
+pub second-settle : (r : Rec) (t : Tree) → op r ≡ 6 → standsAside (objectOf r) (t .asides) ≡ true → openOf (objectOf r) (t .asides) ≡ false
     → (judge r t ≡ fits) × (step t r ≡ t)
 second-settle r t o h c = (
   judge-settles r t o h,
@@ -204,7 +205,7 @@ second-settle r t o h c = (
 )
 
 -- a record that stands aside, a settle too, can be settled
-pub settle-aside : (t : Tree) (r s : Rec) (n k : ℕ) → judge r t ≡ aside n k → 5 < op s → objectOf s ≡ selfOf r
+pub settle-aside : (t : Tree) (r s : Rec) (n k : ℕ) → judge r t ≡ aside n k → op s ≡ 6 → objectOf s ≡ selfOf r
     → (judge s (step t r) ≡ fits) × (openOf (selfOf r) (step (step t r) s .asides) ≡ false)
 settle-aside t r s n k j o e =
     let a : Aside = record { who = selfOf r; reason = n; marked = k; isOpen = true } in
@@ -213,14 +214,14 @@ settle-aside t r s n k j o e =
     (judge-settles s (step t r) o there, rw (step-settles s (step t r) o there, e) (open-settled (selfOf r) (step t r .asides)))
 
 -- a record that fitted cannot
-pub settle-fitted : (t : Tree) (r s : Rec) → judge r t ≡ fits → standsAside (selfOf r) (t .asides) ≡ false → 5 < op s → objectOf s ≡ selfOf r
+pub settle-fitted : (t : Tree) (r s : Rec) → judge r t ≡ fits → standsAside (selfOf r) (t .asides) ≡ false → op s ≡ 6 → objectOf s ≡ selfOf r
     → judge s (step t r) ≡ aside 18 0
 unfolding judgeSettle
 settle-fitted t r s j h o e =
     let none : standsAside (objectOf s) (step t r .asides) ≡ false =
     rw (step-fits t r j, e)
     (effect-elim (λ (x : Tree). standsAside (selfOf r) (x .asides) ≡ false) r t
-    (λ _. h) (λ _. h) (λ _. h) (λ _. h) (λ _. stands-settled (selfOf r) (objectOf r) (t .asides) ∙ h)) in
+    (λ _. h) (λ _. h) (λ _. h) (λ _. h) (λ _. stands-settled (selfOf r) (objectOf r) (t .asides) ∙ h) (λ _. h)) in
     judge-settle s (step t r) o ∙ rw none
 
 -- ---- disputed

@@ -8,7 +8,7 @@ use lib.Dec.{leb, eqb}
 use native.Mathlib.Omega.{arith}
 use borrow.Author.Tests.{leb-true, leb-false, eqb-true, eqb-false, le-leb, lt-leb, ne-eqb}
 use Rattle.model.specs.Record.{Rec, op, selfOf, objectOf}
-use Rattle.model.specs.Replay.{Entry, Aside, Tree, Verdict, fits, aside, isPresent, newEntry, stored, renamed, removed, changed, settled, effect, apply, judge, step, replayFrom}
+use Rattle.model.specs.Replay.{Entry, Aside, Tree, Verdict, fits, aside, isPresent, newEntry, stored, renamed, moved, removed, changed, settled, effect, apply, judge, step, replayFrom}
 use Rattle.tree_laws.specs.Replayed.{makers, Standing, standings, standing, standAside, making, makesFit}
 
 -- ---- one record
@@ -35,11 +35,14 @@ pub effect-elim {ℓ} : (P : Tree → Type ℓ) (r : Rec) (t : Tree)
     → (op r ≡ 3 → P (withEntries (changed (stored r) (objectOf r) (t .entries)) t))
     → (op r ≡ 4 → P (withEntries (changed removed (objectOf r) (t .entries)) t))
     → (op r ≡ 5 → P (withEntries (changed (renamed r) (objectOf r) (t .entries)) t))
-    → (5 < op r → P (record { entries = t .entries; asides = settled (objectOf r) (t .asides) }))
+    → (op r ≡ 6 → P (record { entries = t .entries; asides = settled (objectOf r) (t .asides) }))
+    → (6 < op r → P (withEntries (changed (moved r) (objectOf r) (t .entries)) t))
     → P (effect r t)
 unfolding effect
-effect-elim P r t a b c d e =
-    let v₅ : Tree = record { entries = t .entries; asides = settled (objectOf r) (t .asides) } in
+effect-elim P r t a b c d e f =
+    let v₆ : Tree = withEntries (changed (moved r) (objectOf r) (t .entries)) t in
+    let s : Tree = record { entries = t .entries; asides = settled (objectOf r) (t .asides) } in
+    let v₅ : Tree = cond (eqb (op r) 6) s v₆ in
     let v₄ : Tree = cond (eqb (op r) 5) (withEntries (changed (renamed r) (objectOf r) (t .entries)) t) v₅ in
     let v₃ : Tree = cond (eqb (op r) 4) (withEntries (changed removed (objectOf r) (t .entries)) t) v₄ in
     let v₂ : Tree = cond (eqb (op r) 3) (withEntries (changed (stored r) (objectOf r) (t .entries)) t) v₃ in
@@ -47,7 +50,8 @@ effect-elim P r t a b c d e =
     (λ h₂. cond-elim P (eqb (op r) 3) (withEntries (changed (stored r) (objectOf r) (t .entries)) t) v₃ (λ h. b (eqb-true (op r) 3 h))
     (λ h₃. cond-elim P (eqb (op r) 4) (withEntries (changed removed (objectOf r) (t .entries)) t) v₄ (λ h. c (eqb-true (op r) 4 h))
     (λ h₄. cond-elim P (eqb (op r) 5) (withEntries (changed (renamed r) (objectOf r) (t .entries)) t) v₅ (λ h. d (eqb-true (op r) 5 h))
-    (λ h₅. e (omega (arith, leb-false (op r) 2 h₂, eqb-false (op r) 3 h₃, eqb-false (op r) 4 h₄, eqb-false (op r) 5 h₅))))))
+    (λ h₅. cond-elim P (eqb (op r) 6) s v₆ (λ h. e (eqb-true (op r) 6 h))
+    (λ h₆. f (omega (arith, leb-false (op r) 2 h₂, eqb-false (op r) 3 h₃, eqb-false (op r) 4 h₄, eqb-false (op r) 5 h₅, eqb-false (op r) 6 h₆)))))))
 
 -- a fact of the next tree follows from the verdict's cases
 pub step-elim {ℓ} : (P : Tree → Type ℓ) (t : Tree) (r : Rec)
@@ -87,7 +91,8 @@ standings-step t r =
     (λ _. sym (append-nil (standings (t .asides))))
     (λ _. sym (append-nil (standings (t .asides))))
     (λ _. sym (append-nil (standings (t .asides))))
-    (λ _. standings-settled (objectOf r) (t .asides) ∙ sym (append-nil (standings (t .asides))))))
+    (λ _. standings-settled (objectOf r) (t .asides) ∙ sym (append-nil (standings (t .asides))))
+    (λ _. sym (append-nil (standings (t .asides))))))
     (λ n k e. rw e (standings-append (t .asides) (record { who = selfOf r; reason = n; marked = k; isOpen = true } ∷ [])))
 
 pub standings-replay : (t : Tree) (l : List Rec) → standings (replayFrom t l .asides) ≡ standings (t .asides) ++ standAside t l
@@ -115,7 +120,7 @@ makers-changed f h k (e ∷ l) =
 
 -- entries are only added, one for a make that fits
 pub makers-step : (t : Tree) (r : Rec) → makers (step t r .entries) ≡ makers (t .entries) ++ making (judge r t) r
-unfolding makers making newEntry stored removed renamed
+unfolding makers making newEntry stored removed renamed moved
 makers-step t r =
     let es : List Entry = t .entries in
     step-elim (λ (x : Tree). makers (x .entries) ≡ makers es ++ making (judge r t) r) t r
@@ -124,7 +129,8 @@ makers-step t r =
     (λ h. rw (lt-leb (op r) 2 (omega arith)) (makers-changed (stored r) (λ _. refl) (objectOf r) es ∙ sym (append-nil (makers es))))
     (λ h. rw (lt-leb (op r) 2 (omega arith)) (makers-changed removed (λ _. refl) (objectOf r) es ∙ sym (append-nil (makers es))))
     (λ h. rw (lt-leb (op r) 2 (omega arith)) (makers-changed (renamed r) (λ _. refl) (objectOf r) es ∙ sym (append-nil (makers es))))
-    (λ h. rw (lt-leb (op r) 2 (omega arith)) (sym (append-nil (makers es))))))
+    (λ h. rw (lt-leb (op r) 2 (omega arith)) (sym (append-nil (makers es))))
+    (λ h. rw (lt-leb (op r) 2 (omega arith)) (makers-changed (moved r) (λ _. refl) (objectOf r) es ∙ sym (append-nil (makers es))))))
     (λ n k e. rw e (sym (append-nil (makers es))))
 
 pub makers-replay : (t : Tree) (l : List Rec) → makers (replayFrom t l .entries) ≡ makers (t .entries) ++ makesFit t l
@@ -153,7 +159,11 @@ pub effect-rename : (r : Rec) (t : Tree) → op r ≡ 5 → effect r t ≡ withE
 unfolding effect
 effect-rename r t e = rw e
 
-pub effect-settle : (r : Rec) (t : Tree) → 5 < op r → effect r t ≡ record { entries = t .entries; asides = settled (objectOf r) (t .asides) }
+pub effect-settle : (r : Rec) (t : Tree) → op r ≡ 6 → effect r t ≡ record { entries = t .entries; asides = settled (objectOf r) (t .asides) }
 unfolding effect
-effect-settle r t h =
-    rw (lt-leb (op r) 2 (omega arith), ne-eqb (op r) 3 (λ e. omega arith), ne-eqb (op r) 4 (λ e. omega arith), ne-eqb (op r) 5 (λ e. omega arith))
+effect-settle r t e = rw e
+
+pub effect-move : (r : Rec) (t : Tree) → 6 < op r → effect r t ≡ withEntries (changed (moved r) (objectOf r) (t .entries)) t
+unfolding effect
+effect-move r t h =
+    rw (lt-leb (op r) 2 (omega arith), ne-eqb (op r) 3 (λ e. omega arith), ne-eqb (op r) 4 (λ e. omega arith), ne-eqb (op r) 5 (λ e. omega arith), ne-eqb (op r) 6 (λ e. omega arith))

@@ -55,7 +55,7 @@ act-stroke u l w = (
   where
     no-24 : (v : Verdict) → Under Reason v → reasonOf v ≡ 24 → ⊥
     no-24 fits h e = omega arith
-    no-24 (aside n k) h e = omega arith
+    no-24 (aside n k) h e = ⊎-elim (λ p. omega (arith, p .1)) (λ (q : n ≡ 25). omega arith) h
 
 -- ---- wishes without a label
 

@@ -13,7 +13,7 @@ use Rattle.byte_slice.proofs.Parts.{part-length}
 use Rattle.byte_slice.proofs.PutAt.{length-padded}
 use Rattle.model.specs.Bytes.{two, padded}
 use Rattle.model.specs.Record.{Rec, op, selfOf, objectOf, labelOf, markOf, dateBytes}
-use Rattle.model.specs.Replay.{Entry, Aside, Tree, Verdict, fits, aside, judge, isPresent, newEntry, stored, renamed, removed, changed, step, emptyTree, replayFrom, replay, presentOnes, isDisputed}
+use Rattle.model.specs.Replay.{Entry, Aside, Tree, Verdict, fits, aside, judge, isPresent, newEntry, stored, renamed, moved, removed, changed, step, emptyTree, replayFrom, replay, presentOnes, isDisputed}
 use Rattle.model.specs.Table.{identityBytes, entryRow, entryRows, asideRows, tableBytes}
 use Rattle.log_laws.specs.Members.{Has as Member}
 use Rattle.log_laws.proofs.Members.{All, all-append}
@@ -197,7 +197,7 @@ filled-changed g h k (e ∷ es) a =
     (λ _. (a .0, filled-changed g h k es (a .1)))
 
 filled-step : (t : Tree) (r : Rec) → length r ≡ 80 → All Filled (t .entries) → All Filled (step t r .entries)
-unfolding newEntry stored renamed removed dateBytes labelOf markOf
+unfolding newEntry stored renamed moved removed dateBytes labelOf markOf
 filled-step t r n a =
     let P : Tree → Type 0 = λ (x : Tree). All Filled (x .entries) in
     let d : length (dateBytes r) ≡ 4 = part-length r 28 4 (omega arith) in
@@ -209,7 +209,8 @@ filled-step t r n a =
     (λ _. filled-changed (stored r) (λ e f. (d, f .1, m)) (objectOf r) (t .entries) a)
     (λ _. filled-changed removed (λ e f. f) (objectOf r) (t .entries) a)
     (λ _. filled-changed (renamed r) (λ e f. (f .0, l, f .2)) (objectOf r) (t .entries) a)
-    (λ _. a))
+    (λ _. a)
+    (λ _. filled-changed (moved r) (λ e f. (f .0, l, f .2)) (objectOf r) (t .entries) a))
     (λ x k _. a)
 
 pub filled-replay : (t : Tree) (l : List Rec) → ((r : Rec) → Member r l → length r ≡ 80) → All Filled (t .entries) → All Filled (replayFrom t l .entries)

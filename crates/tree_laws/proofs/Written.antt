@@ -1,4 +1,4 @@
--- The label of an entry is that of its last label record, byte for byte.
+-- The label of an entry is that of its last place record, byte for byte.
 -- Assumes nothing.
 use Prim.Native.Nat.{ℕ}
 use mathlib.Core.Path.{_≡_, refl}
@@ -7,11 +7,11 @@ use mathlib.Core.Logic.{inl, inr}
 use mathlib.Core.List.{List, [], _∷_, _++_}
 use lib.Dec.{eqb}
 use Rattle.model.specs.Record.{Rec, selfOf, objectOf, labelOf}
-use Rattle.model.specs.Replay.{Entry, Tree, isPresent, newEntry, stored, renamed, removed, changed, step, emptyTree, replayFrom, replay}
+use Rattle.model.specs.Replay.{Entry, Tree, isPresent, newEntry, stored, renamed, moved, removed, changed, step, emptyTree, replayFrom, replay}
 use Rattle.tree_laws.specs.Replayed.{Has}
 use Rattle.tree_laws.proofs.Steps.{cond-elim, effect-elim, step-elim}
 
--- a record of the list ls is the entry's last label record, and has its label as it was written
+-- a record of the list ls is the entry's last place record, and has its label as it was written
 abbrev pub WrittenBy : List Rec → Entry → Type 0
 WrittenBy ls e = (s : Rec) × Has s ls × (selfOf s ≡ e .naming) × (labelOf s ≡ e .label)
 
@@ -32,7 +32,7 @@ written-changed ls g h k (e ∷ es) a =
     (λ _. (a .0, written-changed ls g h k es (a .1)))
 
 written-step : (ls : List Rec) (t : Tree) (r : Rec) → Has r ls → AllWritten ls (t .entries) → AllWritten ls (step t r .entries)
-unfolding newEntry stored renamed removed
+unfolding newEntry stored renamed moved removed
 written-step ls t r i a =
     let P : Tree → Type 0 = λ (x : Tree). AllWritten ls (x .entries) in
     step-elim P t r
@@ -41,7 +41,8 @@ written-step ls t r i a =
     (λ _. written-changed ls (stored r) (λ e b. b) (objectOf r) (t .entries) a)
     (λ _. written-changed ls removed (λ e b. b) (objectOf r) (t .entries) a)
     (λ _. written-changed ls (renamed r) (λ e b. (r, i, refl, refl)) (objectOf r) (t .entries) a)
-    (λ _. a))
+    (λ _. a)
+    (λ _. written-changed ls (moved r) (λ e b. (r, i, refl, refl)) (objectOf r) (t .entries) a))
     (λ n k _. a)
 
 written-replay : (ls : List Rec) (t : Tree) (l : List Rec) → ((r : Rec) → Has r l → Has r ls) → AllWritten ls (t .entries) → AllWritten ls (replayFrom t l .entries)

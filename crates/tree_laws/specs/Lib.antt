@@ -1,1 +1,4 @@
 pub mod Replayed
+pub mod Before
+pub mod Roots
+pub mod Places

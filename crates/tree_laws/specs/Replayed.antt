@@ -68,9 +68,9 @@ makesFit t (r ∷ l) = making (judge r t) r ++ makesFit (step t r) l
 
 -- ---- settling
 
--- the operation is settle: none of 1 to 5
+-- the operation is settle
 unfoldable pub isSettle : Rec → Bool
-isSettle r = not (leb (op r) 5)
+isSettle r = eqb (op r) 6
 
 -- the aside k is open; false where no aside k stands
 unfoldable pub openOf : ℕ → List Aside → Bool

@@ -1,3 +1,4 @@
 pub mod Places
 pub mod Working
 pub mod Labels
+pub mod Below

@@ -2,7 +2,7 @@
 ghost use mathlib.Core.Path.{_≡_};
 ghost use Prim.Native.Nat.{_+_, _*_, _<_};
 ghost use lib.ListN.{length, getD};
-ghost use Rattle.model.specs.Replay.{entryOf, isIn, holderOf};
+ghost use Rattle.model.specs.Replay.{entryOf, isIn, holderOf, isBelow};
 ghost use Rattle.tree_table.specs.Rows.{entryIn, entriesFrom, rowIn, InRange};
 ghost use Rattle.tree_maps.specs.Keys.{slotOf};
 ghost use Rattle.tree_lookup.specs.Roles.{holdsAt, earlierOf, Holds};
@@ -90,4 +90,29 @@ pub fn holder(table: &[u8], register: &[u16], size: Size, k: u32, f: u32, label:
         q = hash_chains::node_behind(register, q);
     }
     best
+}
+
+// The folder f is the entry k or lies below it. The way up ends after as many steps as there are entries and one.
+pub fn is_below(table: &[u8], register: &[u16], size: Size, k: u32, f: u32) -> bool
+    requires { ⌜ Holds (now table) (now register) (size .entries) (size .asides) ⌝ }
+    ensures { λ r. ⌜ r ≡ isBelow k f (entriesFrom (now (table .entry)) 0 (size .entries)) ⌝ }
+{
+    let n = size.entries;
+    let mut steps = n + 1;
+    let mut at = f;
+    while 0 < steps {
+        if at == k {
+            return true;
+        }
+        if !tree_maps::has_slot(at) {
+            return false;
+        }
+        let row = entry_of(table, register, size, at);
+        if n <= row {
+            return false;
+        }
+        at = tree_table::inside_at(table, row);
+        steps -= 1;
+    }
+    false
 }

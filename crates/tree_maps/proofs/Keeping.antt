@@ -8,13 +8,13 @@ use mathlib.Core.Bool.{true, false}
 use mathlib.Core.List.{List, [], _∷_, _++_}
 use lib.Dec.{eqb}
 use lib.ListN.{getD, length, set, length-set}
-use lib.Seq.{getD-set-same, getD-set-other}
+use lib.Seq.{getD-set-same, getD-set-other, set-set}
 use Rattle.model.specs.Replay.{Entry, isPresent, isIn}
 use Rattle.byte_slice.proofs.Numbers.{eq-or-ne, not-both}
 use Rattle.tree_table.specs.Rows.{InRange}
 use Rattle.hash_chains.specs.Chains.{nodesIn, rowAt, popped, Chains}
 use Rattle.hash_chains.proofs.Links.{kept-nodes, kept-chains, kept-found, kept-rows, pushed-cell, pushed-long, pushed-nodes, pushed-chains, pushed-new, pushed-found, pushed-rows, popped-cell, popped-long, popped-nodes, popped-chains, popped-found, popped-rows}
-use Rattle.tree_maps.specs.Keys.{slotOf, hashOf, chainOf, countedUp, countedDown, entered, relabelled, left, Keyed}
+use Rattle.tree_maps.specs.Keys.{slotOf, hashOf, chainOf, countedUp, countedDown, entered, relabelled, left, shifted, Keyed}
 use Rattle.tree_maps.proofs.Counts.{slot-low, hash-low, count-long, count-low, count-high, up-at, down-at, one, children-more, children-set, present-in, absent-in, same-in}
 
 chain-low : (e : Entry) → chainOf e < 512
@@ -177,6 +177,47 @@ module _ (l : List ℕ) (n : ℕ) (es : List Entry) (w : Keyed l n es) where
             (eq-or-ne j i);
       }
 
+-- ---- an entry moves
+
+module _ (l : List ℕ) (n : ℕ) (es : List Entry) (w : Keyed l n es) where
+  -- the absent entry in row i comes to its folder
+  keyed-entered : (i : ℕ) (e d : Entry) → i < length es → i < n → isPresent (getD es i d) ≡ false → isPresent e ≡ true → nodesIn l < 512
+      → Keyed (entered l (e .inside) (e .label) i) n (set es i e)
+  unfolding entered countedUp chainOf
+  keyed-entered i e d h fit gone p room =
+      let f = e .inside in
+      let a = hashOf f (e .label) in
+      let m = countedUp l f in
+      let c = w .chains in
+      let v = getD l (4096 + slotOf f) 0 + 1 in
+      let same = count-high l f v in
+      let cm : Chains m = kept-chains l m c same (count-long l f v) in
+      let rm : nodesIn m < 512 = rw (kept-nodes l m c same) room in
+      let low : a < 512 = hash-low f (e .label) in
+      record {
+        chains = pushed-chains m a i cm rm low;
+        rows = pushed-rows m a i cm rm low n fit (kept-rows l m c same n (w .rows));
+        counted = λ k r.
+            let s = slot-low k r in
+            let o = getD es i d in
+            let y : one (isIn k o) ≡ 0 = ap one (absent-in k o gone) in
+            pushed-cell m a i (4096 + slotOf k) (λ z. omega arith) (λ z. omega arith) (λ z. omega arith) (λ z. omega arith)
+            ∙ up-at l f k (c .long) r
+            ∙ omega (arith, w .counted k r, children-set k es i e d h, ap one (present-in k e p));
+        kept = λ j d2 g y.
+            ⊎-elim
+            (λ (z : j ≡ i).
+            let at : getD (set es i e) j d2 ≡ e = rw z (getD-set-same es i e d2 h) in
+            rw (at, z) (pushed-new m a i cm rm low))
+            (λ (z : j ≡ i → ⊥).
+            let at : getD (set es i e) j d2 ≡ getD es j d2 = getD-set-other es i j e d2 z in
+            let o = getD es j d2 in
+            rw at
+            (pushed-found m a i cm rm low (chainOf o) j (chain-low o)
+            (kept-found l m c same (chainOf o) j (chain-low o) (w .kept j d2 g (rw at at y)))))
+            (eq-or-ne j i);
+      }
+
 -- ---- the rest of the register
 
 pub role-nodes : (l : List ℕ) (s v : ℕ) → s < 4096 → nodesIn (set l s v) ≡ nodesIn l
@@ -242,6 +283,61 @@ module _ (l : List ℕ) (f : ℕ) (t : List ℕ) (row : ℕ) where
         let low = hash-low f old in
         let e : nodesIn (popped l a row) ≡ nodesIn l = popped-nodes l a row c low in
         pushed-nodes (popped l a row) (hashOf f t) row (popped-chains l a row c low) (rw e room) (hash-low f t) ∙ rw e
+
+-- ---- a move: leave, then enter
+
+module _ (l : List ℕ) (f : ℕ) (old : List ℕ) (g : ℕ) (t : List ℕ) (row : ℕ) where
+  left-chains : Chains l → Chains (left l f old row)
+  unfolding left countedDown
+  left-chains c =
+      let x = popped l (hashOf f old) row in
+      let v = getD x (4096 + slotOf f) 0 - 1 in
+      kept-chains x (countedDown x f) (popped-chains l (hashOf f old) row c (hash-low f old)) (count-high x f v) (count-long x f v)
+
+  pub shifted-role : (i : ℕ) → i < 4096 → getD (shifted l f old g t row) i 0 ≡ getD l i 0
+  unfolding shifted
+  shifted-role i h = entered-role (left l f old row) g t row i h ∙ left-role l f old row i h
+
+  pub shifted-long : length (shifted l f old g t row) ≡ length l
+  unfolding shifted
+  shifted-long = entered-long (left l f old row) g t row ∙ left-long l f old row
+
+  pub shifted-nodes : Chains l → nodesIn l < 512 → nodesIn (shifted l f old g t row) ≡ nodesIn l + 1
+  unfolding shifted
+  shifted-nodes c room =
+      let e : nodesIn (left l f old row) ≡ nodesIn l = left-nodes l f old row c in
+      entered-nodes (left l f old row) g t row (left-chains c) (rw e room) ∙ rw e
+
+  -- what `shift` is asked
+  module _ (m : List ℕ) (e : m ≡ left l f old row) (c : Chains l) where
+    pub leave-chains : Chains m
+    leave-chains = rw e (left-chains c)
+
+    pub leave-room : nodesIn l < 512 → nodesIn m < 512
+    leave-room room = rw (e, left-nodes l f old row c) room
+
+    pub leave-count : (InRange g → getD l (4096 + slotOf g) 0 < 512) → InRange g → getD m (4096 + slotOf g) 0 < 512
+    unfolding left
+    leave-count u r =
+        let x = popped l (hashOf f old) row in
+        let s = slot-low g r in
+        let q : getD x (4096 + slotOf g) 0 ≡ getD l (4096 + slotOf g) 0 = popped-cell l (hashOf f old) row (4096 + slotOf g) (λ z. omega arith) in
+        let long : length x ≡ 9729 = popped-long l (hashOf f old) row ∙ c .long in
+        let y : getD m (4096 + slotOf g) 0 ≡ getD x (4096 + slotOf g) 0 - one (eqb f g) = rw e (down-at x f g long r) in
+        omega (arith, u r)
+
+-- the entry in row i goes to another folder under another label
+pub keyed-shifted : (l : List ℕ) (n : ℕ) (es : List Entry) → Keyed l n es → (i : ℕ) (gone e d : Entry) (f : ℕ) (old : List ℕ) → i < length es → i < n
+    → isPresent (getD es i d) ≡ true → isPresent gone ≡ false → isPresent e ≡ true → f ≡ getD es i d .inside → nodesIn l < 512
+    → Keyed (shifted l f old (e .inside) (e .label) i) n (set es i e)
+unfolding shifted
+keyed-shifted l n es w i gone e d f old h fit here g p q room =
+    let c = w .chains in
+    let v = keyed-left l n es w i gone d f old h here g q in
+    let x = set es i gone in
+    let at : isPresent (getD x i d) ≡ false = rw (getD-set-same es i gone d h) g in
+    rw (← set-set es i gone e)
+    (keyed-entered (left l f old i) n x v i e d (omega (arith, length-set es i gone)) fit at p (rw (left-nodes l f old i c) room))
 
 -- ---- what the functions are asked, over plain values
 

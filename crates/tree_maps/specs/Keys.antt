@@ -77,6 +77,10 @@ relabelled l f old t row = pushed (popped l (hashOf f old) row) (hashOf f t) row
 unfoldable pub left : List ℕ → ℕ → List ℕ → ℕ → List ℕ
 left l f t row = countedDown (popped l (hashOf f t) row) f
 
+-- an entry leaves the folder f and goes to the folder g under another label
+unfoldable pub shifted : List ℕ → ℕ → List ℕ → ℕ → List ℕ → ℕ → List ℕ
+shifted l f old g t row = entered (left l f old row) g t row
+
 -- the register of n entries
 pub record Keyed (l : List ℕ) (n : ℕ) (es : List Entry) : Type 0 where
   pub chains : Chains l

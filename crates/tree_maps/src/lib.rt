@@ -5,7 +5,7 @@ ghost use lib.ListN.{length, getD};
 ghost use Rattle.model.specs.Bytes.{long};
 ghost use Rattle.tree_table.specs.Rows.{InRange};
 ghost use Rattle.hash_chains.specs.Chains.{nodesIn, Chains};
-ghost use Rattle.tree_maps.specs.Keys.{slotOf, coarse, mixed, hashOf, hasSlot, countedUp, countedDown, entered, relabelled, left};
+ghost use Rattle.tree_maps.specs.Keys.{slotOf, coarse, mixed, hashOf, hasSlot, countedUp, countedDown, entered, relabelled, left, shifted};
 
 // The slot of an identity.
 pub fn slot(k: u32) -> usize
@@ -148,4 +148,13 @@ pub fn leave(register: &mut [u16], f: u32, label: &[u8], row: usize)
     let h = hash(f, label);
     hash_chains::pop(register, h, row);
     count_down(register, f);
+}
+
+// The entry in a row leaves the folder f and goes to the folder g under another label.
+pub fn shift(register: &mut [u16], f: u32, old: &[u8], g: u32, label: &[u8], row: usize)
+    requires { ⌜ Chains (now register) × (InRange f → 1 ≤ getD (now register) (4096 + slotOf f) 0) × (InRange g → getD (now register) (4096 + slotOf g) 0 < 512) × (nodesIn (now register) < 512) × (length (now old) ≡ 32) × (length (now label) ≡ 32) × (row < 512) ⌝ }
+    ensures { λ _. ⌜ now (register .exit) ≡ shifted (now (register .entry)) f (now (old .entry)) g (now (label .entry)) row ⌝ }
+{
+    leave(register, f, old, row);
+    enter(register, g, label, row);
 }

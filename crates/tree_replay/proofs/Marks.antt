@@ -9,7 +9,7 @@ use mathlib.Core.List.{List, [], _∷_}
 use lib.Dec.{leb, eqb}
 use borrow.Author.Tests.{ne-eqb}
 use Rattle.model.specs.Record.{Rec, op, objectOf, folderOf, labelOf}
-use Rattle.model.specs.Replay.{Entry, Tree, Verdict, fits, aside, isPresent, isHolder, entryOf, holderOf, hasEntries, standsAside, unseen, freeLabel, judgeMakeIn, judgeMake, judgeStore, judgeRemove, judgeRename, judgeSettle, judge}
+use Rattle.model.specs.Replay.{Entry, Tree, Verdict, fits, aside, isPresent, isHolder, entryOf, holderOf, hasEntries, standsAside, unseen, freeLabel, andThen, isFolder, folderStands, isBelow, judgePlace, judgeMake, judgeStore, judgeRemove, judgeRename, judgeMove, judgeSettle, judge}
 use Rattle.tree_laws.proofs.Steps.{cond-elim}
 use Rattle.tree_table.specs.Rows.{InRange, Proper, AllProper}
 use Rattle.tree_judge.specs.Judged.{verdictOf}
@@ -43,18 +43,25 @@ free-mark (some e) h = inr (h .range)
 mark-if : (b : Bool) (x y : Verdict) → MarkFits x → MarkFits y → MarkFits (cond b x y)
 mark-if b x y p q = cond-elim (λ (v : Verdict). MarkFits v) b x y (λ _. p) (λ _. q)
 
-make-in-mark : (r : Rec) (es : List Entry) (o : Option Entry) → AllProper es → Found o → MarkFits (judgeMakeIn r es o)
-unfolding judgeMakeIn
-make-in-mark r es none p h = inl refl
-make-in-mark r es (some f) p h =
-    mark-if (eqb (f .kind) 1) (freeLabel (holderOf 0 (folderOf r) (labelOf r) es)) (aside 14 (f .made))
-    (free-mark (holderOf 0 (folderOf r) (labelOf r) es) (holder-found 0 (folderOf r) (labelOf r) es p)) (inr (h .range))
+then-mark : (x y : Verdict) → MarkFits x → MarkFits y → MarkFits (andThen x y)
+unfolding andThen
+then-mark fits y p q = q
+then-mark (aside n k) y p q = p
+
+is-mark : (o : Option Entry) → Found o → MarkFits (isFolder o)
+unfolding isFolder
+is-mark none h = inl refl
+is-mark (some f) h = mark-if (eqb (f .kind) 1) fits (aside 14 (f .made)) tt (inr (h .range))
+
+stands-mark : (f : ℕ) (es : List Entry) → AllProper es → MarkFits (folderStands f es)
+unfolding folderStands
+stands-mark f es p = mark-if (eqb f 0) fits (isFolder (entryOf f es)) tt (is-mark (entryOf f es) (entry-found f es p))
 
 make-mark : (r : Rec) (es : List Entry) → AllProper es → MarkFits (judgeMake r es)
 unfolding judgeMake
 make-mark r es p =
-    mark-if (eqb (folderOf r) 0) (freeLabel (holderOf 0 0 (labelOf r) es)) (judgeMakeIn r es (entryOf (folderOf r) es))
-    (free-mark (holderOf 0 0 (labelOf r) es) (holder-found 0 0 (labelOf r) es p)) (make-in-mark r es (entryOf (folderOf r) es) p (entry-found (folderOf r) es p))
+    let o = holderOf 0 (folderOf r) (labelOf r) es in
+    then-mark (folderStands (folderOf r) es) (freeLabel o) (stands-mark (folderOf r) es p) (free-mark o (holder-found 0 (folderOf r) (labelOf r) es p))
 
 store-mark : (r : Rec) (o : Option Entry) → Found o → MarkFits (judgeStore r o)
 unfolding judgeStore
@@ -78,6 +85,20 @@ rename-mark r es (some e) p h =
     mark-if (unseen r (e .naming)) (aside 17 (e .made)) (freeLabel (holderOf (e .made) (e .inside) (labelOf r) es)) (inr (h .range))
     (free-mark (holderOf (e .made) (e .inside) (labelOf r) es) (holder-found (e .made) (e .inside) (labelOf r) es p))
 
+place-mark : (r : Rec) (es : List Entry) (e : Entry) → AllProper es → Proper e → MarkFits (judgePlace r es e)
+unfolding judgePlace
+place-mark r es e p h =
+    let o = holderOf (e .made) (folderOf r) (labelOf r) es in
+    mark-if (isBelow (e .made) (folderOf r) es) (aside 25 (e .made)) (freeLabel o) (inr (h .range))
+    (free-mark o (holder-found (e .made) (folderOf r) (labelOf r) es p))
+
+move-mark : (r : Rec) (es : List Entry) (o : Option Entry) → AllProper es → Found o → MarkFits (judgeMove r es o)
+unfolding judgeMove
+move-mark r es none p h = inl refl
+move-mark r es (some e) p h =
+    mark-if (unseen r (e .naming)) (aside 17 (e .made)) (andThen (folderStands (folderOf r) es) (judgePlace r es e)) (inr (h .range))
+    (then-mark (folderStands (folderOf r) es) (judgePlace r es e) (stands-mark (folderOf r) es p) (place-mark r es e p h))
+
 settle-mark : (r : Rec) (t : Tree) → MarkFits (judgeSettle r (t .asides))
 unfolding judgeSettle
 settle-mark r t = mark-if (standsAside (objectOf r) (t .asides)) fits (aside 18 0) tt (inl refl)
@@ -88,14 +109,16 @@ judge-mark r t p =
     let es = t .entries in
     let o = entryOf (objectOf r) es in
     let q = entry-found (objectOf r) es p in
-    let v4 = judgeSettle r (t .asides) in
+    let v5 = judgeMove r es o in
+    let v4 = cond (eqb (op r) 6) (judgeSettle r (t .asides)) v5 in
     let v3 = cond (eqb (op r) 5) (judgeRename r es o) v4 in
     let v2 = cond (eqb (op r) 4) (judgeRemove r es o) v3 in
     let v1 = cond (eqb (op r) 3) (judgeStore r o) v2 in
     mark-if (leb (op r) 2) (judgeMake r es) v1 (make-mark r es p)
     (mark-if (eqb (op r) 3) (judgeStore r o) v2 (store-mark r o q)
     (mark-if (eqb (op r) 4) (judgeRemove r es o) v3 (remove-mark r es o q)
-    (mark-if (eqb (op r) 5) (judgeRename r es o) v4 (rename-mark r es o p q) (settle-mark r t))))
+    (mark-if (eqb (op r) 5) (judgeRename r es o) v4 (rename-mark r es o p q)
+    (mark-if (eqb (op r) 6) (judgeSettle r (t .asides)) v5 (settle-mark r t) (move-mark r es o p q)))))
 
 pub marked-fits : (r : Rec) (t : Tree) (n k : ℕ) → AllProper (t .entries) → verdictOf n k ≡ judge r t → (n ≡ 0 → ⊥) → (k ≡ 0) ⊎ InRange k
 unfolding verdictOf

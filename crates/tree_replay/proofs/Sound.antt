@@ -54,6 +54,7 @@ formed-asks r e h =
     record {
       long = well-length r e;
       known = well-head r e .op-from;
+      to = well-head r e .op-to;
       folder = λ g.
           ⊎-elim (λ (z : folderOf r ≡ root). inl z) (λ (z : Named r 24 × (folderOf r ≡ root → ⊥)). inr (named-range r 24 (z .0) h)) (folder-root-or-named r e g);
       object = λ g. named-range r 20 (object-named r e g .0) h;

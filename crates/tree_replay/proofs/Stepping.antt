@@ -10,7 +10,7 @@ use lib.Dec.{eqb}
 use lib.ListN.{length, length-append}
 use borrow.Author.Tests.{ne-eqb}
 use Rattle.model.specs.Record.{Rec, selfOf, objectOf}
-use Rattle.model.specs.Replay.{Entry, Aside, Tree, fits, aside, isPresent, changed, settled, newEntry, stored, renamed, removed, judge, effect, apply, step}
+use Rattle.model.specs.Replay.{Entry, Aside, Tree, fits, aside, isPresent, changed, settled, newEntry, stored, renamed, moved, removed, judge, effect, apply, step}
 use Rattle.tree_laws.proofs.Steps.{cond-elim, effect-elim, step-elim}
 use Rattle.tree_table.specs.Rows.{treeIn, asidesFrom, newAside, InRange}
 use Rattle.tree_lookup.specs.Roles.{rowFrom, noteFrom, rowOf, noteOf, roleOf, Works, Holds}
@@ -67,7 +67,8 @@ step-grows t r =
     (λ _.
     effect-elim (λ (u : Tree). Grows t u) r t (λ _. (omega (arith, length-append es (newEntry r ∷ [])), omega arith))
     (λ _. (omega (arith, length-changed (stored r) (objectOf r) es), omega arith)) (λ _. (omega (arith, length-changed removed (objectOf r) es), omega arith))
-    (λ _. (omega (arith, length-changed (renamed r) (objectOf r) es), omega arith)) (λ _. (omega arith, omega (arith, length-settled (objectOf r) l))))
+    (λ _. (omega (arith, length-changed (renamed r) (objectOf r) es), omega arith)) (λ _. (omega arith, omega (arith, length-settled (objectOf r) l)))
+    (λ _. (omega (arith, length-changed (moved r) (objectOf r) es), omega arith)))
     (λ n k _. (omega arith, omega (arith, length-append l (record { who = selfOf r; reason = n; marked = k; isOpen = true } ∷ []))))
 
 same-role : (k : ℕ) (t u : Tree) → rowOf k u ≡ rowOf k t → noteOf k u ≡ noteOf k t → roleOf k u ≡ roleOf k t
@@ -75,7 +76,7 @@ unfolding roleOf
 same-role k t u p q = rw (p, q)
 
 pub step-role : (k : ℕ) (t : Tree) (r : Rec) → (selfOf r ≡ k → ⊥) → roleOf k (step t r) ≡ roleOf k t
-unfolding rowOf noteOf stored removed renamed newEntry
+unfolding rowOf noteOf stored removed renamed moved newEntry
 step-role k t r h =
     let es = t .entries in
     let l = t .asides in
@@ -85,7 +86,8 @@ step-role k t r h =
     (λ _. same-role k t _ (row-changed (stored r) (λ e. refl) k 0 (objectOf r) es) refl)
     (λ _. same-role k t _ (row-changed removed (λ e. refl) k 0 (objectOf r) es) refl)
     (λ _. same-role k t _ (row-changed (renamed r) (λ e. refl) k 0 (objectOf r) es) refl)
-    (λ _. same-role k t _ refl (note-settled k 0 (objectOf r) l)))
+    (λ _. same-role k t _ refl (note-settled k 0 (objectOf r) l))
+    (λ _. same-role k t _ (row-changed (moved r) (λ e. refl) k 0 (objectOf r) es) refl))
     (λ n m _. same-role k t _ refl (note-more k 0 l (record { who = selfOf r; reason = n; marked = m; isOpen = true }) h))
 
 -- ---- what `step` is asked, over plain values

@@ -10,11 +10,11 @@ use mathlib.Core.List.{List, [], _∷_, _++_, append-assoc, append-nil}
 use lib.ListN.{length, set, length-append}
 use Rattle.model.specs.Bytes.{two, part, putAt}
 use Rattle.model.specs.Record.{Rec, op, selfOf, folderOf, dateBytes, labelOf, markOf}
-use Rattle.model.specs.Replay.{Entry, Aside, newEntry, stored, renamed, removed}
+use Rattle.model.specs.Replay.{Entry, Aside, newEntry, stored, renamed, moved, removed}
 use Rattle.model.specs.Table.{identityBytes, entryRow, asideRow}
 use Rattle.byte_slice.proofs.Parts.{part-length, part-split}
 use Rattle.byte_slice.proofs.PutAt.{put-whole, put-in-front, put-in-back, put-more, sets-put}
-use Rattle.tree_table.specs.Rows.{newAside, newRow, storedRow, renamedRow, InRange, Proper}
+use Rattle.tree_table.specs.Rows.{newAside, newRow, storedRow, renamedRow, movedRow, InRange, Proper}
 
 -- a field in the place of another of its length
 pub put-field : (p f q x : List ℕ) (n : ℕ) → length p ≡ n → length x ≡ length f → putAt (p ++ (f ++ q)) n x ≡ p ++ (x ++ q)
@@ -90,6 +90,16 @@ module _ (r : Rec) (n : length r ≡ 80) where
       let w = p .label-long in
       put-two head (identityBytes (e .naming)) (e .date) (e .label) (e .mark) x (labelOf r) 16 24 refl refl (omega arith) (label-length ∙ sym w)
 
+  pub move-entry : (d : ℕ) (e : Entry) → Proper e → movedRow (entryRow d e) r ≡ entryRow d (moved r e)
+  unfolding movedRow entryRow renamed moved identityBytes
+  move-entry d e p =
+      let head : List ℕ = (e .kind ∷ d ∷ 0 ∷ 0 ∷ []) ++ identityBytes (e .made) in
+      let tail : List ℕ = identityBytes (e .contents) ++ (identityBytes (e .naming) ++ (e .date ++ (e .label ++ e .mark))) in
+      let x : List ℕ = identityBytes (folderOf r) in
+      let g : Entry = record { made = e .made; kind = e .kind; inside = folderOf r; label = e .label; contents = e .contents; date = e .date; mark = e .mark; naming = e .naming } in
+      let q : Proper g = record { range = p .range; date-long = p .date-long; label-long = p .label-long; mark-long = p .mark-long } in
+      ap (λ (l : List ℕ). renamedRow l r) (put-field head (identityBytes (e .inside)) tail x 8 refl refl) ∙ rename-entry d g q
+
   -- a whole row, its fields written one after another
   pub new-row : (row : List ℕ) → length row ≡ 72 → newRow row r ≡ entryRow 0 (newEntry r)
   unfolding newRow entryRow newEntry identityBytes
@@ -119,6 +129,10 @@ module _ (r : Rec) (n : length r ≡ 80) where
   pub renamed-proper : (e : Entry) → Proper e → Proper (renamed r e)
   unfolding renamed
   renamed-proper e h = record { range = h .range; date-long = h .date-long; label-long = label-length; mark-long = h .mark-long }
+
+pub moved-proper : (r : Rec) → length r ≡ 80 → (e : Entry) → Proper e → Proper (moved r e)
+unfolding moved
+moved-proper r n e h = record { range = h .range; date-long = h .date-long; label-long = label-length r n; mark-long = h .mark-long }
 
 pub removed-proper : (e : Entry) → Proper e → Proper (removed e)
 unfolding removed

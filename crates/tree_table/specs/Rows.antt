@@ -102,3 +102,7 @@ storedRow row r = putAt (putAt (putAt row 12 (identityBytes (selfOf r))) 20 (dat
 -- the row of an entry after a rename
 unfoldable pub renamedRow : List ℕ → Rec → List ℕ
 renamedRow row r = putAt (putAt row 16 (identityBytes (selfOf r))) 24 (labelOf r)
+
+-- the row of an entry after a move: its folder, and then as after a rename
+unfoldable pub movedRow : List ℕ → Rec → List ℕ
+movedRow row r = renamedRow (putAt row 8 (identityBytes (folderOf r))) r

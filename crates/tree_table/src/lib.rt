@@ -5,7 +5,7 @@ ghost use lib.ListN.{length};
 ghost use Rattle.model.specs.Bytes.{putAt};
 ghost use Rattle.model.specs.Record.{identityAt, selfOf, objectOf, folderOf};
 ghost use Rattle.model.specs.Table.{identityBytes, asideRow};
-ghost use Rattle.tree_table.specs.Rows.{entryIn, newAside, newRow, storedRow, renamedRow};
+ghost use Rattle.tree_table.specs.Rows.{entryIn, newAside, newRow, storedRow, renamedRow, movedRow};
 
 // How many rows of entries and of asides a table has.
 pub struct Size {
@@ -127,6 +127,15 @@ pub fn rename_row(row: &mut [u8], rec: &[u8])
 {
     put_identity(row, 16, self_of(rec));
     byte_slice::put(row, 24, &rec[32..64]);
+}
+
+// A row after a move.
+pub fn move_row(row: &mut [u8], rec: &[u8])
+    requires { ⌜ (length (now row) ≡ 72) × (length (now rec) ≡ 80) × (selfOf (now rec) < 524288) × (folderOf (now rec) < 524288) ⌝ }
+    ensures { λ _. ⌜ now (row .exit) ≡ movedRow (now (row .entry)) (now (rec .entry)) ⌝ }
+{
+    put_identity(row, 8, folder_of(rec));
+    rename_row(row, rec);
 }
 
 // The row of a record that stands aside.

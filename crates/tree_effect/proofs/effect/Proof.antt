@@ -1,9 +1,9 @@
 use native.Mathlib.Omega.{arith}
-use Rattle.tree_effect.proofs.Effects.{effect-make, effect-store, effect-remove, effect-rename, effect-settle}
+use Rattle.tree_effect.proofs.Effects.{effect-make, effect-store, effect-remove, effect-rename, effect-settle, effect-move, is-move}
 use borrow.Author.Needs.{needs}
 use Rattle.tree_effect.proofs.effect.Statement.{statement}
 use Rattle.tree_effect.proofs.effect.Tie as tie
-use Rattle.tree_effect.proofs.Registers.{make-turns, store-turns, remove-turns, rename-turns, settle-turns}
+use Rattle.tree_effect.proofs.Registers.{make-turns, store-turns, remove-turns, rename-turns, settle-turns, move-turns}
 
 shared-slice-read-op : tie.Need-shared-slice-read-op
 shared-slice-read-op c = search needs
@@ -31,6 +31,9 @@ rename-requires c κs = search needs
 
 settle-requires : tie.Need-settle-requires
 settle-requires c κs = search needs
+
+move-entry-requires : tie.Need-move-entry-requires
+move-entry-requires c κs = (search, search, search, search, search (is-move))
 
 same-length-3 : tie.Need-same-length-3
 same-length-3 c = search needs
@@ -68,6 +71,15 @@ same-length-10 c = search needs
 returns-5 : tie.Need-returns-5
 returns-5 c = (search (effect-settle), omega arith, search (settle-turns))
 
+same-length-11 : tie.Need-same-length-11
+same-length-11 c = search needs
+
+same-length-12 : tie.Need-same-length-12
+same-length-12 c = search needs
+
+returns-6 : tie.Need-returns-6
+returns-6 c = (search (effect-move, is-move), omega arith, search (move-turns, is-move))
+
 pub effect-spec : {M : Type 1} → statement M
 effect-spec =
     tie.close
@@ -81,6 +93,7 @@ effect-spec =
     remove-requires
     rename-requires
     settle-requires
+    move-entry-requires
     same-length-3
     same-length-4
     returns-2
@@ -92,4 +105,7 @@ effect-spec =
     returns-4
     same-length-9
     same-length-10
-    returns-5)
+    returns-5
+    same-length-11
+    same-length-12
+    returns-6)

@@ -1,4 +1,4 @@
-use Rattle.tree_judge.proofs.Reasons.{object-range, judged-make, judged-store, judged-remove, judged-rename, judged-settle}
+use Rattle.tree_judge.proofs.Reasons.{object-range, judged-make, judged-store, judged-remove, judged-rename, judged-settle, judged-move, is-move}
 use Rattle.tree_lookup.proofs.Working.{works-long}
 use native.Mathlib.Omega.{arith}
 use borrow.Author.Needs.{needs}
@@ -32,6 +32,9 @@ judge-rename-requires c κs = search needs
 judge-settle-requires : tie.Need-judge-settle-requires
 judge-settle-requires c κs = (search (object-range), search)
 
+judge-move-requires : tie.Need-judge-move-requires
+judge-move-requires c κs = (search, search (is-move), search)
+
 returns-2 : tie.Need-returns-2
 returns-2 c = search (judged-store)
 
@@ -43,6 +46,9 @@ returns-4 c = search (judged-rename)
 
 returns-5 : tie.Need-returns-5
 returns-5 c = search (judged-settle, object-range)
+
+returns-6 : tie.Need-returns-6
+returns-6 c = search (judged-move, is-move)
 
 pub judge-spec : {M : Type 1} → statement M
 judge-spec =
@@ -57,7 +63,9 @@ judge-spec =
     judge-remove-requires
     judge-rename-requires
     judge-settle-requires
+    judge-move-requires
     returns-2
     returns-3
     returns-4
-    returns-5)
+    returns-5
+    returns-6)

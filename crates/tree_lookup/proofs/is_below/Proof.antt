@@ -1,0 +1,70 @@
+use mathlib.Core.Path.{_≡_}
+use Rattle.model.specs.Replay.{comesTo, isBelow}
+use Rattle.tree_table.specs.Rows.{entriesFrom}
+use Rattle.tree_lookup.proofs.Working.{works-long}
+use Rattle.tree_lookup.proofs.Below.{below-starts, below-ends, below-here, below-root, below-absent, below-goes, slot-in}
+use native.Mathlib.Omega.{arith}
+use borrow.Author.Needs.{needs}
+use Rattle.tree_lookup.proofs.is_below.Statement.{statement}
+use Rattle.tree_lookup.proofs.is_below.Tie as tie
+
+abbrev Inv-loop : tie.InvT-loop
+Inv-loop table register size k f n steps₀ at₀ steps at = comesTo steps k at (entriesFrom table 0 n) ≡ isBelow k f (entriesFrom table 0 n)
+
+abbrev μ-loop : tie.MeasureT-loop
+μ-loop table register size k f n steps₀ at₀ steps at = steps
+
+add-steps : tie.Need-add-steps Inv-loop μ-loop
+add-steps c = search needs
+
+loop-holds : tie.Need-loop-holds Inv-loop μ-loop
+loop-holds c = search (below-starts)
+
+returns : tie.Need-returns Inv-loop μ-loop
+returns c = search (below-here)
+
+has-slot-requires : tie.Need-has-slot-requires Inv-loop μ-loop
+has-slot-requires c κs = search needs
+
+returns-2 : tie.Need-returns-2 Inv-loop μ-loop
+returns-2 c = search (below-root)
+
+entry-of-requires : tie.Need-entry-of-requires Inv-loop μ-loop
+entry-of-requires c κs = (search, slot-in _ _ (c .before .has-slot .ensures) (c .if2 .left))
+
+returns-3 : tie.Need-returns-3 Inv-loop μ-loop
+returns-3 c = search (below-absent)
+
+inside-at-requires : tie.Need-inside-at-requires Inv-loop μ-loop
+inside-at-requires c κs = (search (works-long), omega arith)
+
+sub-steps : tie.Need-sub-steps Inv-loop μ-loop
+sub-steps c = search needs
+
+loop-less : tie.Need-loop-less Inv-loop μ-loop
+loop-less c = search needs
+
+loop-again : tie.Need-loop-again Inv-loop μ-loop
+loop-again c = search (below-goes)
+
+returns-4 : tie.Need-returns-4 Inv-loop μ-loop
+returns-4 c = search (below-ends)
+
+pub is-below-spec : {M : Type 1} → statement M
+is-below-spec =
+    tie.close
+    (tie.spec
+    Inv-loop
+    μ-loop
+    add-steps
+    loop-holds
+    returns
+    has-slot-requires
+    returns-2
+    entry-of-requires
+    returns-3
+    inside-at-requires
+    sub-steps
+    loop-less
+    loop-again
+    returns-4)
