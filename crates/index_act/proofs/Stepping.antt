@@ -28,7 +28,7 @@ use Rattle.keep_lent.proofs.Lent.{lent-same}
 use Rattle.index_act.specs.Inside.{Inside}
 
 nobody : Entry
-nobody = record { made = 0; kind = 0; inside = 0; label = []; contents = 0; date = []; mark = []; naming = 0 }
+nobody = record { made = 0; kind = 0; inside = 0; label = []; contents = 0; date = []; mark = []; placing = 0 }
 
 pub laid-inside : (log b register : List ℕ) (n m : ℕ) → soundLog log ≡ true → Works b register n m (replay (recordsOf log)) → Inside b n
 unfolding treeIn

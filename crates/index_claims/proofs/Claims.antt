@@ -28,7 +28,7 @@ use Rattle.index_laws.proofs.Acting.{Fit, effect-right}
 use Rattle.index_laws.proofs.Rowed.{sound-asks, sound-rowed}
 
 nobody : Entry
-nobody = record { made = 0; kind = 0; inside = 0; label = []; contents = 0; date = []; mark = []; naming = 0 }
+nobody = record { made = 0; kind = 0; inside = 0; label = []; contents = 0; date = []; mark = []; placing = 0 }
 
 apart : (l : List Rec) → Apart (replay l .entries)
 unfolding replay emptyTree

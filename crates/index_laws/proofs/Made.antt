@@ -33,7 +33,7 @@ row-made d e = refl
 row-label : (d : ℕ) (e : Entry) → Proper e → part (entryRow d e) 24 32 ≡ e .label
 unfolding entryRow identityBytes
 row-label d e p =
-    let h : List ℕ = (e .kind ∷ d ∷ 0 ∷ 0 ∷ []) ++ (identityBytes (e .made) ++ (identityBytes (e .inside) ++ (identityBytes (e .contents) ++ identityBytes (e .naming)))) in
+    let h : List ℕ = (e .kind ∷ d ∷ 0 ∷ 0 ∷ []) ++ (identityBytes (e .made) ++ (identityBytes (e .inside) ++ (identityBytes (e .contents) ++ identityBytes (e .placing)))) in
     let t : List ℕ = e .label ++ e .mark in
     let a = p .date-long in
     let c = p .label-long in

@@ -23,7 +23,7 @@ use Rattle.index_laws.specs.Copied.{indexFrom}
 use Rattle.index_laws.proofs.Made.{made-fresh, count-few}
 
 nobody : Entry
-nobody = record { made = 0; kind = 0; inside = 0; label = []; contents = 0; date = []; mark = []; naming = 0 }
+nobody = record { made = 0; kind = 0; inside = 0; label = []; contents = 0; date = []; mark = []; placing = 0 }
 
 -- ---- an index laid
 

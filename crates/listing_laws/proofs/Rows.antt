@@ -171,6 +171,6 @@ row-line d e k = let b = k .high in entry-line-length (entryRow d e) (omega arit
 pub row-lines : (t : Tree) → length (presentOnes (t .entries)) ≤ 512 → AllProper (presentOnes (t .entries)) → (i : ℕ) → i < length (presentOnes (t .entries))
     → length (entryLine (part (tableBytes t) (4 + 72 * i) 72)) ≤ 148
 row-lines t few a i h =
-    let none : Entry = record { made = 0; kind = 0; inside = 0; label = []; contents = 0; date = []; mark = []; naming = 0 } in
+    let none : Entry = record { made = 0; kind = 0; inside = 0; label = []; contents = 0; date = []; mark = []; placing = 0 } in
     let e : Entry = getD (presentOnes (t .entries)) i none in
     rw (row-at t i h few a none) (row-line (flagOf (t .asides) e) e (proper-at (presentOnes (t .entries)) i none h a .range))

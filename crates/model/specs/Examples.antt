@@ -106,7 +106,7 @@ showsEntries s (e ∷ l) [] = false
 showsEntries s (e ∷ l) (x ∷ xs) =
     (eqb (e .made) (x .0)
     && (sameBytes (e .label) (padded 32 (x .1))
-    && (eqb (e .contents) (x .2) && (eqb (e .naming) (x .3) && sameFlag (isDisputed (e .made) s) (x .4)))))
+    && (eqb (e .contents) (x .2) && (eqb (e .placing) (x .3) && sameFlag (isDisputed (e .made) s) (x .4)))))
     && showsEntries s l xs
 
 unfoldable pub showsAsides : List Aside → List Standing → Bool
@@ -125,7 +125,7 @@ sameEntry e x =
     && (eqb (e .inside) (x .inside)
     && (sameBytes (e .label) (x .label)
     && (eqb (e .contents) (x .contents)
-    && (sameBytes (e .date) (x .date) && (sameBytes (e .mark) (x .mark) && eqb (e .naming) (x .naming)))))))
+    && (sameBytes (e .date) (x .date) && (sameBytes (e .mark) (x .mark) && eqb (e .placing) (x .placing)))))))
 
 -- these entries in every field, and whether each is disputed
 abbrev pub showsWhole : List Aside → List Entry → List (Entry × Bool) → Bool
@@ -305,7 +305,7 @@ starred =
     ((1 · 1, 17, 0 · 1, true) ∷ [])
     -- 0.2 store, 1.1 remove: the trace stays, with the date and the mark of 0.2
     ∷ whole (makesTrace 3 (0 · 1) [] root A ∷ stores 4 (0 · 2) (1 ∷ []) (0 · 1) ∷ removes 5 (1 · 1) (1 ∷ []) (0 · 1) ∷ [])
-    ((record { made = 0 · 1; kind = 2; inside = root; label = padded 32 A; contents = 0 · 2; date = two 2025 ++ (3 ∷ 4 ∷ []); mark = replicate 16 (0 · 2); naming = 0 · 1 }, true) ∷ [])
+    ((record { made = 0 · 1; kind = 2; inside = root; label = padded 32 A; contents = 0 · 2; date = two 2025 ++ (3 ∷ 4 ∷ []); mark = replicate 16 (0 · 2); placing = 0 · 1 }, true) ∷ [])
     ((1 · 1, 17, 0 · 1, true) ∷ [])
     -- 0.2 remove, 1.1 store
     ∷ tree (makesTrace 3 (0 · 1) [] root A ∷ removes 4 (0 · 2) (1 ∷ []) (0 · 1) ∷ stores 5 (1 · 1) (1 ∷ []) (0 · 1) ∷ [])
@@ -514,11 +514,11 @@ further =
     ∷ removes 5 (0 · 7) (6 ∷ []) (0 · 1)
     ∷ removes 5 (0 · 8) (7 ∷ []) (0 · 2)
     ∷ [])
-    ((record { made = 0 · 3; kind = 2; inside = root; label = padded 32 A; contents = 0 · 3; date = two 2025 ++ (3 ∷ 4 ∷ []); mark = replicate 16 (0 · 3); naming = 0 · 5 }, false) ∷ [])
+    ((record { made = 0 · 3; kind = 2; inside = root; label = padded 32 A; contents = 0 · 3; date = two 2025 ++ (3 ∷ 4 ∷ []); mark = replicate 16 (0 · 3); placing = 0 · 5 }, false) ∷ [])
     ((0 · 6, 16, 0 · 2, true) ∷ [])
     ∷ whole (makesFolder 3 (0 · 1) [] root A ∷ makesTrace 4 (0 · 2) (1 ∷ []) root B ∷ moves 5 (0 · 3) (2 ∷ []) (0 · 2) (0 · 1) C ∷ [])
-    ((record { made = 0 · 1; kind = 1; inside = root; label = padded 32 A; contents = 0 · 1; date = two 2025 ++ (3 ∷ 3 ∷ []); mark = replicate 16 0; naming = 0 · 1 }, false)
-    ∷ (record { made = 0 · 2; kind = 2; inside = 0 · 1; label = padded 32 C; contents = 0 · 2; date = two 2025 ++ (3 ∷ 4 ∷ []); mark = replicate 16 (0 · 2); naming = 0 · 3 }, false)
+    ((record { made = 0 · 1; kind = 1; inside = root; label = padded 32 A; contents = 0 · 1; date = two 2025 ++ (3 ∷ 3 ∷ []); mark = replicate 16 0; placing = 0 · 1 }, false)
+    ∷ (record { made = 0 · 2; kind = 2; inside = 0 · 1; label = padded 32 C; contents = 0 · 2; date = two 2025 ++ (3 ∷ 4 ∷ []); mark = replicate 16 (0 · 2); placing = 0 · 3 }, false)
     ∷ [])
     []
     -- an unseen move stops a rename, a move and a remove, and no store

@@ -21,7 +21,7 @@ pub record Entry : Type 0 where
   pub contents : ℕ  -- the last contents record
   pub date : List ℕ  -- the date of that record
   pub mark : List ℕ  -- the content mark of that record
-  pub naming : ℕ  -- the last place record
+  pub placing : ℕ  -- the last place record
 
 -- a record that stands aside
 pub record Aside : Type 0 where
@@ -133,13 +133,13 @@ unfoldable pub judgeRemove : Rec → List Entry → Option Entry → Verdict
 judgeRemove r es none = aside noObject 0
 judgeRemove r es (some e) =
     cond (eqb (e .kind) 1 && hasEntries (e .made) es) (aside notEmpty (e .made))
-    (cond (unseen r (e .contents) || unseen r (e .naming)) (aside unseenChange (e .made)) fits)
+    (cond (unseen r (e .contents) || unseen r (e .placing)) (aside unseenChange (e .made)) fits)
 
 -- [F25]
 unfoldable pub judgeRename : Rec → List Entry → Option Entry → Verdict
 judgeRename r es none = aside noObject 0
 judgeRename r es (some e) =
-    cond (unseen r (e .naming)) (aside unseenChange (e .made)) (freeLabel (holderOf (e .made) (e .inside) (labelOf r) es))
+    cond (unseen r (e .placing)) (aside unseenChange (e .made)) (freeLabel (holderOf (e .made) (e .inside) (labelOf r) es))
 
 -- going up from the identity f, in at most n steps, one comes to the entry k
 unfoldable pub comesTo : ℕ → ℕ → ℕ → List Entry → Bool
@@ -159,7 +159,7 @@ judgePlace r es e =
 unfoldable pub judgeMove : Rec → List Entry → Option Entry → Verdict
 judgeMove r es none = aside noObject 0
 judgeMove r es (some e) =
-    cond (unseen r (e .naming)) (aside unseenChange (e .made)) (andThen (folderStands (folderOf r) es) (judgePlace r es e))
+    cond (unseen r (e .placing)) (aside unseenChange (e .made)) (andThen (folderStands (folderOf r) es) (judgePlace r es e))
 
 -- [F26]
 unfoldable pub judgeSettle : Rec → List Aside → Verdict
@@ -187,7 +187,7 @@ newEntry r =
       contents = selfOf r;
       date = dateBytes r;
       mark = markOf r;
-      naming = selfOf r;
+      placing = selfOf r;
     }
 
 -- [F17]
@@ -201,7 +201,7 @@ stored r e =
       contents = selfOf r;
       date = dateBytes r;
       mark = markOf r;
-      naming = e .naming;
+      placing = e .placing;
     }
 
 -- [F18]
@@ -215,7 +215,7 @@ renamed r e =
       contents = e .contents;
       date = e .date;
       mark = e .mark;
-      naming = selfOf r;
+      placing = selfOf r;
     }
 
 -- [F121]
@@ -229,7 +229,7 @@ moved r e =
       contents = e .contents;
       date = e .date;
       mark = e .mark;
-      naming = selfOf r;
+      placing = selfOf r;
     }
 
 unfoldable pub removed : Entry → Entry
@@ -242,7 +242,7 @@ removed e =
       contents = e .contents;
       date = e .date;
       mark = e .mark;
-      naming = e .naming;
+      placing = e .placing;
     }
 
 -- the entry k is changed

@@ -22,7 +22,7 @@ entryRow d e =
     (e .kind ∷ d ∷ 0 ∷ 0 ∷ [])
     ++ (identityBytes (e .made)
     ++ (identityBytes (e .inside)
-    ++ (identityBytes (e .contents) ++ (identityBytes (e .naming) ++ (e .date ++ (e .label ++ e .mark))))))
+    ++ (identityBytes (e .contents) ++ (identityBytes (e .placing) ++ (e .date ++ (e .label ++ e .mark))))))
 
 -- 0-3 identity, 4 reason, 5 state (1 open, 2 settled), 6-7 zero, 8-11 marked entry, or zeros for none
 unfoldable pub asideRow : Aside → List ℕ

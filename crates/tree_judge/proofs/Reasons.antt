@@ -138,7 +138,7 @@ module _ (r : Rec) (b : List ℕ) (n row : ℕ) where
     unfolding verdictOf judgeRemove
     remove-full q = rw (row-some b n row h, ← full-means, q, s)
 
-    module _ (q : t ≡ false) (c : Bool) (v : c ≡ (unseen r (entryIn b (4 + 72 * row) .contents) || unseen r (entryIn b (4 + 72 * row) .naming))) where
+    module _ (q : t ≡ false) (c : Bool) (v : c ≡ (unseen r (entryIn b (4 + 72 * row) .contents) || unseen r (entryIn b (4 + 72 * row) .placing))) where
       pub remove-unseen : c ≡ true → verdictOf 17 k ≡ judgeRemove r (entriesFrom b 0 n) (rowIn b n row)
       unfolding verdictOf judgeRemove
       remove-unseen x = rw (row-some b n row h, ← full-means, q, ← v, x, s)
@@ -152,7 +152,7 @@ module _ (r : Rec) (b : List ℕ) (n row : ℕ) where
     unfolding verdictOf judgeRename
     rename-absent h = rw (row-none b n row h)
 
-    module _ (h : row < n) (y : ℕ) (c : y ≡ entryIn b (4 + 72 * row) .naming) (t : Bool) (u : t ≡ unseen r y) where
+    module _ (h : row < n) (y : ℕ) (c : y ≡ entryIn b (4 + 72 * row) .placing) (t : Bool) (u : t ≡ unseen r y) where
       pub rename-unseen : (k : ℕ) → k ≡ entryIn b (4 + 72 * row) .made → t ≡ true → verdictOf 17 k ≡ judgeRename r es (rowIn b n row)
       unfolding verdictOf judgeRename
       rename-unseen k s g = rw (row-some b n row h, ← c, ← u, g, s)
@@ -172,7 +172,7 @@ module _ (r : Rec) (b : List ℕ) (n row : ℕ) (es : List Entry) where
   unfolding verdictOf judgeMove
   move-absent h = rw (row-none b n row h)
 
-  module _ (h : row < n) (y k : ℕ) (p : k ≡ entryIn b (4 + 72 * row) .made) (c : y ≡ entryIn b (4 + 72 * row) .naming) (t : Bool) (u : t ≡ unseen r y) where
+  module _ (h : row < n) (y k : ℕ) (p : k ≡ entryIn b (4 + 72 * row) .made) (c : y ≡ entryIn b (4 + 72 * row) .placing) (t : Bool) (u : t ≡ unseen r y) where
     pub move-unseen : t ≡ true → verdictOf 17 k ≡ judgeMove r es (rowIn b n row)
     unfolding verdictOf judgeMove
     move-unseen g = rw (row-some b n row h, ← c, ← u, g, p)
@@ -207,10 +207,10 @@ module _ (e : Entry) (l : List ℕ) where
   full-if x k c p q s u = rw (eq-eqb (e .kind) 1 (sym p ∙ q), ← s, u)
 
 module _ (e : Entry) (r : Rec) (x : ℕ) (t : Bool) (p : x ≡ e .contents) (u : t ≡ unseen r x) where
-  pub contents-unseen : t ≡ true → true ≡ (unseen r (e .contents) || unseen r (e .naming))
+  pub contents-unseen : t ≡ true → true ≡ (unseen r (e .contents) || unseen r (e .placing))
   contents-unseen g = rw (← p, ← u, g)
 
-  pub label-unseen : t ≡ false → (y : ℕ) (s : Bool) → y ≡ e .naming → s ≡ unseen r y → s ≡ (unseen r (e .contents) || unseen r (e .naming))
+  pub label-unseen : t ≡ false → (y : ℕ) (s : Bool) → y ≡ e .placing → s ≡ unseen r y → s ≡ (unseen r (e .contents) || unseen r (e .placing))
   label-unseen g y s q v = rw (← p, ← u, g, ← q) v
 
 -- ---- settle

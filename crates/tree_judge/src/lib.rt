@@ -132,12 +132,12 @@ pub fn is_full(table: &[u8], register: &[u16], row: usize) -> bool
 // The last contents or place record of the entry in a row is unseen.
 pub fn is_changed(rec: &[u8], table: &[u8], row: usize) -> bool
     requires { ⌜ (length (now rec) ≡ 80) × (length (now table) ≡ 43012) × (row < 512) ⌝ }
-    ensures { λ r. ⌜ r ≡ (unseen (now (rec .entry)) (entryIn (now (table .entry)) (4 + 72 * row) .contents) || unseen (now (rec .entry)) (entryIn (now (table .entry)) (4 + 72 * row) .naming)) ⌝ }
+    ensures { λ r. ⌜ r ≡ (unseen (now (rec .entry)) (entryIn (now (table .entry)) (4 + 72 * row) .contents) || unseen (now (rec .entry)) (entryIn (now (table .entry)) (4 + 72 * row) .placing)) ⌝ }
 {
     if is_unseen(rec, tree_table::contents_at(table, row)) {
         return true;
     }
-    is_unseen(rec, tree_table::naming_at(table, row))
+    is_unseen(rec, tree_table::placing_at(table, row))
 }
 
 // A remove of the entry in a row: 12 for no entry, 16 for a folder with entries, 17 for unseen contents or place.
@@ -183,7 +183,7 @@ pub fn judge_rename(rec: &[u8], table: &[u8], register: &[u16], size: Size, row:
     }
     let made = tree_table::made_at(table, row);
     let inside = tree_table::inside_at(table, row);
-    if is_unseen(rec, tree_table::naming_at(table, row)) {
+    if is_unseen(rec, tree_table::placing_at(table, row)) {
         return Judged {
             reason: 17,
             marked: made,
@@ -208,7 +208,7 @@ pub fn judge_move(rec: &[u8], table: &[u8], register: &[u16], size: Size, row: u
         };
     }
     let made = tree_table::made_at(table, row);
-    if is_unseen(rec, tree_table::naming_at(table, row)) {
+    if is_unseen(rec, tree_table::placing_at(table, row)) {
         return Judged {
             reason: 17,
             marked: made,

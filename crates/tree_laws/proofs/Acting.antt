@@ -31,13 +31,13 @@ use Rattle.tree_laws.proofs.Steps.{cond-elim, effect-elim, step-elim}
 -- the last contents and place records of the entries are among the identities ks
 abbrev pub Among : List ℕ → List Entry → Type 0
 Among ks [] = Unit {0}
-Among ks (e ∷ es) = (Has (e .contents) ks × Has (e .naming) ks) × Among ks es
+Among ks (e ∷ es) = (Has (e .contents) ks × Has (e .placing) ks) × Among ks es
 
-among-append : (ks : List ℕ) (es : List Entry) (n : Entry) → Among ks es → Has (n .contents) ks → Has (n .naming) ks → Among ks (es ++ (n ∷ []))
+among-append : (ks : List ℕ) (es : List Entry) (n : Entry) → Among ks es → Has (n .contents) ks → Has (n .placing) ks → Among ks (es ++ (n ∷ []))
 among-append ks [] n a p q = ((p, q), tt)
 among-append ks (e ∷ es) n a p q = (a .0, among-append ks es n (a .1) p q)
 
-among-changed : (ks : List ℕ) (g : Entry → Entry) → ((e : Entry) → Has (e .contents) ks × Has (e .naming) ks → Has (g e .contents) ks × Has (g e .naming) ks)
+among-changed : (ks : List ℕ) (g : Entry → Entry) → ((e : Entry) → Has (e .contents) ks × Has (e .placing) ks → Has (g e .contents) ks × Has (g e .placing) ks)
     → (k : ℕ) (es : List Entry) → Among ks es → Among ks (changed g k es)
 unfolding changed
 among-changed ks g h k [] a = tt
@@ -75,7 +75,7 @@ tree-names l = among-replay (selves l) emptyTree l (λ k i. i) tt
 abbrev pub HasSeen : Rec → List ℕ → Type 0
 HasSeen r ks = (k : ℕ) → Has k ks → unseen r k ≡ false
 
-among-entry : (ks : List ℕ) (k : ℕ) (es : List Entry) (e : Entry) → Among ks es → entryOf k es ≡ some e → Has (e .contents) ks × Has (e .naming) ks
+among-entry : (ks : List ℕ) (k : ℕ) (es : List Entry) (e : Entry) → Among ks es → entryOf k es ≡ some e → Has (e .contents) ks × Has (e .placing) ks
 unfolding entryOf
 among-entry ks k [] e a h = absurd (let z : _≡_ {A = ℕ} 0 1 = cc in omega arith)
 among-entry ks k (x ∷ es) e a h =
@@ -100,7 +100,7 @@ module _ (r : Rec) (ks : List ℕ) (s : HasSeen r ks) where
   remove-seen es a none q = λ e. omega arith
   remove-seen es a (some e) q =
       let b = among-entry ks (objectOf r) es e a q in
-      rw (s (e .contents) (b .0), s (e .naming) (b .1))
+      rw (s (e .contents) (b .0), s (e .placing) (b .1))
       (under-cond Not17 (eqb (e .kind) 1 && hasEntries (e .made) es) (aside 16 (e .made)) fits (λ z. omega arith) tt)
 
   rename-seen : (es : List Entry) → Among ks es → (o : Option Entry) → entryOf (objectOf r) es ≡ o → Under Not17 (judgeRename r es o)
@@ -108,14 +108,14 @@ module _ (r : Rec) (ks : List ℕ) (s : HasSeen r ks) where
   rename-seen es a none q = λ e. omega arith
   rename-seen es a (some e) q =
       let b = among-entry ks (objectOf r) es e a q in
-      rw (s (e .naming) (b .1)) (under-free Not17 (λ z. omega arith) (holderOf (e .made) (e .inside) (labelOf r) es))
+      rw (s (e .placing) (b .1)) (under-free Not17 (λ z. omega arith) (holderOf (e .made) (e .inside) (labelOf r) es))
 
   move-seen : (es : List Entry) → Among ks es → (o : Option Entry) → entryOf (objectOf r) es ≡ o → Under Not17 (judgeMove r es o)
   unfolding judgeMove
   move-seen es a none q = λ e. omega arith
   move-seen es a (some e) q =
       let b = among-entry ks (objectOf r) es e a q in
-      rw (s (e .naming) (b .1))
+      rw (s (e .placing) (b .1))
       (under-then Not17 (folderStands (folderOf r) es) (judgePlace r es e) (under-stands Not17 (λ z. omega arith) (λ z. omega arith) (folderOf r) es)
       (under-place Not17 (λ z. omega arith) (λ z. omega arith) r es e))
 

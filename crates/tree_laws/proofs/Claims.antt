@@ -108,19 +108,19 @@ unfolding replay emptyTree
 holder-is-found l s = Labels.the-holder (replay l .entries) (Labels.apart-replay emptyTree l tt) (named l s)
 
 -- a rename that has seen the last place record fits if it changes nothing but capitals and small letters
-pub own-label-fits : (l : List Rec) → soundAfter [] l ≡ true → (r : Rec) (e : Entry) → op r ≡ 5 → entryOf (objectOf r) (replay l .entries) ≡ some e → unseen r (e .naming) ≡ false
+pub own-label-fits : (l : List Rec) → soundAfter [] l ≡ true → (r : Rec) (e : Entry) → op r ≡ 5 → entryOf (objectOf r) (replay l .entries) ≡ some e → unseen r (e .placing) ≡ false
     → labelKey (labelOf r) ≡ labelKey (e .label) → judge r (replay l) ≡ fits
 unfolding replay emptyTree
 own-label-fits l s r = Labels.own-label r (replay l) (Labels.apart-replay emptyTree l tt) (named l s)
 
 -- and a rename that fits is the last place record of its object, in the bytes that it has
 pub rename-is-last : (t : Tree) (r : Rec) (e : Entry) → op r ≡ 5 → entryOf (objectOf r) (t .entries) ≡ some e → judge r t ≡ fits
-    → (x : Entry) × (entryOf (objectOf r) (step t r .entries) ≡ some x) × (x .naming ≡ selfOf r) × (x .label ≡ labelOf r)
+    → (x : Entry) × (entryOf (objectOf r) (step t r .entries) ≡ some x) × (x .placing ≡ selfOf r) × (x .label ≡ labelOf r)
 unfolding renamed
 rename-is-last t r e o q h = (renamed r e, Labels.rename-is-last r t e o q h, refl, refl)
 
 -- the label of an entry is that of a record of the log, its last place record, as it was written
-pub label-as-written : (l : List Rec) (e : Entry) → Has e (replay l .entries) → (s : Rec) × Has s l × (selfOf s ≡ e .naming) × (labelOf s ≡ e .label)
+pub label-as-written : (l : List Rec) (e : Entry) → Has e (replay l .entries) → (s : Rec) × Has s l × (selfOf s ≡ e .placing) × (labelOf s ≡ e .label)
 label-as-written = label-written
 
 -- ---- the way to the root
@@ -197,7 +197,7 @@ arrival-decides-nothing b c rs qs m p x y e f h =
 
 -- ---- P4: open, settled, disputed
 
--- a record that stands aside is open until a settle naming it fits, and settled from then on
+-- a record that stands aside is open until a settle placing it fits, and settled from then on
 pub open-until-settled : (before : List Rec) (r : Rec) (after : List Rec) (n k : ℕ)
     → soundAfter [] (before ++ (r ∷ after)) ≡ true
     → judge r (replay before) ≡ aside n k

@@ -65,12 +65,12 @@ module _ (r s : Rec) (f : SameFields r s) where
   remove-same : (es : List Entry) (o : Option Entry) → judgeRemove r es o ≡ judgeRemove s es o
   unfolding judgeRemove
   remove-same es none = refl
-  remove-same es (some e) = rw (unseen-same r s f (e .contents), unseen-same r s f (e .naming))
+  remove-same es (some e) = rw (unseen-same r s f (e .contents), unseen-same r s f (e .placing))
 
   rename-same : (es : List Entry) (o : Option Entry) → judgeRename r es o ≡ judgeRename s es o
   unfolding judgeRename
   rename-same es none = refl
-  rename-same es (some e) = rw (unseen-same r s f (e .naming), f .label-same)
+  rename-same es (some e) = rw (unseen-same r s f (e .placing), f .label-same)
 
   place-same : (es : List Entry) (e : Entry) → judgePlace r es e ≡ judgePlace s es e
   unfolding judgePlace
@@ -79,7 +79,7 @@ module _ (r s : Rec) (f : SameFields r s) where
   move-same : (es : List Entry) (o : Option Entry) → judgeMove r es o ≡ judgeMove s es o
   unfolding judgeMove
   move-same es none = refl
-  move-same es (some e) = rw (unseen-same r s f (e .naming), f .folder-same, place-same es e)
+  move-same es (some e) = rw (unseen-same r s f (e .placing), f .folder-same, place-same es e)
 
   settle-same : (l : List Aside) → judgeSettle r l ≡ judgeSettle s l
   unfolding judgeSettle
@@ -234,7 +234,7 @@ module _ (r s : Rec) (f : SameFields r s) where
         contents = f .self-same i;
         date = 0 ∷ 0 ∷ 0 ∷ 0 ∷ [];
         mark = f .mark-same i;
-        naming = f .self-same i;
+        placing = f .self-same i;
       }
 
   stored-alike : (e : Entry) → undated (stored r e) ≡ undated (stored s (undated e))
@@ -248,7 +248,7 @@ module _ (r s : Rec) (f : SameFields r s) where
         contents = f .self-same i;
         date = 0 ∷ 0 ∷ 0 ∷ 0 ∷ [];
         mark = f .mark-same i;
-        naming = e .naming;
+        placing = e .placing;
       }
 
   renamed-alike : (e : Entry) → undated (renamed r e) ≡ undated (renamed s (undated e))
@@ -262,7 +262,7 @@ module _ (r s : Rec) (f : SameFields r s) where
         contents = e .contents;
         date = 0 ∷ 0 ∷ 0 ∷ 0 ∷ [];
         mark = e .mark;
-        naming = f .self-same i;
+        placing = f .self-same i;
       }
 
   moved-alike : (e : Entry) → undated (moved r e) ≡ undated (moved s (undated e))
@@ -276,7 +276,7 @@ module _ (r s : Rec) (f : SameFields r s) where
         contents = e .contents;
         date = 0 ∷ 0 ∷ 0 ∷ 0 ∷ [];
         mark = e .mark;
-        naming = f .self-same i;
+        placing = f .self-same i;
       }
 
   changed-alike : (g h : Entry → Entry) → ((e : Entry) → undated (g e) ≡ undated (h (undated e))) → (es : List Entry)

@@ -157,7 +157,7 @@ move-free r es x h =
     ⊎-elim
     (λ c. absurd (let z : _≡_ {A = ℕ} 0 1 = cc in omega arith))
     (λ c. place-free r es x (then-fits (folderStands (folderOf r) es) (judgePlace r es x) (sym (c .1) ∙ h)))
-    (cond-cases (unseen r (x .naming)) (aside 17 (x .made)) v)
+    (cond-cases (unseen r (x .placing)) (aside 17 (x .made)) v)
 
 rename-free : (r : Rec) (es : List Entry) (x : Entry) → judgeRename r es (some x) ≡ fits → holderOf (x .made) (x .inside) (labelOf r) es ≡ none
 unfolding judgeRename
@@ -165,7 +165,7 @@ rename-free r es x h =
     ⊎-elim
     (λ c. absurd (let z : _≡_ {A = ℕ} 0 1 = cc in omega arith))
     (λ c. free-fits (holderOf (x .made) (x .inside) (labelOf r) es) (sym (c .1) ∙ h))
-    (cond-cases (unseen r (x .naming)) (aside 17 (x .made)) (freeLabel (holderOf (x .made) (x .inside) (labelOf r) es)))
+    (cond-cases (unseen r (x .placing)) (aside 17 (x .made)) (freeLabel (holderOf (x .made) (x .inside) (labelOf r) es)))
 
 -- an entry put where its label is free but for itself clashes with none
 safe-put : (g : Entry → Entry) (x : Entry) (es : List Entry) → g x .made ≡ x .made → Free (x .made) (g x .inside) (g x .label) es → Safe g x es
@@ -285,7 +285,7 @@ own-free es a d e i p t q =
     let z : e ≡ x = one-label es a d e x i j p u v (w ∙ q) in
     n (ap (λ (y : Entry). y .made) (sym z))))
 
-pub own-label : (r : Rec) (t : Tree) → Apart (t .entries) → Named (t .entries) → (e : Entry) → op r ≡ 5 → entryOf (objectOf r) (t .entries) ≡ some e → unseen r (e .naming) ≡ false
+pub own-label : (r : Rec) (t : Tree) → Apart (t .entries) → Named (t .entries) → (e : Entry) → op r ≡ 5 → entryOf (objectOf r) (t .entries) ≡ some e → unseen r (e .placing) ≡ false
     → labelKey (labelOf r) ≡ labelKey (e .label) → judge r t ≡ fits
 unfolding judgeRename freeLabel
 own-label r t a d e o q s k =

@@ -75,7 +75,7 @@ module _ (t : Tree) (r : Rec) (alone : Distinct (makers (t .entries))) (fresh : 
       inl (record {
         fit = h;
         places = inl (o, y .1);
-        last = ap (λ (e : Entry). e .naming) (y .0);
+        last = ap (λ (e : Entry). e .placing) (y .0);
         label = ap (λ (e : Entry). e .label) (y .0);
         folder = λ _. ap (λ (e : Entry). e .inside) (y .0);
       }))
@@ -94,7 +94,7 @@ module _ (t : Tree) (r : Rec) (alone : Distinct (makers (t .entries))) (fresh : 
       inr (record {
         was = e;
         there = z;
-        last = ap (λ (v : Entry). v .naming) a;
+        last = ap (λ (v : Entry). v .placing) a;
         label = ap (λ (v : Entry). v .label) a;
         folder = ap (λ (v : Entry). v .inside) a;
         unplaced = λ _ p. no-placing k r (inl o) p;
@@ -128,7 +128,7 @@ module _ (t : Tree) (r : Rec) (alone : Distinct (makers (t .entries))) (fresh : 
       inl (record {
         fit = h;
         places = inr (inl o, sym (y .0));
-        last = ap (λ (v : Entry). v .naming) a;
+        last = ap (λ (v : Entry). v .placing) a;
         label = ap (λ (v : Entry). v .label) a;
         folder = λ n. absurd (n o);
       }))
@@ -148,7 +148,7 @@ module _ (t : Tree) (r : Rec) (alone : Distinct (makers (t .entries))) (fresh : 
       inl (record {
         fit = h;
         places = inr (inr o, sym (y .0));
-        last = ap (λ (v : Entry). v .naming) a;
+        last = ap (λ (v : Entry). v .placing) a;
         label = ap (λ (v : Entry). v .label) a;
         folder = λ _. ap (λ (v : Entry). v .inside) a;
       }))

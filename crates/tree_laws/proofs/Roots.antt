@@ -566,7 +566,7 @@ module _ (t : Tree) (r : Rec) (w : Rooted (t .entries)) (fresh : Has (selfOf r) 
       ⊎-elim
       (λ c. aside-fits (sym (c .1) ∙ h))
       (λ c. remove-rooted es w (objectOf r) e q (c .0))
-      (cond-cases (eqb (e .kind) 1 && hasEntries (e .made) es) (aside 16 (e .made)) (cond (unseen r (e .contents) || unseen r (e .naming)) (aside 17 (e .made)) fits))
+      (cond-cases (eqb (e .kind) 1 && hasEntries (e .made) es) (aside 16 (e .made)) (cond (unseen r (e .contents) || unseen r (e .placing)) (aside 17 (e .made)) fits))
 
   put-elsewhere : (o : Option Entry) → object ≡ o → judgeMove r es o ≡ fits → Rooted (changed (moved r) (objectOf r) es)
   unfolding judgeMove judgePlace es object turned
@@ -584,7 +584,7 @@ module _ (t : Tree) (r : Rec) (w : Rooted (t .entries)) (fresh : Has (selfOf r) 
       let n : isBelow (objectOf r) (folderOf r) es ≡ false = rw m at (d .0) in
       move-rooted es w r (objectOf r) e q (folder-stands (folderOf r) es a) n)
       (cond-cases (isBelow (e .made) (folderOf r) es) (aside 25 (e .made)) last))
-      (cond-cases (unseen r (e .naming)) (aside 17 (e .made)) (andThen (folderStands (folderOf r) es) (judgePlace r es e)))
+      (cond-cases (unseen r (e .placing)) (aside 17 (e .made)) (andThen (folderStands (folderOf r) es) (judgePlace r es e)))
 
   acts : (op r ≡ 0 → ⊥) → judge r t ≡ fits → Rooted (effect r t .entries)
   unfolding judge effect es object stored renamed

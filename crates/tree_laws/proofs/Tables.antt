@@ -95,7 +95,7 @@ module _ (n : ℕ) (h : n < 512) where
   unfolding entryRow identityBytes undated
   row-hidden d e (p, q, m) =
       let i : ℕ = 4 + 72 * n in
-      let f : List ℕ = (e .kind ∷ d ∷ 0 ∷ 0 ∷ []) ++ (identityBytes (e .made) ++ (identityBytes (e .inside) ++ (identityBytes (e .contents) ++ identityBytes (e .naming)))) in
+      let f : List ℕ = (e .kind ∷ d ∷ 0 ∷ 0 ∷ []) ++ (identityBytes (e .made) ++ (identityBytes (e .inside) ++ (identityBytes (e .contents) ++ identityBytes (e .placing)))) in
       let t : List ℕ = e .label ++ e .mark in
       let w : length t ≡ 48 = omega (arith, length-append (e .label) (e .mark)) in
       let a : hideFrom (i + 20) (e .date) ≡ replicate 4 0 = hide-date (i + 20) (e .date) (λ j k. at-date j (omega arith)) ∙ rw p in

@@ -66,7 +66,7 @@ pub remove-reasons : (r : Rec) (es : List Entry) (o : Option Entry) → Under (O
 unfolding judgeRemove
 remove-reasons r es none = inl refl
 remove-reasons r es (some e) =
-    let u : Bool = unseen r (e .contents) || unseen r (e .naming) in
+    let u : Bool = unseen r (e .contents) || unseen r (e .placing) in
     under-cond (OneOf 12 16 17) (eqb (e .kind) 1 && hasEntries (e .made) es) (aside 16 (e .made)) (cond u (aside 17 (e .made)) fits)
     (inr (inl refl))
     (under-cond (OneOf 12 16 17) u (aside 17 (e .made)) fits (inr (inr refl)) tt)
@@ -75,7 +75,7 @@ pub rename-reasons : (r : Rec) (es : List Entry) (o : Option Entry) → Under (O
 unfolding judgeRename
 rename-reasons r es none = inl refl
 rename-reasons r es (some e) =
-    under-cond (OneOf 12 17 15) (unseen r (e .naming)) (aside 17 (e .made)) (freeLabel (holderOf (e .made) (e .inside) (labelOf r) es))
+    under-cond (OneOf 12 17 15) (unseen r (e .placing)) (aside 17 (e .made)) (freeLabel (holderOf (e .made) (e .inside) (labelOf r) es))
     (inr (inl refl))
     (under-free (OneOf 12 17 15) (inr (inr refl)) (holderOf (e .made) (e .inside) (labelOf r) es))
 
@@ -94,7 +94,7 @@ pub move-reasons : (r : Rec) (es : List Entry) (o : Option Entry) → Under Movi
 unfolding judgeMove
 move-reasons r es none = inl refl
 move-reasons r es (some e) =
-    under-cond Moving (unseen r (e .naming)) (aside 17 (e .made)) (andThen (folderStands (folderOf r) es) (judgePlace r es e))
+    under-cond Moving (unseen r (e .placing)) (aside 17 (e .made)) (andThen (folderStands (folderOf r) es) (judgePlace r es e))
     (inr (inl refl))
     (under-then Moving (folderStands (folderOf r) es) (judgePlace r es e)
     (under-stands Moving (inr (inr (inl refl))) (inr (inr (inr (inl refl)))) (folderOf r) es)

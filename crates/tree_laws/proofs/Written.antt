@@ -13,7 +13,7 @@ use Rattle.tree_laws.proofs.Steps.{cond-elim, effect-elim, step-elim}
 
 -- a record of the list ls is the entry's last place record, and has its label as it was written
 abbrev pub WrittenBy : List Rec → Entry → Type 0
-WrittenBy ls e = (s : Rec) × Has s ls × (selfOf s ≡ e .naming) × (labelOf s ≡ e .label)
+WrittenBy ls e = (s : Rec) × Has s ls × (selfOf s ≡ e .placing) × (labelOf s ≡ e .label)
 
 abbrev AllWritten : List Rec → List Entry → Type 0
 AllWritten ls [] = Unit {0}

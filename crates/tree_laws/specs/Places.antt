@@ -15,7 +15,7 @@ Placing k r = ((op r ≤ 2) × (selfOf r ≡ k)) ⊎ (((op r ≡ 5) ⊎ (6 < op 
 pub record PlacedBy (k : ℕ) (r : Rec) (t : Tree) (x : Entry) : Type 0 where
   pub fit : judge r t ≡ fits
   pub places : Placing k r
-  pub last : x .naming ≡ selfOf r
+  pub last : x .placing ≡ selfOf r
   pub label : x .label ≡ labelOf r
   pub folder : (op r ≡ 5 → ⊥) → x .inside ≡ folderOf r
 
@@ -23,7 +23,7 @@ pub record PlacedBy (k : ℕ) (r : Rec) (t : Tree) (x : Entry) : Type 0 where
 pub record PlaceKept (k : ℕ) (r : Rec) (t : Tree) (x : Entry) : Type 0 where
   pub was : Entry
   pub there : entryOf k (t .entries) ≡ some was
-  pub last : x .naming ≡ was .naming
+  pub last : x .placing ≡ was .placing
   pub label : x .label ≡ was .label
   pub folder : x .inside ≡ was .inside
   pub unplaced : judge r t ≡ fits → Placing k r → ⊥

@@ -110,7 +110,7 @@ undated e =
       contents = e .contents;
       date = 0 ∷ 0 ∷ 0 ∷ 0 ∷ [];
       mark = e .mark;
-      naming = e .naming;
+      placing = e .placing;
     }
 
 unfoldable pub undatedAll : List Entry → List Entry

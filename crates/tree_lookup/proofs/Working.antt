@@ -22,7 +22,7 @@ use Rattle.tree_lookup.proofs.Places.{row-at, row-lone, no-entry, entry
 
 -- an entry of no table, for places behind the rows
 pub blankEntry : Entry
-blankEntry = record { made = 0; kind = 0; inside = 0; label = []; contents = 0; date = []; mark = []; naming = 0 }
+blankEntry = record { made = 0; kind = 0; inside = 0; label = []; contents = 0; date = []; mark = []; placing = 0 }
 
 -- an aside of no table
 pub blankAside : Aside

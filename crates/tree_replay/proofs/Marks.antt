@@ -74,7 +74,7 @@ remove-mark : (r : Rec) (es : List Entry) (o : Option Entry) → Found o → Mar
 unfolding judgeRemove
 remove-mark r es none h = inl refl
 remove-mark r es (some e) h =
-    let late = unseen r (e .contents) || unseen r (e .naming) in
+    let late = unseen r (e .contents) || unseen r (e .placing) in
     mark-if (eqb (e .kind) 1 && hasEntries (e .made) es) (aside 16 (e .made)) (cond late (aside 17 (e .made)) fits) (inr (h .range))
     (mark-if late (aside 17 (e .made)) fits (inr (h .range)) tt)
 
@@ -82,7 +82,7 @@ rename-mark : (r : Rec) (es : List Entry) (o : Option Entry) → AllProper es �
 unfolding judgeRename
 rename-mark r es none p h = inl refl
 rename-mark r es (some e) p h =
-    mark-if (unseen r (e .naming)) (aside 17 (e .made)) (freeLabel (holderOf (e .made) (e .inside) (labelOf r) es)) (inr (h .range))
+    mark-if (unseen r (e .placing)) (aside 17 (e .made)) (freeLabel (holderOf (e .made) (e .inside) (labelOf r) es)) (inr (h .range))
     (free-mark (holderOf (e .made) (e .inside) (labelOf r) es) (holder-found (e .made) (e .inside) (labelOf r) es p))
 
 place-mark : (r : Rec) (es : List Entry) (e : Entry) → AllProper es → Proper e → MarkFits (judgePlace r es e)
@@ -96,7 +96,7 @@ move-mark : (r : Rec) (es : List Entry) (o : Option Entry) → AllProper es → 
 unfolding judgeMove
 move-mark r es none p h = inl refl
 move-mark r es (some e) p h =
-    mark-if (unseen r (e .naming)) (aside 17 (e .made)) (andThen (folderStands (folderOf r) es) (judgePlace r es e)) (inr (h .range))
+    mark-if (unseen r (e .placing)) (aside 17 (e .made)) (andThen (folderStands (folderOf r) es) (judgePlace r es e)) (inr (h .range))
     (then-mark (folderStands (folderOf r) es) (judgePlace r es e) (stands-mark (folderOf r) es p) (place-mark r es e p h))
 
 settle-mark : (r : Rec) (t : Tree) → MarkFits (judgeSettle r (t .asides))

@@ -73,7 +73,7 @@ module _ (r : Rec) (n : length r ≡ 80) where
   store-entry d e p =
       let head : List ℕ = (e .kind ∷ d ∷ 0 ∷ 0 ∷ []) ++ (identityBytes (e .made) ++ identityBytes (e .inside)) in
       let x : List ℕ = identityBytes (selfOf r) in
-      let h : List ℕ = identityBytes (e .naming) in
+      let h : List ℕ = identityBytes (e .placing) in
       let y = p .date-long in
       let z = p .mark-long in
       let w = p .label-long in
@@ -88,15 +88,15 @@ module _ (r : Rec) (n : length r ≡ 80) where
       let x : List ℕ = identityBytes (selfOf r) in
       let y = p .date-long in
       let w = p .label-long in
-      put-two head (identityBytes (e .naming)) (e .date) (e .label) (e .mark) x (labelOf r) 16 24 refl refl (omega arith) (label-length ∙ sym w)
+      put-two head (identityBytes (e .placing)) (e .date) (e .label) (e .mark) x (labelOf r) 16 24 refl refl (omega arith) (label-length ∙ sym w)
 
   pub move-entry : (d : ℕ) (e : Entry) → Proper e → movedRow (entryRow d e) r ≡ entryRow d (moved r e)
   unfolding movedRow entryRow renamed moved identityBytes
   move-entry d e p =
       let head : List ℕ = (e .kind ∷ d ∷ 0 ∷ 0 ∷ []) ++ identityBytes (e .made) in
-      let tail : List ℕ = identityBytes (e .contents) ++ (identityBytes (e .naming) ++ (e .date ++ (e .label ++ e .mark))) in
+      let tail : List ℕ = identityBytes (e .contents) ++ (identityBytes (e .placing) ++ (e .date ++ (e .label ++ e .mark))) in
       let x : List ℕ = identityBytes (folderOf r) in
-      let g : Entry = record { made = e .made; kind = e .kind; inside = folderOf r; label = e .label; contents = e .contents; date = e .date; mark = e .mark; naming = e .naming } in
+      let g : Entry = record { made = e .made; kind = e .kind; inside = folderOf r; label = e .label; contents = e .contents; date = e .date; mark = e .mark; placing = e .placing } in
       let q : Proper g = record { range = p .range; date-long = p .date-long; label-long = p .label-long; mark-long = p .mark-long } in
       ap (λ (l : List ℕ). renamedRow l r) (put-field head (identityBytes (e .inside)) tail x 8 refl refl) ∙ rename-entry d g q
 

@@ -23,7 +23,7 @@ entryIn b at =
       contents = identityAt b (at + 12);
       date = part b (at + 20) 4;
       mark = part b (at + 56) 16;
-      naming = identityAt b (at + 16);
+      placing = identityAt b (at + 16);
     }
 
 -- the aside in the 12 bytes at a place

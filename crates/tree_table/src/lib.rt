@@ -88,9 +88,9 @@ pub fn contents_at(table: &[u8], i: usize) -> u32
 }
 
 // The last label record of the entry in row i.
-pub fn naming_at(table: &[u8], i: usize) -> u32
+pub fn placing_at(table: &[u8], i: usize) -> u32
     requires { ⌜ (length (now table) ≡ 43012) × (i < 512) ⌝ }
-    ensures { λ r. ⌜ r ≡ entryIn (now (table .entry)) (4 + 72 * i) .naming ⌝ }
+    ensures { λ r. ⌜ r ≡ entryIn (now (table .entry)) (4 + 72 * i) .placing ⌝ }
 {
     identity_at(table, 4 + 72 * i + 16)
 }

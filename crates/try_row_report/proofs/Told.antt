@@ -82,7 +82,7 @@ module _ (b f : List ℕ) where
 -- ---- the rows of a table
 
 none : Entry
-none = record { made = 0; kind = 0; inside = 0; label = []; contents = 0; date = []; mark = []; naming = 0 }
+none = record { made = 0; kind = 0; inside = 0; label = []; contents = 0; date = []; mark = []; placing = 0 }
 
 flag-of : (d : ℕ) (e : Entry) → getD (entryRow d e) 1 0 ≡ d
 unfolding entryRow

@@ -12,8 +12,8 @@ is-unseen-requires c κs = search needs
 returns : tie.Need-returns
 returns c = search (contents-unseen)
 
-naming-at-requires : tie.Need-naming-at-requires
-naming-at-requires c κs = search needs
+placing-at-requires : tie.Need-placing-at-requires
+placing-at-requires c κs = search needs
 
 is-unseen-requires-2 : tie.Need-is-unseen-requires-2
 is-unseen-requires-2 c κs = search needs
@@ -28,6 +28,6 @@ is-changed-spec =
     contents-at-requires
     is-unseen-requires
     returns
-    naming-at-requires
+    placing-at-requires
     is-unseen-requires-2
     returns-2)

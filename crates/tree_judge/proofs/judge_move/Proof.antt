@@ -11,8 +11,8 @@ returns c = search (move-absent)
 made-at-requires : tie.Need-made-at-requires
 made-at-requires c κs = (search (works-long), omega arith)
 
-naming-at-requires : tie.Need-naming-at-requires
-naming-at-requires c κs = (search (works-long), omega arith)
+placing-at-requires : tie.Need-placing-at-requires
+placing-at-requires c κs = (search (works-long), omega arith)
 
 is-unseen-requires : tie.Need-is-unseen-requires
 is-unseen-requires c κs = search needs
@@ -47,7 +47,7 @@ judge-move-spec =
     (tie.spec
     returns
     made-at-requires
-    naming-at-requires
+    placing-at-requires
     is-unseen-requires
     returns-2
     folder-of-requires

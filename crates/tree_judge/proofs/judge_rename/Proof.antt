@@ -14,8 +14,8 @@ made-at-requires c κs = (search (works-long), omega arith)
 inside-at-requires : tie.Need-inside-at-requires
 inside-at-requires c κs = (search (works-long), omega arith)
 
-naming-at-requires : tie.Need-naming-at-requires
-naming-at-requires c κs = (search (works-long), omega arith)
+placing-at-requires : tie.Need-placing-at-requires
+placing-at-requires c κs = (search (works-long), omega arith)
 
 is-unseen-requires : tie.Need-is-unseen-requires
 is-unseen-requires c κs = search needs
@@ -36,7 +36,7 @@ judge-rename-spec =
     returns
     made-at-requires
     inside-at-requires
-    naming-at-requires
+    placing-at-requires
     is-unseen-requires
     returns-2
     free-label-requires

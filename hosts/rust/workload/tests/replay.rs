@@ -25,7 +25,7 @@ struct Entry {
     folder: Id,
     label: Vec<u8>,
     contents: Id,
-    naming: Id,
+    placing: Id,
     there: bool,
 }
 
@@ -113,9 +113,9 @@ impl Tree {
                     {
                         Some((16, object))
                     }
-                    4 => (unseen(record, entry.contents) || unseen(record, entry.naming))
+                    4 => (unseen(record, entry.contents) || unseen(record, entry.placing))
                         .then_some((17, object)),
-                    _ if unseen(record, entry.naming) => Some((17, object)),
+                    _ if unseen(record, entry.placing) => Some((17, object)),
                     _ => {
                         let holder = self.holder(rule, Some(object), entry.folder, label)?;
                         Some((15, holder))
@@ -144,7 +144,7 @@ impl Tree {
                 folder: identity(&record[24..]),
                 label,
                 contents: own,
-                naming: own,
+                placing: own,
                 there: true,
             }),
             6 => {
@@ -157,7 +157,7 @@ impl Tree {
                 match operation {
                     3 => entry.contents = own,
                     4 => entry.there = false,
-                    _ => (entry.naming, entry.label) = (own, label),
+                    _ => (entry.placing, entry.label) = (own, label),
                 }
             }
         }
@@ -191,7 +191,7 @@ fn shown(log: &[u8]) -> Tree {
                 folder: identity(&row[8..]),
                 label: row[24..56].to_vec(),
                 contents: identity(&row[12..]),
-                naming: identity(&row[16..]),
+                placing: identity(&row[16..]),
                 there: true,
             })
             .collect(),

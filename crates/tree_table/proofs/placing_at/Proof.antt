@@ -1,7 +1,7 @@
 use Rattle.tree_table.specs.Rows.{entryIn}
 use borrow.Author.Needs.{needs}
-use Rattle.tree_table.proofs.naming_at.Statement.{statement}
-use Rattle.tree_table.proofs.naming_at.Tie as tie
+use Rattle.tree_table.proofs.placing_at.Statement.{statement}
+use Rattle.tree_table.proofs.placing_at.Tie as tie
 
 mul-identity-at : tie.Need-mul-identity-at
 mul-identity-at c = search needs
@@ -19,7 +19,7 @@ returns : tie.Need-returns
 unfolding entryIn
 returns c = cc
 
-pub naming-at-spec : {M : Type 1} → statement M
-naming-at-spec =
+pub placing-at-spec : {M : Type 1} → statement M
+placing-at-spec =
     tie.close
     (tie.spec mul-identity-at add-identity-at add-identity-at-2 identity-at-requires returns)
