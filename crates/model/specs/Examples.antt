@@ -438,6 +438,16 @@ further =
     ∷ tree (makesTrace 3 (0 · 1) [] root A ∷ makesTrace 3 (0 · 2) (1 ∷ []) root B ∷ renames 3 (0 · 3) (2 ∷ []) (0 · 2) (97 ∷ []) ∷ [])
     ((0 · 1, A, 0 · 1, 0 · 1, true) ∷ (0 · 2, B, 0 · 2, 0 · 2, false) ∷ [])
     ((0 · 3, 15, 0 · 1, true) ∷ [])
+    -- renamed, stored and renamed again, the object is no holder; 15 marks the holder, not its last records
+    ∷ tree (makesTrace 3 (0 · 1) [] root A ∷ renames 3 (0 · 2) (1 ∷ []) (0 · 1) B ∷ stores 3 (0 · 3) (2 ∷ []) (0 · 1) ∷ renames 3 (0 · 4) (3 ∷ []) (0 · 1) (98 ∷ []) ∷ makesTrace 3 (0 · 5) (4 ∷ []) root B ∷ []) ((0 · 1, 98 ∷ [], 0 · 3, 0 · 4, true) ∷ []) ((0 · 5, 15, 0 · 1, true) ∷ [])
+    -- a rename in a folder is judged in that folder
+    ∷ tree (makesFolder 3 (0 · 1) [] root A ∷ makesTrace 3 (0 · 2) (1 ∷ []) (0 · 1) B ∷ makesTrace 3 (0 · 3) (2 ∷ []) (0 · 1) C ∷ renames 3 (0 · 4) (3 ∷ []) (0 · 3) (98 ∷ []) ∷ renames 3 (0 · 5) (4 ∷ []) (0 · 3) (97 ∷ []) ∷ []) ((0 · 1, A, 0 · 1, 0 · 1, false) ∷ (0 · 2, B, 0 · 2, 0 · 2, true) ∷ (0 · 3, 97 ∷ [], 0 · 3, 0 · 5, false) ∷ []) ((0 · 4, 15, 0 · 2, true) ∷ [])
+    -- either label may have the capitals, and a space ends nothing
+    ∷ tree (makesTrace 3 (0 · 1) [] root (65 ∷ 32 ∷ 98 ∷ []) ∷ makesTrace 3 (0 · 2) (1 ∷ []) root (97 ∷ 32 ∷ 66 ∷ []) ∷ []) ((0 · 1, 65 ∷ 32 ∷ 98 ∷ [], 0 · 1, 0 · 1, true) ∷ []) ((0 · 2, 15, 0 · 1, true) ∷ [])
+    -- what is removed holds no label
+    ∷ tree (makesTrace 3 (0 · 1) [] root A ∷ removes 3 (0 · 2) (1 ∷ []) (0 · 1) ∷ makesTrace 3 (0 · 3) (2 ∷ []) root (97 ∷ []) ∷ []) ((0 · 3, 97 ∷ [], 0 · 3, 0 · 3, false) ∷ []) []
+    -- all 32 bytes count
+    ∷ tree (makesTrace 3 (0 · 1) [] root A ∷ makesTrace 3 (0 · 2) (1 ∷ []) root (65 ∷ 66 ∷ []) ∷ makesTrace 3 (0 · 3) (2 ∷ []) root (replicate 31 65 ++ B) ∷ makesTrace 3 (0 · 4) (3 ∷ []) root (replicate 31 65 ++ C) ∷ makesTrace 3 (0 · 5) (4 ∷ []) root (replicate 31 97 ++ (98 ∷ [])) ∷ []) ((0 · 1, A, 0 · 1, 0 · 1, false) ∷ (0 · 2, 65 ∷ 66 ∷ [], 0 · 2, 0 · 2, false) ∷ (0 · 3, replicate 31 65 ++ B, 0 · 3, 0 · 3, true) ∷ (0 · 4, replicate 31 65 ++ C, 0 · 4, 0 · 4, false) ∷ []) ((0 · 5, 15, 0 · 3, true) ∷ [])
     -- the same of wishes
     ∷ wishes 0 (makesTrace 3 (0 · 1) [] root A ∷ []) (makesTrace 3 (0 · 0) [] root (97 ∷ [])) 15
     ∷ wishes 0 (makesTrace 3 (0 · 1) [] root A ∷ []) (renames 3 (0 · 0) [] (0 · 1) A) 0
