@@ -87,7 +87,7 @@ moves day k s o f t = march day 7 k s o f t []
 
 -- ---- what a tree shows
 
--- an entry: its identity, label, last contents record and last label record, and whether it is disputed
+-- an entry: its identity, label, last contents record and last place record, and whether it is disputed
 abbrev pub Shown : Type 0
 Shown = ℕ × List ℕ × ℕ × ℕ × Bool
 
@@ -413,7 +413,7 @@ further =
     ∷ counts (replicate 32 77) (replicate 32 109)
     ∷ counts (92 ∷ 93 ∷ 94 ∷ 124 ∷ 125 ∷ 126 ∷ []) (92 ∷ 93 ∷ 94 ∷ 124 ∷ 125 ∷ 126 ∷ [])
     ∷ counts (192 ∷ 222 ∷ 255 ∷ []) (192 ∷ 222 ∷ 255 ∷ [])
-    -- a rename to the entry's own label, in the same bytes or in small letters, fits and is the last label record
+    -- a rename to the entry's own label, in the same bytes or in small letters, fits and is the last place record
     ∷ tree (makesFolder 3 (0 · 1) [] root A ∷ renames 3 (0 · 2) (1 ∷ []) (0 · 1) A ∷ renames 3 (1 · 1) (1 ∷ []) (0 · 1) B ∷ [])
     ((0 · 1, A, 0 · 1, 0 · 2, true) ∷ [])
     ((1 · 1, 17, 0 · 1, true) ∷ [])

@@ -67,7 +67,7 @@ labelHeld = 15
 abbrev pub notEmpty : ℕ
 notEmpty = 16
 
--- a last contents or label record is unseen; only a reason for standing aside
+-- a last contents or place record is unseen; only a reason for standing aside
 abbrev pub unseenChange : ℕ
 unseenChange = 17
 

@@ -94,8 +94,10 @@ unseen r k = ltb (seen r (k % 8)) (k / 8)
 -- ---- the reasons: the first that holds, in the order written [F79]
 --   Make: folder absent (13), marks none; folder is a trace (14), marks it; label already in that folder (15), marks its holder.
 --   Store: object absent (12), marks none; object is a folder (14), marks it; its contents' last record unseen (17), marks it.
---   Remove: absent (12), marks none; folder with entries (16), marks it; last contents or label record unseen (17), marks it.
---   Rename: absent (12), marks none; last label record unseen (17), marks it; label of another in its folder (15), marks the holder.
+--   Remove: absent (12), marks none; folder with entries (16), marks it; last contents or place record unseen (17), marks it.
+--   Rename: absent (12), marks none; last place record unseen (17), marks it; label of another in its folder (15), marks the holder.
+--   Move: absent (12), marks none; last place record unseen (17), marks it; new folder absent (13), marks none; new folder is a
+--   trace (14), marks it; new folder is the object or below it (25), marks the object; label of another there (15), marks the holder.
 --   Settle: the named record does not stand aside (18), marks none.
 -- `judge` and `effect` are for well formed records: a number that is no operation falls to one end of their chains.
 

@@ -16,7 +16,7 @@ unfoldable pub identityBytes : ℕ → List ℕ
 identityBytes k = unitOf k ∷ 0 ∷ two (numberOf k)
 
 -- 0 kind (1 folder, 2 trace), 1 disputed, 2-3 zero, 4-7 identity, 8-11 folder, 12-15 last contents record,
--- 16-19 last label record, 20-23 date, 24-55 label, 56-71 mark
+-- 16-19 last place record, 20-23 date, 24-55 label, 56-71 mark
 unfoldable pub entryRow : ℕ → Entry → List ℕ
 entryRow d e =
     (e .kind ∷ d ∷ 0 ∷ 0 ∷ [])

@@ -179,7 +179,7 @@ module _ (b register : List ℕ) (n m : ℕ) (w : Holds b register n m) (k : ℕ
         (withAsides (treeIn b n m) (settled (objectOf r) (asidesFrom b 0 m)))
     aside-settled h ys y = rw (← g) (one-settled h ys y)
 
--- ---- store, rename and remove
+-- ---- store, rename, move and remove
 
 module _ (b register : List ℕ) (n m : ℕ) (w : Holds b register n m) (r : Rec) (h : Takes (treeIn b n m) r) (k row : ℕ) (p : k ≡ objectOf r) (o : rowIn b n row ≡ entryOf k (entriesFrom b 0 n)) where
   pub unchanged : (f : Entry → Entry) → n ≤ row → Works b register n m (withEntries (treeIn b n m) (changed f (objectOf r) (entriesFrom b 0 n)))

@@ -292,7 +292,7 @@ own-label r t a d e o q s k =
     let (i, p) = entry-has (objectOf r) (t .entries) e q in
     judge-rename r t o ∙ rw (q, s, own-free (t .entries) a d e i p (labelOf r) k)
 
--- ---- and it is the last label record from then on
+-- ---- and it is the last place record from then on
 
 changed-finds : (g : Entry → Entry) (k : ℕ) (es : List Entry) (e : Entry) → entryOf k es ≡ some e → g e .made ≡ e .made → isPresent (g e) ≡ isPresent e
     → entryOf k (changed g k es) ≡ some (g e)
@@ -311,7 +311,7 @@ changed-finds g k (x ∷ es) e h m p =
     (λ (c : (eqb (x .made) k && isPresent x) ≡ false). rw (c, c) (changed-finds g k es e (rw c at h) m p))
     (bool-cases (eqb (x .made) k && isPresent x))
 
--- a rename that fits is the last label record of its object, and its label is the object's
+-- a rename that fits is the last place record of its object, and its label is the object's
 pub rename-is-last : (r : Rec) (t : Tree) (e : Entry) → op r ≡ 5 → entryOf (objectOf r) (t .entries) ≡ some e → judge r t ≡ fits
     → entryOf (objectOf r) (step t r .entries) ≡ some (renamed r e)
 unfolding renamed isPresent

@@ -87,7 +87,7 @@ pub fn contents_at(table: &[u8], i: usize) -> u32
     identity_at(table, 4 + 72 * i + 12)
 }
 
-// The last label record of the entry in row i.
+// The last place record of the entry in row i.
 pub fn placing_at(table: &[u8], i: usize) -> u32
     requires { ⌜ (length (now table) ≡ 43012) × (i < 512) ⌝ }
     ensures { λ r. ⌜ r ≡ entryIn (now (table .entry)) (4 + 72 * i) .placing ⌝ }
