@@ -75,7 +75,13 @@ pub fn start(log: &mut [u8], index: &mut [u8], _archive: u32, unit: u8) -> Answe
 
 /// Makes the wished record, if it fits. Its one change goes into the index, if
 /// one is lent.
-pub fn act(log: &mut [u8], index: &mut [u8], _archive: u32, unit: u8, wish: &[u8]) -> Answer<()> {
+pub fn act(
+    log: &mut [u8],
+    index: &mut [u8],
+    _archive: u32,
+    unit: u8,
+    wish: &[u8],
+) -> Answer<()> {
     if !index::fits(index) || log.len() != LOG {
         return refuse(1);
     }
@@ -187,7 +193,13 @@ pub fn hand_out(
 }
 
 /// Takes a block wholly or not at all. The index is made afresh, if one is lent.
-pub fn take(log: &mut [u8], index: &mut [u8], archive: u32, unit: u8, block: &[u8]) -> Answer<()> {
+pub fn take(
+    log: &mut [u8],
+    index: &mut [u8],
+    archive: u32,
+    unit: u8,
+    block: &[u8],
+) -> Answer<()> {
     if !index::fits(index) {
         return refuse(1);
     }

@@ -129,10 +129,7 @@ pub fn try_row(
         entries(&before).any(|entry| entry[1] == 1 && entry[4..8] == row[4..8])
     };
     let mut count = 0;
-    for row in entries(tree)
-        .filter(|row| row[1] == 1)
-        .filter(|row| !was(row))
-    {
+    for row in entries(tree).filter(|row| row[1] == 1).filter(|row| !was(row)) {
         report[20 + 4 * count..][..4].copy_from_slice(&row[4..8]);
         count += 1;
     }
