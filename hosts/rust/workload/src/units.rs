@@ -34,14 +34,7 @@ impl Units {
         let mut tree = [0; TREE];
         plain::show(&self.logs[unit], &mut tree).expect("a sound log");
         let wish = wish(chance, mix, unit as u8, &tree);
-        plain::act(
-            &mut self.logs[unit],
-            &mut [],
-            self.archive,
-            unit as u8,
-            &wish,
-        )
-        .is_ok()
+        plain::act(&mut self.logs[unit], &mut [], self.archive, unit as u8, &wish).is_ok()
     }
 
     /// Passes all that the other lacks.
