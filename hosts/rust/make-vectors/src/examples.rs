@@ -28,6 +28,21 @@ pub fn record(
 
 pub const ROOT: (u8, u16) = (0, 0);
 
+/// A move of March 2025: unit, seen, object, folder, label, day.
+pub fn moved(
+    unit: u8,
+    seen: &[u16],
+    object: (u8, u16),
+    folder: (u8, u16),
+    label: &str,
+    day: u8,
+) -> [u8; 80] {
+    let mut record = record(unit, seen, 7, object, label, 0, day);
+    record[24] = folder.0;
+    record[26..28].copy_from_slice(&folder.1.to_le_bytes());
+    record
+}
+
 /// The file of document 01.
 pub fn paper() -> Vec<[u8; 80]> {
     vec![
