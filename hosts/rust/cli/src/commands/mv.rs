@@ -22,8 +22,13 @@ is / or 0.0. Without LABEL the entry keeps its label. A folder cannot go into it
 or below itself (25). The same as sab act FILE --own-unit=U move ENTRY LABEL
 --in=FOLDER; sab help act says for which files this is.
 
-    $ sab mv office.sab /Gain /Bench --own-unit=7 --date=2025-03-04
-    7.3: unit 7 moved 7.2 \"Gain\" to 7.1 \"Bench\" on 2025-03-04
+    $ sab new -q office.sab --archive=12 --unit=7
+    $ sab act office.sab --own-unit=7 make-folder Bench --date=2025-03-03
+    7.1: unit 7 made the folder \"Bench\" in the root on 2025-03-03
+    $ sab act office.sab --own-unit=7 make-folder Roof --date=2025-03-03
+    7.2: unit 7 made the folder \"Roof\" in the root on 2025-03-03
+    $ sab mv office.sab /Roof /Bench --own-unit=7 --date=2025-03-04
+    7.3: unit 7 moved 7.2 \"Roof\" to 7.1 \"Bench\" on 2025-03-04
 
 An analyser before version 5 does not know moves and refuses a card that has one
 with 7: change all units of the archive over first.",
