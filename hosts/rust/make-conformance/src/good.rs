@@ -3,7 +3,7 @@
 use crate::kit::{Case, good};
 use make_vectors::chain::{Fields, blocks_of_six, file_of};
 use make_vectors::examples::{
-    ROOT, moved, operations, paper, reasons, record, removed, two_blocks,
+    ROOT, moved, moves, operations, paper, reasons, record, removed, two_blocks,
 };
 use workload::{Mix, log_of};
 
@@ -27,8 +27,13 @@ pub fn all() -> Vec<Case> {
         ),
         good(
             "operations",
-            "each operation once, in one full block; a settled aside (docs/EXAMPLES.md)",
+            "each operation but move once, in one full block; a settled aside (docs/EXAMPLES.md)",
             file_of(&operations(), 7, 1),
+        ),
+        good(
+            "folders-crossing",
+            "two folders moved into each other, and a trace moved (docs/EXAMPLES.md)",
+            file_of(&moves(), 7, 0),
         ),
         good(
             "reasons",
@@ -59,7 +64,7 @@ pub fn all() -> Vec<Case> {
     cases.extend(fields());
     cases.extend(settling());
     cases.extend(trees());
-    cases.extend(moves());
+    cases.extend(moving());
     cases.extend(sums());
     cases
 }
@@ -423,7 +428,7 @@ fn ranked(mut records: Vec<[u8; 80]>) -> Vec<u8> {
 }
 
 /// Moves: what they do, and each reason against one.
-fn moves() -> Vec<Case> {
+fn moving() -> Vec<Case> {
     let folder = |seen, inside, label| record(0, &[seen], 1, inside, label, 0, 3);
     let trace = |seen, inside, label| record(0, &[seen], 2, inside, label, 1, 3);
     vec![
