@@ -59,6 +59,9 @@
  * - Libraries before 4.0.0 tell capitals from small letters in labels. They pass
  *   the same blocks and hold the same records, but may show another tree of
  *   them: change all units of an archive over.
+ * - Libraries before 5.0.0 do not know the operation 7, move. They refuse a
+ *   block or a file with a move, as malformed (7): change all units of an archive
+ *   over before the first one moves an entry.
  * - Dates are shown and order nothing.
  *
  * Calls may run at the same time on different buffers. Bytes need no alignment.
@@ -224,10 +227,10 @@ extern "C" {
 
 /* ---- The version of this header and of its calls ---- */
 
-#define SAB_VERSION_MAJOR 4
+#define SAB_VERSION_MAJOR 5
 #define SAB_VERSION_MINOR 0
 #define SAB_VERSION_PATCH 0
-#define SAB_VERSION "4.0.0"
+#define SAB_VERSION "5.0.0"
 
 /* ---- Lengths in bytes ---- */
 
@@ -292,8 +295,11 @@ extern "C" {
 #define SAB_BAD_FILE 20u      /* P a file's blocks disagree, its ranks do not
                                    rise, or its vector is not its counts */
 #define SAB_BAD_UNIT 21u      /*   the call's own unit is above 7 */
-#define SAB_STROKE_IN_LABEL 24u /* P the label of a make or rename wish has a
-                                     stroke; the place is 0 */
+#define SAB_STROKE_IN_LABEL 24u /* P the label of a make, rename or move wish
+                                     has a stroke; the place is 0 */
+#define SAB_INTO_ITSELF 25u   /* P a move would put a folder into itself or below
+                                   itself; the place is 0. Also a reason for
+                                   standing aside */
 
 /* ---- Operations of a record, byte 1 ---- */
 
@@ -303,6 +309,7 @@ extern "C" {
 #define SAB_REMOVE 4u      /* object */
 #define SAB_RENAME 5u      /* object, label */
 #define SAB_SETTLE 6u      /* object: the record that stands aside */
+#define SAB_MOVE 7u        /* object, folder, label */
 
 /* ---- Calls ----
  *
@@ -369,7 +376,8 @@ uint32_t sab_start(uint8_t *log, size_t log_len, uint8_t *index,
  *           unit's next number and the held vector as what it has seen; the
  *           other bytes are as they were
  * index     20,484 bytes, or none; on 0 a make puts its entry in, a remove takes
- *           it out, a rename moves it; a store and a settle change nothing
+ *           it out, a rename or a move puts it elsewhere; a store and a settle
+ *           change nothing
  * archive   any number; decides nothing here
  * unit      the own unit
  * wish      80 bytes, only read: a record whose unit is the own unit and whose
@@ -391,17 +399,24 @@ uint32_t sab_start(uint8_t *log, size_t log_len, uint8_t *index,
  *   19 log not sound;
  *    7 wish of another unit, with number or seen, or malformed; an identity that
  *      this unit has not seen is malformed too;
- *   24 make, rename: well formed, but the label has a stroke (2F). Records that
- *      hold one, old ones of this unit too, are taken, read and shown;
+ *   24 make, rename, move: well formed, but the label has a stroke (2F). Records
+ *      that hold one, old ones of this unit too, are taken, read and shown;
  *   11 the log is full;
- *   12 store, remove, rename: the object is not in the tree;
- *   13 make: the folder is not in the tree;
- *   14 make: the folder is a trace; store: the object is a folder;
- *   15 make, rename: an entry of the folder has the label, A to Z as a to z; in
- *      a rename an entry other than the object: to rename an entry to the label
- *      it has, in the same bytes or another case, is no 15;
+ *   12 store, remove, rename, move: the object is not in the tree;
+ *   13 make, move: the folder is not in the tree;
+ *   14 make, move: the folder is a trace; store: the object is a folder;
+ *   25 move: the folder is the object or lies below it;
+ *   15 make, rename, move: an entry of the folder has the label, A to Z as a to
+ *      z; in a rename or a move an entry other than the object: to rename an
+ *      entry to the label it has, or to move it to where it is, in the same bytes
+ *      or another case, is no 15;
  *   16 remove: the folder has entries;
  *   18 settle: the object is no record that stands aside.
+ *
+ * A move puts a folder or a trace into another folder, or into the root, under
+ * its label there; what lies in a folder goes with it. Every entry reaches the
+ * root, going from folder to folder, in fewer steps than there are entries, the
+ * root included.
  */
 uint32_t sab_act(uint8_t *log, size_t log_len, uint8_t *index, size_t index_len,
                  uint32_t archive, uint32_t unit, const uint8_t *wish,
@@ -600,13 +615,14 @@ uint32_t sab_merge(const uint8_t *first, size_t first_len,
  *       4-7    identity
  *       8-11   its folder; the root is all zero
  *       12-15  the last contents record: the make or the last store that fitted
- *       16-19  the last label record: the make or the last rename that fitted
+ *       16-19  the last place record: the make or the last rename or move that
+ *              fitted
  *       20-23  date of the last contents record: year (2), month, day
  *       24-55  label as it was written, then zeros
  *       56-71  mark of the last contents record; of a folder zeros
  *   36868 + 12 j   aside j, by rank
  *       0-3    identity
- *       4      reason: 12 to 18
+ *       4      reason: 12 to 18 or 25
  *       5      1 open, 2 settled
  *       6-7    zero
  *       8-11   the marked entry, even if removed since; all zero for none

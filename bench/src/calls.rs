@@ -3,10 +3,11 @@
 use crate::exchange::Pair;
 use crate::times::clock;
 use crate::big::Big;
+use crate::deep;
 use library::{Library, REPORT, Trial};
 use plain::{BLOCK, FILE, INDEX, LOG, RECORD, TREE};
 use std::hint::black_box;
-use workload::vector_of;
+use workload::{Mix, log_of, vector_of};
 
 const ARCHIVE: u32 = 7;
 const SIZES: [usize; 4] = [0, 64, 256, 512];
@@ -56,8 +57,9 @@ pub fn cases(log: &[u8], pair: &Pair, big: &Big) -> Vec<Case> {
         let lent = first(log, size);
         case("check of the log", check(lent.clone()));
         case("start", start(lent.clone()));
-        case("act", act(first(log, size.min(511)), With::None));
-        case("act with an index", act(first(log, size.min(511)), With::Index));
+        let acting = first(log, size.min(511));
+        case("act", act(acting.clone(), With::None, new_trace()));
+        case("act with an index", act(acting, With::Index, new_trace()));
         case("hand out, six lacking", hand_out(lent.clone(), [0; 8]));
         case(
             "hand out, none lacking",
@@ -85,6 +87,15 @@ pub fn cases(log: &[u8], pair: &Pair, big: &Big) -> Vec<Case> {
         case("show the tree", show(lent.clone()));
         case("make the index", index(lent.clone()));
         case("listing", listing(&lent));
+    }
+    let (moves, deep) = (log_of(512, 8, 6, &Mix::MOVES, 1), deep::log());
+    for (name, run) in [
+        ("show the tree, 512 records with moves", show(moves)),
+        ("show the tree, 255 moves 256 deep", show(deep.clone())),
+        ("act, a move 256 deep", act(deep, With::Index, deep::wish())),
+    ] {
+        let name = name.to_string();
+        cases.push(Case { name, run });
     }
     cases.push(Case {
         name: "compare, 1000 times".to_string(),
@@ -140,11 +151,10 @@ fn index_of(log: &[u8], with: With) -> Vec<u8> {
     index
 }
 
-fn act(log: Vec<u8>, with: With) -> Run {
+fn act(log: Vec<u8>, with: With, wish: [u8; 80]) -> Run {
     let mut lent = log.clone();
     let index = index_of(&log, with);
     let mut listed = index.clone();
-    let wish = new_trace();
     Box::new(move |library| {
         lent.copy_from_slice(&log);
         listed.copy_from_slice(&index);

@@ -7,6 +7,7 @@
 
 mod big;
 mod calls;
+mod deep;
 mod exchange;
 mod options;
 mod readout;

@@ -87,6 +87,41 @@ static void test_operations(struct lent log, struct lent wish)
     CHECK(act_on(log, 0, wish) == SAB_OK);
 }
 
+/* Moves, refused and accepted. The log holds folder 0.1 with trace 0.2; 1.1 stands
+ * aside; 0.12 is made. */
+static void test_moves(struct lent log, struct lent wish)
+{
+    static const struct {
+        unsigned object, folder;
+        const char *label;
+        unsigned answer;
+    } moves[] = {
+        {1, 1, "Bench", 25},  {1, 12, "Bench", 25},     {1, 12, "a/b", 24}, {2, 2, "Gain", 14},
+        {1, 2, "Bench", 14},  {2, 5, "Gain", 13},       {4, 0, "x", 12},    {12, 0, "bench", 15},
+        {0, 1, "x", 7},       {99, 1, "x", 7},          {2, 99, "x", 7},    {2, 12, "", 7},
+        {2, 1, "GAIN \"a\"", 0}, {2, 12, "Gain", 0},    {12, 0, "Attic", 0}, {1, 12, "Bench", 0},
+        {12, 1, "Attic", 25}, {2, 0, "aTTIC", 15},      {2, 0, "Gain", 0},
+    };
+    size_t i;
+    wish_make(wish.bytes, 0, SAB_MAKE_FOLDER, id_of(0, 1), "Attic");
+    CHECK(act_on(log, 0, wish) == SAB_OK);
+    for (i = 0; i < sizeof moves / sizeof moves[0]; i++) {
+        wish_move(wish.bytes, 0, id_of(0, moves[i].object), id_of(0, moves[i].folder),
+                  moves[i].label);
+        CHECK(act_on(log, 0, wish) == moves[i].answer);
+    }
+    wish_move(wish.bytes, 0, id_of(1, 1), id_of(0, 0), "x");
+    CHECK(act_on(log, 0, wish) == SAB_NO_OBJECT);
+    wish_move(wish.bytes, 0, id_of(0, 2), id_of(1, 1), "x");
+    CHECK(act_on(log, 0, wish) == SAB_NO_FOLDER);
+    wish.bytes[64] = 1;
+    CHECK(act_on(log, 0, wish) == SAB_MALFORMED);
+    wish_on(wish.bytes, 0, SAB_REMOVE, id_of(0, 1), "");
+    CHECK(act_on(log, 0, wish) == SAB_OK);
+    wish_move(wish.bytes, 0, id_of(0, 1), id_of(0, 1), "Bench");
+    CHECK(act_on(log, 0, wish) == SAB_NO_OBJECT);
+}
+
 /* A stroke at every byte of a label, and with a bad date. */
 static void test_strokes(struct lent log, struct lent wish)
 {
@@ -104,7 +139,7 @@ static void test_strokes(struct lent log, struct lent wish)
 static void test_malformed(struct lent log, struct lent wish)
 {
     static const uint8_t changes[][2] = {
-        {0, 1},   {0, 8},   {1, 0},   {1, 7},   {2, 1},    {3, 1},    {4, 1},     {19, 1},
+        {0, 1},   {0, 8},   {1, 0},   {1, 7},   {1, 8},   {2, 1},    {3, 1},    {4, 1},     {19, 1},
         {20, 1},  {21, 1},  {22, 1},  {24, 8},  {25, 1},   {26, 9},   {27, 1},    {29, 0},
         {29, 9},  {30, 0},  {30, 13}, {31, 0},  {31, 32},  {32, 0},   {32, 0x20}, {32, 0x1F},
         {32, 0x7F}, {33, 0x20}, {63, 'x'}, {64, 1}, {79, 255},
@@ -169,6 +204,7 @@ void test_act(void)
     test_strokes(log, wish);
     test_order_of_checks(log, wish);
     test_operations(log, wish);
+    test_moves(log, wish);
     full_log(log.bytes);
     wish_on(wish.bytes, 0, SAB_STORE, id_of(1, 1), "");
     CHECK(act_on(log, 0, wish) == SAB_FULL_LOG);

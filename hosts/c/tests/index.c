@@ -122,6 +122,45 @@ static void test_acts(struct lent log, struct lent index)
     expect(index, id_of(0, 1), "Noise", id_of(0, 0));
 }
 
+/* So do moves. The log holds folder 0.1 Bench with trace 0.3 in it; 0.13 and 0.14 are
+ * made. */
+static void test_moves(struct lent log, struct lent index)
+{
+    static const struct {
+        unsigned object, folder;
+        const char *label;
+        unsigned answer;
+    } moves[] = {
+        {3, 0, "Gain", 0},  {3, 0, "gain", 0},   {3, 13, "Gain", 0},  {13, 14, "Attic", 0},
+        {14, 13, "Low", 25}, {14, 14, "Low", 25}, {3, 14, "ATTIC", 15}, {3, 14, "Zero", 0},
+        {3, 3, "Zero", 14}, {14, 1, "Low", 0},
+    };
+    uint8_t wish[SAB_RECORD_BYTES];
+    unsigned made, next = 1;
+    size_t i;
+    for (i = 0; i < held(log.bytes); i++)
+        next += log.bytes[SAB_RECORD_BYTES * i] == 0;
+    CHECK(next == 13);
+    for (made = 0; made < 2; made++) {
+        wish_make(wish, 0, SAB_MAKE_FOLDER, id_of(0, 0), made == 0 ? "Attic" : "Low");
+        CHECK(sab_act(log.bytes, SAB_LOG_BYTES, index.bytes, index.length, ARCHIVE, 0, wish,
+                      sizeof wish) == SAB_OK);
+    }
+    for (i = 0; i < sizeof moves / sizeof moves[0]; i++) {
+        wish_move(wish, 0, id_of(0, moves[i].object), id_of(0, moves[i].folder), moves[i].label);
+        note(index);
+        CHECK(sab_act(log.bytes, SAB_LOG_BYTES, index.bytes, index.length, ARCHIVE, 0, wish,
+                      sizeof wish) == moves[i].answer);
+        if (moves[i].answer != 0)
+            CHECK(kept(index));
+        right(log.bytes, index.bytes);
+    }
+    expect(index, id_of(0, 14), "zero", id_of(0, 3));
+    expect(index, id_of(0, 14), "Attic", id_of(0, 13));
+    expect(index, id_of(0, 1), "Low", id_of(0, 14));
+    expect(index, id_of(0, 0), "Low", id_of(0, 0));
+}
+
 static void test_takes(struct lent log, struct lent index, const uint8_t *full)
 {
     static uint8_t row[SAB_FILE_BYTES];
@@ -215,6 +254,7 @@ void test_index(void)
     expect(index, id_of(0, 1), "Gain \"A\"", id_of(0, 2));
     test_lengths(log, index);
     test_acts(log, index);
+    test_moves(log, index);
     full_log(full);
     test_takes(log, index, full);
     test_full(index);

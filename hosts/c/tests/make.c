@@ -51,6 +51,13 @@ void wish_on(uint8_t *wish, uint8_t unit, unsigned operation, struct id object, 
     put16(wish + 22, object.number);
 }
 
+void wish_move(uint8_t *wish, uint8_t unit, struct id object, struct id folder, const char *label)
+{
+    wish_on(wish, unit, SAB_MOVE, object, label);
+    wish[24] = folder.unit;
+    put16(wish + 26, folder.number);
+}
+
 struct id id_of(uint8_t unit, unsigned number)
 {
     struct id id;

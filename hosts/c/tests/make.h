@@ -26,6 +26,9 @@ void wish_make(uint8_t *wish, uint8_t unit, unsigned operation, struct id folder
 /* A wish of an operation on an object; the label may be empty. */
 void wish_on(uint8_t *wish, uint8_t unit, unsigned operation, struct id object, const char *label);
 
+/* A wish to move an object into a folder. */
+void wish_move(uint8_t *wish, uint8_t unit, struct id object, struct id folder, const char *label);
+
 struct id id_of(uint8_t unit, unsigned number);
 
 /* Acts that must be accepted. */

@@ -78,6 +78,25 @@ impl Archive {
         Ok(())
     }
 
+    /// Says in a line if it has moves, which no analyser before version 5 takes.
+    pub fn tell_moves(&self, out: &mut Out) -> Outcome<()> {
+        let tree = self.tree()?;
+        let moves = Story::new(&self.log, &tree).moves();
+        if moves > 0 {
+            out.object(|| {
+                Object::new("moves")
+                    .text("file", self.shown())
+                    .number("moves", moves as u64)
+            });
+            out.line(format_args!(
+                "{}: {}: an analyser before version 5 refuses it with 7 (sab explain 25)",
+                self.shown(),
+                why::counted(moves, "move")
+            ));
+        }
+        Ok(())
+    }
+
     /// Its name for messages.
     pub fn shown(&self) -> String {
         shown(&self.name)

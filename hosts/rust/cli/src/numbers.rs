@@ -69,6 +69,11 @@ pub const SECTIONS: &[Section] = &[
         title: "capitals and small letters are one label",
         text: include_str!("card/15.md"),
     },
+    Section {
+        number: 25,
+        title: "moving an entry",
+        text: include_str!("card/25.md"),
+    },
 ];
 
 /// The section of a number.
@@ -279,6 +284,12 @@ pub const ROWS: &[Row] = &[
         advice: Always(
             "choose a label without a stroke: office machines part folder from name there",
         ),
+    },
+    Row {
+        number: 25,
+        cause: Always("a folder would go into itself or below itself"),
+        fault: "wish",
+        advice: Always("choose a folder that does not lie in the one to move"),
     },
 ];
 

@@ -80,7 +80,7 @@ impl Stake {
 
 /// What a wish names.
 pub struct Wished<'a> {
-    /// The folder of a make.
+    /// The folder of a make or a move.
     pub folder: Option<Identity>,
     /// The entry to change, or the record to settle.
     pub object: Option<Identity>,
@@ -207,12 +207,15 @@ impl<'a> Story<'a> {
 
     /// The label that an entry had when a record came.
     fn label_before(&self, identity: Identity, record: Record) -> Option<&'a str> {
-        let labels = |one: Record| {
-            one.identity() == identity
-                || one.operation() == Operation::Rename && one.object() == Some(identity)
-        };
-        let last = self.last_before(Some(record), labels);
-        last.and_then(Record::label)
+        self.place_before(identity, record).and_then(Record::label)
+    }
+
+    /// The last place record that an entry had when a record came.
+    fn place_before(&self, identity: Identity, record: Record) -> Option<Record<'a>> {
+        self.last_before(Some(record), |one| {
+            let places = matches!(one.operation(), Operation::Rename | Operation::Move);
+            one.identity() == identity || places && one.object() == Some(identity)
+        })
     }
 
     /// An identity with the label that its entry had when a record came.
@@ -235,9 +238,12 @@ impl<'a> Story<'a> {
     /// The records that were judged otherwise before version 4, when capitals were
     /// told from small letters and an entry held its label against its own rename.
     /// If there are none, the file reads as it did: the first record that is judged
-    /// otherwise is always among them.
+    /// otherwise is always among them. A file with a move was not read at all.
     pub fn otherwise(&self) -> Otherwise {
         let mut otherwise = Otherwise::default();
+        if self.moves() > 0 {
+            return otherwise;
+        }
         for &record in &self.records {
             let identity = record.identity();
             match (self.aside(identity), record.object()) {
@@ -252,6 +258,12 @@ impl<'a> Story<'a> {
             }
         }
         otherwise
+    }
+
+    /// How many of the records are moves, which no analyser before version 5 takes.
+    pub fn moves(&self) -> usize {
+        let is_move = |record: &&Record| record.operation() == Operation::Move;
+        self.records.iter().filter(is_move).count()
     }
 
     /// What a record did, or wanted to do if it stands aside; without who and
@@ -273,6 +285,15 @@ impl<'a> Story<'a> {
             Operation::Remove => ("removed", "remove", object),
             Operation::Rename => ("renamed", "rename", format!("{object} to {label}")),
             Operation::Settle => ("settled", "settle", object),
+            Operation::Move => {
+                let before = record.object();
+                let before = before.and_then(|entry| self.label_before(entry, record));
+                let under = match before == record.label() {
+                    true => String::new(),
+                    false => format!(" as {label}"),
+                };
+                ("moved", "move", format!("{object} to {folder}{under}"))
+            }
         };
         match self.aside(record.identity()) {
             None => format!("{did} {what}"),
@@ -315,7 +336,7 @@ impl<'a> Story<'a> {
             return (format!("removed by {}", self.brief(remove)), None);
         }
         match self.record(entry) {
-            Some(make) if make.operation().has_folder() => (
+            Some(make) if make.operation().is_make() => (
                 format!("its own make, {entry}, stands aside"),
                 self.aside(entry).map(|aside| aside.identity()),
             ),
@@ -340,19 +361,26 @@ impl<'a> Story<'a> {
     /// The last change of an entry that a record had not seen.
     fn unseen_change(&self, record: Record) -> Option<(Record<'a>, &'static str)> {
         let entry = record.object()?;
-        let last = |operation: Operation| {
-            self.last_before(Some(record), |one| {
+        let unseen = |one: &Record| record.seen().lacks(one.identity());
+        let contents = || {
+            let stores = |one: Record| {
                 one.identity() == entry
-                    || one.operation() == operation && one.object() == Some(entry)
-            })
-            .filter(|one| record.seen().lacks(one.identity()))
+                    || one.operation() == Operation::Store && one.object() == Some(entry)
+            };
+            let last = self.last_before(Some(record), stores).filter(unseen);
+            last.map(|one| (one, "its contents"))
         };
-        let contents = || last(Operation::Store).map(|one| (one, "its contents"));
-        let label = || last(Operation::Rename).map(|one| (one, "its label"));
+        let place = || {
+            let last = self.place_before(entry, record).filter(unseen);
+            last.map(|one| match one.operation() {
+                Operation::Move => (one, "its place"),
+                _ => (one, "its label"),
+            })
+        };
         match record.operation() {
             Operation::Store => contents(),
-            Operation::Rename => label(),
-            _ => contents().or_else(label),
+            Operation::Rename | Operation::Move => place(),
+            _ => contents().or_else(place),
         }
     }
 
@@ -363,11 +391,9 @@ impl<'a> Story<'a> {
         let marked = marked.unwrap_or_default();
         let words = match aside.reason() {
             12 | 13 => {
-                let entry = record.object().or(record.folder());
-                let what = if aside.reason() == 13 {
-                    "that folder"
-                } else {
-                    "that"
+                let (entry, what) = match aside.reason() {
+                    12 => (record.object(), "that"),
+                    _ => (record.folder(), "that folder"),
                 };
                 let (why, blame) = self.absent(entry.unwrap_or(Identity::ROOT), Some(record));
                 return (format!("but {what} was not there: {why}"), blame);
@@ -396,6 +422,10 @@ impl<'a> Story<'a> {
                 None => "but had not seen the last change".to_string(),
             },
             18 => "but that record does not stand aside".to_string(),
+            25 if record.folder() == record.object() => {
+                "but a folder cannot go into itself".to_string()
+            }
+            25 => "but that folder lay in it, and a folder cannot go below itself".to_string(),
             reason => format!("reason {reason}"),
         };
         (words, None)
@@ -411,7 +441,10 @@ impl<'a> Story<'a> {
 
     /// Why a wish was refused with a number of its fit, with the entry named.
     pub fn unfit(&self, number: u8, wish: &Wished) -> Option<String> {
-        let entry = wish.object.or(wish.folder)?;
+        let entry = match number {
+            13..=15 => wish.folder.or(wish.object),
+            _ => wish.object.or(wish.folder),
+        }?;
         let name = self.name(entry);
         match number {
             12 | 13 => Some(format!("{name}: {}", self.absent(entry, None).0)),
@@ -440,6 +473,8 @@ impl<'a> Story<'a> {
                 let record = self.record(entry)?;
                 Some(format!("{entry} acts: {}", self.sentence(record)))
             }
+            25 if wish.folder == wish.object => Some(format!("into {name} itself")),
+            25 => Some(format!("{} lies in {name}", self.name(wish.folder?))),
             _ => None,
         }
     }
@@ -462,8 +497,10 @@ impl<'a> Story<'a> {
         let words = match (aside.reason(), operation) {
             (12, Operation::Store) => "if its measurement counts, make a trace with its mark",
             (12, _) | (18, _) => return None,
+            (13, Operation::Move) => "if it is still wanted, move it to a folder that is there",
             (13, _) => "if it is still wanted, make it again in a folder that is there",
             (14, Operation::Store) => "if its measurement counts, store it to a trace",
+            (14, Operation::Move) => "if it is still wanted, move it to a folder",
             (14, _) => "if it is still wanted, make it again in a folder",
             (15, Operation::MakeTrace) => {
                 return Some(format!(
@@ -475,11 +512,14 @@ impl<'a> Story<'a> {
                     "use {marked}, or make it again under another label"
                 ));
             }
+            (15, Operation::Move) => "if it is still wanted, move it there under another label",
             (15, _) => "if it is still wanted, rename it to another label",
             (16, _) => "if the folder is still to go, remove its entries first, then the folder",
             (17, Operation::Store) => "look at both; store again what shall stay",
             (17, Operation::Remove) => "look at the change; remove it again if it is still to go",
+            (17, Operation::Move) => "look at both places; move it again if it is still wanted",
             (17, _) => "look at both labels; rename it again if it is still wanted",
+            (25, _) => "if it is still wanted, move it to a folder that does not lie in it",
             _ => "look at both records and decide",
         };
         Some(words.to_string())

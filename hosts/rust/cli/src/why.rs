@@ -294,7 +294,7 @@ fn bad_head(record: &Bytes) -> Option<String> {
     let (unit, number) = (usize::from(record[0]), number16(&record[2..]));
     if unit > 7 {
         Some(format!("unit {unit}"))
-    } else if !(1..=6).contains(&record[1]) {
+    } else if !(1..=7).contains(&record[1]) {
         Some(format!("operation {}", record[1]))
     } else if number == 0 {
         Some("number 0".to_string())
@@ -309,9 +309,8 @@ fn bad_head(record: &Bytes) -> Option<String> {
     }
 }
 
-fn makes(record: &Bytes) -> bool {
-    record[1] <= 2
-}
+const RENAME: u8 = 5;
+const MOVE: u8 = 7;
 
 fn unused(field: &[u8], what: &str) -> Option<String> {
     let set = field.iter().any(|byte| *byte != 0);
@@ -320,18 +319,16 @@ fn unused(field: &[u8], what: &str) -> Option<String> {
 
 fn bad_names(record: &Bytes) -> Option<String> {
     let (object, folder) = (&record[20..24], &record[24..28]);
-    if makes(record) {
+    let placed = || {
         let root = folder == [0; 4];
-        let named = || {
-            if root {
-                None
-            } else {
-                unnamed(folder, record, "folder")
-            }
-        };
-        unused(object, "an object").or_else(named)
-    } else {
-        unused(folder, "a folder").or_else(|| unnamed(object, record, "object"))
+        let fault = (!root).then(|| unnamed(folder, record, "folder"));
+        fault.flatten()
+    };
+    let named = || unnamed(object, record, "object");
+    match record[1] {
+        1 | 2 => unused(object, "an object").or_else(placed),
+        MOVE => named().or_else(placed),
+        _ => unused(folder, "a folder").or_else(named),
     }
 }
 
@@ -373,7 +370,7 @@ fn bad_date(field: &[u8]) -> Option<String> {
 
 fn bad_label(record: &Bytes) -> Option<String> {
     let field = &record[32..64];
-    if !makes(record) && record[1] != 5 {
+    if !matches!(record[1], 1 | 2 | RENAME | MOVE) {
         return unused(field, "a label");
     }
     let end = field.iter().position(|byte| *byte == 0).unwrap_or(32);

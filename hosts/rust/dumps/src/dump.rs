@@ -56,7 +56,7 @@ fn identity(bytes: &[u8]) -> String {
     format!("{}.{}", bytes[0], get16(bytes, 2))
 }
 
-const OPERATIONS: [&str; 7] = [
+const OPERATIONS: [&str; 8] = [
     "",
     "make folder",
     "make trace",
@@ -64,6 +64,7 @@ const OPERATIONS: [&str; 7] = [
     "remove",
     "rename",
     "settle",
+    "move",
 ];
 
 impl Dump<'_> {
@@ -145,7 +146,12 @@ impl Dump<'_> {
         self.field(2, &format!("number {}", get16(record, 2)));
         self.field(16, &format!("seen {}", counts(&record[4..20])));
         self.used(operation >= 3, 4, "object", &identity(&record[20..24]));
-        self.used(operation <= 2, 4, "folder", &identity(&record[24..28]));
+        self.used(
+            matches!(operation, 1 | 2 | 7),
+            4,
+            "folder",
+            &identity(&record[24..28]),
+        );
         let date = format!(
             "date {:04}-{:02}-{:02}",
             get16(record, 28),
@@ -153,7 +159,7 @@ impl Dump<'_> {
             record[31]
         );
         self.field(4, &date);
-        self.used(matches!(operation, 1 | 2 | 5), 32, "label", &label);
+        self.used(matches!(operation, 1 | 2 | 5 | 7), 32, "label", &label);
         self.used(matches!(operation, 2 | 3), 16, "mark", "");
     }
 }

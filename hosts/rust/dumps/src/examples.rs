@@ -2,7 +2,7 @@
 
 use library::{LISTING, Library};
 use make_vectors::chain::file_of;
-use make_vectors::examples::{not_closed, operations, paper, reasons, removed, two_blocks};
+use make_vectors::examples::{moves, not_closed, operations, paper, reasons, removed, two_blocks};
 
 const LOG: usize = 40_960;
 const FILE: usize = 44_032;
@@ -29,6 +29,7 @@ pub fn example(library: &dyn Library, name: &str) -> Option<Example> {
             return Some(Example { like, ..example });
         }
         "operations" => (7, 1, operations()),
+        "moves" => (7, 0, moves()),
         "reasons" => (7, 0, reasons()),
         "removed" => (4_294_967_295, 2, removed()),
         _ => return None,

@@ -10,6 +10,7 @@ use workload::{Chance, Mix};
 fn pair(round: u64, plan: &Plan, records: usize) -> Vec<Vec<u8>> {
     let mix = match round % 4 {
         0 => &Mix::CONFLICTS,
+        1 => &Mix::MOVES,
         2 => &Mix::CASES,
         _ => &Mix::BENCH,
     };

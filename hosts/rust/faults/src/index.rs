@@ -23,7 +23,7 @@ pub fn kept(library: &dyn Library, plan: &Plan) -> Tally {
     let mut tally = Tally::default();
     for life in 0..plan.count(12, 600) {
         let mut chance = Chance::new(700 * plan.seed + life);
-        let mix = *chance.pick(&[Mix::BENCH, Mix::CONFLICTS, Mix::CASES]);
+        let mix = *chance.pick(&[Mix::BENCH, Mix::CONFLICTS, Mix::CASES, Mix::MOVES]);
         let none = Unit {
             log: vec![0; LOG],
             index: vec![0; INDEX],

@@ -75,7 +75,7 @@ impl<T: PartialEq + Debug> Both<T> {
 impl Calls<'_> {
     fn new(library: &dyn Library, seed: u64) -> Calls<'_> {
         let mut chance = Chance::new(seed);
-        let mix = *chance.pick(&[Mix::BENCH, Mix::CONFLICTS, Mix::CASES]);
+        let mix = *chance.pick(&[Mix::BENCH, Mix::CONFLICTS, Mix::CASES, Mix::MOVES]);
         let held = *chance.pick(&[0, 0, 12, 60, 505, 512]);
         let log = log_of(held, 1 + chance.below(8), 4, &mix, seed);
         let mut index = vec![0; INDEX];

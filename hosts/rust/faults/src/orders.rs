@@ -13,7 +13,7 @@ const WAYS: [(usize, usize); 6] = [(0, 1), (0, 2), (1, 0), (1, 2), (2, 0), (2, 1
 pub fn all(library: &dyn Library, plan: &Plan) -> Tally {
     let mut tally = Tally::default();
     for round in 0..plan.count(4, 24) {
-        let mix = [Mix::CONFLICTS, Mix::CASES][round % 2];
+        let mix = [Mix::CONFLICTS, Mix::MOVES, Mix::CASES][round % 3];
         let logs = apart(3, 4 + round % 5, &mix, 77 * plan.seed + round as u64);
         let goal = Goal::of(&logs);
         let mut orders = Orders {

@@ -102,7 +102,7 @@ impl Hosts<'_> {
 /// other wishes too.
 fn wishes(seed: u64, count: usize) -> Vec<Vec<[u8; 80]>> {
     let mix = Mix {
-        weights: [1, 1, 0, 0, 0, 0],
+        weights: [1, 1, 0, 0, 0, 0, 0],
         labels: 1,
         cases: false,
     };

@@ -61,7 +61,7 @@ pub fn meetings(library: &dyn Library, plan: &Plan) -> Tally {
             return tally;
         }
         let size = [3, 16, 60, 200, 400][round % 5];
-        let mix = [Mix::CONFLICTS, Mix::CASES][round % 2];
+        let mix = [Mix::CONFLICTS, Mix::MOVES, Mix::CASES][round % 3];
         let mut logs = apart(2, size, &mix, plan.seed + round as u64);
         let goal = Goal::of(&logs);
         let end = meet(library, &mut logs).and_then(|()| goal.reached(library, &logs));
@@ -88,7 +88,7 @@ pub fn changed(library: &dyn Library, plan: &Plan) -> Tally {
             return tally;
         }
         let size = [16, 60, 200][round % 3];
-        let logs = apart(2, size, &Mix::CONFLICTS, plan.seed + (round % 24) as u64);
+        let logs = apart(2, size, &Mix::MOVES, plan.seed + (round % 24) as u64);
         let end = changed_one(library, &logs, &mut chance);
         tally.count(|| format!("row {round}"), end);
     }

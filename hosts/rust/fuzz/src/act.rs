@@ -12,7 +12,7 @@ use workload::vector_of;
 fn wish(input: &mut Input, log: &[u8], unit: u8) -> Vec<u8> {
     let mut wish = [0; RECORD];
     wish[0] = unit;
-    wish[1] = 1 + input.byte() % 6;
+    wish[1] = 1 + input.byte() % 7;
     wish[28..32].copy_from_slice(&[0xe9, 7, 1 + input.byte() % 12, 28]);
     fill_in(&mut wish, &vector_of(log), input);
     if input.one_in(4) {

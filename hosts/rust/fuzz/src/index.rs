@@ -97,7 +97,7 @@ pub fn index(data: &[u8]) {
     }
     let mut wish = [0; RECORD];
     wish[0] = unit as u8;
-    wish[1] = 1 + input.byte() % 6;
+    wish[1] = 1 + input.byte() % 7;
     wish[28..32].copy_from_slice(&[0xe9, 7, 1, 28]);
     crate::life::fill_in(&mut wish, &workload::vector_of(&log), &mut input);
     if input.one_in(32) {

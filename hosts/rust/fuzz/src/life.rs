@@ -18,7 +18,7 @@ pub struct Life {
 /// A log that all units know at first: of 0, 20, 500, 507 or 512 records.
 fn common(which: usize) -> &'static [[u8; RECORD]] {
     static FULL: OnceLock<Vec<u8>> = OnceLock::new();
-    let full = FULL.get_or_init(|| log_of(RECORDS, 4, 6, &Mix::CASES, 5));
+    let full = FULL.get_or_init(|| log_of(RECORDS, 4, 6, &Mix::MOVES, 5));
     let records = [0, 20, 500, 507, 512][which];
     &full.as_chunks().0[..records]
 }
@@ -83,7 +83,7 @@ impl Life {
         let seen = self.known[unit];
         let mut record = [0; RECORD];
         record[0] = unit as u8;
-        record[1] = 1 + input.byte() % 6;
+        record[1] = 1 + input.byte() % 7;
         record[2..4].copy_from_slice(&(seen[unit] + 1).to_le_bytes());
         for (i, count) in seen.iter().enumerate() {
             record[4 + 2 * i..6 + 2 * i].copy_from_slice(&count.to_le_bytes());
@@ -111,21 +111,34 @@ impl Life {
 /// The fields that the operation uses. A record that can name nothing makes a
 /// folder in the root.
 pub fn fill_in(record: &mut [u8; RECORD], seen: &Vector, input: &mut Input) {
-    let (first, number) = (input.below(8), input.byte() as u16);
-    let named = (0..8)
-        .map(|i| (first + i) % 8)
-        .find(|unit| seen[*unit] > 0)
-        .map(|unit| (unit as u8, 1 + number % seen[unit]));
-    if record[1] > 2 && named.is_none() {
+    let named = |input: &mut Input| {
+        let (first, number) = (input.below(8), input.byte() as u16);
+        let unit = (0..8).map(|i| (first + i) % 8).find(|unit| seen[*unit] > 0);
+        let named = unit.map(|unit| (unit as u8, 1 + number % seen[unit]));
+        (named, number.is_multiple_of(3))
+    };
+    let (first, root) = named(input);
+    if record[1] > 2 && first.is_none() {
         record[1] = 1;
     }
-    let at = if record[1] > 2 { 20 } else { 24 };
-    let root = record[1] <= 2 && number.is_multiple_of(3);
-    if let (Some((unit, number)), false) = (named, root) {
-        record[at] = unit;
-        record[at + 2..at + 4].copy_from_slice(&number.to_le_bytes());
+    let operation = record[1];
+    let mut put = |at: usize, named: Option<(u8, u16)>| {
+        if let Some((unit, number)) = named {
+            record[at] = unit;
+            record[at + 2..at + 4].copy_from_slice(&number.to_le_bytes());
+        }
+    };
+    match operation {
+        1 | 2 if root => (),
+        1 | 2 => put(24, first),
+        _ => put(20, first),
     }
-    if matches!(record[1], 1 | 2 | 5) {
+    if operation == 7
+        && let (folder, false) = named(input)
+    {
+        put(24, folder);
+    }
+    if matches!(operation, 1 | 2 | 5 | 7) {
         let label = LABELS[input.below(LABELS.len())];
         record[32..32 + label.len()].copy_from_slice(label);
     }

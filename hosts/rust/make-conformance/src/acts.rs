@@ -1,10 +1,10 @@
 //! Acts accepted and refused.
 
 use crate::blocks::unsound_logs;
-use crate::damaged::MALFORMED;
+use crate::damaged::{MALFORMED, MALFORMED_MOVE};
 use crate::kit::{Calls, Written, block_of, lent, log_of};
 use make_vectors::chain::blocks_of_six;
-use make_vectors::examples::{ROOT, record};
+use make_vectors::examples::{ROOT, moved, record};
 use make_vectors::list::{Lent, List};
 use plain::LOG;
 
@@ -15,8 +15,17 @@ pub fn list() -> Written {
     refused(&mut calls);
     strokes(&mut calls);
     cases(&mut calls);
+    moves(&mut calls);
+    crossing(&mut calls);
     accepted(&mut calls);
     calls.written("acts", "wishes given to an act")
+}
+
+/// A wish of a unit to move an object into a folder under a label.
+fn move_wish(unit: u8, object: (u8, u16), folder: (u8, u16), label: &str) -> [u8; 80] {
+    let mut wish = moved(unit, &[], object, folder, label, 3);
+    wish[2..20].fill(0);
+    wish
 }
 
 /// A wish of a unit: operation, folder or object, label, mark.
@@ -289,6 +298,186 @@ fn cases(calls: &mut Calls) {
     calls.call(0, "what is shown then, labels as written", |list| {
         list.show(4, Lent::Own)
     });
+}
+
+/// Moves. Unit 2: the folders 2.1 A, 2.2 B in it and 2.3 C, the traces 2.4 T in B
+/// and 2.5 U in C.
+fn moves(calls: &mut Calls) {
+    let log = held();
+    for (name, shows, changes) in MALFORMED_MOVE {
+        if name.ends_with("itself") {
+            continue;
+        }
+        let mut wish = move_wish(0, (0, 2), (0, 1), "Gain");
+        // The changes are those of a move of 0.2 that has seen 0.3.
+        changes.iter().for_each(|(at, byte)| wish[*at] = *byte);
+        if *name == "object-beyond" {
+            wish[22] = 9;
+        }
+        calls.call(7, &format!("malformed: {shows}"), act(&log, &wish));
+    }
+    let mut call = |number, shows: &str, wish: [u8; 80]| {
+        calls.call(number, shows, |list| list.act(2, Lent::Own, 7, 2, &wish))
+    };
+    call(0, "2.1 makes the folder A", wish(2, 1, ROOT, "A", 0));
+    call(
+        0,
+        "2.2 makes the folder B in it",
+        wish(2, 1, (2, 1), "B", 0),
+    );
+    call(0, "2.3 makes the folder C", wish(2, 1, ROOT, "C", 0));
+    call(0, "2.4 makes the trace T in B", wish(2, 2, (2, 2), "T", 1));
+    call(0, "2.5 makes the trace U in C", wish(2, 2, (2, 3), "U", 2));
+    call(25, "A into itself", move_wish(2, (2, 1), (2, 1), "A"));
+    call(
+        25,
+        "A into B, which lies in it",
+        move_wish(2, (2, 1), (2, 2), "A"),
+    );
+    call(
+        25,
+        "A into B under a label that is held there: 25, not 15",
+        move_wish(2, (2, 1), (2, 2), "T"),
+    );
+    call(
+        24,
+        "A into itself under a label with a stroke: 24, not 25",
+        move_wish(2, (2, 1), (2, 1), "A/B"),
+    );
+    call(
+        14,
+        "T into itself: 14, not 25",
+        move_wish(2, (2, 4), (2, 4), "T"),
+    );
+    call(14, "T into U", move_wish(2, (2, 4), (2, 5), "T"));
+    call(
+        14,
+        "A into T, which lies below it: 14, not 25",
+        move_wish(2, (2, 1), (2, 4), "A"),
+    );
+    call(15, "T into C as u", move_wish(2, (2, 4), (2, 3), "u"));
+    call(15, "B into the root as c", move_wish(2, (2, 2), ROOT, "c"));
+    call(24, "T into C as T/1", move_wish(2, (2, 4), (2, 3), "T/1"));
+    call(
+        0,
+        "2.6 moves T to where it is, in the same bytes",
+        move_wish(2, (2, 4), (2, 2), "T"),
+    );
+    call(
+        0,
+        "2.7 moves T to where it is, as t",
+        move_wish(2, (2, 4), (2, 2), "t"),
+    );
+    call(
+        0,
+        "2.8 moves T into C as V",
+        move_wish(2, (2, 4), (2, 3), "V"),
+    );
+    call(15, "C has a V now", wish(2, 2, (2, 3), "v", 1));
+    call(0, "2.9 makes a T in B again", wish(2, 2, (2, 2), "T", 3));
+    call(
+        0,
+        "2.10 moves the folder C into B",
+        move_wish(2, (2, 3), (2, 2), "C"),
+    );
+    call(
+        25,
+        "A into C, which lies in B, which lies in A",
+        move_wish(2, (2, 1), (2, 3), "A"),
+    );
+    call(
+        0,
+        "2.11 moves B to the root",
+        move_wish(2, (2, 2), ROOT, "B"),
+    );
+    call(0, "2.12 moves A into C", move_wish(2, (2, 1), (2, 3), "A"));
+    call(25, "B into A now", move_wish(2, (2, 2), (2, 1), "B"));
+    call(16, "C has entries", wish(2, 4, (2, 3), "", 0));
+    call(
+        0,
+        "2.13 removes A, which is empty",
+        wish(2, 4, (2, 1), "", 0),
+    );
+    call(
+        12,
+        "A is not there any more",
+        move_wish(2, (2, 1), ROOT, "A"),
+    );
+    call(
+        12,
+        "A into itself, where it is not any more: 12",
+        move_wish(2, (2, 1), (2, 1), "A"),
+    );
+    call(
+        13,
+        "into A, which is not there",
+        move_wish(2, (2, 4), (2, 1), "T"),
+    );
+    call(
+        12,
+        "a record that is no make",
+        move_wish(2, (2, 6), ROOT, "A"),
+    );
+    call(
+        13,
+        "into a record that is no make",
+        move_wish(2, (2, 4), (2, 6), "T"),
+    );
+    calls.call(0, "what is shown then", |list| list.show(2, Lent::Own));
+}
+
+/// Units 6 and 7 move two folders into each other.
+fn crossing(calls: &mut Calls) {
+    let act = |unit: u8, wish: [u8; 80]| {
+        move |list: &mut List| list.act(unit.into(), Lent::Own, 7, unit, &wish)
+    };
+    let take = |from: u8, to: u8| {
+        move |list: &mut List| {
+            let asked = workload::vector_of(&list.logs[usize::from(to)]);
+            list.hand_out(from.into(), Lent::Own, 7, from, &asked, (plain::BLOCK, 1));
+            let block = list.given[list.given.len() - 1].clone();
+            list.take(to.into(), Lent::Own, 7, to, &block)
+        }
+    };
+    calls.call(
+        0,
+        "6.1 makes the folder A",
+        act(6, wish(6, 1, ROOT, "A", 0)),
+    );
+    calls.call(
+        0,
+        "6.2 makes the folder B",
+        act(6, wish(6, 1, ROOT, "B", 0)),
+    );
+    calls.call(0, "unit 7 takes both", take(6, 7));
+    calls.call(
+        0,
+        "6.3 moves A into B",
+        act(6, move_wish(6, (6, 1), (6, 2), "A")),
+    );
+    calls.call(
+        0,
+        "7.1 moves B into A",
+        act(7, move_wish(7, (6, 2), (6, 1), "B")),
+    );
+    calls.call(0, "unit 6 takes 7.1", take(7, 6));
+    calls.call(0, "unit 7 takes 6.3", take(6, 7));
+    calls.call(0, "at unit 6 7.1 stands aside (25)", |list| {
+        list.show(6, Lent::Own)
+    });
+    calls.call(0, "at unit 7 too", |list| list.show(7, Lent::Own));
+    calls.call(
+        0,
+        "7.2 moves A to the root",
+        act(7, move_wish(7, (6, 1), ROOT, "A")),
+    );
+    calls.call(
+        0,
+        "7.3 moves B into A",
+        act(7, move_wish(7, (6, 2), (6, 1), "B")),
+    );
+    calls.call(0, "7.4 settles 7.1", act(7, wish(7, 6, (7, 1), "", 0)));
+    calls.call(0, "what unit 7 shows then", |list| list.show(7, Lent::Own));
 }
 
 fn accepted(calls: &mut Calls) {

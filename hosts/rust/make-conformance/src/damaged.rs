@@ -4,7 +4,7 @@
 use crate::good::zero_sum;
 use crate::kit::{Case, changed, refused, sealed_at};
 use make_vectors::chain::{blocks_of_six, file_of, seal};
-use make_vectors::examples::{ROOT, not_closed, record};
+use make_vectors::examples::{ROOT, moved, not_closed, record};
 use plain::BLOCK;
 
 pub fn all() -> Vec<Case> {
@@ -15,6 +15,7 @@ pub fn all() -> Vec<Case> {
     cases.extend(disagreeing());
     cases.extend(too_many());
     cases.extend(malformed());
+    cases.extend(malformed_moves());
     cases.extend(ranks());
     cases.extend(numbers());
     cases.extend(unclosed());
@@ -288,7 +289,7 @@ pub type Wrong = (&'static str, &'static str, usize, &'static [(usize, u8)]);
 pub const MALFORMED: &[Wrong] = &[
     ("unit-8", "a record of unit 8", 0, &[(0, 8)]),
     ("operation-0", "operation 0", 0, &[(1, 0)]),
-    ("operation-7", "operation 7", 5, &[(1, 7)]),
+    ("operation-8", "operation 8", 5, &[(1, 8)]),
     (
         "number-0",
         "number 0, with 65535 seen of the own unit",
@@ -412,6 +413,95 @@ pub const MALFORMED: &[Wrong] = &[
     ("mark-of-remove", "a remove with a mark", 4, &[(64, 1)]),
     ("mark-of-settle", "a settle with a mark", 5, &[(72, 1)]),
 ];
+
+/// A folder, a trace and another folder; a move of the trace into that one.
+pub fn moving() -> [[u8; 80]; 4] {
+    [
+        record(0, &[], 1, ROOT, "Bench", 0, 3),
+        record(0, &[1], 2, (0, 1), "Gain", 1, 3),
+        record(0, &[2], 1, ROOT, "Spare", 0, 3),
+        moved(0, &[3], (0, 2), (0, 3), "Gain", 4),
+    ]
+}
+
+/// What is wrong with a move: the name, what it shows, and the bytes changed.
+type WrongMove = (&'static str, &'static str, &'static [(usize, u8)]);
+
+pub const MALFORMED_MOVE: &[WrongMove] = &[
+    ("object-root", "a move of the root", &[(22, 0)]),
+    (
+        "object-number-0",
+        "a move of the object 3.0",
+        &[(20, 3), (22, 0)],
+    ),
+    ("object-unit-8", "a move of an object of unit 8", &[(20, 8)]),
+    (
+        "object-byte",
+        "a move, the byte behind its object's unit is 1",
+        &[(21, 1)],
+    ),
+    (
+        "object-beyond",
+        "a move of an object that it has not seen",
+        &[(20, 1)],
+    ),
+    ("object-itself", "a move names itself as object", &[(22, 4)]),
+    (
+        "folder-number-0",
+        "a move into the folder 3.0",
+        &[(24, 3), (26, 0)],
+    ),
+    (
+        "folder-unit-8",
+        "a move into a folder of unit 8",
+        &[(24, 8)],
+    ),
+    (
+        "folder-byte",
+        "a move, the byte behind its folder's unit is 1",
+        &[(25, 1)],
+    ),
+    (
+        "root-byte",
+        "a move into the root, with a byte behind its unit",
+        &[(25, 1), (26, 0)],
+    ),
+    (
+        "folder-beyond",
+        "a move into a folder that it has not seen",
+        &[(27, 1)],
+    ),
+    ("folder-itself", "a move names itself as folder", &[(26, 4)]),
+    ("date", "a move of 31 April", &[(30, 4), (31, 31)]),
+    (
+        "label-empty",
+        "a move without a label",
+        &[(32, 0), (33, 0), (34, 0), (35, 0)],
+    ),
+    (
+        "label-space-last",
+        "a move under a label that ends with a space",
+        &[(35, 32)],
+    ),
+    (
+        "label-80",
+        "a move, the byte 80 in its label",
+        &[(33, 0x80)],
+    ),
+    ("label-tail", "a move, a byte behind its label", &[(63, 65)]),
+    ("mark", "a move with a mark", &[(72, 1)]),
+];
+
+fn malformed_moves() -> Vec<Case> {
+    let file = file_of(&moving(), 7, 0);
+    MALFORMED_MOVE
+        .iter()
+        .map(|(name, shows, changes)| {
+            let file = sealed_at(&file, 0, &in_record(3, changes));
+            refused(7, 0, &format!("move-{name}"), shows, file)
+        })
+        .collect()
+}
 
 fn malformed() -> Vec<Case> {
     let file = base();

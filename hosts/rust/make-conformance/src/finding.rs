@@ -2,7 +2,7 @@
 //! asked, any label bytes.
 
 use crate::kit::{Calls, Written};
-use make_vectors::examples::{ROOT, record};
+use make_vectors::examples::{ROOT, moved, record};
 use make_vectors::list::{Lent, List};
 use plain::BLOCK;
 
@@ -21,6 +21,7 @@ pub fn list() -> Written {
     changes(&mut calls);
     meeting(&mut calls);
     cases(&mut calls);
+    moves(&mut calls);
     restart(&mut calls);
     calls.written("finding", "folders listed and labels looked up")
 }
@@ -360,6 +361,96 @@ fn cases(calls: &mut Calls) {
     );
     finds(calls, 6, TOP, b"z", "6.1", "the one that has it");
     calls.call(0, "what unit 6 shows", |list| list.show(6, Lent::Own));
+}
+
+/// Unit 7: the folders 7.1 F and 7.2 G, the traces 7.3 a and 7.4 c in F, 7.5 b in G;
+/// then unit 4, which moves what unit 7 moves too.
+fn moves(calls: &mut Calls) {
+    let moves = |unit: u8, object: Id, folder: Id, label: &str| {
+        let mut wish = moved(unit, &[], object, folder, label, 3);
+        wish[2..20].fill(0);
+        move |list: &mut List| list.act(unit.into(), Lent::Own, 7, unit, &wish)
+    };
+    calls.call(0, "7.1 makes the folder F", act(7, 1, ROOT, "F"));
+    calls.call(0, "7.2 makes the folder G", act(7, 1, ROOT, "G"));
+    calls.call(0, "7.3 makes the trace a in F", act(7, 2, (7, 1), "a"));
+    calls.call(0, "7.4 makes the trace c in F", act(7, 2, (7, 1), "c"));
+    calls.call(0, "7.5 makes the trace b in G", act(7, 2, (7, 2), "b"));
+    calls.call(0, "unit 4 takes them", take(7, 4));
+    calls.call(0, "7.6 moves a into G as C", moves(7, (7, 3), (7, 2), "C"));
+    lists(calls, 7, (7, 1), "7.4", "the folder that it left");
+    lists(calls, 7, (7, 2), "7.5,7.3", "the folder that it came to");
+    finds(
+        calls,
+        7,
+        (7, 1),
+        b"a",
+        "-",
+        "the old label in the old folder",
+    );
+    finds(
+        calls,
+        7,
+        (7, 2),
+        b"a",
+        "-",
+        "the old label in the new folder",
+    );
+    finds(
+        calls,
+        7,
+        (7, 2),
+        b"c",
+        "7.3",
+        "the new label in the new folder",
+    );
+    finds(
+        calls,
+        7,
+        (7, 1),
+        b"c",
+        "7.4",
+        "the same label in the old folder",
+    );
+    calls.call(
+        0,
+        "7.7 moves it to where it is, as A",
+        moves(7, (7, 3), (7, 2), "A"),
+    );
+    lists(calls, 7, (7, 2), "7.3,7.5", "at its new place in the order");
+    calls.call(
+        0,
+        "7.8 moves the folder G into F",
+        moves(7, (7, 2), (7, 1), "B"),
+    );
+    lists(calls, 7, TOP, "7.1", "the root without it");
+    lists(calls, 7, (7, 1), "7.2,7.4", "the folder with it");
+    lists(calls, 7, (7, 2), "7.3,7.5", "what lies in the moved folder");
+    calls.call(25, "F into G is refused", moves(7, (7, 1), (7, 2), "F"));
+    calls.call(
+        15,
+        "c into G as B is refused",
+        moves(7, (7, 4), (7, 2), "B"),
+    );
+    lists(calls, 7, (7, 1), "7.2,7.4", "as before the refusals");
+    calls.call(0, "7.9 moves c to the root", moves(7, (7, 4), ROOT, "c"));
+    lists(calls, 7, TOP, "7.4,7.1", "the root with it");
+    calls.call(0, "4.1 moves a to the root", moves(4, (7, 3), ROOT, "a"));
+    calls.call(0, "4.2 moves F into G", moves(4, (7, 1), (7, 2), "F"));
+    lists(calls, 4, TOP, "7.3,7.2", "unit 4 before the meeting");
+    lists(calls, 4, (7, 2), "7.5,7.1", "the folder that F went into");
+    calls.call(0, "unit 7 takes 4.1 and 4.2", take(4, 7));
+    lists(
+        calls,
+        7,
+        TOP,
+        "7.3,7.4,7.2",
+        "4.1 and 4.2 rank first, so 7.6, 7.7 (17) and 7.8 (25) stand aside",
+    );
+    lists(calls, 7, (7, 2), "7.5,7.1", "G with F in it");
+    calls.call(0, "unit 4 takes what unit 7 did", take(7, 4));
+    lists(calls, 4, TOP, "7.3,7.4,7.2", "the same at unit 4");
+    calls.call(0, "what unit 4 shows", |list| list.show(4, Lent::Own));
 }
 
 fn restart(calls: &mut Calls) {

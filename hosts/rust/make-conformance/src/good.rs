@@ -2,7 +2,9 @@
 
 use crate::kit::{Case, good};
 use make_vectors::chain::{Fields, blocks_of_six, file_of};
-use make_vectors::examples::{ROOT, operations, paper, reasons, record, removed, two_blocks};
+use make_vectors::examples::{
+    ROOT, moved, moves, operations, paper, reasons, record, removed, two_blocks,
+};
 use workload::{Mix, log_of};
 
 pub fn all() -> Vec<Case> {
@@ -25,8 +27,13 @@ pub fn all() -> Vec<Case> {
         ),
         good(
             "operations",
-            "each operation once, in one full block; a settled aside (docs/EXAMPLES.md)",
+            "each operation but move once, in one full block; a settled aside (docs/EXAMPLES.md)",
             file_of(&operations(), 7, 1),
+        ),
+        good(
+            "folders-crossing",
+            "two folders moved into each other, and a trace moved (docs/EXAMPLES.md)",
+            file_of(&moves(), 7, 0),
         ),
         good(
             "reasons",
@@ -46,19 +53,25 @@ pub fn all() -> Vec<Case> {
         good(
             "512-records",
             "a full log: 86 blocks, the last of count 2",
-            full(),
+            full(&Mix::CONFLICTS, 41),
+        ),
+        good(
+            "512-with-moves",
+            "a full log of which every third record or so is a move",
+            full(&Mix::MOVES, 42),
         ),
     ];
     cases.extend(fields());
     cases.extend(settling());
     cases.extend(trees());
+    cases.extend(moving());
     cases.extend(sums());
     cases
 }
 
 /// The records of a log drawn by chance.
-fn full() -> Vec<u8> {
-    let log = log_of(512, 8, 4, &Mix::CONFLICTS, 41);
+fn full(mix: &Mix, seed: u64) -> Vec<u8> {
+    let log = log_of(512, 8, 4, mix, seed);
     let (records, _) = log.as_chunks::<80>();
     file_of(&records[..512], 9, 2)
 }
@@ -260,7 +273,7 @@ fn trees() -> Vec<Case> {
         ),
         good(
             "own-label-last",
-            "a rename to the own label is the last label record: a rename and a remove that have not seen \
+            "a rename to the own label is the last place record: a rename and a remove that have not seen \
              it stand aside (17)",
             file_of(
                 &[
@@ -277,7 +290,7 @@ fn trees() -> Vec<Case> {
             "case",
             "a make and a rename whose label differs from a held one in capitals and small letters alone \
              stand aside (15); labels are shown as they were written; a rename to another case of the own \
-             label fits, and is the last label record (17)",
+             label fits, and is the last place record (17)",
             file_of(
                 &[
                     record(0, &[], 2, ROOT, "Noise Figure", 1, 3),
@@ -399,6 +412,159 @@ fn trees() -> Vec<Case> {
             ),
         ),
     ]
+}
+
+/// A file of some records by rank.
+fn ranked(mut records: Vec<[u8; 80]>) -> Vec<u8> {
+    records.sort_by_key(|record| {
+        let seen = record[4..20].as_chunks::<2>().0;
+        let sum: u32 = seen
+            .iter()
+            .map(|count| u32::from(u16::from_le_bytes(*count)))
+            .sum();
+        (sum, record[0])
+    });
+    file_of(&records, 7, 0)
+}
+
+/// Moves: what they do, and each reason against one.
+fn moving() -> Vec<Case> {
+    let folder = |seen, inside, label| record(0, &[seen], 1, inside, label, 0, 3);
+    let trace = |seen, inside, label| record(0, &[seen], 2, inside, label, 1, 3);
+    vec![
+        good(
+            "moves",
+            "a trace is moved under another label, then the folder with it, then the trace to the root, and \
+             to where it is; it keeps its line, its date and its mark; the folders it left can be removed",
+            ranked(vec![
+                folder(0, ROOT, "A"),
+                folder(1, ROOT, "B"),
+                trace(2, (0, 1), "T"),
+                moved(0, &[3], (0, 3), (0, 2), "U", 4),
+                moved(0, &[4], (0, 2), (0, 1), "B", 4),
+                record(0, &[5], 3, (0, 3), "", 2, 9),
+                moved(0, &[6], (0, 3), ROOT, "U", 4),
+                moved(0, &[7], (0, 3), ROOT, "u", 4),
+                folder(8, ROOT, "B"),
+                moved(0, &[9], (0, 1), (0, 9), "A", 5),
+                record(0, &[10], 4, (0, 2), "", 0, 5),
+                record(0, &[11], 4, (0, 1), "", 0, 5),
+            ]),
+        ),
+        good(
+            "crossing-moves",
+            "three units move three folders into each other, without having seen it: the one of highest rank \
+             stands aside (25)",
+            ranked(vec![
+                folder(0, ROOT, "A"),
+                folder(1, ROOT, "B"),
+                folder(2, ROOT, "C"),
+                moved(0, &[3], (0, 1), (0, 2), "A", 4),
+                moved(1, &[3], (0, 2), (0, 3), "B", 4),
+                moved(2, &[3], (0, 3), (0, 1), "C", 4),
+            ]),
+        ),
+        good(
+            "move-reasons",
+            "a move that stands aside under each of its reasons: 12, 17, 13, 14, 25 (into itself, and below \
+             itself), 15; one of them is settled",
+            ranked(vec![
+                folder(0, ROOT, "F"),
+                folder(1, (0, 1), "G"),
+                trace(2, ROOT, "T"),
+                trace(3, (0, 2), "S"),
+                folder(4, ROOT, "Old"),
+                record(0, &[5], 4, (0, 5), "", 0, 4),
+                moved(1, &[5], (0, 3), (0, 5), "T", 4),
+                moved(1, &[5, 1], (0, 5), ROOT, "Older", 4),
+                record(2, &[5], 5, (0, 3), "T 2", 0, 4),
+                moved(1, &[5, 2], (0, 3), (0, 1), "T", 5),
+                moved(1, &[5, 3], (0, 4), (0, 3), "S", 5),
+                moved(1, &[5, 4], (0, 1), (0, 1), "F", 5),
+                moved(1, &[5, 5], (0, 1), (0, 2), "F", 5),
+                moved(1, &[5, 6], (0, 4), (0, 1), "g", 5),
+                record(1, &[5, 7], 6, (1, 5), "", 0, 6),
+            ]),
+        ),
+        good(
+            "move-first-reason",
+            "moves for which two reasons hold: 17 before 13 and before 25; a trace into itself and a folder \
+             into a trace below it are 14, not 25; 25 before 15; 12 before 13",
+            ranked(vec![
+                folder(0, ROOT, "F"),
+                folder(1, (0, 1), "G"),
+                trace(2, (0, 2), "T"),
+                folder(3, ROOT, "Old"),
+                record(0, &[4], 5, (0, 1), "F 2", 0, 4),
+                record(0, &[5], 4, (0, 4), "", 0, 4),
+                record(1, &[4], 2, ROOT, "X", 3, 4),
+                moved(1, &[4, 1], (0, 1), (0, 4), "F", 4),
+                moved(1, &[4, 2], (0, 1), (0, 2), "F", 4),
+                moved(2, &[6, 3], (0, 3), (0, 3), "T", 5),
+                moved(2, &[6, 3, 1], (0, 1), (0, 3), "F", 5),
+                moved(2, &[6, 3, 2], (0, 1), (0, 2), "T", 5),
+                moved(2, &[6, 3, 3], (0, 4), (0, 4), "Old", 5),
+            ]),
+        ),
+        good(
+            "last-place",
+            "a rename, a remove and a move that have not seen the last move stand aside (17); a store has not \
+             to have seen it, nor a move a store; a folder into which something was moved is 16 before 17; \
+             one out of which the last entry was moved can be removed",
+            ranked(vec![
+                folder(0, ROOT, "F"),
+                trace(1, ROOT, "T"),
+                folder(2, ROOT, "G"),
+                trace(3, (0, 3), "X"),
+                moved(0, &[4], (0, 2), (0, 1), "T", 4),
+                record(1, &[4], 5, (0, 2), "T 2", 0, 4),
+                record(1, &[4, 1], 4, (0, 2), "", 0, 4),
+                moved(1, &[4, 2], (0, 2), (0, 3), "T", 4),
+                record(1, &[4, 3], 3, (0, 2), "", 7, 8),
+                record(1, &[4, 4], 4, (0, 1), "", 0, 4),
+                moved(0, &[5], (0, 4), (0, 1), "X", 5),
+                record(1, &[4, 5], 4, (0, 3), "", 0, 5),
+                moved(2, &[6, 3], (0, 2), ROOT, "T", 6),
+            ]),
+        ),
+        good(
+            "own-place-last",
+            "a move to where the entry is fits and is the last place record: a rename and a remove that have \
+             not seen it stand aside (17)",
+            ranked(vec![
+                folder(0, ROOT, "F"),
+                trace(1, (0, 1), "Gain"),
+                moved(0, &[2], (0, 2), (0, 1), "Gain", 4),
+                record(1, &[2], 5, (0, 2), "Loss", 0, 4),
+                record(2, &[2], 4, (0, 2), "", 0, 4),
+            ]),
+        ),
+        good(
+            "move-acts-again",
+            "2.1 would stand aside beside 0.2; 1.1, which ranks between them, moves 0.2 away, so 2.1 acts",
+            ranked(vec![
+                folder(0, ROOT, "F"),
+                trace(1, ROOT, "A"),
+                moved(1, &[2], (0, 2), (0, 1), "A", 5),
+                record(2, &[2], 2, ROOT, "a", 2, 4),
+            ]),
+        ),
+        good(
+            "deepest-move",
+            "511 folders, each in the one before, and a move of the first into the last: 25, found after 510 \
+             steps up",
+            ranked(deepest()),
+        ),
+    ]
+}
+
+/// Folders in folders, and the first moved into the last.
+fn deepest() -> Vec<[u8; 80]> {
+    let mut records: Vec<[u8; 80]> = (0..511)
+        .map(|seen| record(0, &[seen], 1, (0, seen), "D", 0, 3))
+        .collect();
+    records.push(moved(0, &[511], (0, 1), (0, 511), "D", 4));
+    records
 }
 
 /// Blocks whose sums are 0, which is stored as 0.

@@ -1,7 +1,7 @@
 //! The small functions: comparing, dates, records, sums, sound logs.
 
 use crate::blocks::unsound_logs;
-use crate::damaged::MALFORMED;
+use crate::damaged::{MALFORMED, MALFORMED_MOVE, moving};
 use crate::kit::{Shown, Written, changed, log_of};
 use make_vectors::chain::blocks_of_six;
 use make_vectors::examples::paper;
@@ -173,6 +173,18 @@ fn records(tables: &mut Tables) {
     }
     for (_, shows, record, changes) in MALFORMED {
         row(false, shows, &changed(&good[*record], changes));
+    }
+    let [_, _, _, good] = moving();
+    row(true, "a move", &good);
+    let root = changed(&good, &[(26, 0)]);
+    row(true, "a move into the root", &root);
+    row(
+        true,
+        "a move whose folder is its object: the fit is judged later",
+        &changed(&good, &[(26, 2)]),
+    );
+    for (_, shows, changes) in MALFORMED_MOVE {
+        row(false, shows, &changed(&good, changes));
     }
 }
 

@@ -28,6 +28,21 @@ pub fn record(
 
 pub const ROOT: (u8, u16) = (0, 0);
 
+/// A move of March 2025: unit, seen, object, folder, label, day.
+pub fn moved(
+    unit: u8,
+    seen: &[u16],
+    object: (u8, u16),
+    folder: (u8, u16),
+    label: &str,
+    day: u8,
+) -> [u8; 80] {
+    let mut record = record(unit, seen, 7, object, label, 0, day);
+    record[24] = folder.0;
+    record[26..28].copy_from_slice(&folder.1.to_le_bytes());
+    record
+}
+
 /// The file of document 01.
 pub fn paper() -> Vec<[u8; 80]> {
     vec![
@@ -60,7 +75,7 @@ pub fn not_closed() -> Vec<[u8; 80]> {
     records
 }
 
-/// Each operation once.
+/// Each operation but move once.
 pub fn operations() -> Vec<[u8; 80]> {
     vec![
         record(0, &[], 1, ROOT, "Bench", 0, 3),
@@ -91,6 +106,18 @@ pub fn reasons() -> Vec<[u8; 80]> {
         record(2, &[4, 3, 1], 6, (2, 1), "", 0, 14),
         record(2, &[4, 3, 2], 4, (0, 4), "", 0, 15),
         record(0, &[7, 4], 6, (1, 1), "", 0, 16),
+    ]
+}
+
+/// Two units move two folders into each other; a third moves a trace.
+pub fn moves() -> Vec<[u8; 80]> {
+    vec![
+        record(0, &[], 1, ROOT, "Roof", 0, 3),
+        record(0, &[1], 1, ROOT, "Bench", 0, 3),
+        record(0, &[2], 2, (0, 1), "Gain", 0x11, 4),
+        moved(0, &[3], (0, 1), (0, 2), "Roof", 5),
+        moved(1, &[3], (0, 2), (0, 1), "Bench", 5),
+        moved(2, &[3], (0, 3), (0, 2), "Gain 2", 6),
     ]
 }
 

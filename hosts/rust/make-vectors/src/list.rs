@@ -33,7 +33,7 @@ fn answer<T>(answer: &Answer<T>) -> String {
     match answer {
         Ok(_) => "0 -".to_string(),
         Err(refusal) => match refusal.number {
-            2..=11 | 20 | 24 => format!("{} {}", refusal.number, refusal.place),
+            2..=11 | 20 | 24 | 25 => format!("{} {}", refusal.number, refusal.place),
             number => format!("{number} -"),
         },
     }

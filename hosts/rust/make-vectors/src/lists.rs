@@ -32,6 +32,16 @@ pub fn all() -> Vec<(&'static str, String)> {
                 &Mix::CASES,
             ),
         ),
+        (
+            "moves",
+            meetings(
+                "demand 3, three units, many moves",
+                15,
+                3,
+                150,
+                &Mix::MOVES,
+            ),
+        ),
         ("damage", damage("anything goes, four units", 13, 110)),
         ("refusals", refusals()),
         ("full", full()),
@@ -239,7 +249,7 @@ fn refused_wishes(list: &mut List, sound: &[u8], make: &[u8; 80]) {
         wish
     };
     let log = Outside(sound);
-    let expected: [(u8, [u8; 80]); 14] = [
+    let expected: [(u8, [u8; 80]); 22] = [
         (7, changed(&[(0, 1)])),
         (7, changed(&[(2, 9)])),
         (7, changed(&[(4, 8)])),
@@ -255,6 +265,17 @@ fn refused_wishes(list: &mut List, sound: &[u8], make: &[u8; 80]) {
         (16, changed(&[(1, 4), (22, 1), (32, 0)])),
         (18, changed(&[(1, 6), (22, 1), (32, 0)])),
         (0, changed(&[(26, 1)])),
+        // Moves of 0.1 into itself, of 0.2 into itself, into a record that is no
+        // make, of such a record, of the root, to the label of 0.1, out of 0.1, and
+        // to where it is.
+        (25, changed(&[(1, 7), (22, 1), (26, 1)])),
+        (14, changed(&[(1, 7), (22, 2), (26, 2)])),
+        (13, changed(&[(1, 7), (22, 2), (26, 3)])),
+        (12, changed(&[(1, 7), (22, 3), (26, 1)])),
+        (7, changed(&[(1, 7), (26, 1)])),
+        (15, labelled(changed(&[(1, 7), (22, 2)]))),
+        (0, changed(&[(1, 7), (22, 2)])),
+        (0, labelled(changed(&[(1, 7), (22, 1)]))),
     ];
     for (number, wish) in expected {
         assert_eq!(list.act(0, log, 7, 0, &wish), number);

@@ -70,6 +70,8 @@ fn good() -> Vec<Case> {
     ];
     let log = log_of(80, 4, 3, &Mix::CASES, 37);
     cases.push(good("cases", file_of(&records_of(log), 5, 4)));
+    let log = log_of(120, 4, 5, &Mix::MOVES, 38);
+    cases.push(good("moves", file_of(&records_of(log), 5, 4)));
     for (records, seed) in [(1, 32), (6, 33), (7, 34), (40, 35), (60, 36)] {
         let log = log_of(records, 4, 3, &Mix::CONFLICTS, seed);
         cases.push(good(
@@ -211,7 +213,7 @@ type Change = fn(&mut [u8]);
 const MALFORMED: [(&str, usize, Change); 30] = [
     ("unit-8", 0, |record| record[0] = 8),
     ("operation-0", 0, |record| record[1] = 0),
-    ("operation-7", 5, |record| record[1] = 7),
+    ("operation-8", 5, |record| record[1] = 8),
     ("all-zero", 2, |record| record.fill(0)),
     ("number-0", 1, |record| {
         record[2..4].fill(0);

@@ -5,7 +5,7 @@
 use crate::bytes::{get16, get32, put16, put32};
 use crate::calls::scan;
 use crate::held::{Places, Store};
-use crate::record::{Fields, MAKE_FOLDER, MAKE_TRACE, REMOVE, RENAME, Record};
+use crate::record::{Fields, MAKE_FOLDER, MAKE_TRACE, MOVE, REMOVE, RENAME, Record};
 use crate::replay::{Entry, Kind, ROOT, Replay};
 use crate::{Answer, LOG, RECORD, RECORDS, refuse};
 
@@ -174,7 +174,7 @@ fn front(label: &[u8]) -> u64 {
 fn write(index: &mut [u8], records: usize, replay: &Replay, store: &impl Store) {
     let label = |place: u16| {
         let entry = &replay.entries[usize::from(place)];
-        label_in(store.record(usize::from(entry.label)))
+        label_in(store.record(usize::from(entry.placing)))
     };
     // Key of the folder, front of the label and place of each entry.
     let mut order = [(0u64, 0, 0); RECORDS];
@@ -213,13 +213,13 @@ pub struct Before<'a> {
 }
 
 impl<'a> Before<'a> {
-    /// Of the entry that a remove or a rename names.
+    /// Of the entry that a remove, a rename or a move names.
     pub fn of(replay: &Replay, places: &Places, log: &'a [Record], fields: &Fields) -> Before<'a> {
         let place = places.named(fields.named);
         let entry = &replay.entries[place];
         Before {
             folder: folder_of(replay, entry),
-            label: label_in(&log[usize::from(entry.label)]),
+            label: label_in(&log[usize::from(entry.placing)]),
             entry: fields.named,
         }
     }
@@ -234,6 +234,10 @@ pub fn change(index: &mut [u8], fields: &Fields, before: &Before) {
         RENAME => {
             take_out(index, before.folder, before.label);
             put_in(index, before.folder, label, before.entry);
+        }
+        MOVE => {
+            take_out(index, before.folder, before.label);
+            put_in(index, fields.folder, label, before.entry);
         }
         _ => (),
     }

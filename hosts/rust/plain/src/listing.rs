@@ -76,7 +76,7 @@ fn put_entry(line: &mut Line, replay: &Replay, blocks: Blocks, place: usize, dis
         replay.identities[entry.folder as usize]
     });
     line.put(b" \"");
-    line.label(blocks.record(entry.label as usize));
+    line.label(blocks.record(entry.placing as usize));
     line.put(b"\" ");
     let year = u16::from_le_bytes([contents[28], contents[29]]);
     line.two_digits((year / 100) as u8);

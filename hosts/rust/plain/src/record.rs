@@ -12,6 +12,7 @@ pub const STORE: u8 = 3;
 pub const REMOVE: u8 = 4;
 pub const RENAME: u8 = 5;
 const SETTLE: u8 = 6;
+pub const MOVE: u8 = 7;
 
 /// What an operation asks of a record's bytes.
 #[derive(Clone, Copy)]
@@ -20,11 +21,10 @@ struct Rule {
     names_zero: u64,
     /// Bits of the mark that are zero.
     mark_zero: u64,
-    /// Where the named identity stands in those eight bytes.
+    /// Where the identity that it is about stands in those eight bytes.
     named_at: u8,
+    uses_object: bool,
     uses_label: bool,
-    /// It may name the root.
-    names_root: bool,
 }
 
 const RULES: [Rule; 8] = {
@@ -35,8 +35,8 @@ const RULES: [Rule; 8] = {
             names_zero: !(IDENTITY << named_at),
             mark_zero: if uses_mark { 0 } else { !0 },
             named_at,
+            uses_object: named_at == 0,
             uses_label,
-            names_root: named_at == 32,
         }
     }
     // No operation: no identity is good.
@@ -50,6 +50,10 @@ const RULES: [Rule; 8] = {
     rules[REMOVE as usize] = rule(0, false, false);
     rules[RENAME as usize] = rule(0, true, false);
     rules[SETTLE as usize] = rule(0, false, false);
+    rules[MOVE as usize] = Rule {
+        names_zero: !(IDENTITY | IDENTITY << 32),
+        ..rule(0, true, false)
+    };
     rules
 };
 
@@ -70,9 +74,11 @@ pub struct Fields<'a> {
     pub operation: u8,
     pub number: u16,
     pub seen: Vector,
-    /// The identity it names, as it stands in the record: the folder of a
+    /// The identity it is about, as it stands in the record: the folder of a
     /// make, else the object.
     pub named: u32,
+    /// The folder of a make or a move.
+    pub folder: u32,
 }
 
 impl Fields<'_> {
@@ -80,13 +86,15 @@ impl Fields<'_> {
     pub fn of(record: &Record) -> Fields<'_> {
         let head = get32(record, 0);
         let operation = (head >> 8) as u8;
+        let names = get64(record, 20);
         Fields {
             record,
             unit: (head & 7) as usize,
             operation,
             number: (head >> 16) as u16,
             seen: Vector::read(record, 4),
-            named: (get64(record, 20) >> rule(operation).named_at) as u32,
+            named: (names >> rule(operation).named_at) as u32,
+            folder: (names >> 32) as u32,
         }
     }
 
@@ -178,17 +186,20 @@ pub fn well_formed(record: &Record) -> bool {
 
     let own_seen = get16(record, 4 + 2 * (head & 7) as usize) as u32;
 
-    let named = (names >> rule.named_at) as u32;
-    let named_seen = get16(record, 4 + 2 * (named & 7) as usize) as u32;
-    let named_held = (named >> 16).wrapping_sub(1) < named_seen;
-    let named_root = (names == 0) & rule.names_root;
+    let is_held = |identity: u32| {
+        let seen = get16(record, 4 + 2 * (identity & 7) as usize) as u32;
+        (identity >> 16).wrapping_sub(1) < seen
+    };
+    let (object, folder) = (names as u32, (names >> 32) as u32);
+    let named = !rule.uses_object | is_held(object);
+    let placed = (folder == 0) | is_held(folder);
 
     let date = get32(record, 28);
     let has_label = record[32] != 0;
 
     stray == 0
         && own_seen + 1 == head >> 16
-        && named_held | named_root
+        && named & placed
         && has_label == rule.uses_label
         && is_date(date as u16, (date >> 16) as u8, (date >> 24) as u8)
         && is_label_or_empty(record)

@@ -2,7 +2,9 @@
 
 use crate::RECORDS;
 use crate::held::{Places, Store};
-use crate::record::{Fields, LabelKey, MAKE_FOLDER, MAKE_TRACE, REMOVE, RENAME, STORE, label_key};
+use crate::record::{
+    Fields, LabelKey, MAKE_FOLDER, MAKE_TRACE, MOVE, REMOVE, RENAME, STORE, label_key,
+};
 
 /// The root's place among the entries.
 pub const ROOT: u16 = RECORDS as u16;
@@ -24,8 +26,8 @@ pub struct Entry {
     pub folder: u16,
     /// Last contents record.
     pub contents: u16,
-    /// Last label record.
-    pub label: u16,
+    /// Last place record.
+    pub placing: u16,
     /// Entries in it.
     inside: u16,
     /// Next entry under the same head, plus 1.
@@ -37,7 +39,7 @@ const ABSENT: Entry = Entry {
     hash: 0,
     folder: 0,
     contents: 0,
-    label: 0,
+    placing: 0,
     inside: 0,
     next: 0,
     kind: Kind::Absent,
@@ -127,7 +129,7 @@ impl Replay {
             if entry.hash == hash
                 && entry.folder == folder
                 && link != but + 1
-                && label_key(store.record(entry.label as usize)) == *label
+                && label_key(store.record(entry.placing as usize)) == *label
             {
                 break;
             }
@@ -166,17 +168,18 @@ impl Replay {
     #[inline(always)]
     pub fn step(&mut self, places: &Places, store: &impl Store, fields: &Fields, place: usize) {
         self.identities[place] = fields.identity();
-        let named = if fields.named == 0 {
-            ROOT
-        } else {
-            places.named(fields.named) as u16
+        let place_of = |identity: u32| match identity {
+            0 => ROOT,
+            _ => places.named(identity) as u16,
         };
+        let named = place_of(fields.named);
         let (reason, marks) = match fields.operation {
             MAKE_FOLDER => self.make(store, fields, Kind::Folder, place as u16, named),
             MAKE_TRACE => self.make(store, fields, Kind::Trace, place as u16, named),
             STORE => self.store(fields, place as u16, named),
             REMOVE => self.remove(fields, named),
             RENAME => self.rename(store, fields, place as u16, named),
+            MOVE => self.move_to(store, fields, place as u16, named, place_of(fields.folder)),
             _ => self.settle(named),
         };
         self.fates[place] = Fate {
@@ -196,10 +199,8 @@ impl Replay {
         place: u16,
         folder: u16,
     ) -> (u8, u16) {
-        match self.entries[folder as usize].kind {
-            Kind::Absent => return (13, 0),
-            Kind::Trace => return (14, folder + 1),
-            Kind::Folder => (),
+        if let Some(wrong) = self.no_folder(folder) {
+            return wrong;
         }
         let label = label_key(fields.record);
         let hash = hash_of(folder, &label);
@@ -212,7 +213,7 @@ impl Replay {
             kind,
             folder,
             contents: place,
-            label: place,
+            placing: place,
             ..ABSENT
         };
         self.link(place, hash);
@@ -242,7 +243,7 @@ impl Replay {
         if entry.inside != 0 {
             return (16, object + 1);
         }
-        if self.unseen(fields, entry.contents) || self.unseen(fields, entry.label) {
+        if self.unseen(fields, entry.contents) || self.unseen(fields, entry.placing) {
             return (17, object + 1);
         }
         self.unlink(object);
@@ -263,7 +264,7 @@ impl Replay {
         if entry.kind == Kind::Absent {
             return (12, 0);
         }
-        if self.unseen(fields, entry.label) {
+        if self.unseen(fields, entry.placing) {
             return (17, object + 1);
         }
         let label = label_key(fields.record);
@@ -273,9 +274,67 @@ impl Replay {
             return (15, holder);
         }
         self.unlink(object);
-        self.entries[object as usize].label = place;
+        self.entries[object as usize].placing = place;
         self.link(object, hash);
         (0, 0)
+    }
+
+    #[inline(always)]
+    fn move_to(
+        &mut self,
+        store: &impl Store,
+        fields: &Fields,
+        place: u16,
+        object: u16,
+        folder: u16,
+    ) -> (u8, u16) {
+        let entry = self.entries[object as usize];
+        if entry.kind == Kind::Absent {
+            return (12, 0);
+        }
+        if self.unseen(fields, entry.placing) {
+            return (17, object + 1);
+        }
+        if let Some(wrong) = self.no_folder(folder) {
+            return wrong;
+        }
+        if self.is_at_or_below(folder, object) {
+            return (25, object + 1);
+        }
+        let label = label_key(fields.record);
+        let hash = hash_of(folder, &label);
+        let holder = self.holder(store, object, folder, &label, hash);
+        if holder != 0 {
+            return (15, holder);
+        }
+        self.unlink(object);
+        self.entries[entry.folder as usize].inside -= 1;
+        self.entries[folder as usize].inside += 1;
+        let moved = &mut self.entries[object as usize];
+        moved.folder = folder;
+        moved.placing = place;
+        self.link(object, hash);
+        (0, 0)
+    }
+
+    /// Why nothing can lie in it.
+    #[inline(always)]
+    fn no_folder(&self, folder: u16) -> Option<(u8, u16)> {
+        match self.entries[folder as usize].kind {
+            Kind::Absent => Some((13, 0)),
+            Kind::Trace => Some((14, folder + 1)),
+            Kind::Folder => None,
+        }
+    }
+
+    /// A folder is an entry or lies below it. Every way up ends at the root.
+    #[inline(always)]
+    fn is_at_or_below(&self, folder: u16, entry: u16) -> bool {
+        let mut at = folder;
+        while at != ROOT && at != entry {
+            at = self.entries[at as usize].folder;
+        }
+        at == entry
     }
 
     #[inline(always)]

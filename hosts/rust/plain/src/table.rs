@@ -21,7 +21,7 @@ pub fn write(tree: &mut [u8; TREE], records: usize, replay: &Replay, store: &imp
             let row = &mut entry_rows[entries];
             entries += 1;
             let contents = store.record(entry.contents as usize);
-            let label = store.record(entry.label as usize);
+            let placing = store.record(entry.placing as usize);
             let folder = if entry.folder == ROOT {
                 0
             } else {
@@ -31,9 +31,9 @@ pub fn write(tree: &mut [u8; TREE], records: usize, replay: &Replay, store: &imp
             put32(row, 4, identity(place as u16));
             put32(row, 8, folder);
             put32(row, 12, identity(entry.contents));
-            put32(row, 16, identity(entry.label));
+            put32(row, 16, identity(entry.placing));
             row[20..24].copy_from_slice(&contents[28..32]);
-            row[24..56].copy_from_slice(&label[32..64]);
+            row[24..56].copy_from_slice(&placing[32..64]);
             row[56..72].copy_from_slice(&contents[64..80]);
         } else if fate.reason != 0 {
             let row = &mut aside_rows[asides];

@@ -20,6 +20,8 @@ pub enum Operation {
     Rename = 5,
     /// Says that an aside was looked after.
     Settle = 6,
+    /// Puts an entry into another folder, with a label.
+    Move = 7,
 }
 
 impl Operation {
@@ -31,23 +33,29 @@ impl Operation {
             3 => Operation::Store,
             4 => Operation::Remove,
             5 => Operation::Rename,
-            _ => Operation::Settle,
+            6 => Operation::Settle,
+            _ => Operation::Move,
         }
     }
 
-    /// The operation's number, 1 to 6.
+    /// The operation's number, 1 to 7.
     pub const fn number(self) -> u8 {
         self as u8
     }
 
-    /// It puts an entry into a folder.
-    pub const fn has_folder(self) -> bool {
+    /// It makes an entry.
+    pub const fn is_make(self) -> bool {
         matches!(self, Operation::MakeFolder | Operation::MakeTrace)
+    }
+
+    /// It puts an entry into a folder: a make or a move.
+    pub const fn has_folder(self) -> bool {
+        self.is_make() || matches!(self, Operation::Move)
     }
 
     /// It names an entry or, to settle, a record.
     pub const fn has_object(self) -> bool {
-        !self.has_folder()
+        !self.is_make()
     }
 
     /// It gives a label.
@@ -70,6 +78,7 @@ impl fmt::Display for Operation {
             Operation::Remove => "remove",
             Operation::Rename => "rename",
             Operation::Settle => "settle",
+            Operation::Move => "move",
         })
     }
 }

@@ -119,7 +119,7 @@ impl Log {
     }
 
     /// Makes a record of the own unit, if it fits the tree; its identity. Refuses
-    /// 7, 24, 11, 12 to 16, 18.
+    /// 7, 24, 11, 12 to 16, 18, 25.
     pub fn act(&mut self, wish: &Wish) -> Answer<Identity> {
         let (archive, unit) = (self.archive, self.unit_number());
         let wish = wish.to_bytes(self.unit);

@@ -78,7 +78,7 @@ pub fn start(log: &mut [u8], index: &mut [u8], archive: u32, unit: u32) -> Answe
 }
 
 /// Makes the wished record, if it fits. Refuses 1, 21, 19, 7, 24, 11,
-/// 12 to 16, 18.
+/// 12 to 16, 18, 25.
 pub fn act(
     log: &mut [u8],
     index: &mut [u8],

@@ -39,7 +39,7 @@ impl<'a> Record<'a> {
         has.then(|| Identity::of(&self.0[20..]))
     }
 
-    /// The folder in which it makes an entry; only a make has one.
+    /// The folder into which it puts an entry; only a make or a move has one.
     pub fn folder(self) -> Option<Identity> {
         let has = self.operation().has_folder();
         has.then(|| Identity::of(&self.0[24..]))

@@ -13,7 +13,7 @@ use std::fmt;
 /// ```
 #[derive(Clone, Copy, Debug, PartialEq, Eq, Hash)]
 pub struct Refusal {
-    /// The number, 1 to 21 or 24, but not 17.
+    /// The number, 1 to 21, 24 or 25, but not 17.
     pub number: u8,
     /// The block at fault, counted from 0. It is 0 for a call with one block, and
     /// for a number that has no place.
@@ -39,9 +39,9 @@ impl Refusal {
         matches!(self.number, 2..=4)
     }
 
-    /// The number has a place: 2 to 11, 20 and 24, which is always at 0.
+    /// The number has a place: 2 to 11, 20, and 24 and 25, which are always at 0.
     pub const fn has_place(self) -> bool {
-        matches!(self.number, 2..=11 | 20 | 24)
+        matches!(self.number, 2..=11 | 20 | 24 | 25)
     }
 }
 
@@ -83,6 +83,7 @@ pub const fn in_words(number: u8) -> &'static str {
         20 => "the file's blocks disagree, its ranks do not rise, or its vector is not its counts",
         21 => "the unit is above 7",
         24 => "the label of a new record has a stroke",
+        25 => "a folder would be put into itself or below itself",
         _ => "no number of the refusal table",
     }
 }

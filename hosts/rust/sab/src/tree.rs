@@ -105,8 +105,9 @@ impl<'a> Entry<'a> {
         Identity::of(&self.0[12..])
     }
 
-    /// The record that gave its label: the make or the last rename.
-    pub fn last_label(self) -> Identity {
+    /// The record that gave its label, and the last that could give its folder: the
+    /// make or the last rename or move.
+    pub fn last_place(self) -> Identity {
         Identity::of(&self.0[16..])
     }
 
@@ -139,7 +140,7 @@ impl Aside<'_> {
         Identity::of(self.0)
     }
 
-    /// Why, 12 to 18; [`in_words`](crate::in_words) says it.
+    /// Why, 12 to 18 or 25; [`in_words`](crate::in_words) says it.
     pub const fn reason(self) -> u8 {
         self.0[4]
     }

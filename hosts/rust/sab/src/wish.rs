@@ -44,6 +44,21 @@ impl Wish {
             .with_label(label)
     }
 
+    /// Another folder, or the root, for an entry, and its label there. Refused with
+    /// 7 if the label is longer than 32 bytes or has a zero; the act judges the
+    /// rest, an entry at or below itself with 25.
+    pub fn move_to(
+        entry: Identity,
+        folder: Identity,
+        label: &str,
+        date: Date,
+    ) -> Answer<Wish> {
+        Wish::of(Operation::Move, date)
+            .on(entry)
+            .in_folder(folder)
+            .with_label(label)
+    }
+
     /// That a record that stands aside was looked after.
     pub fn settle(aside: Identity, date: Date) -> Wish {
         Wish::of(Operation::Settle, date).on(aside)

@@ -21,7 +21,7 @@ fn plainly(log: &[u8]) -> Vec<u8> {
 #[test]
 fn afresh() {
     for seed in 0..6 {
-        let mix = [Mix::CONFLICTS, Mix::CASES][seed as usize % 2];
+        let mix = [Mix::CONFLICTS, Mix::CASES, Mix::MOVES][seed as usize % 3];
         let log = log_of(60 + 90 * seed as usize, 6, 6, &mix, seed);
         let mut index = vec![7; raw::INDEX];
         assert_eq!(raw::index(&log, &mut index), Ok(()));
@@ -81,7 +81,7 @@ fn kept() {
         let unit = chance.below(8);
         let mut tree = [0; plain::TREE];
         plain::show(&logs[unit], &mut tree).unwrap();
-        let mut wish = wish(&mut chance, &Mix::CASES, unit as u8, &tree);
+        let mut wish = wish(&mut chance, &Mix::MOVES, unit as u8, &tree);
         if chance.one_in(8) {
             wish[chance.below(80)] ^= 1;
         }
@@ -186,7 +186,7 @@ fn any_case() {
         let last = log.act(&rename(bench, label)).unwrap();
         let tree = log.show().unwrap();
         let entry = tree.entry(bench).unwrap();
-        assert_eq!((entry.label(), entry.last_label()), (label, last));
+        assert_eq!((entry.label(), entry.last_place()), (label, last));
     }
     let index = log.index().unwrap();
     let listed: Vec<Identity> = index

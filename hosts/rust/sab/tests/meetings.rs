@@ -33,7 +33,7 @@ fn life(units: usize, acts: usize, seed: u64) -> Vec<Log> {
     let mut life = Units::empty(units, ARCHIVE);
     for _ in 0..acts {
         let unit = chance.below(units);
-        life.act(&mut chance, &Mix::CONFLICTS, unit);
+        life.act(&mut chance, &Mix::MOVES, unit);
         if chance.one_in(8) {
             let other = chance.below(units);
             life.pass(unit, other);

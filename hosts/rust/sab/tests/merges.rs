@@ -53,7 +53,7 @@ fn apart(seed: u64) -> [Vec<u8>; 3] {
     let mut units = Units::empty(2, ARCHIVE);
     for made in 0..60 {
         let unit = chance.below(2);
-        units.act(&mut chance, &Mix::CONFLICTS, unit);
+        units.act(&mut chance, &Mix::MOVES, unit);
         if made == 20 {
             units.pass(0, 1);
         }

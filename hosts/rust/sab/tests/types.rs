@@ -21,7 +21,7 @@ fn identity(text: &str) -> Identity {
 
 /// A log with every operation, and with records that stand aside.
 fn a_log() -> Log {
-    let bytes = log_of(200, 5, 6, &Mix::CONFLICTS, 11);
+    let bytes = log_of(200, 5, 6, &Mix::MOVES, 11);
     Log::from_bytes(9, unit(3), &bytes).unwrap()
 }
 
@@ -131,14 +131,15 @@ fn wishes() {
     let wishes = [
         Wish::store(trace, later, Mark([0; 16])),
         Wish::rename(trace, &"x".repeat(32), DATE).unwrap(),
+        Wish::move_to(trace, Identity::ROOT, "Gain B", DATE).unwrap(),
         Wish::remove(trace, later),
     ];
     for (wish, number) in wishes.iter().zip(3..) {
         assert_eq!(log.act(wish), Ok(Identity::new(unit(5), number).unwrap()));
     }
     let records: Vec<_> = log.records().collect();
-    let [made, traced, stored, renamed, removed] = records[..] else {
-        panic!("five records");
+    let [made, traced, stored, renamed, moved, removed] = records[..] else {
+        panic!("six records");
     };
     assert_eq!(made.operation(), Operation::MakeFolder);
     assert_eq!((made.folder(), made.object()), (Some(Identity::ROOT), None));
@@ -152,9 +153,63 @@ fn wishes() {
     assert_eq!(renamed.operation(), Operation::Rename);
     assert_eq!(renamed.label(), Some(&*"x".repeat(32)));
     assert_eq!(renamed.mark(), None);
+    assert_eq!((moved.operation(), moved.operation().number()), (Operation::Move, 7));
+    assert_eq!(moved.object(), Some(trace));
+    assert_eq!(moved.folder(), Some(Identity::ROOT));
+    assert_eq!((moved.label(), moved.mark()), (Some("Gain B"), None));
     assert_eq!(removed.operation(), Operation::Remove);
     assert_eq!((removed.object(), removed.unit()), (Some(trace), unit(5)));
-    assert_eq!(removed.seen(), Vector::from([0, 0, 0, 0, 0, 4, 0, 0]));
+    assert_eq!(removed.seen(), Vector::from([0, 0, 0, 0, 0, 5, 0, 0]));
+}
+
+/// Moves: what the tree shows of them, and each number that refuses one.
+#[test]
+fn moves() {
+    let mut log = Log::start(9, unit(5));
+    log.keep_index().unwrap();
+    let folder = |inside, label| Wish::make_folder(inside, label, DATE).unwrap();
+    let a = log.act(&folder(Identity::ROOT, "A")).unwrap();
+    let b = log.act(&folder(a, "B")).unwrap();
+    let gain = Wish::make_trace(b, "Gain", DATE, MARK).unwrap();
+    let gain = log.act(&gain).unwrap();
+    let before = log.clone();
+    let mut moved = |entry, folder, label: &str| {
+        log.act(&Wish::move_to(entry, folder, label, DATE).unwrap())
+    };
+    // A folder cannot go into itself, nor below itself; a trace is no folder.
+    assert_eq!(moved(a, a, "A"), Err(Refusal::new(25)));
+    assert_eq!(moved(a, b, "A"), Err(Refusal::new(25)));
+    assert_eq!(moved(gain, gain, "Gain"), Err(Refusal::new(14)));
+    assert_eq!(moved(b, Identity::ROOT, "a"), Err(Refusal::new(15)));
+    assert_eq!(moved(b, Identity::ROOT, "A/B"), Err(Refusal::new(24)));
+    assert_eq!(moved(Identity::ROOT, a, "A"), Err(Refusal::new(7)));
+    assert_eq!(moved(identity("5.4"), a, "A"), Err(Refusal::new(7)));
+    // To another folder, to the own place, and a folder with what is in it.
+    let out = moved(gain, Identity::ROOT, "Gain").unwrap();
+    let stays = moved(gain, Identity::ROOT, "GAIN").unwrap();
+    assert_eq!(moved(gain, b, "Gain"), Ok(identity("5.6")));
+    assert_eq!(moved(b, Identity::ROOT, "B"), Ok(identity("5.7")));
+    assert_eq!((out, stays), (identity("5.4"), identity("5.5")));
+    assert_eq!(log.records().len(), before.records().len() + 4);
+    let tree = log.show().unwrap();
+    let entry = tree.entry(gain).unwrap();
+    assert_eq!((entry.folder(), entry.label()), (b, "Gain"));
+    assert_eq!(entry.last_place(), identity("5.6"));
+    assert_eq!(entry.last_contents(), gain);
+    assert_eq!(tree.entry(b).unwrap().folder(), Identity::ROOT);
+    assert_eq!(tree.entries_in(a).count(), 0);
+    let index = log.index().unwrap();
+    assert_eq!(index.find(b, "gain"), Some(gain));
+    assert_eq!(index.find(Identity::ROOT, "gain"), None);
+    assert_eq!(index.find(Identity::ROOT, "b"), Some(b));
+    assert_eq!(log.act(&Wish::remove(a, DATE)), Ok(identity("5.8")));
+    // A folder that is gone, and an entry that is gone.
+    let into = Wish::move_to(b, a, "B", DATE).unwrap();
+    assert_eq!(log.act(&into), Err(Refusal::new(13)));
+    let gone = Wish::move_to(a, b, "A", DATE).unwrap();
+    assert_eq!(log.act(&gone), Err(Refusal::new(12)));
+    let words = "refused 25: a folder would be put into itself or below itself";
+    assert_eq!(Refusal::new(25).to_string(), words);
 }
 
 #[test]
@@ -235,10 +290,13 @@ fn records_and_entries() {
     for entry in tree.entries() {
         let made = log.record(entry.identity()).unwrap();
         let contents = log.record(entry.last_contents()).unwrap();
-        let label = log.record(entry.last_label()).unwrap();
-        assert_eq!(made.folder(), Some(entry.folder()));
+        let placed = log.record(entry.last_place()).unwrap();
+        assert!(made.operation().is_make());
+        if placed.operation() != Operation::Rename {
+            assert_eq!(placed.folder(), Some(entry.folder()));
+        }
         assert_eq!(contents.date(), entry.date());
-        assert_eq!(label.label(), Some(entry.label()));
+        assert_eq!(placed.label(), Some(entry.label()));
         assert_eq!(tree.find(entry.folder(), entry.label()), Some(entry));
         assert!(tree.entries_in(entry.folder()).any(|other| other == entry));
     }

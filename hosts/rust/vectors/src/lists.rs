@@ -35,7 +35,7 @@ pub fn answer<T>(answer: &Answer<T>) -> [String; 2] {
         Ok(_) => ["0".to_string(), "-".to_string()],
         Err(refusal) => {
             let place = match refusal.number {
-                2..=11 | 20 | 24 => refusal.place.to_string(),
+                2..=11 | 20 | 24 | 25 => refusal.place.to_string(),
                 _ => "-".to_string(),
             };
             [refusal.number.to_string(), place]

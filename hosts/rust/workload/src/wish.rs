@@ -6,8 +6,8 @@ use plain::{ASIDE_ROW, ENTRY_ROW, RECORDS, TREE};
 /// How often each operation is wished, and among how many labels.
 #[derive(Clone, Copy)]
 pub struct Mix {
-    /// Weights of make folder, make trace, store, remove, rename, settle.
-    pub weights: [usize; 6],
+    /// Weights of make folder, make trace, store, remove, rename, settle, move.
+    pub weights: [usize; 7],
     pub labels: usize,
     /// Each letter of a label is a capital or a small letter by chance.
     pub cases: bool,
@@ -16,13 +16,13 @@ pub struct Mix {
 impl Mix {
     /// Mostly traces and stores; a label is seldom met twice.
     pub const BENCH: Mix = Mix {
-        weights: [10, 45, 25, 6, 8, 6],
+        weights: [10, 45, 25, 6, 8, 6, 0],
         labels: 4000,
         cases: false,
     };
     /// Few labels, so that many records stand aside after a meeting.
     pub const CONFLICTS: Mix = Mix {
-        weights: [20, 30, 16, 12, 14, 8],
+        weights: [20, 30, 16, 12, 14, 8, 0],
         labels: 12,
         cases: false,
     };
@@ -30,6 +30,12 @@ impl Mix {
     pub const CASES: Mix = Mix {
         cases: true,
         ..Mix::CONFLICTS
+    };
+    /// Folders in folders, and many moves of both kinds of entry.
+    pub const MOVES: Mix = Mix {
+        weights: [26, 14, 6, 8, 8, 8, 30],
+        labels: 24,
+        cases: true,
     };
 }
 
@@ -84,7 +90,7 @@ pub fn wish(chance: &mut Chance, mix: &Mix, unit: u8, tree: &[u8; TREE]) -> [u8;
     let traces = of_kind(2);
     let named = match operation {
         3 if !traces.is_empty() => Some(&chance.pick(&traces)[4..8]),
-        4 | 5 if !entries.is_empty() => Some(&chance.pick(entries)[4..8]),
+        4 | 5 | 7 if !entries.is_empty() => Some(&chance.pick(entries)[4..8]),
         6 if !asides.is_empty() => Some(&chance.pick(asides)[..4]),
         _ => None,
     };
@@ -102,10 +108,10 @@ pub fn wish(chance: &mut Chance, mix: &Mix, unit: u8, tree: &[u8; TREE]) -> [u8;
         }
     };
     let folders = of_kind(1);
-    if wish[1] <= 2 && !folders.is_empty() && !chance.one_in(4) {
+    if matches!(wish[1], 1 | 2 | 7) && !folders.is_empty() && !chance.one_in(4) {
         wish[24..28].copy_from_slice(&chance.pick(&folders)[4..8]);
     }
-    if matches!(wish[1], 1 | 2 | 5) {
+    if matches!(wish[1], 1 | 2 | 5 | 7) {
         label(chance, mix, &mut wish[32..64]);
     }
     if matches!(wish[1], 2 | 3) {

@@ -5,7 +5,7 @@ use plain::{BLOCK, ENTRY_ROW, INDEX, LOG, TREE};
 use workload::{Chance, Mix, Units, log_of, vector_of, wish};
 
 const ROW: usize = 40;
-const MIXES: [Mix; 3] = [Mix::BENCH, Mix::CONFLICTS, Mix::CASES];
+const MIXES: [Mix; 4] = [Mix::BENCH, Mix::CONFLICTS, Mix::CASES, Mix::MOVES];
 
 /// What of a label counts.
 fn folded(label: &[u8]) -> Vec<u8> {
@@ -123,7 +123,7 @@ fn asked(index: &[u8], folder: &[u8], label: &[u8]) {
 #[test]
 fn afresh() {
     for seed in 0..12 {
-        let mix = MIXES[seed as usize % 3];
+        let mix = MIXES[seed as usize % 4];
         let log = log_of(100 + 34 * seed as usize, 5, 6, &mix, seed);
         let mut index = vec![7; INDEX];
         plain::index(&log, &mut index).expect("a sound log");
@@ -138,7 +138,7 @@ fn kept() {
     let mut accepted = 0;
     for seed in 0..24 {
         let mut chance = Chance::new(100 + seed);
-        let mix = MIXES[seed as usize % 3];
+        let mix = MIXES[seed as usize % 4];
         let mut logs = vec![vec![0; LOG]; 8];
         let mut indexes = vec![vec![0; INDEX]; 8];
         for _ in 0..300 {

@@ -84,7 +84,7 @@ fn sound_logs() {
             4 + chance.below(30),
             units,
             1 + chance.below(4),
-            &Mix::CONFLICTS,
+            &[Mix::CONFLICTS, Mix::MOVES][round % 2],
             round as u64,
         );
         assert_eq!(fault(&log), None);

@@ -78,6 +78,27 @@ impl Tree {
         self.entries.iter().find(has).map(|one| one.id)
     }
 
+    /// The reason and the marked entry, if nothing can lie in a folder.
+    fn no_folder(&self, folder: Id) -> Option<(u8, Id)> {
+        match self.entry(folder) {
+            _ if folder == ROOT => None,
+            None => Some((13, ROOT)),
+            Some(entry) => (entry.kind == 2).then_some((14, folder)),
+        }
+    }
+
+    /// The identities from a folder up to the root, the root left out.
+    fn way(&self, folder: Id) -> Vec<Id> {
+        let mut way = Vec::new();
+        let mut at = folder;
+        while at != ROOT {
+            assert!(way.len() < self.entries.len(), "a way that does not end");
+            way.push(at);
+            at = self.entry(at).expect("a folder on the way").folder;
+        }
+        way
+    }
+
     /// The reason and the marked entry, or none if the record fits.
     fn judge(&self, rule: Rule, record: &[u8; RECORD]) -> Option<(u8, Id)> {
         let (object, folder) = (identity(&record[20..]), identity(&record[24..]));
@@ -85,15 +106,8 @@ impl Tree {
         let entry = self.entry(object);
         match record[1] {
             1 | 2 => {
-                if folder != ROOT {
-                    match self.entry(folder) {
-                        None => return Some((13, ROOT)),
-                        Some(entry) if entry.kind == 2 => return Some((14, folder)),
-                        Some(_) => (),
-                    }
-                }
-                let holder = self.holder(rule, None, folder, label)?;
-                Some((15, holder))
+                let holder = || Some((15, self.holder(rule, None, folder, label)?));
+                self.no_folder(folder).or_else(holder)
             }
             6 => {
                 let stands = self.asides.iter().any(|one| one.id == object);
@@ -116,6 +130,17 @@ impl Tree {
                     4 => (unseen(record, entry.contents) || unseen(record, entry.placing))
                         .then_some((17, object)),
                     _ if unseen(record, entry.placing) => Some((17, object)),
+                    7 => {
+                        let no_folder = self.no_folder(folder);
+                        if no_folder.is_some() {
+                            return no_folder;
+                        }
+                        if self.way(folder).contains(&object) {
+                            return Some((25, object));
+                        }
+                        let holder = self.holder(rule, Some(object), folder, label)?;
+                        Some((15, holder))
+                    }
                     _ => {
                         let holder = self.holder(rule, Some(object), entry.folder, label)?;
                         Some((15, holder))
@@ -157,7 +182,12 @@ impl Tree {
                 match operation {
                     3 => entry.contents = own,
                     4 => entry.there = false,
-                    _ => (entry.placing, entry.label) = (own, label),
+                    _ => {
+                        (entry.placing, entry.label) = (own, label);
+                        if operation == 7 {
+                            entry.folder = identity(&record[24..]);
+                        }
+                    }
                 }
             }
         }
@@ -243,4 +273,37 @@ fn rule_by_rule() {
         told[usize::from(otherwise)] += 1;
     }
     assert!(told.iter().all(|count| *count > 100), "{told:?}");
+}
+
+/// Logs with moves: every reason of a move comes, and every entry reaches the root
+/// in fewer steps than there are entries, the root included.
+#[test]
+fn moves() {
+    let mut reasons = [0; 26];
+    let mut deepest = 0;
+    for seed in 0..800 {
+        let log = log_of(10 + seed as usize % 200, 5, 5, &Mix::MOVES, seed);
+        let tree = shown(&log);
+        assert!(tree == replayed(Rule::AnyCase, &log), "seed {seed}");
+        for entry in &tree.entries {
+            let steps = tree.way(entry.folder).len() + 1;
+            assert!(steps < tree.entries.len() + 1, "seed {seed}");
+            deepest = deepest.max(steps);
+        }
+        for record in records(&log).filter(|record| record[1] == 7) {
+            let aside = tree.asides.iter().find(|one| one.id == identity(record));
+            reasons[usize::from(aside.map_or(0, |one| one.reason))] += 1;
+        }
+    }
+    for reason in [0, 12, 13, 15, 17, 25] {
+        assert!(reasons[reason] > 10, "{reason}: {reasons:?}");
+    }
+    assert_eq!(
+        reasons.iter().sum::<usize>(),
+        [0, 12, 13, 14, 15, 17, 25]
+            .map(|at| reasons[at])
+            .iter()
+            .sum()
+    );
+    assert!(deepest > 8, "{deepest}");
 }

@@ -22,14 +22,16 @@ pub const COMMAND: Command = Command {
         "act FILE --own-unit=U make-trace LABEL [--in=FOLDER] --mark=MARK",
         "act FILE --own-unit=U store TRACE --mark=MARK",
         "act FILE --own-unit=U rename ENTRY LABEL",
+        "act FILE --own-unit=U move ENTRY LABEL [--in=FOLDER]",
         "act FILE --own-unit=U remove ENTRY",
         "act FILE --own-unit=U settle RECORD",
     ],
-    summary: "make a record: make-folder, make-trace, store, rename, remove, settle",
+    summary: "make a record: make-folder, make-trace, store, rename, move, remove, settle",
     page: "\
 Makes a record of the file's own unit, if it fits the tree, and replaces the file.
 FOLDER, TRACE, ENTRY and RECORD are identities, as 0.2; sab tree and sab asides
-show them; without --in a make goes into the root. MARK is 32 hexadecimal digits.
+show them; without --in a make or a move goes into the root. MARK is 32 hexadecimal
+digits. sab mv moves by paths too.
 
     $ sab new office.sab --archive=12 --unit=7
     office.sab: SAB1, archive 12, unit 7, 0 records
@@ -57,7 +59,7 @@ const OPTIONS: &[Opt] = &[
         "in",
         None,
         "FOLDER",
-        "the folder of a new entry; without it the root",
+        "the folder of a new or moved entry; without it the root",
     ),
     value(
         "mark",
@@ -83,11 +85,12 @@ const OPTIONS: &[Opt] = &[
     ),
 ];
 
-const OPERATIONS: [&str; 6] = [
+const OPERATIONS: [&str; 7] = [
     "make-folder",
     "make-trace",
     "store",
     "rename",
+    "move",
     "remove",
     "settle",
 ];
@@ -112,14 +115,25 @@ pub fn make(
     rest: &[OsString],
 ) -> Outcome<Status> {
     let wanted = Wanted::read(session, operation, rest)?;
-    let unit: Unit = session.args.parsed("own-unit")?.ok_or_else(|| {
+    let unit = own_unit(session)?;
+    let own = Own::open(session.system, name)?;
+    made(session, &own, unit, &wanted)
+}
+
+/// The unit that this machine is.
+pub fn own_unit(session: &Session) -> Outcome<Unit> {
+    session.args.parsed("own-unit")?.ok_or_else(|| {
         usage(
             "--own-unit=U wanted: the unit whose only home is this machine; \
              never act on the copy of an analyser's card",
         )
-    })?;
-    let own = Own::open(session.system, name)?;
-    let log = act(&own.archive, unit, &wanted)?;
+    })
+}
+
+/// Makes the wanted record in a file that is held, and says so.
+pub fn made(session: &mut Session, own: &Own, unit: Unit, wanted: &Wanted) -> Outcome<Status> {
+    let name = &own.archive.name;
+    let log = act(&own.archive, unit, wanted)?;
     if !session.args.has("dry-run") {
         own.replace(&log, session.args.has("backup"))?;
     }
@@ -179,30 +193,40 @@ fn act(archive: &Archive, unit: Unit, wanted: &Wanted) -> Outcome<Log> {
 }
 
 /// An operation in words, read.
-struct Wanted {
-    operation: Operation,
-    date: Date,
+pub struct Wanted {
+    /// What to do.
+    pub operation: Operation,
+    /// The date of the record.
+    pub date: Date,
 }
 
-enum Operation {
+/// What to do, and on what.
+pub enum Operation {
     MakeFolder(Identity, String),
     MakeTrace(Identity, String, Mark),
     Store(Identity, Mark),
     Rename(Identity, String),
+    /// An entry, its new folder, its label there.
+    Move(Identity, Identity, String),
     Remove(Identity),
     Settle(Identity),
+}
+
+/// The date that is given, or today's.
+pub fn date(session: &Session) -> Read<Date> {
+    Ok(match session.args.parsed::<Date>("date")? {
+        Some(date) => date,
+        None => {
+            let (year, month, day) = session.system.today();
+            Date::new(year, month, day)
+        }
+    })
 }
 
 impl Wanted {
     fn read(session: &Session, operation: &str, rest: &[OsString]) -> Read<Wanted> {
         let args = &session.args;
-        let date = match args.parsed::<Date>("date")? {
-            Some(date) => date,
-            None => {
-                let (year, month, day) = session.system.today();
-                Date::new(year, month, day)
-            }
-        };
+        let date = date(session)?;
         let words: Vec<&str> = rest
             .iter()
             .map(|word| as_text(word, operation))
@@ -225,6 +249,7 @@ impl Wanted {
             }
             Operation::Store(trace, mark) => Ok(Wish::store(*trace, date, *mark)),
             Operation::Rename(entry, label) => Wish::rename(*entry, label, date),
+            Operation::Move(entry, folder, label) => Wish::move_to(*entry, *folder, label, date),
             Operation::Remove(entry) => Ok(Wish::remove(*entry, date)),
             Operation::Settle(record) => Ok(Wish::settle(*record, date)),
         }
@@ -237,6 +262,9 @@ impl Wanted {
                 (Some(*folder), None, Some(label.as_str()))
             }
             Operation::Rename(entry, label) => (None, Some(*entry), Some(label.as_str())),
+            Operation::Move(entry, folder, label) => {
+                (Some(*folder), Some(*entry), Some(label.as_str()))
+            }
             Operation::Store(entry, _) | Operation::Remove(entry) | Operation::Settle(entry) => {
                 (None, Some(*entry), None)
             }
@@ -265,7 +293,7 @@ impl Operation {
                 near.unwrap_or_default()
             )));
         }
-        if folder.is_some() && !matches!(name, "make-folder" | "make-trace") {
+        if folder.is_some() && !matches!(name, "make-folder" | "make-trace" | "move") {
             return Err(Usage(format!("{name} has no --in")));
         }
         if mark.is_some() && !matches!(name, "make-trace" | "store") {
@@ -279,12 +307,17 @@ impl Operation {
             ("make-trace", [label]) => Operation::MakeTrace(folder, label.to_string(), mark()?),
             ("store", [trace]) => Operation::Store(identity(trace)?, mark()?),
             ("rename", [entry, label]) => Operation::Rename(identity(entry)?, label.to_string()),
+            ("move", [entry, label]) => {
+                Operation::Move(identity(entry)?, folder, label.to_string())
+            }
             ("remove", [entry]) => Operation::Remove(identity(entry)?),
             ("settle", [record]) => Operation::Settle(identity(record)?),
             ("make-folder" | "make-trace", _) => {
                 return Err(Usage(format!("{name} LABEL wanted")));
             }
-            ("rename", _) => return Err(Usage("rename ENTRY LABEL wanted".to_string())),
+            ("rename" | "move", _) => {
+                return Err(Usage(format!("{name} ENTRY LABEL wanted")));
+            }
             _ => return Err(Usage(format!("{name} and one identity wanted"))),
         })
     }

@@ -38,7 +38,8 @@ salvage makes a file of what is whole.
 
 A good file that reads otherwise than before version 4, when capitals were told
 from small letters in labels, has a second line with the records that make the
-difference; it stays good.
+difference; it stays good. A file with moves has a line that says how many: an
+analyser before version 5 does not know them and refuses the file.
 
 A file that a cut left beside this one while it was being replaced is named too;
 it can be removed.",
@@ -72,6 +73,7 @@ fn check(session: &mut Session, name: &Path) -> Outcome<()> {
     let good = session.out.ink(Ink::Well, "good");
     let line = format!("{}: {good}: {}", archive.shown(), archive.summary());
     session.out.line(line);
+    archive.tell_moves(&mut session.out)?;
     archive.tell_otherwise(&mut session.out)
 }
 

@@ -12,6 +12,7 @@ mod log;
 mod ls;
 mod meet;
 mod merge;
+mod mv;
 mod new;
 mod pack;
 mod page;
@@ -102,7 +103,12 @@ pub const GROUPS: &[(&str, &[&Command])] = &[
     ("damaged cards", &[&salvage::COMMAND]),
     (
         "an archive whose only home is this machine",
-        &[&new::COMMAND, &act::COMMAND, &settle::COMMAND],
+        &[
+            &new::COMMAND,
+            &act::COMMAND,
+            &mv::COMMAND,
+            &settle::COMMAND,
+        ],
     ),
     ("help", &[&explain::COMMAND, &words::HELP, &words::VERSION]),
 ];
