@@ -1,5 +1,5 @@
 -- Examples of the ordered index, as rows of one table.
--- Document 02, K6 and K7.
+-- Document 02, K6 to K8.
 -- Assumes nothing.
 use Prim.Native.Nat.{ℕ, _-_}
 use mathlib.Core.Bool.{Bool, true, false, _&&_}
@@ -204,6 +204,15 @@ table =
     -- a move to another folder, and within its own
     ∷ changes (folders ++ traces) (moves 5 (0 · 6) (5 ∷ 1 ∷ []) (0 · 5) (1 · 1) C) (1 · 1 ∷ 0 · 2 ∷ 0 · 1 ∷ 0 · 4 ∷ 0 · 3 ∷ 0 · 5 ∷ 0 ∷ [])
     ∷ changes (folders ++ traces) (moves 5 (0 · 6) (5 ∷ 1 ∷ []) (0 · 5) (0 · 2) C) (1 · 1 ∷ 0 · 2 ∷ 0 · 1 ∷ 0 · 4 ∷ 0 · 5 ∷ 0 · 3 ∷ 0 ∷ [])
+    -- a folder with entries, to the root, and one that stands aside
+    ∷ changes (folders ++ traces) (moves 5 (0 · 6) (5 ∷ 1 ∷ []) (0 · 2) (1 · 1) B) (1 · 1 ∷ 0 · 1 ∷ 0 · 5 ∷ 0 · 4 ∷ 0 · 3 ∷ 0 · 2 ∷ 0 ∷ [])
+    ∷ changes (folders ++ traces) (moves 5 (0 · 6) (5 ∷ 1 ∷ []) (0 · 3) root (68 ∷ [])) (1 · 1 ∷ 0 · 2 ∷ 0 · 1 ∷ 0 · 3 ∷ 0 · 5 ∷ 0 · 4 ∷ 0 ∷ [])
+    ∷ changes (folders ++ traces) (moves 5 (0 · 6) (5 ∷ 1 ∷ []) (0 · 5) (1 · 1) A) (1 · 1 ∷ 0 · 2 ∷ 0 · 1 ∷ 0 · 5 ∷ 0 · 4 ∷ 0 · 3 ∷ 0 ∷ [])
+    -- acts: to another folder; the own label in another case; a folder with entries; to the root
+    ∷ acts (folders ++ traces) (moves 5 (0 · 0) [] (0 · 5) (1 · 1) C)
+    ∷ acts (folders ++ traces) (moves 5 (0 · 0) [] (0 · 5) (0 · 2) (98 ∷ []))
+    ∷ acts (folders ++ traces) (moves 5 (0 · 0) [] (0 · 2) (1 · 1) B)
+    ∷ acts (folders ++ traces) (moves 5 (0 · 0) [] (0 · 3) root (68 ∷ []))
     -- lengths
     ∷ lends 0 true
     ∷ lends 20484 true

@@ -12,12 +12,12 @@ use Rattle.model.specs.Date.{isDate}
 use Rattle.model.specs.Record.{Rec, identity, unitOf, numberOf, root, wellFormed}
 use Rattle.model.specs.Log.{recordFault, soundAfter, vectorOf}
 use Rattle.model.specs.Replay.{Entry, Aside, Tree, labelKey, replay, presentOnes, isDisputed}
-use Rattle.model.specs.Table.{identityBytes}
+use Rattle.model.specs.Table.{identityBytes, entryRow, asideRow}
 use Rattle.model.specs.Block.{bodyBytes, archiveIn, senderIn, vectorIn}
 use Rattle.model.specs.File.{Fault, fault, blockCount, headerOf, blockAt}
 use Rattle.model.specs.Outcome.{lacking, Took, refused, taken, takeAll, actNumber, acted, actOf}
 use Rattle.model.specs.Merge.{Merged, merged, union, recordsClash, unlessAny, mergeFiles, mergeOf}
-use Rattle.model.specs.Listing.{decimal, labelText, headLine, seenLine}
+use Rattle.model.specs.Listing.{decimal, labelText, headLine, seenLine, asideLine}
 
 infix 90 _·_
 -- the identity unit.number
@@ -389,6 +389,12 @@ further =
     ∷ formed (moves 3 (0 · 2) (1 ∷ []) (0 · 1) root []) false
     ∷ formed (march 3 7 (0 · 2) (1 ∷ []) (0 · 1) root A (replicate 16 1)) false
     ∷ formed (moves 3 (0 · 2) (1 ∷ []) (0 · 1) (1 · 1) A) false
+    -- a move does not name the root as object, and 1.0 is no folder; a rename and a settle name no folder; no operation 8
+    ∷ formed (moves 3 (0 · 2) (1 ∷ []) root root A) false
+    ∷ formed (moves 3 (0 · 2) (1 ∷ []) (0 · 1) (1 · 0) A) false
+    ∷ formed (march 3 5 (0 · 2) (1 ∷ []) (0 · 1) (0 · 1) A []) false
+    ∷ formed (march 3 6 (0 · 2) (1 ∷ []) (0 · 1) (0 · 1) [] []) false
+    ∷ formed (march 3 8 (0 · 2) (1 ∷ []) (0 · 1) root A []) false
     ∷ formed (march 3 0 (0 · 1) [] root root A []) false
     -- a record does not name itself, and not the root as object
     ∷ formed (stores 3 (0 · 2) (1 ∷ []) (0 · 2)) false
@@ -513,6 +519,51 @@ further =
     ∷ tree (makesTrace 3 (0 · 1) [] root A ∷ makesTrace 3 (0 · 2) (1 ∷ []) root B ∷ moves 3 (0 · 3) (2 ∷ []) (0 · 2) root (97 ∷ []) ∷ [])
     ((0 · 1, A, 0 · 1, 0 · 1, true) ∷ (0 · 2, B, 0 · 2, 0 · 2, false) ∷ [])
     ((0 · 3, 15, 0 · 1, true) ∷ [])
+    -- a move asks only about the place record: an unseen store does not stop it
+    ∷ tree (makesTrace 3 (0 · 1) [] root A ∷ stores 3 (0 · 2) (1 ∷ []) (0 · 1) ∷ moves 3 (1 · 1) (1 ∷ []) (0 · 1) root B ∷ [])
+    ((0 · 1, B, 0 · 2, 1 · 1, false) ∷ [])
+    []
+    -- 17 comes before 14 and before 15
+    ∷ tree (makesFolder 3 (0 · 1) [] root A ∷ makesTrace 3 (0 · 2) (1 ∷ []) root B ∷ renames 3 (0 · 3) (2 ∷ []) (0 · 1) C ∷ moves 3 (1 · 1) (2 ∷ []) (0 · 1) (0 · 2) A ∷ moves 3 (2 · 1) (2 ∷ []) (0 · 1) root B ∷ [])
+    ((0 · 1, C, 0 · 1, 0 · 3, true) ∷ (0 · 2, B, 0 · 2, 0 · 2, false) ∷ [])
+    ((1 · 1, 17, 0 · 1, true) ∷ (2 · 1, 17, 0 · 1, true) ∷ [])
+    -- into a folder four steps below it
+    ∷ tree (makesFolder 3 (0 · 1) [] root A ∷ makesFolder 3 (0 · 2) (1 ∷ []) (0 · 1) A ∷ makesFolder 3 (0 · 3) (2 ∷ []) (0 · 2) A ∷ makesFolder 3 (0 · 4) (3 ∷ []) (0 · 3) A ∷ makesFolder 3 (0 · 5) (4 ∷ []) (0 · 4) A ∷ moves 3 (0 · 6) (5 ∷ []) (0 · 1) (0 · 5) B ∷ [])
+    ((0 · 1, A, 0 · 1, 0 · 1, true) ∷ (0 · 2, A, 0 · 2, 0 · 2, false) ∷ (0 · 3, A, 0 · 3, 0 · 3, false) ∷ (0 · 4, A, 0 · 4, 0 · 4, false) ∷ (0 · 5, A, 0 · 5, 0 · 5, false) ∷ [])
+    ((0 · 6, 25, 0 · 1, true) ∷ [])
+    -- into a folder that was removed: 13; of an object that was removed: 12, before 13 and 15
+    ∷ tree (makesFolder 3 (0 · 1) [] root A ∷ makesTrace 3 (0 · 2) (1 ∷ []) root B ∷ makesTrace 3 (0 · 3) (2 ∷ []) root C ∷ removes 3 (0 · 4) (3 ∷ []) (0 · 1) ∷ moves 3 (0 · 5) (4 ∷ []) (0 · 2) (0 · 1) A ∷ removes 3 (0 · 6) (5 ∷ []) (0 · 2) ∷ moves 3 (0 · 7) (6 ∷ []) (0 · 2) (0 · 1) A ∷ moves 3 (0 · 8) (7 ∷ []) (0 · 2) root C ∷ [])
+    ((0 · 3, C, 0 · 3, 0 · 3, false) ∷ [])
+    ((0 · 5, 13, 0, true) ∷ (0 · 7, 12, 0, true) ∷ (0 · 8, 12, 0, true) ∷ [])
+    -- a label whose holder was removed is free, and so is one that only the old folder has
+    ∷ tree (makesFolder 3 (0 · 1) [] root A ∷ makesTrace 3 (0 · 2) (1 ∷ []) (0 · 1) B ∷ makesTrace 3 (0 · 3) (2 ∷ []) root B ∷ makesTrace 3 (0 · 4) (3 ∷ []) root C ∷ removes 3 (0 · 5) (4 ∷ []) (0 · 2) ∷ moves 3 (0 · 6) (5 ∷ []) (0 · 4) (0 · 1) B ∷ [])
+    ((0 · 1, A, 0 · 1, 0 · 1, false) ∷ (0 · 3, B, 0 · 3, 0 · 3, false) ∷ (0 · 4, B, 0 · 4, 0 · 6, false) ∷ [])
+    []
+    -- a move to the own place under the own label, in the same bytes, fits and is the last place record
+    ∷ tree (makesTrace 3 (0 · 1) [] root A ∷ moves 3 (0 · 2) (1 ∷ []) (0 · 1) root A ∷ renames 3 (1 · 1) (1 ∷ []) (0 · 1) B ∷ [])
+    ((0 · 1, A, 0 · 1, 0 · 2, true) ∷ [])
+    ((1 · 1, 17, 0 · 1, true) ∷ [])
+    -- a move aside under 25 is settled, and the object is no longer disputed
+    ∷ tree (makesFolder 3 (0 · 1) [] root A ∷ moves 3 (0 · 2) (1 ∷ []) (0 · 1) (0 · 1) B ∷ settles 3 (0 · 3) (2 ∷ []) (0 · 2) ∷ [])
+    ((0 · 1, A, 0 · 1, 0 · 1, false) ∷ [])
+    ((0 · 2, 25, 0 · 1, false) ∷ [])
+    -- a move that stood aside is no place record
+    ∷ tree (makesTrace 3 (0 · 1) [] root A ∷ moves 3 (0 · 2) (1 ∷ []) (0 · 1) (0 · 1) B ∷ renames 3 (1 · 1) (1 ∷ []) (0 · 1) C ∷ [])
+    ((0 · 1, C, 0 · 1, 1 · 1, true) ∷ [])
+    ((0 · 2, 14, 0 · 1, true) ∷ [])
+    -- a label held in the new folder, in another case; the label of the new folder itself is free in it
+    ∷ tree (makesFolder 3 (0 · 1) [] root A ∷ makesTrace 3 (0 · 2) (1 ∷ []) (0 · 1) B ∷ makesTrace 3 (0 · 3) (2 ∷ []) root C ∷ moves 3 (0 · 4) (3 ∷ []) (0 · 3) (0 · 1) (98 ∷ []) ∷ moves 3 (0 · 5) (4 ∷ []) (0 · 3) (0 · 1) A ∷ [])
+    ((0 · 1, A, 0 · 1, 0 · 1, false) ∷ (0 · 2, B, 0 · 2, 0 · 2, true) ∷ (0 · 3, A, 0 · 3, 0 · 5, false) ∷ [])
+    ((0 · 4, 15, 0 · 2, true) ∷ [])
+    -- a full log: 11 comes before 25
+    ∷ wishes 0 (replicate 512 (makesFolder 3 (0 · 1) [] root A)) (moves 3 (0 · 0) [] (0 · 1) (0 · 1) B) 11
+    -- the row of a moved entry: folder, last contents record, last place record
+    ∷ prints
+    (take 24 (entryRow 1 (record { made = 0 · 3; kind = 2; inside = 0 · 2; label = padded 32 C; contents = 1 · 4; date = two 2025 ++ (3 ∷ 4 ∷ []); mark = replicate 16 0; placing = 2 · 5 })))
+    (2 ∷ 1 ∷ 0 ∷ 0 ∷ 0 ∷ 0 ∷ 3 ∷ 0 ∷ 0 ∷ 0 ∷ 2 ∷ 0 ∷ 1 ∷ 0 ∷ 4 ∷ 0 ∷ 2 ∷ 0 ∷ 5 ∷ 0 ∷ 233 ∷ 7 ∷ 3 ∷ 4 ∷ [])
+    -- "aside 1.1 reason 25 marks 0.2 open"
+    ∷ prints (asideLine (asideRow (record { who = 1 · 1; reason = 25; marked = 0 · 2; isOpen = true })))
+    (97 ∷ 115 ∷ 105 ∷ 100 ∷ 101 ∷ 32 ∷ 49 ∷ 46 ∷ 49 ∷ 32 ∷ 114 ∷ 101 ∷ 97 ∷ 115 ∷ 111 ∷ 110 ∷ 32 ∷ 50 ∷ 53 ∷ 32 ∷ 109 ∷ 97 ∷ 114 ∷ 107 ∷ 115 ∷ 32 ∷ 48 ∷ 46 ∷ 50 ∷ 32 ∷ 111 ∷ 112 ∷ 101 ∷ 110 ∷ 10 ∷ [])
     -- a folder moves with what is in it, which is then found under it; and the folder that it left can be removed
     ∷ whole
     (makesFolder 3 (0 · 1) [] root A

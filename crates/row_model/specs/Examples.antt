@@ -1,5 +1,5 @@
 -- Examples of rows of blocks, as rows of one table.
--- Document 02, K4.
+-- Document 02, K4 and K8.
 -- Assumes nothing.
 use Prim.Native.Nat.{ℕ, suc, _*_}
 use mathlib.Core.Bool.{Bool, true, false, _&&_}
@@ -13,7 +13,7 @@ use Rattle.model.specs.Replay.{Entry, replay}
 use Rattle.model.specs.Block.{archiveIn, senderIn, placeIn, vectorIn, blockRecords}
 use Rattle.model.specs.File.{blockAt}
 use Rattle.model.specs.Outcome.{Outcome, Took, refused, taken, takeAll}
-use Rattle.model.specs.Examples.{_·_, makesTrace, stores, removes, settles, sameFlag, sameRecords, firstsTo, A, B, C}
+use Rattle.model.specs.Examples.{_·_, makesFolder, makesTrace, stores, removes, settles, moves, sameFlag, sameRecords, firstsTo, A, B, C}
 use Rattle.row_model.specs.Row.{tried, RowTaken, rowFits, takeRowOf, becameDisputed, Trial, reported, tryOf, rowOf, handRowOf}
 
 -- ---- the rows
@@ -152,6 +152,8 @@ table =
     (0 · 1 ∷ [])
     -- one that is settled then, and one that is removed then
     ∷ disputes (makesTrace 3 (0 · 1) [] root A ∷ []) (makesTrace 3 (1 · 1) [] root A ∷ settles 3 (1 · 2) (1 ∷ 1 ∷ []) (1 · 1) ∷ []) []
+    -- a move that ranks before one that was held makes that one stand aside under 25
+    ∷ disputes (makesFolder 3 (0 · 1) [] root A ∷ makesFolder 3 (0 · 2) (1 ∷ []) root B ∷ moves 3 (1 · 1) (2 ∷ []) (0 · 2) (0 · 1) B ∷ []) (moves 3 (0 · 3) (2 ∷ []) (0 · 1) (0 · 2) A ∷ []) (0 · 2 ∷ [])
     ∷ disputes (makesTrace 3 (0 · 1) [] root A ∷ []) (makesTrace 3 (1 · 1) [] root A ∷ removes 3 (1 · 2) (1 ∷ 1 ∷ []) (0 · 1) ∷ []) []
     -- 0.1 was marked, and removed by 2.2; 1.1 ranks before the remove and is unseen by it, so 0.1 stays and is disputed
     ∷ disputes (makesTrace 3 (0 · 1) [] root A ∷ makesTrace 3 (2 · 1) [] root A ∷ removes 3 (2 · 2) (1 ∷ 0 ∷ 1 ∷ []) (0 · 1) ∷ []) (stores 3 (1 · 1) (1 ∷ []) (0 · 1) ∷ []) (0 · 1 ∷ [])

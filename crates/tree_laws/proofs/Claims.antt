@@ -197,7 +197,7 @@ arrival-decides-nothing b c rs qs m p x y e f h =
 
 -- ---- P4: open, settled, disputed
 
--- a record that stands aside is open until a settle placing it fits, and settled from then on
+-- a record that stands aside is open until a settle naming it fits, and settled from then on
 pub open-until-settled : (before : List Rec) (r : Rec) (after : List Rec) (n k : ℕ)
     → soundAfter [] (before ++ (r ∷ after)) ≡ true
     → judge r (replay before) ≡ aside n k

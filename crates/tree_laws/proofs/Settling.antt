@@ -157,7 +157,7 @@ distinct-front (x ∷ l) r m d (inl e) = d .0 (subst (λ (k : ℕ). Has k (selve
     here (y ∷ l) r m = inr (here l r m)
 distinct-front (x ∷ l) r m d (inr h) = distinct-front l r m (d .1) h
 
--- a record that stands aside is open from there on, exactly until a settle placing it fits
+-- a record that stands aside is open from there on, exactly until a settle naming it fits
 pub open-until-settled : (before : List Rec) (r : Rec) (after : List Rec) (n k : ℕ)
     → Distinct (selves (before ++ (r ∷ after)))
     → judge r (replay before) ≡ aside n k
