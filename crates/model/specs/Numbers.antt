@@ -55,7 +55,7 @@ noObject = 12
 abbrev pub noFolder : ℕ
 noFolder = 13
 
--- the folder of a make is a trace, or the object of a store is a folder
+-- the folder of a make or a move is a trace, or the object of a store is a folder
 abbrev pub wrongKind : ℕ
 wrongKind = 14
 
@@ -91,6 +91,6 @@ badFile = 20
 abbrev pub badUnit : ℕ
 badUnit = 21
 
--- the label of a make or rename wish has a stroke
+-- the label of a make, rename or move wish has a stroke
 abbrev pub strokeInLabel : ℕ
 strokeInLabel = 24
