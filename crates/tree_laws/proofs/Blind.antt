@@ -8,7 +8,8 @@ use mathlib.Core.Option.{Option, none, some}
 use mathlib.Core.List.{List, [], _∷_, _++_}
 use native.Mathlib.Omega.{arith}
 use lib.Dec.{ltb, eqb}
-use lib.ListN.{getD, length}
+use lib.ListN.{getD, length, take}
+use lib.Seq.{getD-take}
 use borrow.Author.Tests.{eqb-true, le-leb}
 use Rattle.byte_slice.proofs.Numbers.{and-true}
 use Rattle.byte_slice.proofs.Words.{word-same}
@@ -30,6 +31,9 @@ pub record SameRead (r s : Rec) : Type 0 where
 
 pub same-self : (r : Rec) → SameRead r r
 same-self r = record { op-same = refl; self-same = refl; object-same = refl; folder-same = refl; label-same = refl; seen-same = λ u h. refl }
+
+pub front-same : (n : ℕ) (r s : Rec) → take n r ≡ take n s → (i : ℕ) → i < n → getD r i 0 ≡ getD s i 0
+front-same n r s e i h = sym (getD-take n r i 0 h) ∙ ap (λ (b : List ℕ). getD b i 0) e ∙ getD-take n s i 0 h
 
 -- the bytes before the date and the label are all of it
 module _ (r s : Rec) (b : (i : ℕ) → i < 28 → getD r i 0 ≡ getD s i 0) where

@@ -1,15 +1,15 @@
 -- Dates decide nothing: records that differ only in dates leave trees that differ only in dates.
 -- Assumes nothing.
-use Prim.Native.Nat.{ℕ, _<_}
+use Prim.Native.Nat.{ℕ}
 use mathlib.Core.Path.{_≡_, refl, sym, ap, _∙_}
 use mathlib.Core.List.{List, [], _∷_}
-use lib.ListN.{getD, take, drop}
-use lib.Seq.{getD-take, drop-drop}
+use lib.ListN.{take, drop}
+use lib.Seq.{drop-drop}
 use Rattle.model.specs.Bytes.{part}
 use Rattle.model.specs.Record.{Rec, labelOf, markOf}
 use Rattle.model.specs.Replay.{Tree, replayFrom}
 use Rattle.tree_laws.specs.Replayed.{Pairs, mappedTree, SameButDate, SameButDates, undated, undatedTree}
-use Rattle.tree_laws.proofs.Blind.{Telling, blind, Alike, read-same, replay-alike}
+use Rattle.tree_laws.proofs.Blind.{Telling, blind, Alike, front-same, read-same, replay-alike}
 
 -- dates forgotten, and marks as they are
 unfoldable pub forgotten : Telling
@@ -18,14 +18,11 @@ forgotten k x = 0 ∷ 0 ∷ 0 ∷ 0 ∷ []
 unfoldable pub kept : Telling
 kept k x = x
 
-front-same : (r s : Rec) → take 28 r ≡ take 28 s → (i : ℕ) → i < 28 → getD r i 0 ≡ getD s i 0
-front-same r s e i h = sym (getD-take 28 r i 0 h) ∙ ap (λ (b : List ℕ). getD b i 0) e ∙ getD-take 28 s i 0 h
-
 date-alike : (r s : Rec) → SameButDate r s → Alike forgotten kept r s
 unfolding forgotten kept labelOf markOf part
 date-alike r s (e, d) =
     record {
-      read = read-same r s (front-same r s e) (ap (take 32) d);
+      read = read-same r s (front-same 28 r s e) (ap (take 32) d);
       date-alike = refl;
       mark-alike = ap (take 16) (sym (drop-drop 32 32 r) ∙ ap (drop 32) d ∙ drop-drop 32 32 s);
     }

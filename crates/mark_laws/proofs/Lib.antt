@@ -1,0 +1,6 @@
+pub mod Pairs
+pub mod Trees
+pub mod Logs
+pub mod Shown
+pub mod Sound
+pub mod Claims
