@@ -4,3 +4,4 @@ pub mod Logs
 pub mod Shown
 pub mod Sound
 pub mod Claims
+pub mod Example

@@ -9,8 +9,6 @@ use mathlib.Core.List.{List, [], _∷_, _++_}
 use lib.ListN.{getD, length, take, drop}
 use borrow.Author.Tests.{eq-eqb}
 use Rattle.byte_slice.proofs.Numbers.{eq-or-ne}
-use Rattle.byte_slice.proofs.Parts.{part-take}
-use Rattle.model.specs.Bytes.{part}
 use Rattle.model.specs.Record.{Rec, op, objectOf, dateBytes, labelOf, markOf}
 use Rattle.model.specs.Replay.{Tree, fits, aside, judge, step, emptyTree, replayFrom, replay}
 use Rattle.log_laws.specs.Sound.{Sound}
@@ -19,26 +17,23 @@ use Rattle.tree_laws.proofs.Steps.{step-aside}
 use Rattle.tree_laws.proofs.Identities.{makers-distinct}
 use Rattle.tree_laws.proofs.Acting.{sound-distinct}
 use Rattle.tree_laws.proofs.Dates.{kept}
-use Rattle.tree_laws.proofs.Blind.{SameRead, front-same, read-same, judge-same, blind, Alike, alike-self, replay-alike}
-use Rattle.mark_laws.specs.Marks.{SameButMark, OneMarkApart, markIf, markTree, StaysSmall}
+use Rattle.tree_laws.proofs.Blind.{SameRead, front-same, front-part, read-same, judge-same, blind, Alike, alike-self, replay-alike}
+use Rattle.mark_laws.specs.Marks.{markAt, SameButMark, OneMarkApart, markIf, markTree, StaysSmall}
 use Rattle.mark_laws.proofs.Pairs.{pairs-at, pairs-take, take-equal, drop-equal, replay-at, sound-take}
 use Rattle.mark_laws.proofs.Trees.{given, given-settles, same-but-mark, judged-same, stored-same, removed-same}
 
 -- ---- the record that differs
 
-pub part-same : (r s : Rec) → SameButMark r s → (at n : ℕ) → at + n ≤ 64 → part r at n ≡ part s at n
-part-same r s e at n h = sym (part-take r 64 at n h) ∙ ap (λ (b : List ℕ). part b at n) e ∙ part-take s 64 at n h
-
 pub mark-read : (r s : Rec) → SameButMark r s → SameRead r s
 unfolding labelOf
-mark-read r s e = read-same r s (λ i h. front-same 64 r s e i (omega arith)) (part-same r s e 32 32 (omega arith))
+mark-read r s e = read-same r s (λ i h. front-same markAt r s e i (omega arith)) (front-part markAt r s e 32 32 (omega arith))
 
 mark-alike : (r s : Rec) (v : List ℕ) → SameButMark r s → Alike kept (given (traceOf r) v) r s
 unfolding kept given dateBytes
 mark-alike r s v e =
     record {
       read = mark-read r s e;
-      date-alike = part-same r s e 28 4 (omega arith);
+      date-alike = front-part markAt r s e 28 4 (omega arith);
       mark-alike = rw (eq-eqb (traceOf r) (traceOf r) refl);
     }
 

@@ -11,7 +11,7 @@ use lib.ListN.{getD, length, take}
 use borrow.Author.Tests.{leb-true, eq-eqb}
 use Rattle.byte_slice.proofs.Numbers.{bool-cases, eq-or-ne}
 use Rattle.byte_slice.proofs.Words.{word-same}
-use Rattle.model.specs.Bytes.{word, part}
+use Rattle.model.specs.Bytes.{word}
 use Rattle.model.specs.Record.{Rec, unit, op, num, seen, labelOf, usesMark, unused, names, objectFits, folderFits, labelFits, markFits, dateFits, headFits, wellFormed}
 use Rattle.model.specs.Log.{rank, count}
 use Rattle.log_laws.specs.Members.{Has}
@@ -19,10 +19,9 @@ use Rattle.log_laws.specs.Sound.{Next, SoundAfter, Sound}
 use Rattle.log_laws.proofs.Sums.{sumTo-eq}
 use Rattle.log_laws.proofs.Formed.{well-unit, well-length}
 use Rattle.tree_laws.specs.Replayed.{Pairs}
-use Rattle.tree_laws.proofs.Blind.{front-same}
-use Rattle.mark_laws.specs.Marks.{SameButMark, OneMarkApart}
+use Rattle.tree_laws.proofs.Blind.{front-same, front-part}
+use Rattle.mark_laws.specs.Marks.{markAt, SameButMark, OneMarkApart}
 use Rattle.mark_laws.proofs.Pairs.{pairs-at}
-use Rattle.mark_laws.proofs.Logs.{part-same}
 
 -- ---- one record
 
@@ -32,7 +31,7 @@ both false x y h = refl
 
 module _ (r s : Rec) (e : SameButMark r s) where
   byte : (i : ℕ) → i < 64 → getD r i 0 ≡ getD s i 0
-  byte = front-same 64 r s e
+  byte i h = front-same markAt r s e i (omega arith)
 
   pair : (i : ℕ) → i + 1 < 64 → word r i ≡ word s i
   pair i h = word-same r s i i (byte i (omega arith)) (byte (i + 1) h)
@@ -55,7 +54,7 @@ module _ (r s : Rec) (e : SameButMark r s) where
 
   unused-at : (at n : ℕ) → at + n ≤ 64 → unused r at n ≡ unused s at n
   unfolding unused
-  unused-at at n h = rw (part-same r s e at n h)
+  unused-at at n h = rw (front-part markAt r s e at n (omega arith))
 
   names-at : (at : ℕ) → at + 3 < 64 → names r at ≡ names s at
   unfolding names
@@ -95,7 +94,7 @@ module _ (r s : Rec) (e : SameButMark r s) where
         pair 28 (omega arith),
         byte 30 (omega arith),
         byte 31 (omega arith),
-        part-same r s e 32 32 (omega arith),
+        front-part markAt r s e 32 32 (omega arith),
         unused-at 32 32 (omega arith),
       )
 

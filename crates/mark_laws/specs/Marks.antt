@@ -15,9 +15,13 @@ use Rattle.tree_laws.specs.Replayed.{traceOf, mapped, mappedTree, hideFrom}
 
 -- ---- two logs
 
--- the same bytes but for the content mark, 64 to 79
+-- the content mark is the bytes of a record from here on, 64 to 79
+abbrev pub markAt : ℕ
+markAt = 64
+
+-- the same bytes but for the content mark
 abbrev pub SameButMark : Rec → Rec → Type 0
-SameButMark r s = take 64 r ≡ take 64 s
+SameButMark r s = take markAt r ≡ take markAt s
 
 -- logs of one length that differ only in the content mark of the record at place i, a make trace or a store
 pub record OneMarkApart (i : ℕ) (l m : List Rec) : Type 0 where

@@ -12,8 +12,9 @@ use lib.ListN.{getD, length, take}
 use lib.Seq.{getD-take}
 use borrow.Author.Tests.{eqb-true, le-leb}
 use Rattle.byte_slice.proofs.Numbers.{and-true}
+use Rattle.byte_slice.proofs.Parts.{part-take}
 use Rattle.byte_slice.proofs.Words.{word-same}
-use Rattle.model.specs.Bytes.{word}
+use Rattle.model.specs.Bytes.{word, part}
 use Rattle.model.specs.Record.{Rec, root, identity, unit, num, seen, op, identityAt, selfOf, objectOf, folderOf, dateBytes, labelOf, markOf}
 use Rattle.model.specs.Replay.{Entry, Aside, Tree, Verdict, fits, aside, isPresent, sameLabel, entryOf, isIn, isHolder, holderOf, hasEntries, unseen, freeLabel, isFolder, folderStands, comesTo, isBelow, judgePlace, judgeMake, judgeStore, judgeRemove, judgeRename, judgeMove, judgeSettle, judge, newEntry, stored, renamed, moved, removed, changed, settled, effect, apply, step, replayFrom, presentOnes}
 use Rattle.tree_laws.specs.Replayed.{Pairs, traceOf, mapped, mappedTree}
@@ -34,6 +35,9 @@ same-self r = record { op-same = refl; self-same = refl; object-same = refl; fol
 
 pub front-same : (n : ℕ) (r s : Rec) → take n r ≡ take n s → (i : ℕ) → i < n → getD r i 0 ≡ getD s i 0
 front-same n r s e i h = sym (getD-take n r i 0 h) ∙ ap (λ (b : List ℕ). getD b i 0) e ∙ getD-take n s i 0 h
+
+pub front-part : (c : ℕ) (r s : Rec) → take c r ≡ take c s → (at n : ℕ) → at + n ≤ c → part r at n ≡ part s at n
+front-part c r s e at n h = sym (part-take r c at n h) ∙ ap (λ (b : List ℕ). part b at n) e ∙ part-take s c at n h
 
 -- the bytes before the date and the label are all of it
 module _ (r s : Rec) (b : (i : ℕ) → i < 28 → getD r i 0 ≡ getD s i 0) where
