@@ -17,26 +17,26 @@ use Rattle.tree_laws.specs.Replayed.{Has, Distinct, makers, mapped, mappedTree,
 use Rattle.tree_laws.proofs.Dates.{kept}
 use Rattle.tree_laws.proofs.Blind.{blind}
 use Rattle.tree_laws.proofs.Tables.{Filled, Hides, Within, hide-append, hide-keeps, hide-all, row-length, hidden-table}
-use Rattle.mark_laws.specs.Marks.{markIf, markTree, rowOf, isMarkPlace, hideMark}
+use Rattle.mark_laws.specs.Marks.{markIf, markTree, rowOf, markFrom, markTo, isMarkPlace, hideMark}
 use Rattle.mark_laws.proofs.Trees.{given, mark-other}
 
 -- ---- the places of a mark
 
-elsewhere : (n i : ℕ) → (i < 4 + 72 * n + 56) ⊎ (4 + 72 * n + 72 ≤ i) → isMarkPlace n i ≡ false
+elsewhere : (n i : ℕ) → (i < 4 + 72 * n + markFrom) ⊎ (4 + 72 * n + markTo ≤ i) → isMarkPlace n i ≡ false
 unfolding isMarkPlace
-elsewhere n i (inl h) = rw (lt-leb (4 + 72 * n + 56) i h)
-elsewhere n i (inr h) = rw (le-ltb i (4 + 72 * n + 72) h) (and-wrong (leb (4 + 72 * n + 56) i))
+elsewhere n i (inl h) = rw (lt-leb (4 + 72 * n + markFrom) i h)
+elsewhere n i (inr h) = rw (le-ltb i (4 + 72 * n + markTo) h) (and-wrong (leb (4 + 72 * n + markFrom) i))
 
-there : (n i : ℕ) → n < 512 → 4 + 72 * n + 56 ≤ i → i < 4 + 72 * n + 72 → isMarkPlace n i ≡ true
+there : (n i : ℕ) → n < 512 → 4 + 72 * n + markFrom ≤ i → i < 4 + 72 * n + markTo → isMarkPlace n i ≡ true
 unfolding isMarkPlace
-there n i b h k = rw (le-leb (4 + 72 * n + 56) i h, lt-ltb i (4 + 72 * n + 72) k, lt-ltb i 36868 (omega arith))
+there n i b h k = rw (le-leb (4 + 72 * n + markFrom) i h, lt-ltb i (4 + 72 * n + markTo) k, lt-ltb i 36868 (omega arith))
 
 mark-places : (n : ℕ) → Within (isMarkPlace n)
 unfolding isMarkPlace
 mark-places n =
     record {
       before = λ i h. elsewhere n i (inl (omega arith));
-      behind = λ i h. rw (le-ltb i 36868 h, and-wrong (ltb i (4 + 72 * n + 72))) (and-wrong (leb (4 + 72 * n + 56) i));
+      behind = λ i h. rw (le-ltb i 36868 h, and-wrong (ltb i (4 + 72 * n + markTo))) (and-wrong (leb (4 + 72 * n + markFrom) i));
     }
 
 -- ---- rows

@@ -85,9 +85,16 @@ unfoldable pub rowOf : ℕ → List Entry → ℕ
 rowOf k [] = zero
 rowOf k (e ∷ l) = cond (isPresent e) (cond (eqb (e .made) k) zero (suc (rowOf k l))) (rowOf k l)
 
--- the places of the tree table that hold the mark of the row n: its bytes 56 to 71
+-- the mark of a row is its bytes from the one place up to the other
+abbrev pub markFrom : ℕ
+markFrom = 56
+
+abbrev pub markTo : ℕ
+markTo = 72
+
+-- the places of the tree table that hold the mark of the row n
 unfoldable pub isMarkPlace : ℕ → ℕ → Bool
-isMarkPlace n i = leb (4 + 72 * n + 56) i && (ltb i (4 + 72 * n + 72) && ltb i 36868)
+isMarkPlace n i = leb (4 + 72 * n + markFrom) i && (ltb i (4 + 72 * n + markTo) && ltb i 36868)
 
 -- a tree table with zeros for the mark of the row n
 unfoldable pub hideMark : ℕ → List ℕ → List ℕ
