@@ -4,16 +4,17 @@ use Prim.Native.Nat.{ℕ, _≤_}
 use native.Mathlib.Omega.{arith}
 use mathlib.Core.Path.{_≡_, refl, sym, ap, _∙_, subst}
 use mathlib.Core.Bool.{true}
-use mathlib.Core.Logic.{inl, inr, ⊎-elim}
+use mathlib.Core.Logic.{_⊎_, inl, inr, ⊎-elim}
 use mathlib.Core.Option.{none}
 use mathlib.Core.List.{List, [], _∷_, _++_}
 use lib.ListN.{getD, length, replicate}
 use Rattle.byte_slice.proofs.Numbers.{eq-or-ne}
 use Rattle.model.specs.Bytes.{two, padded}
-use Rattle.model.specs.Record.{Rec}
+use Rattle.model.specs.Record.{Rec, op}
 use Rattle.model.specs.Log.{soundAfter}
 use Rattle.model.specs.Replay.{Entry, entryOf, emptyTree, replay}
 use Rattle.model.specs.Table.{entryRows, asideRows, tableBytes}
+use Rattle.log_laws.specs.Members.{Has as Member}
 use Rattle.log_laws.proofs.Formed.{well-length}
 use Rattle.log_laws.proofs.Counts.{formed}
 use Rattle.log_laws.proofs.Tests.{sound-means, means-sound}
@@ -22,16 +23,22 @@ use Rattle.tree_laws.proofs.Labels.{has-made}
 use Rattle.tree_laws.proofs.Identities.{makers-distinct}
 use Rattle.tree_laws.proofs.Acting.{sound-distinct}
 use Rattle.tree_laws.proofs.Tables.{filled-replay, entries-few}
-use Rattle.mark_laws.specs.Marks.{OneMarkApart, markIf, markTree, StaysSmall, rowOf, hideMark}
+use Rattle.mark_laws.specs.Marks.{SameButMark, OneMarkApart, markIf, markTree, StaysSmall, rowOf, hideMark}
 use Rattle.mark_laws.proofs.Trees.{mark-other}
 use Rattle.mark_laws.proofs.Logs.{small, stays-small}
 use Rattle.mark_laws.proofs.Shown.{mark-hidden, row-mark}
 use Rattle.mark_laws.proofs.Sound.{sound-apart}
+use Rattle.mark_laws.proofs.Places.{apart-by-records}
 
 -- two sound logs that differ only in the content mark of one make trace or store have the same entries, labels, places, disputes and asides, and
 -- at most one entry's mark differs, that of the trace; none where the record stands aside or a later store has fitted on the trace
 pub two-logs : (i : ℕ) (l m : List Rec) → soundAfter [] l ≡ true → soundAfter [] m ≡ true → OneMarkApart i l m → StaysSmall i l m
 two-logs i l m s t a = stays-small i l m a (sound-means l s)
+
+-- rank does not read the mark: sound logs with the same records but one, and that one the same but for its mark, have it at one place
+pub at-one-place : (l m : List Rec) (r s : Rec) → soundAfter [] l ≡ true → soundAfter [] m ≡ true → Member r l → Member s m → SameButMark r s → (op r ≡ 2) ⊎ (op r ≡ 3)
+    → ((x : Rec) → Member x l → (x ≡ r) ⊎ Member x m) → ((x : Rec) → Member x m → (x ≡ s) ⊎ Member x l) → (i : ℕ) × (getD l i [] ≡ r) × OneMarkApart i l m
+at-one-place l m r s h k = apart-by-records l m r s (sound-means l h) (sound-means m k)
 
 -- another content mark leaves a sound log sound, so that there are two such logs
 pub sound-but-mark : (i : ℕ) (l m : List Rec) → soundAfter [] l ≡ true → OneMarkApart i l m → length (getD m i []) ≡ 80 → soundAfter [] m ≡ true

@@ -16,6 +16,18 @@ pairs-at R [] (s ∷ m) n h = absurd (omega arith)
 pairs-at R (r ∷ l) [] n h = absurd (omega arith)
 pairs-at R (r ∷ l) (s ∷ m) n h = (h 0 (omega arith), pairs-at R l m (omega arith) (λ j k. h (suc j) (omega arith)))
 
+pub pairs-length : (R : Rec → Rec → Type 0) (l m : List Rec) → Pairs R l m → length l ≡ length m
+pairs-length R [] [] p = refl
+pairs-length R [] (y ∷ m) p = absurd p
+pairs-length R (x ∷ l) [] p = absurd p
+pairs-length R (x ∷ l) (y ∷ m) p = ap suc (pairs-length R l m (p .1))
+
+pub pairs-get : (R : Rec → Rec → Type 0) (l m : List Rec) → Pairs R l m → (j : ℕ) → j < length l → R (getD l j []) (getD m j [])
+pairs-get R [] m p j h = absurd (omega arith)
+pairs-get R (x ∷ l) [] p j h = absurd p
+pairs-get R (x ∷ l) (y ∷ m) p zero h = p .0
+pairs-get R (x ∷ l) (y ∷ m) p (suc j) h = pairs-get R l m (p .1) j (omega arith)
+
 pub pairs-take : (R : Rec → Rec → Type 0) (j : ℕ) (l m : List Rec) → Pairs R l m → Pairs R (take j l) (take j m)
 pairs-take R zero l m h = tt
 pairs-take R (suc j) [] [] h = tt

@@ -25,6 +25,10 @@ use Rattle.mark_laws.proofs.Pairs.{pairs-at}
 
 -- ---- one record
 
+rank-alike : (r s : Rec) → unit r ≡ unit s → ((u : ℕ) → u < 8 → seen r u ≡ seen s u) → rank r ≡ rank s
+unfolding rank
+rank-alike r s e h = rw (sumTo-eq 8 (seen r) (seen s) h, e)
+
 both : (b x y : Bool) → (b ≡ true → x ≡ y) → (b && x) ≡ (b && y)
 both true x y h = h refl
 both false x y h = refl
@@ -98,6 +102,10 @@ module _ (r s : Rec) (e : SameButMark r s) where
         unused-at 32 32 (omega arith),
       )
 
+  -- rank does not read the mark
+  pub rank-but-mark : rank r ≡ rank s
+  rank-but-mark = rank-alike r s unit-at seen-at
+
 -- ---- records that stand alike in a log
 
 -- as well formed as the other, and of the same unit, number and seen
@@ -111,8 +119,7 @@ twin-self : (r : Rec) → Twin r r
 twin-self r = record { formed = λ f. f; of-unit = refl; of-num = refl; of-seen = λ u h. refl }
 
 twin-rank : (r s : Rec) → Twin r s → rank r ≡ rank s
-unfolding rank
-twin-rank r s t = rw (sumTo-eq 8 (seen r) (seen s) (t .of-seen), t .of-unit)
+twin-rank r s t = rank-alike r s (t .of-unit) (t .of-seen)
 
 -- the records before, in two logs: as many of each unit, and each of the second the twin of one of the first
 record Fronts (pre ere : List Rec) : Type 0 where
