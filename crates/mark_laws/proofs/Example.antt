@@ -1,12 +1,12 @@
 -- Claim K9: the premises can be met. A trace whose mark is doubted, with a dispute and a rename behind it; with a later store; and one whose
 -- make stands aside. Computed.
 -- Assumes nothing.
-use Prim.Native.Nat.{ℕ, zero, suc, _+_, _<_}
+use Prim.Native.Nat.{ℕ, zero, suc, _<_}
 use native.Mathlib.Omega.{arith}
 use mathlib.Core.Path.{_≡_, refl}
 use mathlib.Core.Bool.{true}
 use mathlib.Core.Logic.{inl}
-use mathlib.Core.List.{List, [], _∷_, _++_}
+use mathlib.Core.List.{List, [], _∷_}
 use lib.ListN.{getD, length, take, replicate}
 use Rattle.model.specs.Bytes.{word, blank, sameBytes, part, padded}
 use Rattle.model.specs.Table.{identityBytes}

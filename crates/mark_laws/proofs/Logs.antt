@@ -2,15 +2,15 @@
 -- Assumes nothing.
 use Prim.Native.Nat.{ℕ, suc, _+_, _≤_, _<_}
 use native.Mathlib.Omega.{arith}
-use mathlib.Core.Path.{_≡_, refl, sym, ap, _∙_, subst}
+use mathlib.Core.Path.{_≡_, refl, sym, ap, _∙_}
 use mathlib.Core.Bool.{true}
-use mathlib.Core.Logic.{_⊎_, inl, inr, ⊎-elim}
+use mathlib.Core.Logic.{_⊎_, ⊎-elim}
 use mathlib.Core.List.{List, [], _∷_, _++_}
 use lib.ListN.{getD, length, take, drop}
 use borrow.Author.Tests.{eq-eqb}
 use Rattle.byte_slice.proofs.Numbers.{eq-or-ne}
-use Rattle.model.specs.Record.{Rec, op, objectOf, dateBytes, labelOf, markOf}
-use Rattle.model.specs.Replay.{Tree, fits, aside, judge, step, emptyTree, replayFrom, replay}
+use Rattle.model.specs.Record.{Rec, dateBytes, labelOf}
+use Rattle.model.specs.Replay.{Tree, aside, judge, step, emptyTree, replayFrom, replay}
 use Rattle.log_laws.specs.Sound.{Sound}
 use Rattle.tree_laws.specs.Replayed.{Distinct, makers, Pairs, traceOf}
 use Rattle.tree_laws.proofs.Steps.{step-aside}

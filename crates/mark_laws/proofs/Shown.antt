@@ -1,9 +1,9 @@
 -- The tree tables of two such logs differ in the mark of one row alone.
 -- Assumes nothing.
-use Prim.Native.Nat.{ℕ, zero, suc, _+_, _*_, _≤_, _<_}
+use Prim.Native.Nat.{ℕ, suc, _+_, _*_, _≤_, _<_}
 use native.Mathlib.Omega.{arith}
 use mathlib.Core.Path.{_≡_, refl, sym, ap, _∙_, subst}
-use mathlib.Core.Bool.{Bool, true, false, cond, _&&_}
+use mathlib.Core.Bool.{Bool, true, false, cond}
 use mathlib.Core.Logic.{_⊎_, inl, inr, ⊎-elim}
 use mathlib.Core.List.{List, [], _∷_, _++_, append-assoc}
 use lib.Dec.{ltb, leb, eqb}
@@ -13,7 +13,7 @@ use Rattle.byte_slice.proofs.Numbers.{bool-cases, and-wrong, eq-or-ne}
 use Rattle.model.specs.Replay.{Entry, Aside, Tree, isPresent, isDisputed, presentOnes}
 use Rattle.model.specs.Table.{identityBytes, entryRow, tableBytes}
 use Rattle.log_laws.proofs.Members.{All}
-use Rattle.tree_laws.specs.Replayed.{Has, Distinct, makers, mapped, mappedTree, hideFrom}
+use Rattle.tree_laws.specs.Replayed.{Has, Distinct, makers, mapped, hideFrom}
 use Rattle.tree_laws.proofs.Dates.{kept}
 use Rattle.tree_laws.proofs.Blind.{blind}
 use Rattle.tree_laws.proofs.Tables.{Filled, Hides, Within, hide-append, hide-keeps, hide-all, row-length, hidden-table}

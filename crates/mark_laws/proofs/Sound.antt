@@ -1,15 +1,15 @@
 -- A log stays sound under another content mark of a make trace or a store.
 -- Assumes nothing.
-use Prim.Native.Nat.{ℕ, zero, suc, _+_, _-_, _*_, _≤_, _<_}
+use Prim.Native.Nat.{ℕ, suc, _+_, _-_, _*_, _≤_, _<_}
 use native.Mathlib.Omega.{arith}
 use mathlib.Core.Path.{_≡_, refl, sym, ap, _∙_}
-use mathlib.Core.Bool.{Bool, true, false, cond, _&&_, _||_}
+use mathlib.Core.Bool.{Bool, true, false, _&&_}
 use mathlib.Core.Logic.{_⊎_, inl, inr, ⊎-elim}
 use mathlib.Core.List.{List, [], _∷_}
 use lib.Dec.{leb, eqb}
-use lib.ListN.{getD, length, take}
-use borrow.Author.Tests.{leb-true, eq-eqb}
-use Rattle.byte_slice.proofs.Numbers.{bool-cases, eq-or-ne}
+use lib.ListN.{getD, length}
+use borrow.Author.Tests.{leb-true}
+use Rattle.byte_slice.proofs.Numbers.{eq-or-ne}
 use Rattle.byte_slice.proofs.Words.{word-same}
 use Rattle.model.specs.Bytes.{word}
 use Rattle.model.specs.Record.{Rec, unit, op, num, seen, labelOf, usesMark, unused, names, objectFits, folderFits, labelFits, markFits, dateFits, headFits, wellFormed}

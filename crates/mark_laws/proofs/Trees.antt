@@ -1,14 +1,12 @@
 -- Another mark for one entry: which judgements and steps it changes, and which entries.
 -- Assumes nothing.
-use Prim.Native.Nat.{ℕ, _<_}
-use native.Mathlib.Omega.{arith}
+use Prim.Native.Nat.{ℕ}
 use mathlib.Core.Path.{_≡_, refl, sym, ap, _∙_, subst}
 use mathlib.Core.Bool.{Bool, true, false, cond, _&&_}
 use mathlib.Core.Logic.{_⊎_, inl, inr, ⊎-elim}
 use mathlib.Core.Option.{Option, none, some}
 use mathlib.Core.List.{List, [], _∷_}
 use lib.Dec.{eqb}
-use lib.ListN.{length}
 use borrow.Author.Tests.{eqb-true, eq-eqb, ne-eqb}
 use Rattle.byte_slice.proofs.Numbers.{bool-cases, and-true, true-and, and-wrong}
 use Rattle.model.specs.Record.{Rec, op, objectOf}
@@ -17,7 +15,6 @@ use Rattle.tree_laws.specs.Replayed.{Has, Distinct, makers, mapped, mappedTree}
 use Rattle.tree_laws.proofs.Steps.{step-fits, effect-store}
 use Rattle.tree_laws.proofs.Verdicts.{judge-store}
 use Rattle.tree_laws.proofs.Roots.{none-some, some-same, aside-fits, entry-made, entry-in}
-use Rattle.tree_laws.proofs.Labels.{has-made}
 use Rattle.tree_laws.proofs.Dates.{kept}
 use Rattle.tree_laws.proofs.Blind.{Telling, Settles, blind, over, entry-map, judge-map, present-map}
 use Rattle.mark_laws.specs.Marks.{markIf, markTree, SameButMarkOf}

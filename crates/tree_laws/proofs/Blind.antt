@@ -16,7 +16,7 @@ use Rattle.byte_slice.proofs.Parts.{part-take}
 use Rattle.byte_slice.proofs.Words.{word-same}
 use Rattle.model.specs.Bytes.{word, part}
 use Rattle.model.specs.Record.{Rec, root, identity, unit, num, seen, op, identityAt, selfOf, objectOf, folderOf, dateBytes, labelOf, markOf}
-use Rattle.model.specs.Replay.{Entry, Aside, Tree, Verdict, fits, aside, isPresent, sameLabel, entryOf, isIn, isHolder, holderOf, hasEntries, unseen, freeLabel, isFolder, folderStands, comesTo, isBelow, judgePlace, judgeMake, judgeStore, judgeRemove, judgeRename, judgeMove, judgeSettle, judge, newEntry, stored, renamed, moved, removed, changed, settled, effect, apply, step, replayFrom, presentOnes}
+use Rattle.model.specs.Replay.{Entry, Aside, Tree, Verdict, fits, aside, isPresent, entryOf, isIn, isHolder, holderOf, hasEntries, unseen, freeLabel, isFolder, folderStands, comesTo, isBelow, judgePlace, judgeMake, judgeStore, judgeRemove, judgeRename, judgeMove, judgeSettle, judge, newEntry, stored, renamed, moved, removed, changed, settled, effect, apply, step, replayFrom, presentOnes}
 use Rattle.tree_laws.specs.Replayed.{Pairs, traceOf, mapped, mappedTree}
 use Rattle.tree_laws.proofs.Steps.{effect-elim, effect-make, effect-store, effect-remove, effect-rename, effect-settle, effect-move}
 

@@ -1,6 +1,5 @@
 -- Dates decide nothing: records that differ only in dates leave trees that differ only in dates.
 -- Assumes nothing.
-use Prim.Native.Nat.{ℕ}
 use mathlib.Core.Path.{_≡_, refl, sym, ap, _∙_}
 use mathlib.Core.List.{List, [], _∷_}
 use lib.ListN.{take, drop}
@@ -8,7 +7,7 @@ use lib.Seq.{drop-drop}
 use Rattle.model.specs.Bytes.{part}
 use Rattle.model.specs.Record.{Rec, labelOf, markOf}
 use Rattle.model.specs.Replay.{Tree, replayFrom}
-use Rattle.tree_laws.specs.Replayed.{Pairs, mappedTree, SameButDate, SameButDates, undated, undatedTree}
+use Rattle.tree_laws.specs.Replayed.{Pairs, SameButDate, SameButDates, undated, undatedTree}
 use Rattle.tree_laws.proofs.Blind.{Telling, blind, Alike, front-same, read-same, replay-alike}
 
 -- dates forgotten, and marks as they are
