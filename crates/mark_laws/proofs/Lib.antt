@@ -1,5 +1,6 @@
 pub mod Pairs
 pub mod Trees
+pub mod Entries
 pub mod Logs
 pub mod Shown
 pub mod Sound

@@ -10,13 +10,19 @@ use lib.Dec.{ltb, leb, eqb}
 use lib.ListN.{length, replicate, length-append}
 use borrow.Author.Tests.{eq-eqb, ne-eqb, le-leb, lt-leb, lt-ltb, le-ltb}
 use Rattle.byte_slice.proofs.Numbers.{bool-cases, and-wrong, eq-or-ne}
-use Rattle.model.specs.Replay.{Entry, Aside, Tree, isPresent, isDisputed, presentOnes}
+use Rattle.model.specs.Record.{Rec}
+use Rattle.model.specs.Replay.{Entry, Aside, Tree, isPresent, emptyTree, replay, isDisputed, presentOnes}
 use Rattle.model.specs.Table.{identityBytes, entryRow, tableBytes}
+use Rattle.log_laws.specs.Sound.{Sound}
 use Rattle.log_laws.proofs.Members.{All}
+use Rattle.log_laws.proofs.Formed.{well-length}
+use Rattle.log_laws.proofs.Counts.{formed}
 use Rattle.tree_laws.specs.Replayed.{Has, Distinct, makers, mapped, hideFrom}
+use Rattle.tree_laws.proofs.Identities.{makers-distinct}
+use Rattle.tree_laws.proofs.Acting.{sound-distinct}
 use Rattle.tree_laws.proofs.Dates.{kept}
 use Rattle.tree_laws.proofs.Blind.{blind}
-use Rattle.tree_laws.proofs.Tables.{Filled, Hides, Within, hide-append, hide-keeps, hide-all, row-length, hidden-table}
+use Rattle.tree_laws.proofs.Tables.{Filled, Hides, Within, hide-append, hide-keeps, hide-all, row-length, hidden-table, filled-replay, entries-few}
 use Rattle.mark_laws.specs.Marks.{markIf, markTree, rowOf, markFrom, markTo, isMarkPlace, hideMark}
 use Rattle.mark_laws.proofs.Trees.{given, mark-other}
 
@@ -111,7 +117,7 @@ module _ (k : ℕ) (s : List Aside) where
 
 -- ---- tables
 
-pub mark-hidden : (k : ℕ) (t : Tree) → All Filled (t .entries) → length (presentOnes (t .entries)) ≤ 512 → Distinct (makers (t .entries))
+mark-hidden : (k : ℕ) (t : Tree) → All Filled (t .entries) → length (presentOnes (t .entries)) ≤ 512 → Distinct (makers (t .entries))
     → hideMark (rowOf k (t .entries)) (tableBytes t) ≡ tableBytes (markTree k zeros t)
 unfolding hideMark markTree markIf blind kept given
 mark-hidden k t a h d =
@@ -125,6 +131,14 @@ mark-hidden k t a h d =
     long true m p = refl
     long false m p = p
 
+pub log-hidden : (k : ℕ) (l : List Rec) → Sound l → length l ≤ 512 → hideMark (rowOf k (replay l .entries)) (tableBytes (replay l)) ≡ tableBytes (markTree k zeros (replay l))
+unfolding replay emptyTree
+log-hidden k l h b =
+    mark-hidden k (replay l) (filled-replay emptyTree l (λ r i. well-length r (formed [] l r h i)) tt)
+    (omega (arith, entries-few l))
+    (makers-distinct l (sound-distinct l h))
+
+-- a mark moves no row
 pub row-mark : (k : ℕ) (v : List ℕ) (es : List Entry) → rowOf k (mapped (markIf k v) es) ≡ rowOf k es
 unfolding rowOf mapped markIf isPresent
 row-mark k v [] = refl
