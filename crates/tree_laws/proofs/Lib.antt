@@ -3,6 +3,7 @@ pub mod Steps
 pub mod Identities
 pub mod Labels
 pub mod Settling
+pub mod Blind
 pub mod Dates
 pub mod Acting
 pub mod Strokes

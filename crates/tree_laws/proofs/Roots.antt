@@ -22,7 +22,7 @@ none-some q = absurd (let z : _≡_ {A = ℕ} 0 1 = cc in omega arith)
 pub some-same : {e x : Entry} → some e ≡ some x → e ≡ x
 some-same q = cc
 
-aside-fits {ℓ} : {A : Type ℓ} {n k : ℕ} → aside n k ≡ fits → A
+pub aside-fits {ℓ} : {A : Type ℓ} {n k : ℕ} → aside n k ≡ fits → A
 aside-fits q = absurd (let z : _≡_ {A = ℕ} 0 1 = cc in omega arith)
 
 -- ---- distinct numbers of a list are no more than those of the list

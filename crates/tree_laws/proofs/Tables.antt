@@ -2,7 +2,7 @@
 -- Assumes nothing.
 use Prim.Native.Nat.{ℕ, zero, suc, _+_, _-_, _*_, _%_, _≤_, _<_}
 use mathlib.Core.Path.{_≡_, refl, sym, ap, _∙_}
-use mathlib.Core.Bool.{Bool, true, false, cond, not, _&&_}
+use mathlib.Core.Bool.{Bool, true, false, cond, _&&_}
 use mathlib.Core.Logic.{inl, inr}
 use mathlib.Core.List.{List, [], _∷_, _++_}
 use native.Mathlib.Omega.{arith}
@@ -17,61 +17,153 @@ use Rattle.model.specs.Replay.{Entry, Aside, Tree, Verdict, fits, aside, judge,
 use Rattle.model.specs.Table.{identityBytes, entryRow, entryRows, asideRows, tableBytes}
 use Rattle.log_laws.specs.Members.{Has as Member}
 use Rattle.log_laws.proofs.Members.{All, all-append}
-use Rattle.tree_laws.specs.Replayed.{makers, making, makesFit, undated, undatedAll, undatedTree, isDatePlace, hideFrom, hideDates}
+use Rattle.tree_laws.specs.Replayed.{makers, making, makesFit, mapped, mappedTree, undated, undatedTree, isDatePlace, hideFrom, hideDates}
+use Rattle.tree_laws.proofs.Blind.{Telling, blind, length-map, present-map}
+use Rattle.tree_laws.proofs.Dates.{forgotten, kept}
 use Rattle.tree_laws.proofs.Steps.{cond-elim, effect-elim, step-elim, makers-replay}
 
 -- ---- hiding
 
-hide-append : (i : ℕ) (a b : List ℕ) → hideFrom i (a ++ b) ≡ hideFrom i a ++ hideFrom (i + length a) b
-unfolding hideFrom
-hide-append i [] b = let e : i + 0 ≡ i = omega arith in rw e
-hide-append i (x ∷ a) b =
-    let e : i + suc (length a) ≡ suc i + length a = omega arith in
-    rw e (ap (λ (y : List ℕ). cond (isDatePlace i) 0 x ∷ y) (hide-append (suc i) a b))
+module _ (p : ℕ → Bool) where
+  pub hide-append : (i : ℕ) (a b : List ℕ) → hideFrom p i (a ++ b) ≡ hideFrom p i a ++ hideFrom p (i + length a) b
+  unfolding hideFrom
+  hide-append i [] b = let e : i + 0 ≡ i = omega arith in rw e
+  hide-append i (x ∷ a) b =
+      let e : i + suc (length a) ≡ suc i + length a = omega arith in
+      rw e (ap (λ (y : List ℕ). cond (p i) 0 x ∷ y) (hide-append (suc i) a b))
 
--- bytes that are no dates stay
-hide-keeps : (i : ℕ) (a : List ℕ) → ((j : ℕ) → j < length a → isDatePlace (i + j) ≡ false) → hideFrom i a ≡ a
-unfolding hideFrom
-hide-keeps i [] h = refl
-hide-keeps i (x ∷ a) h =
-    let z : i + 0 ≡ i = omega arith in
-    let e : isDatePlace i ≡ false = rw z at (h 0 (omega arith)) in
-    rw e (ap (λ (y : List ℕ). x ∷ y) (hide-keeps (suc i) a (λ j k.
-    let s : i + suc j ≡ suc i + j = omega arith in
-    rw s at (h (suc j) (omega arith)))))
+  -- bytes elsewhere stay
+  pub hide-keeps : (i : ℕ) (a : List ℕ) → ((j : ℕ) → j < length a → p (i + j) ≡ false) → hideFrom p i a ≡ a
+  unfolding hideFrom
+  hide-keeps i [] h = refl
+  hide-keeps i (x ∷ a) h =
+      let z : i + 0 ≡ i = omega arith in
+      let e : p i ≡ false = rw z at (h 0 (omega arith)) in
+      rw e (ap (λ (y : List ℕ). x ∷ y) (hide-keeps (suc i) a (λ j k.
+      let s : i + suc j ≡ suc i + j = omega arith in
+      rw s at (h (suc j) (omega arith)))))
 
--- zeros stay
-hide-zeros : (i n : ℕ) → hideFrom i (replicate n 0) ≡ replicate n 0
-unfolding hideFrom
-hide-zeros i zero = refl
-hide-zeros i (suc n) = λ k. zero-both (isDatePlace i) k ∷ hide-zeros (suc i) n k
-  where
-    zero-both : (b : Bool) → _≡_ {A = ℕ} (cond b 0 0) 0
-    zero-both true = refl
-    zero-both false = refl
+  -- zeros stay
+  hide-zeros : (i n : ℕ) → hideFrom p i (replicate n 0) ≡ replicate n 0
+  unfolding hideFrom
+  hide-zeros i zero = refl
+  hide-zeros i (suc n) = λ k. zero-both (p i) k ∷ hide-zeros (suc i) n k
+    where
+      zero-both : (b : Bool) → _≡_ {A = ℕ} (cond b 0 0) 0
+      zero-both true = refl
+      zero-both false = refl
 
--- dates go
-hide-date : (i : ℕ) (a : List ℕ) → ((j : ℕ) → j < length a → isDatePlace (i + j) ≡ true) → hideFrom i a ≡ replicate (length a) 0
-unfolding hideFrom
-hide-date i [] h = refl
-hide-date i (x ∷ a) h =
-    let z : i + 0 ≡ i = omega arith in
-    let e : isDatePlace i ≡ true = rw z at (h 0 (omega arith)) in
-    rw e (ap (λ (y : List ℕ). 0 ∷ y) (hide-date (suc i) a (λ j k.
-    let s : i + suc j ≡ suc i + j = omega arith in
-    rw s at (h (suc j) (omega arith)))))
+  -- bytes hidden are zeros
+  pub hide-all : (i : ℕ) (a : List ℕ) → ((j : ℕ) → j < length a → p (i + j) ≡ true) → hideFrom p i a ≡ replicate (length a) 0
+  unfolding hideFrom
+  hide-all i [] h = refl
+  hide-all i (x ∷ a) h =
+      let z : i + 0 ≡ i = omega arith in
+      let e : p i ≡ true = rw z at (h 0 (omega arith)) in
+      rw e (ap (λ (y : List ℕ). 0 ∷ y) (hide-all (suc i) a (λ j k.
+      let s : i + suc j ≡ suc i + j = omega arith in
+      rw s at (h (suc j) (omega arith)))))
 
 -- ---- rows
+
+-- the date, label and mark have their lengths
+abbrev pub Filled : Entry → Type 0
+Filled e = (length (e .date) ≡ 4) × (length (e .label) ≡ 32) × (length (e .mark) ≡ 16)
+
+pub row-length : (d : ℕ) (e : Entry) → Filled e → length (entryRow d e) ≡ 72
+unfolding entryRow identityBytes
+row-length d e (p, q, m) = omega (arith, length-append (e .date) (e .label ++ e .mark), length-append (e .label) (e .mark))
+
+length-rows : (s : List Aside) (es : List Entry) → length es ≤ 512 → All Filled es → length (entryRows s es) ≡ 72 * length es
+unfolding entryRows
+length-rows s [] h a = refl
+length-rows s (e ∷ es) h a =
+    let d : ℕ = cond (isDisputed (e .made) s) 1 0 in
+    omega (arith, length-append (entryRow d e) (entryRows s es), row-length d e (a .0), length-rows s es (omega arith) (a .1))
+
+pub present-filled : (es : List Entry) → All Filled es → All Filled (presentOnes es)
+unfolding presentOnes
+present-filled [] a = tt
+present-filled (e ∷ es) a =
+    cond-elim (All Filled) (isPresent e) (e ∷ presentOnes es) (presentOnes es)
+    (λ _. (a .0, present-filled es (a .1)))
+    (λ _. present-filled es (a .1))
+
+-- from the row n on, a row hidden at the places p is the row of its entry as it is told by g
+abbrev pub Hides : (ℕ → Bool) → (Entry → Entry) → List Aside → ℕ → List Entry → Type 0
+Hides p g s n [] = Unit {0}
+Hides p g s n (e ∷ es) =
+    let d : ℕ = cond (isDisputed (e .made) s) 1 0 in
+    (hideFrom p (4 + 72 * n) (entryRow d e) ≡ entryRow d (g e)) × Hides p g s (suc n) es
+
+-- ---- the whole table
+
+-- no place before the rows of entries, none behind them
+pub record Within (p : ℕ → Bool) : Type 0 where
+  pub before : (i : ℕ) → i < 4 → p i ≡ false
+  pub behind : (i : ℕ) → 36868 ≤ i → p i ≡ false
+
+module _ (p : ℕ → Bool) (d m : Telling) (f : (e : Entry) → Filled e → Filled (blind d m e)) where
+  abbrev g : Entry → Entry
+  g = blind d m
+
+  rows-hidden : (s : List Aside) (es : List Entry) (n : ℕ) → All Filled es → Hides p g s n es → hideFrom p (4 + 72 * n) (entryRows s es) ≡ entryRows s (mapped g es)
+  unfolding entryRows mapped blind hideFrom
+  rows-hidden s [] n a h = refl
+  rows-hidden s (e ∷ es) n a h =
+      let d : ℕ = cond (isDisputed (e .made) s) 1 0 in
+      let w : 4 + 72 * n + length (entryRow d e) ≡ 4 + 72 * suc n = omega (arith, row-length d e (a .0)) in
+      hide-append p (4 + 72 * n) (entryRow d e) (entryRows s es)
+      ∙ (λ k. h .0 k ++ hideFrom p (w k) (entryRows s es))
+      ∙ ap (λ (x : List ℕ). entryRow d (g e) ++ x) (rows-hidden s es (suc n) (a .1) (h .1))
+
+  filled-map : (es : List Entry) → All Filled es → All Filled (mapped g es)
+  unfolding mapped
+  filled-map [] a = tt
+  filled-map (e ∷ es) a = (f e (a .0), filled-map es (a .1))
+
+  module _ (s : List Aside) (es : List Entry) (h : length es ≤ 512) (a : All Filled es) where
+    entries-hidden : Hides p g s 0 es → hideFrom p 4 (padded 36864 (entryRows s es)) ≡ padded 36864 (entryRows s (mapped g es))
+    unfolding padded
+    entries-hidden r =
+        let R : List ℕ = entryRows s es in
+        let e : length R ≡ length (entryRows s (mapped g es)) =
+        omega (arith, length-rows s es h a, length-map d m es, length-rows s (mapped g es) (omega (arith, length-map d m es)) (filled-map es a)) in
+        hide-append p 4 R (replicate (36864 - length R) 0)
+        ∙ (λ k. rows-hidden s es 0 a r k ++ hide-zeros p (4 + length R) (36864 - length R) k)
+        ∙ ap (λ (n : ℕ). entryRows s (mapped g es) ++ replicate (36864 - n) 0) e
+
+    length-entries : length (padded 36864 (entryRows s es)) ≡ 36864
+    length-entries = length-padded 36864 (entryRows s es) (omega (arith, length-rows s es h a))
+
+  -- hidden at places of the rows of entries alone, a table is that of the tree so told
+  pub hidden-table : Within p → (t : Tree) → All Filled (t .entries) → length (presentOnes (t .entries)) ≤ 512 → Hides p g (t .asides) 0 (presentOnes (t .entries))
+      → hideFrom p 0 (tableBytes t) ≡ tableBytes (mappedTree g t)
+  unfolding tableBytes mappedTree hideFrom
+  hidden-table v t a h r =
+      let s : List Aside = t .asides in
+      let ps : List Entry = presentOnes (t .entries) in
+      let b : All Filled ps = present-filled (t .entries) a in
+      let P : List ℕ = padded 36864 (entryRows s ps) in
+      let A : List ℕ = padded 6144 (asideRows s) in
+      let u : mapped g ps ≡ presentOnes (mapped g (t .entries)) = sym (present-map d m (t .entries)) in
+      let n : length ps ≡ length (presentOnes (mapped g (t .entries))) = sym (length-map d m ps) ∙ ap (λ (x : List Entry). length x) u in
+      let w : 4 + length P ≡ 36868 = omega (arith, length-entries s ps h b) in
+      let q : hideFrom p 4 (P ++ A) ≡ padded 36864 (entryRows s (presentOnes (mapped g (t .entries)))) ++ A =
+      hide-append p 4 P A
+      ∙ (λ k. entries-hidden s ps h b r k ++ hideFrom p (w k) A)
+      ∙ (λ k. padded 36864 (entryRows s (u k)) ++ hide-keeps p 36868 A (λ j _. v .behind (36868 + j) (omega arith)) k) in
+      hide-append p 0 (two (length ps) ++ two (length s)) (P ++ A)
+      ∙ (λ k. hide-keeps p 0 (two (length ps) ++ two (length s)) (λ j (z : j < 4). v .before (0 + j) (omega arith)) k ++ q k)
+      ∙ (λ k. two (n k) ++ (two (length s) ++ (padded 36864 (entryRows s (presentOnes (mapped g (t .entries)))) ++ A)))
+
+-- ---- dates
 
 in-row : (n c : ℕ) → n < 512 → c < 72 → isDatePlace (4 + 72 * n + c) ≡ (leb 20 c && leb c 23)
 unfolding isDatePlace
 in-row n c h k =
     let e : (4 + 72 * n + c - 4) % 72 ≡ c = omega arith in
     rw (le-leb 4 (4 + 72 * n + c) (omega arith), lt-ltb (4 + 72 * n + c) 36868 (omega arith), e)
-
--- the date, label and mark have their lengths
-abbrev pub Filled : Entry → Type 0
-Filled e = (length (e .date) ≡ 4) × (length (e .label) ≡ 32) × (length (e .mark) ≡ 16)
 
 module _ (n : ℕ) (h : n < 512) where
   before-date : (j : ℕ) → j < 20 → isDatePlace (4 + 72 * n + j) ≡ false
@@ -87,104 +179,36 @@ module _ (n : ℕ) (h : n < 512) where
       let e : 4 + 72 * n + 20 + 4 + j ≡ 4 + 72 * n + (24 + j) = omega arith in
       ap isDatePlace e ∙ in-row n (24 + j) h (omega arith) ∙ rw (le-leb 20 (24 + j) (omega arith), lt-leb (24 + j) 23 (omega arith))
 
-  row-length : (d : ℕ) (e : Entry) → Filled e → length (entryRow d e) ≡ 72
-  unfolding entryRow identityBytes
-  row-length d e (p, q, m) = omega (arith, length-append (e .date) (e .label ++ e .mark), length-append (e .label) (e .mark))
-
-  row-hidden : (d : ℕ) (e : Entry) → Filled e → hideFrom (4 + 72 * n) (entryRow d e) ≡ entryRow d (undated e)
+  row-undated : (d : ℕ) (e : Entry) → Filled e → hideFrom isDatePlace (4 + 72 * n) (entryRow d e) ≡ entryRow d (undated e)
   unfolding entryRow identityBytes undated
-  row-hidden d e (p, q, m) =
+  row-undated d e (p, q, m) =
       let i : ℕ = 4 + 72 * n in
       let f : List ℕ = (e .kind ∷ d ∷ 0 ∷ 0 ∷ []) ++ (identityBytes (e .made) ++ (identityBytes (e .inside) ++ (identityBytes (e .contents) ++ identityBytes (e .placing)))) in
       let t : List ℕ = e .label ++ e .mark in
       let w : length t ≡ 48 = omega (arith, length-append (e .label) (e .mark)) in
-      let a : hideFrom (i + 20) (e .date) ≡ replicate 4 0 = hide-date (i + 20) (e .date) (λ j k. at-date j (omega arith)) ∙ rw p in
-      let b : hideFrom (i + 20 + length (e .date)) t ≡ t = rw p (hide-keeps (i + 20 + 4) t (λ j k. behind-date j (omega arith))) in
-      hide-append i f (e .date ++ t)
-      ∙ (λ k. hide-keeps i f before-date k ++ hide-append (i + 20) (e .date) t k)
+      let a : hideFrom isDatePlace (i + 20) (e .date) ≡ replicate 4 0 = hide-all isDatePlace (i + 20) (e .date) (λ j k. at-date j (omega arith)) ∙ rw p in
+      let b : hideFrom isDatePlace (i + 20 + length (e .date)) t ≡ t = rw p (hide-keeps isDatePlace (i + 20 + 4) t (λ j k. behind-date j (omega arith))) in
+      hide-append isDatePlace i f (e .date ++ t)
+      ∙ (λ k. hide-keeps isDatePlace i f before-date k ++ hide-append isDatePlace (i + 20) (e .date) t k)
       ∙ (λ k. f ++ (a k ++ b k))
 
-rows-hidden : (s : List Aside) (es : List Entry) (n : ℕ) → n + length es ≤ 512 → All Filled es → hideFrom (4 + 72 * n) (entryRows s es) ≡ entryRows s (undatedAll es)
-unfolding entryRows undatedAll undated hideFrom
-rows-hidden s [] n h a = refl
-rows-hidden s (e ∷ es) n h a =
-    let d : ℕ = cond (isDisputed (e .made) s) 1 0 in
-    let w : 4 + 72 * n + length (entryRow d e) ≡ 4 + 72 * suc n = omega (arith, row-length n (omega arith) d e (a .0)) in
-    hide-append (4 + 72 * n) (entryRow d e) (entryRows s es)
-    ∙ (λ k. row-hidden n (omega arith) d e (a .0) k ++ hideFrom (w k) (entryRows s es))
-    ∙ ap (λ (x : List ℕ). entryRow d (undated e) ++ x) (rows-hidden s es (suc n) (omega arith) (a .1))
+rows-undated : (s : List Aside) (es : List Entry) (n : ℕ) → n + length es ≤ 512 → All Filled es → Hides isDatePlace undated s n es
+rows-undated s [] n h a = tt
+rows-undated s (e ∷ es) n h a = (row-undated n (omega arith) (cond (isDisputed (e .made) s) 1 0) e (a .0), rows-undated s es (suc n) (omega arith) (a .1))
 
-length-rows : (s : List Aside) (es : List Entry) → length es ≤ 512 → All Filled es → length (entryRows s es) ≡ 72 * length es
-unfolding entryRows
-length-rows s [] h a = refl
-length-rows s (e ∷ es) h a =
-    let d : ℕ = cond (isDisputed (e .made) s) 1 0 in
-    omega (arith, length-append (entryRow d e) (entryRows s es), row-length 0 (omega arith) d e (a .0), length-rows s es (omega arith) (a .1))
-
--- ---- the whole table
-
-length-undated : (es : List Entry) → length (undatedAll es) ≡ length es
-unfolding undatedAll
-length-undated [] = refl
-length-undated (e ∷ es) = ap suc (length-undated es)
-
-filled-undated : (es : List Entry) → All Filled es → All Filled (undatedAll es)
-unfolding undatedAll undated
-filled-undated [] a = tt
-filled-undated (e ∷ es) a = ((refl, a .0 .1, a .0 .2), filled-undated es (a .1))
-
-present-undated : (es : List Entry) → presentOnes (undatedAll es) ≡ undatedAll (presentOnes es)
-unfolding presentOnes undatedAll undated isPresent
-present-undated [] = refl
-present-undated (e ∷ es) = go (not (eqb (e .kind) 0)) (present-undated es)
-  where
-    go : (b : Bool) → presentOnes (undatedAll es) ≡ undatedAll (presentOnes es)
-        → cond b (undated e ∷ presentOnes (undatedAll es)) (presentOnes (undatedAll es)) ≡ undatedAll (cond b (e ∷ presentOnes es) (presentOnes es))
-    go true q = ap (λ (x : List Entry). undated e ∷ x) q
-    go false q = q
-
-present-filled : (es : List Entry) → All Filled es → All Filled (presentOnes es)
-unfolding presentOnes
-present-filled [] a = tt
-present-filled (e ∷ es) a =
-    cond-elim (All Filled) (isPresent e) (e ∷ presentOnes es) (presentOnes es)
-    (λ _. (a .0, present-filled es (a .1)))
-    (λ _. present-filled es (a .1))
-
-module _ (s : List Aside) (es : List Entry) (h : length es ≤ 512) (a : All Filled es) where
-  entries-hidden : hideFrom 4 (padded 36864 (entryRows s es)) ≡ padded 36864 (entryRows s (undatedAll es))
-  unfolding padded
-  entries-hidden =
-      let R : List ℕ = entryRows s es in
-      let e : length R ≡ length (entryRows s (undatedAll es)) =
-      omega (arith, length-rows s es h a, length-undated es, length-rows s (undatedAll es) (omega (arith, length-undated es)) (filled-undated es a)) in
-      hide-append 4 R (replicate (36864 - length R) 0)
-      ∙ (λ k. rows-hidden s es 0 (omega arith) a k ++ hide-zeros (4 + length R) (36864 - length R) k)
-      ∙ ap (λ (n : ℕ). entryRows s (undatedAll es) ++ replicate (36864 - n) 0) e
-
-  length-entries : length (padded 36864 (entryRows s es)) ≡ 36864
-  length-entries = length-padded 36864 (entryRows s es) (omega (arith, length-rows s es h a))
-
-behind-rows : (b : List ℕ) → hideFrom 36868 b ≡ b
+date-places : Within isDatePlace
 unfolding isDatePlace
-behind-rows b = hide-keeps 36868 b (λ j k. rw (le-leb 4 (36868 + j) (omega arith), le-ltb (36868 + j) 36868 (omega arith)))
+date-places =
+    record {
+      before = λ i h. rw (lt-leb 4 i h);
+      behind = λ i h. rw (le-leb 4 i (omega arith), le-ltb i 36868 h);
+    }
 
 pub table-hidden : (t : Tree) → All Filled (t .entries) → length (presentOnes (t .entries)) ≤ 512 → hideDates (tableBytes t) ≡ tableBytes (undatedTree t)
-unfolding hideDates tableBytes undatedTree hideFrom isDatePlace
+unfolding hideDates undatedTree undated blind forgotten kept
 table-hidden t a h =
-    let s : List Aside = t .asides in
-    let ps : List Entry = presentOnes (t .entries) in
-    let b : All Filled ps = present-filled (t .entries) a in
-    let P : List ℕ = padded 36864 (entryRows s ps) in
-    let A : List ℕ = padded 6144 (asideRows s) in
-    let u : undatedAll ps ≡ presentOnes (undatedAll (t .entries)) = sym (present-undated (t .entries)) in
-    let m : length ps ≡ length (presentOnes (undatedAll (t .entries))) = sym (length-undated ps) ∙ ap (λ (x : List Entry). length x) u in
-    let w : 4 + length P ≡ 36868 = omega (arith, length-entries s ps h b) in
-    let q : hideFrom 4 (P ++ A) ≡ padded 36864 (entryRows s (presentOnes (undatedAll (t .entries)))) ++ A =
-    hide-append 4 P A
-    ∙ (λ k. entries-hidden s ps h b k ++ hideFrom (w k) A)
-    ∙ (λ k. padded 36864 (entryRows s (u k)) ++ behind-rows A k) in
-    λ k. two (m k) ++ (two (length s) ++ q k)
+    hidden-table isDatePlace forgotten kept (λ e f. (refl, f .1, f .2)) date-places t a h
+    (rows-undated (t .asides) (presentOnes (t .entries)) 0 (omega arith) (present-filled (t .entries) a))
 
 -- ---- the entries of a log
 

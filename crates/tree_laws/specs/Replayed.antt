@@ -2,7 +2,7 @@
 -- Assumes nothing.
 use Prim.Native.Nat.{ℕ, suc, _-_, _%_}
 use mathlib.Core.Path.{_≡_}
-use mathlib.Core.Bool.{Bool, true, false, cond, not, _&&_, _||_}
+use mathlib.Core.Bool.{Bool, true, false, cond, _&&_, _||_}
 use mathlib.Core.Logic.{_⊎_}
 use mathlib.Core.List.{List, [], _∷_, _++_}
 use lib.Dec.{ltb, leb, eqb}
@@ -20,6 +20,13 @@ Has x (y ∷ l) = (x ≡ y) ⊎ Has x l
 abbrev pub Distinct : {A : Type 0} → List A → Type 0
 Distinct [] = Unit {0}
 Distinct (x ∷ l) = (Has x l → ⊥) × Distinct l
+
+-- as many in both, and one by one related
+abbrev pub Pairs : {A : Type 0} → (A → A → Type 0) → List A → List A → Type 0
+Pairs R [] [] = Unit {0}
+Pairs R [] (y ∷ m) = ⊥
+Pairs R (x ∷ l) [] = ⊥
+Pairs R (x ∷ l) (y ∷ m) = R x y × Pairs R l m
 
 -- the records' identities
 unfoldable pub selves : List Rec → List ℕ
@@ -86,6 +93,20 @@ unfoldable pub settledIn : ℕ → Tree → List Rec → Bool
 settledIn k t [] = false
 settledIn k t (r ∷ l) = settles k t r || settledIn k (step t r) l
 
+-- ---- what a record gives an entry, and an entry told otherwise
+
+-- the entry whose contents a make or a store gives: a make's own, a store's object
+unfoldable pub traceOf : Rec → ℕ
+traceOf r = cond (leb (op r) 2) (selfOf r) (objectOf r)
+
+unfoldable pub mapped : (Entry → Entry) → List Entry → List Entry
+mapped g [] = []
+mapped g (e ∷ l) = g e ∷ mapped g l
+
+-- a tree with each of its entries told otherwise, and the asides as they are
+unfoldable pub mappedTree : (Entry → Entry) → Tree → Tree
+mappedTree g t = record { entries = mapped g (t .entries); asides = t .asides }
+
 -- ---- dates
 
 -- the same bytes but for the date, 28 to 31
@@ -94,10 +115,7 @@ SameButDate r s = (take 28 r ≡ take 28 s) × (drop 32 r ≡ drop 32 s)
 
 -- one by one the same but for the date
 abbrev pub SameButDates : List Rec → List Rec → Type 0
-SameButDates [] [] = Unit {0}
-SameButDates [] (s ∷ m) = ⊥
-SameButDates (r ∷ l) [] = ⊥
-SameButDates (r ∷ l) (s ∷ m) = SameButDate r s × SameButDates l m
+SameButDates l m = Pairs SameButDate l m
 
 -- an entry with its date forgotten
 unfoldable pub undated : Entry → Entry
@@ -113,23 +131,19 @@ undated e =
       placing = e .placing;
     }
 
-unfoldable pub undatedAll : List Entry → List Entry
-undatedAll [] = []
-undatedAll (e ∷ l) = undated e ∷ undatedAll l
-
 -- a tree with its dates forgotten
 unfoldable pub undatedTree : Tree → Tree
-undatedTree t = record { entries = undatedAll (t .entries); asides = t .asides }
+undatedTree t = mappedTree undated t
 
 -- the places of the tree table that hold dates: bytes 20 to 23 of each of the 512 rows of 72 from 4 on
 unfoldable pub isDatePlace : ℕ → Bool
 isDatePlace i = leb 4 i && (ltb i 36868 && (leb 20 ((i - 4) % 72) && leb ((i - 4) % 72) 23))
 
--- the bytes from the place i of a table on, with zeros for the dates
-unfoldable pub hideFrom : ℕ → List ℕ → List ℕ
-hideFrom i [] = []
-hideFrom i (x ∷ b) = cond (isDatePlace i) 0 x ∷ hideFrom (suc i) b
+-- the bytes from the place i of a table on, with zeros where p holds
+unfoldable pub hideFrom : (ℕ → Bool) → ℕ → List ℕ → List ℕ
+hideFrom p i [] = []
+hideFrom p i (x ∷ b) = cond (p i) 0 x ∷ hideFrom p (suc i) b
 
 -- a tree table with zeros for the dates
 unfoldable pub hideDates : List ℕ → List ℕ
-hideDates b = hideFrom 0 b
+hideDates b = hideFrom isDatePlace 0 b

@@ -1,0 +1,9 @@
+pub mod Pairs
+pub mod Trees
+pub mod Entries
+pub mod Logs
+pub mod Shown
+pub mod Sound
+pub mod Places
+pub mod Claims
+pub mod Example

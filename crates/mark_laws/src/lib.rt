@@ -1,0 +1,1 @@
+// A wrong content mark stays small: laws; no code.
