@@ -62,6 +62,7 @@ pub fn all() -> Vec<Case> {
         ),
     ];
     cases.extend(fields());
+    cases.extend(marking());
     cases.extend(settling());
     cases.extend(trees());
     cases.extend(moving());
@@ -146,6 +147,57 @@ fn fields() -> Vec<Case> {
             file_of(&marked, 7, 0),
         ),
     ]
+}
+
+/// The same log but for the mark of 0.2.
+fn marking() -> Vec<Case> {
+    let shown = |mark| {
+        let records = [
+            record(0, &[], 1, ROOT, "Bench", 0, 3),
+            record(0, &[1], 2, (0, 1), "Gain", mark, 4),
+            record(1, &[1], 2, (0, 1), "Gain", 0x22, 5),
+            record(0, &[2], 5, (0, 2), "Gain 2", 0, 6),
+        ];
+        file_of(&records, 7, 0)
+    };
+    let stored = |mark| {
+        let records = [
+            record(0, &[], 1, ROOT, "Bench", 0, 3),
+            record(0, &[1], 2, (0, 1), "Gain", mark, 4),
+            record(0, &[2], 3, (0, 2), "", 0x22, 5),
+            record(1, &[2], 3, (0, 2), "", 0x44, 5),
+        ];
+        file_of(&records, 7, 0)
+    };
+    let cases = vec![
+        good(
+            "mark-a",
+            "a mark that is shown; another make of the label stands aside (15), a rename acts",
+            shown(0x11),
+        ),
+        good(
+            "mark-b",
+            "good-mark-a but for the mark of 0.2: that mark alone is shown otherwise",
+            shown(0x33),
+        ),
+        good(
+            "mark-stored-a",
+            "a mark that is not shown: a later store has fitted; another stands aside (17)",
+            stored(0x11),
+        ),
+        good(
+            "mark-stored-b",
+            "good-mark-stored-a but for the mark of 0.2: the same listing",
+            stored(0x33),
+        ),
+    ];
+    let differing = |one: &Case, other: &Case| {
+        let lines = one.listing.lines().zip(other.listing.lines());
+        lines.filter(|(one, other)| one != other).count()
+    };
+    assert_eq!(differing(&cases[0], &cases[1]), 1);
+    assert_eq!(cases[2].listing, cases[3].listing);
+    cases
 }
 
 /// Asides settled in every way.
