@@ -19,6 +19,7 @@ pub mod files;
 pub mod help;
 pub mod html;
 pub mod json;
+pub mod marks;
 pub mod meeting;
 pub mod numbers;
 pub mod out;

@@ -381,6 +381,8 @@ pub fn field_card() -> String {
         );
     }
     card += "\n";
+    card += include_str!("card/mark.md");
+    card += "\n";
     card += include_str!("card/merge.md");
     card += "\n";
     card + include_str!("card/example.md")

@@ -329,7 +329,7 @@ impl<'a> Story<'a> {
 
     /// Why an entry is not in the tree for a record, or now; the aside that is to
     /// blame.
-    fn absent(&self, entry: Identity, record: Option<Record>) -> (String, Option<Identity>) {
+    pub fn absent(&self, entry: Identity, record: Option<Record>) -> (String, Option<Identity>) {
         let removes =
             |one: Record| one.operation() == Operation::Remove && one.object() == Some(entry);
         if let Some(remove) = self.last_before(record, removes) {
@@ -349,7 +349,7 @@ impl<'a> Story<'a> {
     }
 
     /// A record with who and when, in brackets.
-    fn brief(&self, record: Record) -> String {
+    pub fn brief(&self, record: Record) -> String {
         format!(
             "{} (unit {}, {})",
             record.identity(),

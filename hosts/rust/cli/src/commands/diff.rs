@@ -5,8 +5,11 @@ use crate::archive::Archive;
 use crate::args::flag;
 use crate::failure::{Outcome, of_library};
 use crate::json::Object;
-use crate::numbers::Case;
+use crate::marks;
+use crate::numbers::{Case, advice};
 use crate::out::{Ink, Status};
+use crate::records::Story;
+use sab::Record;
 
 /// `sab diff`.
 pub const COMMAND: Command = Command {
@@ -19,6 +22,11 @@ the first has, + for one that only the second has. Entries come first, then asid
 Both are read by the rules of now. Where they differ, a file that an analyser before
 version 4 shows otherwise, since it tells capitals from small letters, is named in a
 last line.
+
+Where the two hold the same records but for content marks, this is said, also if
+both listings are the same: for each such record its two marks, whether the trace
+shown differs by it or why not, and that nothing else differs. The status goes by
+the listings.
 
     $ sab diff card0.sab card1.sab
     --- card0.sab: archive 12 unit 0 records 2
@@ -59,6 +67,7 @@ fn run(session: &mut Session) -> Outcome<Status> {
         let text = session.out.ink(ink, format_args!("{sign}{line}"));
         session.out.line(text);
     }
+    tell_marks(session, &first, &second)?;
     if !lines.is_empty() {
         first.tell_otherwise(&mut session.out)?;
         second.tell_otherwise(&mut session.out)?;
@@ -66,6 +75,47 @@ fn run(session: &mut Session) -> Outcome<Status> {
     Ok(Status::no_if(
         session.args.has("exit-code") && !lines.is_empty(),
     ))
+}
+
+/// Says if two files differ in content marks alone: of which records, and what is
+/// shown of them.
+fn tell_marks(session: &mut Session, first: &Archive, second: &Archive) -> Outcome<()> {
+    let pairs = marks::alone(&first.log, &second.log);
+    if pairs.is_empty() {
+        return Ok(());
+    }
+    let tree = first.tree()?;
+    let story = Story::new(&first.log, &tree);
+    for &(one, other) in &pairs {
+        session.out.object(|| marks::object(&story, (one, other)));
+        session.out.line(format_args!(
+            "record {} has two marks: {}",
+            one.identity(),
+            story.sentence(one)
+        ));
+        let mark = |record: Record| record.mark().map_or(String::new(), |mark| mark.to_string());
+        session.out.line(format_args!(
+            "  {} in {}, {} in {}",
+            mark(one),
+            first.shown(),
+            mark(other),
+            second.shown()
+        ));
+        session
+            .out
+            .line(format_args!("  {}", marks::words(&story, one)));
+    }
+    session.out.object(|| {
+        let records = pairs.iter().map(|(one, _)| one.identity());
+        Object::new("marks_alone").texts("records", records)
+    });
+    session.out.line(
+        "nothing else differs: entries, labels, places, dates, disputes and asides are the same",
+    );
+    if let Some(advice) = advice(10, Case::Taking) {
+        session.out.line(format_args!("  {advice}"));
+    }
+    Ok(())
 }
 
 fn listing(archive: &Archive) -> Outcome<String> {

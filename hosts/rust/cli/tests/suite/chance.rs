@@ -22,7 +22,7 @@ impl Chance {
 }
 
 /// Puts the sums of every whole block right, so that deeper checks are met.
-fn seal(file: &mut [u8]) {
+pub fn seal(file: &mut [u8]) {
     for block in file.chunks_exact_mut(512) {
         let (mut first, mut second) = (0u32, 0u32);
         for word in block[..508].chunks(2) {

@@ -8,6 +8,7 @@ mod disk;
 mod here;
 mod killed;
 mod made;
+mod marks;
 mod meetings;
 mod pages;
 mod parts;
