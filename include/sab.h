@@ -229,8 +229,8 @@ extern "C" {
 
 #define SAB_VERSION_MAJOR 5
 #define SAB_VERSION_MINOR 0
-#define SAB_VERSION_PATCH 0
-#define SAB_VERSION "5.0.0"
+#define SAB_VERSION_PATCH 1
+#define SAB_VERSION "5.0.1"
 
 /* ---- Lengths in bytes ---- */
 
