@@ -105,12 +105,12 @@ standings-replay t (r ∷ l) =
 
 -- ---- the entries
 
-makers-append : (l m : List Entry) → makers (l ++ m) ≡ makers l ++ makers m
+pub makers-append : (l m : List Entry) → makers (l ++ m) ≡ makers l ++ makers m
 unfolding makers
 makers-append [] m = refl
 makers-append (e ∷ l) m = ap (λ (x : List ℕ). e .made ∷ x) (makers-append l m)
 
-makers-changed : (f : Entry → Entry) → ((e : Entry) → f e .made ≡ e .made) → (k : ℕ) (l : List Entry) → makers (changed f k l) ≡ makers l
+pub makers-changed : (f : Entry → Entry) → ((e : Entry) → f e .made ≡ e .made) → (k : ℕ) (l : List Entry) → makers (changed f k l) ≡ makers l
 unfolding makers changed
 makers-changed f h k [] = refl
 makers-changed f h k (e ∷ l) =
