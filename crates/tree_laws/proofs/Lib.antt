@@ -11,5 +11,6 @@ pub mod Arrival
 pub mod Before
 pub mod Roots
 pub mod Places
+pub mod Trimming
 pub mod Written
 pub mod Claims

@@ -251,7 +251,7 @@ few-steps es no-root s k u = least-few es root s k (up-way es s k u, test-false 
     later : (s k : ℕ) → Up s k es → comesTo s root k es ≡ true → ⊥
     later s k u c = let (a, w, b) = comes-way es s root k c in omega (arith, ends a s k w u)
 
-present-few : (es : List Entry) → length (presentOnes es) ≤ length es
+pub present-few : (es : List Entry) → length (presentOnes es) ≤ length es
 unfolding presentOnes
 present-few [] = omega arith
 present-few (e ∷ es) =
