@@ -11,6 +11,7 @@ pub mod Arrival
 pub mod Before
 pub mod Roots
 pub mod Places
+pub mod Marks
 pub mod Trimming
 pub mod Written
 pub mod Claims

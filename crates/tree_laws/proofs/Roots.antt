@@ -62,7 +62,7 @@ no-more (x ∷ xs) ys d h =
 
 -- ---- entries by identity
 
-length-makers : (es : List Entry) → length (makers es) ≡ length es
+pub length-makers : (es : List Entry) → length (makers es) ≡ length es
 unfolding makers
 length-makers [] = refl
 length-makers (e ∷ es) = ap suc (length-makers es)

@@ -18,7 +18,8 @@ use Rattle.model.specs.Table.{identityBytes, entryRow, entryRows, asideRows, ta
 use Rattle.log_laws.specs.Members.{Has as Member}
 use Rattle.log_laws.proofs.Members.{All, all-append}
 use Rattle.tree_laws.specs.Replayed.{makers, making, makesFit, undated, undatedAll, undatedTree, isDatePlace, hideFrom, hideDates}
-use Rattle.tree_laws.proofs.Steps.{cond-elim, effect-elim, step-elim, makers-replay}
+use Rattle.tree_laws.proofs.Steps.{cond-elim, effect-elim, step-elim, all-changed, makers-replay}
+use Rattle.tree_laws.proofs.Roots.{length-makers, present-few}
 
 -- ---- hiding
 
@@ -188,14 +189,6 @@ table-hidden t a h =
 
 -- ---- the entries of a log
 
-filled-changed : (g : Entry → Entry) → ((e : Entry) → Filled e → Filled (g e)) → (k : ℕ) (es : List Entry) → All Filled es → All Filled (changed g k es)
-unfolding changed
-filled-changed g h k [] a = tt
-filled-changed g h k (e ∷ es) a =
-    cond-elim (All Filled) (eqb (e .made) k && isPresent e) (g e ∷ es) (e ∷ changed g k es)
-    (λ _. (h e (a .0), a .1))
-    (λ _. (a .0, filled-changed g h k es (a .1)))
-
 filled-step : (t : Tree) (r : Rec) → length r ≡ 80 → All Filled (t .entries) → All Filled (step t r .entries)
 unfolding newEntry stored renamed moved removed dateBytes labelOf markOf
 filled-step t r n a =
@@ -206,11 +199,11 @@ filled-step t r n a =
     step-elim P t r
     (λ _. effect-elim P r t
     (λ _. all-append Filled (t .entries) (newEntry r ∷ []) a ((d, l, m), tt))
-    (λ _. filled-changed (stored r) (λ e f. (d, f .1, m)) (objectOf r) (t .entries) a)
-    (λ _. filled-changed removed (λ e f. f) (objectOf r) (t .entries) a)
-    (λ _. filled-changed (renamed r) (λ e f. (f .0, l, f .2)) (objectOf r) (t .entries) a)
+    (λ _. all-changed Filled (stored r) (objectOf r) (t .entries) (λ e _ f. (d, f .1, m)) a)
+    (λ _. all-changed Filled removed (objectOf r) (t .entries) (λ e _ f. f) a)
+    (λ _. all-changed Filled (renamed r) (objectOf r) (t .entries) (λ e _ f. (f .0, l, f .2)) a)
     (λ _. a)
-    (λ _. filled-changed (moved r) (λ e f. (f .0, l, f .2)) (objectOf r) (t .entries) a))
+    (λ _. all-changed Filled (moved r) (objectOf r) (t .entries) (λ e _ f. (f .0, l, f .2)) a))
     (λ x k _. a)
 
 pub filled-replay : (t : Tree) (l : List Rec) → ((r : Rec) → Member r l → length r ≡ 80) → All Filled (t .entries) → All Filled (replayFrom t l .entries)
@@ -219,19 +212,6 @@ filled-replay t [] h a = a
 filled-replay t (r ∷ l) h a = filled-replay (step t r) l (λ s i. h s (inr i)) (filled-step t r (h r (inl refl)) a)
 
 -- ---- at most one entry for a record
-
-present-few : (es : List Entry) → length (presentOnes es) ≤ length es
-unfolding presentOnes
-present-few [] = omega arith
-present-few (e ∷ es) =
-    cond-elim (λ (x : List Entry). length x ≤ suc (length es)) (isPresent e) (e ∷ presentOnes es) (presentOnes es)
-    (λ _. omega (arith, present-few es))
-    (λ _. omega (arith, present-few es))
-
-length-makers : (es : List Entry) → length (makers es) ≡ length es
-unfolding makers
-length-makers [] = refl
-length-makers (e ∷ es) = ap suc (length-makers es)
 
 making-few : (v : Verdict) (r : Rec) → length (making v r) ≤ 1
 unfolding making
