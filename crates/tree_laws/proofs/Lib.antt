@@ -13,5 +13,6 @@ pub mod Roots
 pub mod Places
 pub mod Marks
 pub mod Trimming
+pub mod Trees
 pub mod Written
 pub mod Claims

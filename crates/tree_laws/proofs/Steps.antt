@@ -12,7 +12,7 @@ use borrow.Author.Tests.{leb-true, leb-false, eqb-true, eqb-false, le-leb, lt-le
 use Rattle.byte_slice.proofs.Numbers.{bool-cases}
 use Rattle.log_laws.proofs.Members.{All}
 use Rattle.model.specs.Record.{Rec, op, selfOf, objectOf}
-use Rattle.model.specs.Replay.{Entry, Aside, Tree, Verdict, fits, aside, isPresent, entryOf, newEntry, stored, renamed, moved, removed, changed, settled, effect, apply, judge, step, replayFrom}
+use Rattle.model.specs.Replay.{Entry, Aside, Tree, Verdict, fits, aside, isPresent, entryOf, newEntry, stored, renamed, moved, removed, changed, settled, effect, apply, judge, step, replayFrom, presentOnes}
 use Rattle.tree_laws.specs.Replayed.{makers, Standing, standings, standing, standAside, making, makesFit}
 
 -- ---- one record
@@ -131,6 +131,12 @@ all-changed P g k (e ∷ es) h a =
     (λ (c : (eqb (e .made) k && isPresent e) ≡ true). rw c (h e (rw c) (a .0), a .1))
     (λ (c : (eqb (e .made) k && isPresent e) ≡ false). rw c (a .0, all-changed P g k es (λ x q. h x (rw c q)) (a .1)))
     (bool-cases (eqb (e .made) k && isPresent e))
+
+pub all-present : (P : Entry → Type 0) (es : List Entry) → All P es → All P (presentOnes es)
+unfolding presentOnes
+all-present P [] a = tt
+all-present P (e ∷ es) a =
+    cond-elim (All P) (isPresent e) (e ∷ presentOnes es) (presentOnes es) (λ _. (a .0, all-present P es (a .1))) (λ _. all-present P es (a .1))
 
 -- entries are only added, one for a make that fits
 pub makers-step : (t : Tree) (r : Rec) → makers (step t r .entries) ≡ makers (t .entries) ++ making (judge r t) r

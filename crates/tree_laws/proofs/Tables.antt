@@ -18,7 +18,7 @@ use Rattle.model.specs.Table.{identityBytes, entryRow, entryRows, asideRows, ta
 use Rattle.log_laws.specs.Members.{Has as Member}
 use Rattle.log_laws.proofs.Members.{All, all-append}
 use Rattle.tree_laws.specs.Replayed.{makers, making, makesFit, undated, undatedAll, undatedTree, isDatePlace, hideFrom, hideDates}
-use Rattle.tree_laws.proofs.Steps.{cond-elim, effect-elim, step-elim, all-changed, makers-replay}
+use Rattle.tree_laws.proofs.Steps.{cond-elim, effect-elim, step-elim, all-changed, all-present, makers-replay}
 use Rattle.tree_laws.proofs.Roots.{length-makers, present-few}
 
 -- ---- hiding
@@ -144,14 +144,6 @@ present-undated (e ∷ es) = go (not (eqb (e .kind) 0)) (present-undated es)
     go true q = ap (λ (x : List Entry). undated e ∷ x) q
     go false q = q
 
-present-filled : (es : List Entry) → All Filled es → All Filled (presentOnes es)
-unfolding presentOnes
-present-filled [] a = tt
-present-filled (e ∷ es) a =
-    cond-elim (All Filled) (isPresent e) (e ∷ presentOnes es) (presentOnes es)
-    (λ _. (a .0, present-filled es (a .1)))
-    (λ _. present-filled es (a .1))
-
 module _ (s : List Aside) (es : List Entry) (h : length es ≤ 512) (a : All Filled es) where
   entries-hidden : hideFrom 4 (padded 36864 (entryRows s es)) ≡ padded 36864 (entryRows s (undatedAll es))
   unfolding padded
@@ -175,7 +167,7 @@ unfolding hideDates tableBytes undatedTree hideFrom isDatePlace
 table-hidden t a h =
     let s : List Aside = t .asides in
     let ps : List Entry = presentOnes (t .entries) in
-    let b : All Filled ps = present-filled (t .entries) a in
+    let b : All Filled ps = all-present Filled (t .entries) a in
     let P : List ℕ = padded 36864 (entryRows s ps) in
     let A : List ℕ = padded 6144 (asideRows s) in
     let u : undatedAll ps ≡ presentOnes (undatedAll (t .entries)) = sym (present-undated (t .entries)) in
