@@ -1,0 +1,120 @@
+-- What a take leaves: all records held stay sound, and the folded ones stay first.
+-- Assumes nothing.
+use Prim.Native.Nat.{ℕ, _≤_, _<_}
+use native.Mathlib.Omega.{arith}
+use mathlib.Core.Path.{_≡_, refl, sym, _∙_}
+use mathlib.Core.Logic.{_⊎_, inl, inr, ⊎-elim}
+use mathlib.Core.Bool.{true, false, cond, _&&_}
+use mathlib.Core.Option.{Option, none, some}
+use mathlib.Core.List.{List, [], _∷_, _++_}
+use lib.Dec.{ltb, leb}
+use lib.ListN.{getD, length}
+use borrow.Author.Tests.{ltb-true}
+use Rattle.model.specs.Numbers.{malformed, notNext, notClosed, otherBytes, fullLog}
+use Rattle.model.specs.Bytes.{sameBytes}
+use Rattle.model.specs.Vector.{covers}
+use Rattle.model.specs.Record.{Rec, unit, num, seenVector, wellFormed}
+use Rattle.model.specs.Log.{insert, byId}
+use Rattle.model.specs.Outcome.{Took, refused, taken}
+use Rattle.byte_slice.proofs.Numbers.{cond-cases, and-true}
+use Rattle.vector.proofs.Dominance.{covers-at}
+use Rattle.log_laws.specs.Members.{Has, Sub}
+use Rattle.log_laws.specs.Sound.{Sound}
+use Rattle.log_laws.proofs.Members.{append-has}
+use Rattle.log_laws.proofs.Counts.{formed}
+use Rattle.log_laws.proofs.Insert.{has-insert, insert-has, length-insert}
+use Rattle.log_laws.proofs.Same.{unique}
+use Rattle.log_laws.proofs.Tests.{seenVector-getD}
+use Rattle.log_laws.proofs.Take.{refused-taken, taken-same, passed}
+use Rattle.fold_laws.specs.OnBase.{isNext, isWithin, isClosed}
+use Rattle.fold_laws.specs.Sound.{JoinsOn, Counts}
+use Rattle.fold_laws.specs.Lists.{isListed}
+use Rattle.fold_laws.specs.Taking.{unlisted, belowBase, takeNew, takeHeld, takeOne, takeAll}
+use Rattle.fold_laws.proofs.Prefix.{shed, sound-all}
+use Rattle.fold_laws.proofs.Tests.{above-base, next-from, within-from, closed-from}
+
+-- a record that is taken was passed over or compared, or is new
+one-from : (m : ℕ) (v : List ℕ) (l : List Rec) (r : Rec) (k : List Rec) → takeOne m v l r ≡ taken k → (k ≡ l) ⊎ ((wellFormed r ≡ true) × (takeNew v l r ≡ taken k))
+unfolding takeOne takeHeld
+one-from m v l r k e =
+    let other : Took = takeHeld v (byId (unit r) (num r) l) l r in
+    let one : Took = cond (leb (num r) (getD v (unit r) 0)) (taken l) other in
+    let (f, e₁) = passed (wellFormed r) (cond (isListed m (unit r)) one (refused unlisted)) malformed k e in
+    let (_, e₂) = passed (isListed m (unit r)) one unlisted k e₁ in
+    ⊎-elim
+    (λ c. inl (sym (taken-same (sym (c .1) ∙ e₂))))
+    (λ c. held f (byId (unit r) (num r) l) (sym (c .1) ∙ e₂))
+    (cond-cases (leb (num r) (getD v (unit r) 0)) (taken l) other)
+  where
+    held : wellFormed r ≡ true → (o : Option Rec) → takeHeld v o l r ≡ taken k → (k ≡ l) ⊎ ((wellFormed r ≡ true) × (takeNew v l r ≡ taken k))
+    held f none z = inr (f, z)
+    held f (some s) z = let (_, y) = passed (sameBytes s r) (taken l) otherBytes k z in inl (sym (taken-same y))
+
+-- v counts the folded records p
+module _ (v : List ℕ) (p : List Rec) (c : Counts v p) where
+  new-from : (l : List Rec) → Sound (p ++ l) → (r : Rec) (k : List Rec) → wellFormed r ≡ true → takeNew v l r ≡ taken k → (k ≡ insert r l) × JoinsOn v l r × (length l < 512)
+  unfolding takeNew
+  new-from l h r k f e =
+      let room : Took = cond (ltb (length l) 512) (taken (insert r l)) (refused fullLog) in
+      let shut : Took = cond (isClosed v l r) room (refused notClosed) in
+      let over : Took = cond (covers (seenVector r) v) shut (refused belowBase) in
+      let (a, e₁) = passed (isNext v l r && isWithin v l r) over notNext k e in
+      let (b, e₂) = passed (covers (seenVector r) v) shut belowBase k e₁ in
+      let (d, e₃) = passed (isClosed v l r) room notClosed k e₂ in
+      let (g, e₄) = passed (ltb (length l) 512) (taken (insert r l)) fullLog k e₃ in
+      let (n, i) = and-true (isNext v l r) (isWithin v l r) a in
+      let in-held : (s : Rec) → Has s l → Has s (p ++ l) = λ s j. append-has p l s (inr j) in (
+        sym (taken-same e₄),
+        record {
+          formed = f;
+          next = next-from v l r n;
+          within = within-from v l r i;
+          covering = λ u j. omega (arith, seenVector-getD r u j, covers-at (seenVector r) v b u j);
+          closed = closed-from v l r (λ x y i j. unique [] (p ++ l) h x y (in-held x i) (in-held y j)) (λ s j. formed [] (p ++ l) s h (in-held s j))
+              (λ s j. above-base v [] l s (shed v p l c h) j) d;
+        },
+        ltb-true (length l) 512 g,
+      )
+
+  -- m is the log l with the records rs, and all records held are sound
+  pub record Grown (l rs m : List Rec) : Type 0 where
+    pub sound : Sound (p ++ m)
+    pub more : Sub l m
+    pub only : (x : Rec) → Has x m → Has x l ⊎ Has x rs
+    pub few : length l ≤ 512 → length m ≤ 512
+
+  same-log : (l rs : List Rec) → Sound (p ++ l) → Grown l rs l
+  same-log l rs h = record { sound = h; more = λ x i. i; only = λ x i. inl i; few = λ n. n }
+
+  grown-one : (m : ℕ) (l : List Rec) → Sound (p ++ l) → (r : Rec) (k : List Rec) → takeOne m v l r ≡ taken k → Grown l (r ∷ []) k
+  grown-one m l h r k e = go (one-from m v l r k e)
+    where
+      go : (k ≡ l) ⊎ ((wellFormed r ≡ true) × (takeNew v l r ≡ taken k)) → Grown l (r ∷ []) k
+      go (inl q) = rw q (same-log l (r ∷ []) h)
+      go (inr (f, z)) =
+          let (q, j, b) = new-from l h r k f z in
+          rw q (record {
+            sound = sound-all v p l r c h j;
+            more = λ x i. insert-has r l x (inr i);
+            only = λ x i. ⊎-elim (λ y. inr (inl y)) (λ y. inl y) (has-insert r l x i);
+            few = λ _. omega (arith, length-insert r l);
+          })
+
+  -- one after another
+  pub take-all : (m : ℕ) (rs l k : List Rec) → Sound (p ++ l) → takeAll m v l rs ≡ taken k → Grown l rs k
+  unfolding takeAll
+  take-all m [] l k h e = let q : k ≡ l = sym (taken-same e) in rw q (same-log l [] h)
+  take-all m (r ∷ rs) l k h e = go (takeOne m v l r) refl (λ x hx ex. take-all m rs x k hx ex) e
+    where
+      go : (o : Took) → takeOne m v l r ≡ o → ((x : List Rec) → Sound (p ++ x) → takeAll m v x rs ≡ taken k → Grown x rs k)
+          → elim o [ refused n ↦ refused n | taken x ↦ takeAll m v x rs ] ≡ taken k → Grown l (r ∷ rs) k
+      go (refused n) q more z = refused-taken z
+      go (taken x) q more z =
+          let g = grown-one m l h r x q in
+          let f = more x (g .sound) z in
+          record {
+            sound = f .sound;
+            more = λ y i. f .more y (g .more y i);
+            only = λ y i. ⊎-elim (λ j. ⊎-elim (λ a. inl a) (λ a. ⊎-elim (λ b. inr (inl b)) (λ b. absurd b) a) (g .only y j)) (λ j. inr (inr j)) (f .only y i);
+            few = λ n. f .few (g .few n);
+          }
