@@ -6,3 +6,4 @@ pub mod Way
 pub mod Worlds
 pub mod Alike
 pub mod Twice
+pub mod Examples

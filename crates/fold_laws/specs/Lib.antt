@@ -5,3 +5,4 @@ pub mod Taking
 pub mod Fold
 pub mod Heard
 pub mod Worlds
+pub mod Examples
