@@ -14,8 +14,9 @@ use Rattle.log_laws.proofs.Formed.{well-unit}
 use Rattle.log_laws.proofs.Members.{has-append, append-has}
 use Rattle.log_laws.proofs.Counts.{count-nil, count-plus, count-append, sound-front, seen-within, covering-above}
 use Rattle.log_laws.proofs.Insert.{insert-cons, insert-sound}
-use Rattle.fold_laws.specs.OnBase.{countOn}
+use Rattle.fold_laws.specs.OnBase.{noCounts, countOn}
 use Rattle.fold_laws.specs.Sound.{NextOn, SoundOn, JoinsOn, Counts}
+use Rattle.fold_laws.proofs.Tests.{no-counts}
 
 -- what ranks above all of p goes behind p
 pub insert-behind : (p l : List Rec) (r : Rec) → ((s : Rec) → Has s p → rank s < rank r) → insert r (p ++ l) ≡ p ++ insert r l
@@ -28,26 +29,27 @@ insert-behind (x ∷ p) l r h =
 
 -- ---- a log on a base is sound if all records held are
 
-onto : List Rec → List Rec → List Rec
+pub onto : List Rec → List Rec → List Rec
 onto [] pre = pre
 onto (x ∷ p) pre = onto p (x ∷ pre)
 
-onto-count : (u : ℕ) (p pre : List Rec) → count u (onto p pre) ≡ count u p + count u pre
+pub onto-count : (u : ℕ) (p pre : List Rec) → count u (onto p pre) ≡ count u p + count u pre
 unfolding onto
 onto-count u [] pre = omega (arith, count-nil u)
 onto-count u (x ∷ p) pre = omega (arith, onto-count u p (x ∷ pre), count-plus u x pre, count-plus u x p)
 
-back : (pre p l : List Rec) → SoundAfter pre (p ++ l) → SoundAfter (onto p pre) l
+back : (v : List ℕ) (pre p l : List Rec) → SoundOn v pre (p ++ l) → SoundOn v (onto p pre) l
 unfolding onto
-back pre [] l h = h
-back pre (x ∷ p) l h = back (x ∷ pre) p l (h .1)
+back v pre [] l h = h
+back v pre (x ∷ p) l h = back v (x ∷ pre) p l (h .1)
 
-shed-all : (v : List ℕ) (q : List Rec) → Counts v q → (pre l : List Rec) → SoundAfter (pre ++ q) l → SoundOn v pre l
+-- records in front may go into the vector
+shed-all : (v w : List ℕ) (q : List Rec) → ((u : ℕ) → u < 8 → getD w u 0 ≡ countOn v u q) → (pre l : List Rec) → SoundOn v (pre ++ q) l → SoundOn w pre l
 unfolding countOn
-shed-all v q c pre [] h = tt
-shed-all v q c pre (r ∷ l) h = (one (h .0), shed-all v q c (r ∷ pre) l (h .1))
+shed-all v w q c pre [] h = tt
+shed-all v w q c pre (r ∷ l) h = (one (h .0), shed-all v w q c (r ∷ pre) l (h .1))
   where
-    one : Next (pre ++ q) r → NextOn v pre r
+    one : NextOn v (pre ++ q) r → NextOn w pre r
     one n =
         record {
           formed = n .formed;
@@ -57,9 +59,30 @@ shed-all v q c pre (r ∷ l) h = (one (h .0), shed-all v q c (r ∷ pre) l (h .1
           above = λ s i. n .above s (append-has pre q s (inl i));
         }
 
+-- the records behind p are sound on the vector that counts p too
+pub shed-on : (v w : List ℕ) (p l : List Rec) → ((u : ℕ) → u < 8 → getD w u 0 ≡ countOn v u p) → SoundOn v [] (p ++ l) → SoundOn w [] l
+unfolding countOn
+shed-on v w p l c h = shed-all v w (onto p []) (λ u k. omega (arith, c u k, onto-count u p [], count-nil u)) [] l (back v [] p l h)
+
+-- on no folded records it is the soundness of a log
+pub on-none : (pre l : List Rec) → SoundAfter pre l → SoundOn noCounts pre l
+unfolding countOn
+on-none pre [] h = tt
+on-none pre (r ∷ l) h =
+    let n = h .0 in (
+      record {
+        formed = n .formed;
+        next = omega (arith, n .next, no-counts (unit r));
+        within = λ u k. omega (arith, n .within u k, no-counts u);
+        closed = n .closed;
+        above = n .above;
+      },
+      on-none (r ∷ pre) l (h .1),
+    )
+
 pub shed : (v : List ℕ) (p l : List Rec) → Counts v p → Sound (p ++ l) → SoundOn v [] l
-shed v p l c h =
-    shed-all v (onto p []) (λ u k. omega (arith, c u k, onto-count u p [], count-nil u)) [] l (back [] p l h)
+unfolding countOn
+shed v p l c h = shed-on noCounts v p l (λ u k. omega (arith, c u k, no-counts u)) (on-none [] (p ++ l) h)
 
 -- ---- a new record that covers the base vector joins all records held, behind the folded ones
 

@@ -34,21 +34,21 @@ use Rattle.fold_laws.proofs.Prefix.{shed, sound-all}
 use Rattle.fold_laws.proofs.Tests.{above-base, next-from, within-from, closed-from}
 
 -- a record that is taken was passed over or compared, or is new
-one-from : (m : ℕ) (v : List ℕ) (l : List Rec) (r : Rec) (k : List Rec) → takeOne m v l r ≡ taken k → (k ≡ l) ⊎ ((wellFormed r ≡ true) × (takeNew v l r ≡ taken k))
+one-from : (m : ℕ) (v : List ℕ) (l : List Rec) (r : Rec) (k : List Rec) → takeOne m v l r ≡ taken k → (k ≡ l) ⊎ ((wellFormed r ≡ true) × (isListed m (unit r) ≡ true) × (takeNew v l r ≡ taken k))
 unfolding takeOne takeHeld
 one-from m v l r k e =
     let other : Took = takeHeld v (byId (unit r) (num r) l) l r in
     let one : Took = cond (leb (num r) (getD v (unit r) 0)) (taken l) other in
     let (f, e₁) = passed (wellFormed r) (cond (isListed m (unit r)) one (refused unlisted)) malformed k e in
-    let (_, e₂) = passed (isListed m (unit r)) one unlisted k e₁ in
+    let (g, e₂) = passed (isListed m (unit r)) one unlisted k e₁ in
     ⊎-elim
     (λ c. inl (sym (taken-same (sym (c .1) ∙ e₂))))
-    (λ c. held f (byId (unit r) (num r) l) (sym (c .1) ∙ e₂))
+    (λ c. held f g (byId (unit r) (num r) l) (sym (c .1) ∙ e₂))
     (cond-cases (leb (num r) (getD v (unit r) 0)) (taken l) other)
   where
-    held : wellFormed r ≡ true → (o : Option Rec) → takeHeld v o l r ≡ taken k → (k ≡ l) ⊎ ((wellFormed r ≡ true) × (takeNew v l r ≡ taken k))
-    held f none z = inr (f, z)
-    held f (some s) z = let (_, y) = passed (sameBytes s r) (taken l) otherBytes k z in inl (sym (taken-same y))
+    held : wellFormed r ≡ true → isListed m (unit r) ≡ true → (o : Option Rec) → takeHeld v o l r ≡ taken k → (k ≡ l) ⊎ ((wellFormed r ≡ true) × (isListed m (unit r) ≡ true) × (takeNew v l r ≡ taken k))
+    held f g none z = inr (f, g, z)
+    held f g (some s) z = let (_, y) = passed (sameBytes s r) (taken l) otherBytes k z in inl (sym (taken-same y))
 
 -- v counts the folded records p
 module _ (v : List ℕ) (p : List Rec) (c : Counts v p) where
@@ -76,38 +76,38 @@ module _ (v : List ℕ) (p : List Rec) (c : Counts v p) where
         ltb-true (length l) 512 g,
       )
 
-  -- m is the log l with the records rs, and all records held are sound
-  pub record Grown (l rs m : List Rec) : Type 0 where
-    pub sound : Sound (p ++ m)
-    pub more : Sub l m
-    pub only : (x : Rec) → Has x m → Has x l ⊎ Has x rs
-    pub few : length l ≤ 512 → length m ≤ 512
+  -- by the list m the log l becomes k with records of rs, of listed units, and all records held are sound
+  pub record Grown (m : ℕ) (l rs k : List Rec) : Type 0 where
+    pub sound : Sound (p ++ k)
+    pub more : Sub l k
+    pub only : (x : Rec) → Has x k → Has x l ⊎ (Has x rs × (isListed m (unit x) ≡ true))
+    pub few : length l ≤ 512 → length k ≤ 512
 
-  same-log : (l rs : List Rec) → Sound (p ++ l) → Grown l rs l
-  same-log l rs h = record { sound = h; more = λ x i. i; only = λ x i. inl i; few = λ n. n }
+  same-log : (m : ℕ) (l rs : List Rec) → Sound (p ++ l) → Grown m l rs l
+  same-log m l rs h = record { sound = h; more = λ x i. i; only = λ x i. inl i; few = λ n. n }
 
-  grown-one : (m : ℕ) (l : List Rec) → Sound (p ++ l) → (r : Rec) (k : List Rec) → takeOne m v l r ≡ taken k → Grown l (r ∷ []) k
+  grown-one : (m : ℕ) (l : List Rec) → Sound (p ++ l) → (r : Rec) (k : List Rec) → takeOne m v l r ≡ taken k → Grown m l (r ∷ []) k
   grown-one m l h r k e = go (one-from m v l r k e)
     where
-      go : (k ≡ l) ⊎ ((wellFormed r ≡ true) × (takeNew v l r ≡ taken k)) → Grown l (r ∷ []) k
-      go (inl q) = rw q (same-log l (r ∷ []) h)
-      go (inr (f, z)) =
+      go : (k ≡ l) ⊎ ((wellFormed r ≡ true) × (isListed m (unit r) ≡ true) × (takeNew v l r ≡ taken k)) → Grown m l (r ∷ []) k
+      go (inl q) = rw q (same-log m l (r ∷ []) h)
+      go (inr (f, g, z)) =
           let (q, j, b) = new-from l h r k f z in
           rw q (record {
             sound = sound-all v p l r c h j;
             more = λ x i. insert-has r l x (inr i);
-            only = λ x i. ⊎-elim (λ y. inr (inl y)) (λ y. inl y) (has-insert r l x i);
+            only = λ x i. ⊎-elim (λ (y : x ≡ r). inr (inl y, rw y g)) (λ y. inl y) (has-insert r l x i);
             few = λ _. omega (arith, length-insert r l);
           })
 
   -- one after another
-  pub take-all : (m : ℕ) (rs l k : List Rec) → Sound (p ++ l) → takeAll m v l rs ≡ taken k → Grown l rs k
+  pub take-all : (m : ℕ) (rs l k : List Rec) → Sound (p ++ l) → takeAll m v l rs ≡ taken k → Grown m l rs k
   unfolding takeAll
-  take-all m [] l k h e = let q : k ≡ l = sym (taken-same e) in rw q (same-log l [] h)
+  take-all m [] l k h e = let q : k ≡ l = sym (taken-same e) in rw q (same-log m l [] h)
   take-all m (r ∷ rs) l k h e = go (takeOne m v l r) refl (λ x hx ex. take-all m rs x k hx ex) e
     where
-      go : (o : Took) → takeOne m v l r ≡ o → ((x : List Rec) → Sound (p ++ x) → takeAll m v x rs ≡ taken k → Grown x rs k)
-          → elim o [ refused n ↦ refused n | taken x ↦ takeAll m v x rs ] ≡ taken k → Grown l (r ∷ rs) k
+      go : (o : Took) → takeOne m v l r ≡ o → ((x : List Rec) → Sound (p ++ x) → takeAll m v x rs ≡ taken k → Grown m x rs k)
+          → elim o [ refused n ↦ refused n | taken x ↦ takeAll m v x rs ] ≡ taken k → Grown m l (r ∷ rs) k
       go (refused n) q more z = refused-taken z
       go (taken x) q more z =
           let g = grown-one m l h r x q in
@@ -115,6 +115,6 @@ module _ (v : List ℕ) (p : List Rec) (c : Counts v p) where
           record {
             sound = f .sound;
             more = λ y i. f .more y (g .more y i);
-            only = λ y i. ⊎-elim (λ j. ⊎-elim (λ a. inl a) (λ a. ⊎-elim (λ b. inr (inl b)) (λ b. absurd b) a) (g .only y j)) (λ j. inr (inr j)) (f .only y i);
+            only = λ y i. ⊎-elim (λ j. ⊎-elim (λ a. inl a) (λ a. ⊎-elim (λ b. inr (inl b, a .1)) (λ b. absurd b) (a .0)) (g .only y j)) (λ j. inr (inr (j .0), j .1)) (f .only y i);
             few = λ n. f .few (g .few n);
           }

@@ -4,25 +4,27 @@ use Prim.Native.Nat.{ℕ, zero, suc, _+_, _≤_, _<_}
 use native.Mathlib.Omega.{arith}
 use mathlib.Core.Path.{_≡_, refl, sym, ap, _∙_, subst}
 use mathlib.Core.Logic.{_⊎_, inl, inr, ⊎-elim}
-use mathlib.Core.Bool.{Bool, true, false, cond}
+use mathlib.Core.Bool.{Bool, true, false, cond, _||_}
 use mathlib.Core.List.{List, [], _∷_, _++_, append-assoc}
 use lib.Dec.{eqb}
 use lib.ListN.{getD, length, take, drop, length-append, take-append-drop, length-drop}
-use borrow.Author.Tests.{eqb-true, eqb-false}
+use borrow.Author.Tests.{eqb-true, eqb-false, ne-eqb}
 use Rattle.model.specs.Record.{Rec, unit, num, seen, wellFormed}
 use Rattle.model.specs.Log.{rank, count, insert}
 use Rattle.model.specs.Replay.{Tree, emptyTree, presentOnes, replayFrom, replay}
 use Rattle.model.specs.Table.{tableBytes}
-use Rattle.byte_slice.proofs.Numbers.{lt-or-ge, cond-cases}
+use Rattle.byte_slice.proofs.Numbers.{lt-or-ge, cond-cases, and-true}
 use Rattle.log_laws.specs.Members.{Has, Sub, Agree}
 use Rattle.log_laws.specs.Sound.{Sound}
 use Rattle.log_laws.proofs.Formed.{well-unit, well-own}
 use Rattle.log_laws.proofs.Members.{has-append, append-has, has-take}
-use Rattle.log_laws.proofs.Counts.{count-nil, count-append, sound-front, unit-of, find-held, seen-within, covering-above}
+use Rattle.log_laws.proofs.Counts.{count-nil, count-append, sound-front, formed, unit-of, number-held, find-held, seen-within, covering-above}
 use Rattle.log_laws.proofs.Insert.{insert-last}
+use Rattle.log_laws.proofs.Tests.{allTo-at}
 use Rattle.tree_laws.specs.Trees.{trim}
 use Rattle.fold_laws.specs.OnBase.{noCounts, countOn, vectorOn}
 use Rattle.fold_laws.specs.Sound.{JoinsOn, Counts}
+use Rattle.fold_laws.specs.Lists.{isListed, listsAll, listFits}
 use Rattle.fold_laws.specs.Heard.{Heard, Made, Behind}
 use Rattle.fold_laws.specs.Worlds.{Store, fresh, heldOf, withLog, run, foldedBy, World, Event, starts, acts, takes, folds, at, changes, uses, putStore, after, Accepted, Names, Keeps, Kept, Inv, Back, Own}
 use Rattle.tree_laws.proofs.Trimming.{from-base, shown-from-base}
@@ -38,17 +40,17 @@ unfolding countOn
 counts-held used s k x b = omega (arith, k .counts x b, count-append x (s .folded) (s .log))
 
 wider : (used more : List Rec) (s : Store) → Sub used more → Kept used s → Kept more s
-wider used more s f k = record { sound = k .sound; counts = k .counts; based = k .based; from = λ r i. f r (k .from r i); few = k .few }
+wider used more s f k = record { sound = k .sound; counts = k .counts; based = k .based; from = λ r i. f r (k .from r i); few = k .few; listed = k .listed }
 
 -- ---- starting
 
 fresh-kept : (used : List Rec) → Kept used fresh
 unfolding trim emptyTree presentOnes replay replayFrom
-fresh-kept used = record { sound = tt; counts = λ u b. no-counts u ∙ sym (count-nil u); based = refl; from = λ r i. absurd i; few = omega arith }
+fresh-kept used = record { sound = tt; counts = λ u b. no-counts u ∙ sym (count-nil u); based = refl; from = λ r i. absurd i; few = omega arith; listed = λ r i. absurd i }
 
 -- ---- acting
 
-module _ (used : List Rec) (s : Store) (r : Rec) (k : Kept used s) (f : wellFormed r ≡ true)
+module _ (used : List Rec) (s : Store) (r : Rec) (k : Kept used s) (mine : isListed (s .list) (unit r) ≡ true) (f : wellFormed r ≡ true)
     (saw : (x : ℕ) → x < 8 → seen r x ≡ countOn (s .vector) x (s .log)) (room : length (s .log) < 512) where
   sees : (x : ℕ) → x < 8 → seen r x ≡ count x (heldOf s)
   sees x b = saw x b ∙ counts-held used s k x b
@@ -72,15 +74,26 @@ module _ (used : List Rec) (s : Store) (r : Rec) (k : Kept used s) (f : wellForm
   act-sound : Sound (s .folded ++ (s .log ++ (r ∷ [])))
   act-sound = subst (λ (l : List Rec). Sound (s .folded ++ l)) act-last (sound-all (s .vector) (s .folded) (s .log) r (k .counts) (k .sound) act-joins)
 
-  act-has : (x : Rec) → Has x (s .folded ++ (s .log ++ (r ∷ []))) → Has x (r ∷ used)
-  act-has x i =
+  act-cases : (x : Rec) → Has x (s .folded ++ (s .log ++ (r ∷ []))) → (x ≡ r) ⊎ Has x (heldOf s)
+  act-cases x i =
       ⊎-elim
-      (λ j. inr (k .from x (append-has (s .folded) (s .log) x (inl j))))
-      (λ j. ⊎-elim (λ q. inr (k .from x (append-has (s .folded) (s .log) x (inr q)))) (λ q. ⊎-elim (λ z. inl z) (λ z. absurd z) q) (has-append (s .log) (r ∷ []) x j))
+      (λ j. inr (append-has (s .folded) (s .log) x (inl j)))
+      (λ j. ⊎-elim (λ q. inr (append-has (s .folded) (s .log) x (inr q))) (λ q. ⊎-elim (λ z. inl z) (λ z. absurd z) q) (has-append (s .log) (r ∷ []) x j))
       (has-append (s .folded) (s .log ++ (r ∷ [])) x i)
 
+  act-has : (x : Rec) → Has x (s .folded ++ (s .log ++ (r ∷ []))) → Has x (r ∷ used)
+  act-has x i = ⊎-elim (λ q. inl q) (λ j. inr (k .from x j)) (act-cases x i)
+
   act-kept : Kept (r ∷ used) (withLog s (s .log ++ (r ∷ [])))
-  act-kept = record { sound = act-sound; counts = k .counts; based = k .based; from = act-has; few = omega (arith, length-append (s .log) (r ∷ [])) }
+  act-kept =
+      record {
+        sound = act-sound;
+        counts = k .counts;
+        based = k .based;
+        from = act-has;
+        few = omega (arith, length-append (s .log) (r ∷ []));
+        listed = λ x i. ⊎-elim (λ (q : x ≡ r). rw q mine) (λ j. k .listed x j) (act-cases x i);
+      }
 
   act-made : Made (r ∷ used) r
   act-made = record { held = heldOf s; sound = k .sound; from = λ x i. inr (k .from x i); saw = sees }
@@ -92,9 +105,22 @@ same-held u m s =
     append-assoc (s .folded) (take (run u m s) (s .log)) (drop (run u m s) (s .log))
     ∙ ap (λ (l : List Rec). s .folded ++ l) (take-append-drop (run u m s) (s .log))
 
-fold-kept : (used : List Rec) (u m : ℕ) (s : Store) → Kept used s → Kept used (foldedBy u m s)
+-- a list that fits names the units of all records held
+list-names : (used : List Rec) (u m : ℕ) (s : Store) → Kept used s → listFits m u (vectorOn (s .vector) (s .log)) ≡ true → (r : Rec) → Has r (heldOf s) → isListed m (unit r) ≡ true
+unfolding listFits listsAll
+list-names used u m s k a r i =
+    let v : List ℕ = vectorOn (s .vector) (s .log) in
+    let f = formed [] (heldOf s) r (k .sound) i in
+    let b = well-unit r f in
+    let e : (eqb (getD v (unit r) 0) 0 || isListed m (unit r)) ≡ true =
+    allTo-at 8 (λ (x : ℕ). eqb (getD v x 0) 0 || isListed m x) (and-true (isListed m u) (listsAll m v) a .1) (unit r) b in
+    let some-held : eqb (getD v (unit r) 0) 0 ≡ false =
+    ne-eqb (getD v (unit r) 0) 0 (λ z. omega (arith, vectorOn-getD (s .vector) (s .log) (unit r) b, counts-held used s k (unit r) b, number-held (heldOf s) r (k .sound) i, well-own r f)) in
+    rw some-held at e
+
+fold-kept : (used : List Rec) (u m : ℕ) (s : Store) → Kept used s → listFits m u (vectorOn (s .vector) (s .log)) ≡ true → Kept used (foldedBy u m s)
 unfolding countOn
-fold-kept used u m s k =
+fold-kept used u m s k a =
     let l : List Rec = take (run u m s) (s .log) in
     record {
       sound = subst Sound (sym (same-held u m s)) (k .sound);
@@ -102,6 +128,7 @@ fold-kept used u m s k =
       based = ap (λ (t : Tree). trim (replayFrom t l)) (k .based) ∙ from-base (s .folded) l;
       from = λ r i. k .from r (subst (Has r) (same-held u m s) i);
       few = omega (arith, k .few, length-drop (run u m s) (s .log));
+      listed = λ r i. list-names used u m s k a r (subst (Has r) (same-held u m s) i);
     }
 
 -- ---- a store after a call
@@ -109,23 +136,25 @@ fold-kept used u m s k =
 left-kept : (w : World) (e : Event) → Inv w → Accepted w e → Kept (uses e ++ w .used) (changes w e)
 unfolding uses changes
 left-kept w (starts u) i a = fresh-kept (w .used)
-left-kept w (acts u r) i a = act-kept (w .used) (w .stores u) r (i .kept u) (a .0) (a .2) (a .3)
+left-kept w (acts u r) i a = act-kept (w .used) (w .stores u) r (i .kept u) (ap (isListed (w .stores u .list)) (a .2) ∙ a .0) (a .1) (a .3) (a .4)
 left-kept w (takes u rs m) i a =
     let s : Store = w .stores u in
     let k = i .kept u in
     let g = take-all (s .vector) (s .folded) (k .counts) (s .list) rs (s .log) m (k .sound) (a .0) in
+    let grown : (x : Rec) → Has x (s .folded ++ m) → Has x (heldOf s) ⊎ (Has x rs × (isListed (s .list) (unit x) ≡ true)) = λ x j.
+    ⊎-elim
+    (λ q. inl (append-has (s .folded) (s .log) x (inl q)))
+    (λ q. ⊎-elim (λ z. inl (append-has (s .folded) (s .log) x (inr z))) (λ z. inr z) (g .only x q))
+    (has-append (s .folded) m x j) in
     record {
       sound = g .sound;
       counts = k .counts;
       based = k .based;
-      from = λ x j.
-          ⊎-elim
-          (λ q. k .from x (append-has (s .folded) (s .log) x (inl q)))
-          (λ q. ⊎-elim (λ z. k .from x (append-has (s .folded) (s .log) x (inr z))) (λ z. a .1 x z) (g .only x q))
-          (has-append (s .folded) m x j);
+      from = λ x j. ⊎-elim (λ q. k .from x q) (λ q. a .1 x (q .0)) (grown x j);
       few = g .few (k .few);
+      listed = λ x j. ⊎-elim (λ q. k .listed x q) (λ q. q .1) (grown x j);
     }
-left-kept w (folds u m) i a = fold-kept (w .used) u m (w .stores u) (i .kept u)
+left-kept w (folds u m) i a = fold-kept (w .used) u m (w .stores u) (i .kept u) a
 
 more-used : (w : World) (e : Event) → Sub (w .used) (uses e ++ w .used)
 more-used w e r i = append-has (uses e) (w .used) r (inr i)
@@ -143,7 +172,7 @@ unfolding uses at changes
 used-cases w (starts u) i a r j = absurd j
 used-cases w (acts u q) i a r (inl j) =
     subst (λ (x : Rec). (wellFormed x ≡ true) × Made (q ∷ w .used) x × (unit x ≡ u) × Has x (w .stores u .folded ++ (w .stores u .log ++ (q ∷ [])))) (sym j)
-    (a .0, act-made (w .used) (w .stores u) q (i .kept u) (a .0) (a .2) (a .3), a .1, append-has (w .stores u .folded) (w .stores u .log ++ (q ∷ [])) q (inr (append-has (w .stores u .log) (q ∷ []) q (inr (inl refl)))))
+    (a .1, act-made (w .used) (w .stores u) q (i .kept u) (ap (isListed (w .stores u .list)) (a .2) ∙ a .0) (a .1) (a .3) (a .4), a .2, append-has (w .stores u .folded) (w .stores u .log ++ (q ∷ [])) q (inr (append-has (w .stores u .log) (q ∷ []) q (inr (inl refl)))))
 used-cases w (acts u q) i a r (inr j) = absurd j
 used-cases w (takes u rs m) i a r j = absurd j
 used-cases w (folds u m) i a r j = absurd j

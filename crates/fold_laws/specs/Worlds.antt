@@ -86,13 +86,31 @@ putStore f u s x = cond (eqb x u) s (f x)
 unfoldable pub after : World → Event → World
 after w e = record { stores = putStore (w .stores) (at e) (changes w e); used = uses e ++ w .used }
 
--- the call is accepted
+-- the call is accepted. Of an act it is not asked here that its record fits
 abbrev pub Accepted : World → Event → Type 0
 Accepted w (starts u) = Unit {0}
 Accepted w (acts u r) =
-    (wellFormed r ≡ true) × (unit r ≡ u) × ((x : ℕ) → x < 8 → seen r x ≡ countOn (w .stores u .vector) x (w .stores u .log)) × (length (w .stores u .log) < 512)
+    (isListed (w .stores u .list) u ≡ true)
+    × (wellFormed r ≡ true)
+    × (unit r ≡ u)
+    × ((x : ℕ) → x < 8 → seen r x ≡ countOn (w .stores u .vector) x (w .stores u .log))
+    × (length (w .stores u .log) < 512)
 Accepted w (takes u rs m) = (takeAll (w .stores u .list) (w .stores u .vector) (w .stores u .log) rs ≡ taken m) × Sub rs (w .used)
-Accepted w (folds u m) = Unit {0}
+Accepted w (folds u m) = listFits m u (vectorOn (w .stores u .vector) (w .stores u .log)) ≡ true
+
+-- the world at first
+abbrev pub bare : World
+bare = record { stores = λ (u : ℕ). fresh; used = [] }
+
+-- the calls es one after another
+unfoldable pub play : World → List Event → World
+play w [] = w
+play w (e ∷ es) = play (after w e) es
+
+-- each of them is accepted
+abbrev pub AllAccepted : World → List Event → Type 0
+AllAccepted w [] = Unit {0}
+AllAccepted w (e ∷ es) = Accepted w e × AllAccepted (after w e) es
 
 -- ---- the premises of the meeting rule
 
@@ -103,12 +121,22 @@ Names U (acts u r) = Unit {0}
 Names U (takes u rs m) = Unit {0}
 Names U (folds u m) = (r : Rec) → Has r U → isListed m (unit r) ≡ true
 
+-- each list does
+abbrev pub Naming : List Rec → List Event → Type 0
+Naming U [] = Unit {0}
+Naming U (e ∷ es) = Names U e × Naming U es
+
 -- the vector of the unit b does not fall: only a start could make it
 abbrev pub Keeps : ℕ → World → Event → Type 0
 Keeps b w (starts u) = u ≡ b → heldOf (w .stores u) ≡ []
 Keeps b w (acts u r) = Unit {0}
 Keeps b w (takes u rs m) = Unit {0}
 Keeps b w (folds u m) = Unit {0}
+
+-- it never does
+abbrev pub Keeping : ℕ → World → List Event → Type 0
+Keeping b w [] = Unit {0}
+Keeping b w (e ∷ es) = Keeps b w e × Keeping b (after w e) es
 
 -- ---- what holds of every store that calls leave
 
@@ -118,6 +146,7 @@ pub record Kept (used : List Rec) (s : Store) : Type 0 where
   pub based : s .tree ≡ trim (replay (s .folded))
   pub from : Sub (heldOf s) used
   pub few : length (s .log) ≤ 512
+  pub listed : (r : Rec) → Has r (heldOf s) → isListed (s .list) (unit r) ≡ true
 
 pub record Inv (w : World) : Type 0 where
   pub kept : (u : ℕ) → Kept (w .used) (w .stores u)
