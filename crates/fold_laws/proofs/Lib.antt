@@ -6,4 +6,6 @@ pub mod Way
 pub mod Worlds
 pub mod Alike
 pub mod Twice
+pub mod Bases
+pub mod Claims
 pub mod Examples

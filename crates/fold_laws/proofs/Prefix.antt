@@ -29,7 +29,7 @@ insert-behind (x ∷ p) l r h =
 
 -- ---- a log on a base is sound if all records held are
 
-pub onto : List Rec → List Rec → List Rec
+unfoldable pub onto : List Rec → List Rec → List Rec
 onto [] pre = pre
 onto (x ∷ p) pre = onto p (x ∷ pre)
 

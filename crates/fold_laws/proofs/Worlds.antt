@@ -44,7 +44,7 @@ wider used more s f k = record { sound = k .sound; counts = k .counts; based = k
 
 -- ---- starting
 
-fresh-kept : (used : List Rec) → Kept used fresh
+pub fresh-kept : (used : List Rec) → Kept used fresh
 unfolding trim emptyTree presentOnes replay replayFrom
 fresh-kept used = record { sound = tt; counts = λ u b. no-counts u ∙ sym (count-nil u); based = refl; from = λ r i. absurd i; few = omega arith; listed = λ r i. absurd i }
 
@@ -159,10 +159,10 @@ left-kept w (folds u m) i a = fold-kept (w .used) u m (w .stores u) (i .kept u) 
 more-used : (w : World) (e : Event) → Sub (w .used) (uses e ++ w .used)
 more-used w e r i = append-has (uses e) (w .used) r (inr i)
 
-abbrev Put : (ℕ → Store) → ℕ → Store → ℕ → Type 0
+abbrev pub Put : (ℕ → Store) → ℕ → Store → ℕ → Type 0
 Put f u s x = ((x ≡ u) × (putStore f u s x ≡ s)) ⊎ ((x ≡ u → ⊥) × (putStore f u s x ≡ f x))
 
-put-cases : (f : ℕ → Store) (u : ℕ) (s : Store) (x : ℕ) → Put f u s x
+pub put-cases : (f : ℕ → Store) (u : ℕ) (s : Store) (x : ℕ) → Put f u s x
 unfolding putStore
 put-cases f u s x = ⊎-elim (λ a. inl (eqb-true x u (a .0), a .1)) (λ a. inr (eqb-false x u (a .0), a .1)) (cond-cases (eqb x u) s (f x))
 
