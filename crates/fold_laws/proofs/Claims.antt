@@ -6,12 +6,15 @@ use mathlib.Core.Path.{_≡_, refl, sym, ap, _∙_, subst}
 use mathlib.Core.Logic.{_⊎_, inl, inr, ⊎-elim}
 use mathlib.Core.Bool.{true, false}
 use mathlib.Core.List.{List, [], _∷_, _++_, append-nil}
+use lib.Dec.{leb}
 use lib.ListN.{getD, length, take, drop}
+use borrow.Author.Tests.{leb-true}
 use Rattle.model.specs.Record.{Rec, unit, seen}
 use Rattle.model.specs.Log.{sumTo, count, allTo}
-use Rattle.model.specs.Replay.{replayFrom, replay}
+use Rattle.model.specs.Replay.{presentOnes, replayFrom, replay}
 use Rattle.model.specs.Table.{tableBytes}
 use Rattle.model.specs.Outcome.{taken}
+use Rattle.byte_slice.proofs.Numbers.{and-true}
 use Rattle.log_laws.specs.Members.{Has, Sub, Agree}
 use Rattle.log_laws.proofs.Formed.{well-unit}
 use Rattle.log_laws.proofs.Members.{append-has, has-drop}
@@ -24,6 +27,7 @@ use Rattle.tree_laws.specs.Trees.{SoundTree}
 use Rattle.fold_laws.specs.OnBase.{countOn, vectorOn, soundAfter}
 use Rattle.fold_laws.specs.Lists.{bits, isListed}
 use Rattle.fold_laws.specs.Taking.{takeAll}
+use Rattle.fold_laws.specs.Fold.{countsAsBase}
 use Rattle.fold_laws.specs.Worlds.{Store, heldOf, run, foldedBy, World, Event, starts, acts, takes, folds, at, changes, after, bare, play, AllAccepted, Names, Naming, Keeping, Inv, Back, Own}
 use Rattle.fold_laws.proofs.Prefix.{shed}
 use Rattle.fold_laws.proofs.Tests.{vectorOn-getD, above-base}
@@ -97,10 +101,17 @@ module _ (es : List Event) (ok : AllAccepted bare es) where
   pub vector-of-all : (u x : ℕ) → x < 8 → getD (vectorOn (w .stores u .vector) (w .stores u .log)) x 0 ≡ count x (heldOf (w .stores u))
   vector-of-all u x b = vectorOn-getD (w .stores u .vector) (w .stores u .log) x b ∙ Worlds.counts-held (w .used) (w .stores u) (inv .kept u) x b
 
-  -- ---- (iv) base and log are sound, and the list names the units of all records held
+  -- ---- (iv) base and log are sound, the base is of at most 512 rows each, and the list names the units of all records held
 
   pub base-sound : (u : ℕ) → SoundTree (w .stores u .vector) (w .stores u .tree)
   base-sound u = Bases.kept-base (w .used) (w .stores u) (inv .kept u)
+
+  pub base-fits : (u : ℕ) → (length (presentOnes (w .stores u .tree .entries)) ≤ 512) × (length (w .stores u .tree .asides) ≤ 512)
+  unfolding countsAsBase replayFrom
+  base-fits u =
+      let t = w .stores u .tree in
+      let (a, b) = and-true (leb (length (presentOnes (t .entries))) 512) (leb (length (t .asides)) 512) (inv .kept u .rows) in
+      (leb-true (length (presentOnes (t .entries))) 512 a, leb-true (length (t .asides)) 512 b)
 
   pub log-sound : (u : ℕ) → soundAfter (w .stores u .vector) [] (w .stores u .log) ≡ true
   log-sound u = Bases.kept-log (w .used) (w .stores u) (inv .kept u)

@@ -101,7 +101,7 @@ longest-beyond t l (suc h) k a b = go (bool-cases (countsAsBase t l (suc h))) (�
         let c : longest t l h < k = rw e at a in
         ⊎-elim (λ d. f c (omega arith)) (λ d. let q : k ≡ suc h = omega arith in ap (countsAsBase t l) q ∙ e) (lt-or-ge k (suc h))
 
-counts-shift : (t : Tree) (l : List Rec) (n j : ℕ) → countsAsBase (trim (replayFrom t (take n l))) (drop n l) j ≡ countsAsBase t l (n + j)
+pub counts-shift : (t : Tree) (l : List Rec) (n j : ℕ) → countsAsBase (trim (replayFrom t (take n l))) (drop n l) j ≡ countsAsBase t l (n + j)
 unfolding countsAsBase trim
 counts-shift t l n j =
     let x : Tree = replayFrom t (take n l) in

@@ -25,12 +25,15 @@ use Rattle.tree_laws.specs.Trees.{trim}
 use Rattle.fold_laws.specs.OnBase.{noCounts, countOn, vectorOn}
 use Rattle.fold_laws.specs.Sound.{JoinsOn, Counts}
 use Rattle.fold_laws.specs.Lists.{isListed, listsAll, listFits}
+use Rattle.fold_laws.specs.Fold.{countsAsBase}
 use Rattle.fold_laws.specs.Heard.{Heard, Made, Behind}
 use Rattle.fold_laws.specs.Worlds.{Store, fresh, heldOf, withLog, run, foldedBy, World, Event, starts, acts, takes, folds, at, changes, uses, putStore, after, Accepted, Names, Keeps, Kept, Inv, Back, Own}
 use Rattle.tree_laws.proofs.Trimming.{from-base, shown-from-base}
 use Rattle.fold_laws.proofs.Prefix.{shed, sound-all}
 use Rattle.fold_laws.proofs.Tests.{no-counts, vectorOn-getD, above-base}
 use Rattle.fold_laws.proofs.Taking.{take-all}
+use Rattle.fold_laws.proofs.Twice.{counts-shift}
+use Rattle.fold_laws.proofs.Bases.{run-counts}
 use Rattle.fold_laws.proofs.Covering.{never-below, folded-behind}
 
 -- ---- counts of all records held
@@ -40,13 +43,13 @@ unfolding countOn
 counts-held used s k x b = omega (arith, k .counts x b, count-append x (s .folded) (s .log))
 
 wider : (used more : List Rec) (s : Store) → Sub used more → Kept used s → Kept more s
-wider used more s f k = record { sound = k .sound; counts = k .counts; based = k .based; from = λ r i. f r (k .from r i); few = k .few; listed = k .listed }
+wider used more s f k = record { sound = k .sound; counts = k .counts; based = k .based; from = λ r i. f r (k .from r i); few = k .few; listed = k .listed; rows = k .rows }
 
 -- ---- starting
 
 pub fresh-kept : (used : List Rec) → Kept used fresh
-unfolding trim emptyTree presentOnes replay replayFrom
-fresh-kept used = record { sound = tt; counts = λ u b. no-counts u ∙ sym (count-nil u); based = refl; from = λ r i. absurd i; few = omega arith; listed = λ r i. absurd i }
+unfolding trim emptyTree presentOnes replay replayFrom countsAsBase
+fresh-kept used = record { sound = tt; counts = λ u b. no-counts u ∙ sym (count-nil u); based = refl; from = λ r i. absurd i; few = omega arith; listed = λ r i. absurd i; rows = refl }
 
 -- ---- acting
 
@@ -93,6 +96,7 @@ module _ (used : List Rec) (s : Store) (r : Rec) (k : Kept used s) (mine : isLis
         from = act-has;
         few = omega (arith, length-append (s .log) (r ∷ []));
         listed = λ x i. ⊎-elim (λ (q : x ≡ r). rw q mine) (λ j. k .listed x j) (act-cases x i);
+        rows = k .rows;
       }
 
   act-made : Made (r ∷ used) r
@@ -119,9 +123,10 @@ list-names used u m s k a r i =
     rw some-held at e
 
 fold-kept : (used : List Rec) (u m : ℕ) (s : Store) → Kept used s → listFits m u (vectorOn (s .vector) (s .log)) ≡ true → Kept used (foldedBy u m s)
-unfolding countOn
+unfolding countOn countsAsBase
 fold-kept used u m s k a =
     let l : List Rec = take (run u m s) (s .log) in
+    let none-more : run u m s + 0 ≡ run u m s = omega arith in
     record {
       sound = subst Sound (sym (same-held u m s)) (k .sound);
       counts = λ x b. omega (arith, vectorOn-getD (s .vector) l x b, k .counts x b, count-append x (s .folded) l);
@@ -129,6 +134,7 @@ fold-kept used u m s k a =
       from = λ r i. k .from r (subst (Has r) (same-held u m s) i);
       few = omega (arith, k .few, length-drop (run u m s) (s .log));
       listed = λ r i. list-names used u m s k a r (subst (Has r) (same-held u m s) i);
+      rows = counts-shift (s .tree) (s .log) (run u m s) 0 ∙ ap (countsAsBase (s .tree) (s .log)) none-more ∙ run-counts m u (s .vector) (s .tree) (s .log) (k .rows);
     }
 
 -- ---- a store after a call
@@ -153,6 +159,7 @@ left-kept w (takes u rs m) i a =
       from = λ x j. ⊎-elim (λ q. k .from x q) (λ q. a .1 x (q .0)) (grown x j);
       few = g .few (k .few);
       listed = λ x j. ⊎-elim (λ q. k .listed x q) (λ q. q .1) (grown x j);
+      rows = k .rows;
     }
 left-kept w (folds u m) i a = fold-kept (w .used) u m (w .stores u) (i .kept u) a
 

@@ -17,7 +17,7 @@ use Rattle.fold_laws.specs.OnBase.{noCounts, countOn, vectorOn}
 use Rattle.fold_laws.specs.Sound.{Counts}
 use Rattle.fold_laws.specs.Lists.{isListed, listFits}
 use Rattle.fold_laws.specs.Taking.{takeAll}
-use Rattle.fold_laws.specs.Fold.{runOf}
+use Rattle.fold_laws.specs.Fold.{countsAsBase, runOf}
 use Rattle.fold_laws.specs.Heard.{Made, Behind}
 
 pub record Store : Type 0 where
@@ -147,6 +147,7 @@ pub record Kept (used : List Rec) (s : Store) : Type 0 where
   pub from : Sub (heldOf s) used
   pub few : length (s .log) ≤ 512
   pub listed : (r : Rec) → Has r (heldOf s) → isListed (s .list) (unit r) ≡ true
+  pub rows : countsAsBase (s .tree) [] 0 ≡ true
 
 pub record Inv (w : World) : Type 0 where
   pub kept : (u : ℕ) → Kept (w .used) (w .stores u)
