@@ -7,18 +7,19 @@ use mathlib.Core.Logic.{_⊎_, inl, inr, ⊎-elim}
 use mathlib.Core.Bool.{true, false}
 use mathlib.Core.List.{List, [], _∷_, _++_, append-nil}
 use lib.Dec.{leb}
-use lib.ListN.{getD, length, take, drop}
+use lib.ListN.{getD, length, take, drop, length-append}
 use borrow.Author.Tests.{leb-true}
 use Rattle.model.specs.Record.{Rec, unit, seen}
-use Rattle.model.specs.Log.{sumTo, count, allTo}
+use Rattle.model.specs.Log.{sumTo, count, vectorOf, allTo}
 use Rattle.model.specs.Replay.{presentOnes, replayFrom, replay}
 use Rattle.model.specs.Table.{tableBytes}
-use Rattle.model.specs.Outcome.{taken}
+use Rattle.model.specs.Outcome.{taken, lacking}
 use Rattle.byte_slice.proofs.Numbers.{and-true}
 use Rattle.log_laws.specs.Members.{Has, Sub, Agree}
 use Rattle.log_laws.proofs.Formed.{well-unit}
 use Rattle.log_laws.proofs.Members.{append-has, has-drop}
 use Rattle.log_laws.proofs.Counts.{count-nil, unit-of}
+use Rattle.log_laws.proofs.Lacking.{union-length}
 use Rattle.log_laws.proofs.Tests.{allTo-at}
 use Rattle.machine.specs.Claim.{firsts}
 use Rattle.machine.proofs.Tests.{Rising}
@@ -170,17 +171,19 @@ module _ (es : List Event) (ok : AllAccepted bare es) where
       pub never-26 : (r : Rec) → Has r (w .used) → isListed (w .stores b .list) (unit r) ≡ true
       never-26 = lists-play (w .used) bare es low named (λ u r i. all-eight (unit r) (low r i)) b
 
-      -- so b takes the records of a that come to it, if none that it lacks is missing, these first come in rising rank and a place is
-      -- there for each; and then it holds all that a holds
+      -- so b takes the records of a that come to it, if none that it lacks is missing, these first come in rising rank, and with
+      -- its log they are at most 512; and then it holds all that a holds
       pub passes : (a : ℕ) (rs : List Rec) → Sub rs (heldOf (w .stores a)) → Rising (firsts (heldOf (w .stores b)) rs)
           → ((r : Rec) → Has r (heldOf (w .stores a)) → (Has r (heldOf (w .stores b)) → ⊥) → Has r rs)
-          → sumTo 8 (λ u. max (count u (heldOf (w .stores a))) (count u (heldOf (w .stores b)))) ≤ 512 + length (w .stores b .folded)
+          → length (lacking (vectorOf (heldOf (w .stores b))) (heldOf (w .stores a))) + length (w .stores b .log) ≤ 512
           → (m : List Rec) × (takeAll (w .stores b .list) (w .stores b .vector) (w .stores b .log) rs ≡ taken m)
           × ((u : ℕ) → count u (heldOf (w .stores a)) ≤ count u (w .stores b .folded ++ m))
-      passes a rs part up all fit =
+      passes a rs part up all few =
           let s : Store = w .stores b in
           let A : List Rec = heldOf (w .stores a) in
           let k = inv .kept b in
+          let fit : sumTo 8 (λ u. max (count u A) (count u (heldOf s))) ≤ 512 + length (s .folded) =
+          omega (arith, union-length A (heldOf s) (inv .kept a .sound) (k .sound), length-append (s .folded) (s .log)) in
           let inA : Sub A (w .used) = inv .kept a .from in
           let listed : (r : Rec) → Has r A → isListed (s .list) (unit r) ≡ true = λ r i. never-26 r (inA r i) in
           let over : (r : Rec) → Has r A → (Has r (heldOf s) → ⊥) → (u : ℕ) → u < 8 → getD (s .vector) u 0 ≤ seen r u = λ r i. never-27 r (inA r i) in
