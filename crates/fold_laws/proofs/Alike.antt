@@ -1,23 +1,20 @@
 -- Units whose vectors are equal hold the same records and show the same tree; with equal base vectors their logs are the same.
 -- Assumes nothing.
-use Prim.Native.Nat.{ℕ, zero, suc, _+_, _≤_, _<_}
-use native.Mathlib.Omega.{arith}
-use mathlib.Core.Path.{_≡_, refl, sym, ap, _∙_, subst}
-use mathlib.Core.Logic.{inl, inr}
-use mathlib.Core.List.{List, [], _∷_, _++_}
+use Prim.Native.Nat.{ℕ, _<_}
+use mathlib.Core.Path.{_≡_, sym, ap, _∙_}
+use mathlib.Core.List.{List, []}
 use lib.ListN.{getD, length, drop}
 use lib.Seq.{drop-append-seam}
-use Rattle.model.specs.Record.{Rec, unit}
+use Rattle.model.specs.Record.{Rec}
 use Rattle.model.specs.Log.{sumTo, count}
 use Rattle.model.specs.Replay.{replayFrom, replay}
 use Rattle.model.specs.Table.{tableBytes}
-use Rattle.log_laws.specs.Members.{Has, Agree}
-use Rattle.log_laws.specs.Sound.{Sound}
+use Rattle.log_laws.specs.Members.{Agree}
 use Rattle.log_laws.proofs.Sums.{sumTo-eq}
 use Rattle.log_laws.proofs.Counts.{length-counts, unit-of, sound-front}
 use Rattle.log_laws.proofs.Same.{same}
 use Rattle.fold_laws.specs.OnBase.{countOn}
-use Rattle.fold_laws.specs.Worlds.{Store, heldOf, World, Kept, Inv}
+use Rattle.fold_laws.specs.Worlds.{Store, heldOf, World, Inv}
 use Rattle.fold_laws.proofs.Worlds.{counts-held, replay-held}
 
 module _ (w : World) (i : Inv w) (g : Agree (w .used) (w .used)) (a b : ℕ)

@@ -2,22 +2,21 @@
 -- Assumes nothing.
 use Prim.Native.Nat.{ℕ, zero, suc, _+_, _≤_, _<_}
 use native.Mathlib.Omega.{arith}
-use mathlib.Core.Path.{_≡_, refl, sym, ap, _∙_, subst}
-use mathlib.Core.Logic.{_⊎_, inl, inr, ⊎-elim}
-use mathlib.Core.Bool.{Bool, true, false, cond}
+use mathlib.Core.Path.{_≡_, sym, ap, _∙_, subst}
+use mathlib.Core.Logic.{_⊎_, inl, inr}
+use mathlib.Core.Bool.{true, false, cond}
 use mathlib.Core.List.{List, [], _∷_, _++_}
-use lib.ListN.{getD, take, drop, take-append-drop}
-use Rattle.model.specs.Record.{Rec, unit, num, seen}
+use lib.ListN.{take, drop, take-append-drop}
+use Rattle.model.specs.Record.{Rec, unit}
 use Rattle.model.specs.Log.{count}
 use Rattle.model.specs.Replay.{Tree, emptyTree, step, replayFrom, replay}
 use Rattle.byte_slice.proofs.Numbers.{bool-cases}
-use Rattle.log_laws.specs.Sound.{Sound}
 use Rattle.log_laws.proofs.Formed.{well-unit}
 use Rattle.log_laws.proofs.Counts.{count-nil, count-own, count-plus, sound-front}
 use Rattle.tree_laws.specs.Trees.{trim, SoundTree}
 use Rattle.tree_laws.proofs.Trees.{Wider, sound-wider, sound-step, sound-empty, sound-trim}
 use Rattle.fold_laws.specs.OnBase.{noCounts, countOn, vectorOn, soundAfter}
-use Rattle.fold_laws.specs.Sound.{NextOn, SoundOn, Counts}
+use Rattle.fold_laws.specs.Sound.{NextOn, SoundOn}
 use Rattle.fold_laws.specs.Fold.{heardRun, countsAsBase, longest, runOf}
 use Rattle.fold_laws.specs.Worlds.{Store, Kept}
 use Rattle.fold_laws.proofs.Prefix.{onto, onto-count, shed, shed-on, on-none}

@@ -1,27 +1,26 @@
 -- Why 27 never strikes in a meeting: what is folded was heard of by every unit that acts.
 -- Assumes nothing.
-use Prim.Native.Nat.{ℕ, zero, suc, _+_, _≤_, _<_}
+use Prim.Native.Nat.{ℕ, zero, suc, _≤_, _<_}
 use native.Mathlib.Omega.{arith}
 use mathlib.Core.Path.{_≡_, refl, sym, ap, _∙_, subst}
 use mathlib.Core.Logic.{_⊎_, inl, inr, ⊎-elim}
-use mathlib.Core.Bool.{Bool, true, false, cond, not, _&&_, _||_}
+use mathlib.Core.Bool.{Bool, true, false, cond, not, _||_}
 use mathlib.Core.Option.{Option, none, some}
-use mathlib.Core.List.{List, [], _∷_, _++_}
+use mathlib.Core.List.{List, [], _∷_}
 use lib.Dec.{leb, eqb}
-use lib.ListN.{getD, length, take, set}
+use lib.ListN.{getD, take, set}
 use lib.Seq.{getD-set-same, getD-set-other}
-use borrow.Author.Tests.{eqb-true, eqb-false, eq-eqb, ne-eqb, leb-true}
+use borrow.Author.Tests.{eqb-true, ne-eqb, leb-true}
 use Rattle.model.specs.Record.{Rec, unit, num, seen, seenVector, wellFormed}
-use Rattle.model.specs.Log.{count, allTo}
+use Rattle.model.specs.Log.{count}
+use Rattle.model.specs.Replay.{Tree}
 use Rattle.byte_slice.proofs.Numbers.{lt-or-ge, eq-or-ne, bool-cases}
 use Rattle.log_laws.specs.Members.{Has, Sub, Agree}
 use Rattle.log_laws.specs.Sound.{Sound}
 use Rattle.log_laws.proofs.Formed.{well-unit, well-own}
-use Rattle.log_laws.proofs.Counts.{formed, number-held, find-held, seen-within}
+use Rattle.log_laws.proofs.Counts.{number-held, find-held, seen-within}
 use Rattle.log_laws.proofs.Tests.{seenVector-getD, seenVector-length, allTo-at}
-use Rattle.fold_laws.specs.OnBase.{vectorOn}
 use Rattle.fold_laws.specs.Lists.{isListed}
-use Rattle.model.specs.Replay.{Tree}
 use Rattle.fold_laws.specs.Fold.{lastOf, heardFrom, heardBy, heardByAll, heardRun, countsAsBase, longest, runOf}
 use Rattle.fold_laws.specs.Heard.{Heard, Made, Behind}
 

@@ -1,15 +1,15 @@
 -- All records held: those folded, then those of the log. What the base vector says, and where a new record goes.
 -- Assumes nothing.
-use Prim.Native.Nat.{ℕ, suc, _+_, _≤_, _<_}
+use Prim.Native.Nat.{ℕ, _+_, _<_}
 use native.Mathlib.Omega.{arith}
 use mathlib.Core.Path.{_≡_, refl, ap, _∙_, subst}
-use mathlib.Core.Logic.{_⊎_, inl, inr, ⊎-elim}
+use mathlib.Core.Logic.{inl, inr, ⊎-elim}
 use mathlib.Core.List.{List, [], _∷_, _++_}
 use lib.ListN.{getD}
-use Rattle.model.specs.Record.{Rec, unit, num, seen}
+use Rattle.model.specs.Record.{Rec, unit}
 use Rattle.model.specs.Log.{rank, insert, count}
 use Rattle.log_laws.specs.Members.{Has}
-use Rattle.log_laws.specs.Sound.{Next, SoundAfter, Sound, Joins}
+use Rattle.log_laws.specs.Sound.{SoundAfter, Sound, Joins}
 use Rattle.log_laws.proofs.Formed.{well-unit}
 use Rattle.log_laws.proofs.Members.{has-append, append-has}
 use Rattle.log_laws.proofs.Counts.{count-nil, count-plus, count-append, sound-front, seen-within, covering-above}

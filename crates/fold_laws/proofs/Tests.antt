@@ -1,20 +1,19 @@
 -- The tests of a log on a base and the facts that they decide.
 -- Assumes nothing.
-use Prim.Native.Nat.{ℕ, zero, suc, _+_, _≤_, _<_}
+use Prim.Native.Nat.{ℕ, zero, suc, _≤_, _<_}
 use native.Mathlib.Omega.{arith}
 use mathlib.Core.Path.{_≡_, refl, sym, ap, _∙_}
 use mathlib.Core.Logic.{_⊎_, inl, inr, ⊎-elim}
-use mathlib.Core.Bool.{Bool, true, false, cond, _&&_}
+use mathlib.Core.Bool.{Bool, true, false, cond}
 use mathlib.Core.Option.{Option, none, some}
-use mathlib.Core.List.{List, [], _∷_, _++_}
+use mathlib.Core.List.{List, [], _∷_}
 use lib.Dec.{leb, eqb}
 use lib.ListN.{getD, length, length-append, List·getD-append}
 use lib.Seq.{getD-at}
 use borrow.Author.Tests.{eqb-true, eq-eqb, lt-leb}
 use Rattle.model.specs.Bytes.{blank}
-use Rattle.model.specs.Vector.{covers}
 use Rattle.model.specs.Record.{Rec, unit, num, seen, seenVector, wellFormed}
-use Rattle.model.specs.Log.{byId, allTo, nowhereAbove, rises}
+use Rattle.model.specs.Log.{byId, nowhereAbove}
 use Rattle.byte_slice.proofs.Numbers.{lt-or-ge, bool-cases, true-and}
 use Rattle.byte_slice.proofs.Compare.{blank-getD}
 use Rattle.vector.proofs.Dominance.{covers-at, all-covers}
@@ -23,7 +22,7 @@ use Rattle.log_laws.proofs.Formed.{well-unit}
 use Rattle.log_laws.proofs.Ids.{byId-some, agree-byId}
 use Rattle.log_laws.proofs.Tests.{seenVector-getD, above-test, above-from, allTo-at, allTo-all, rises-test}
 use Rattle.fold_laws.specs.OnBase.{noCounts, countOn, countsOnTo, vectorOn, isNext, isWithin, isClosed, recordFault, soundAfter}
-use Rattle.fold_laws.specs.Sound.{NextOn, SoundOn}
+use Rattle.fold_laws.specs.Sound.{SoundOn}
 
 -- ---- the held vector
 

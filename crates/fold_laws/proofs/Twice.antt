@@ -2,18 +2,18 @@
 -- Assumes nothing.
 use Prim.Native.Nat.{ℕ, zero, suc, _+_, _≤_, _<_}
 use native.Mathlib.Omega.{arith}
-use mathlib.Core.Path.{_≡_, refl, sym, ap, ap₂, _∙_, subst}
+use mathlib.Core.Path.{_≡_, refl, sym, ap, ap₂, _∙_}
 use mathlib.Core.Logic.{_⊎_, inl, inr, ⊎-elim}
-use mathlib.Core.Bool.{Bool, true, false, cond, not, _&&_, _||_}
+use mathlib.Core.Bool.{true, false, cond, not, _&&_, _||_}
 use mathlib.Core.Option.{Option, none, some}
 use mathlib.Core.List.{List, [], _∷_, _++_}
-use lib.Dec.{leb, eqb}
+use lib.Dec.{leb}
 use lib.ListN.{getD, length, take, drop, take-append-drop}
 use lib.Seq.{take-add}
 use borrow.Author.Tests.{eq-eqb, ne-eqb, leb-true, le-leb}
-use Rattle.model.specs.Record.{Rec, unit, num, seen}
-use Rattle.model.specs.Log.{count, allTo}
-use Rattle.model.specs.Replay.{Entry, Aside, Tree, presentOnes, replayFrom}
+use Rattle.model.specs.Record.{Rec, unit, num}
+use Rattle.model.specs.Log.{count}
+use Rattle.model.specs.Replay.{Entry, Aside, Tree, replayFrom}
 use Rattle.byte_slice.proofs.Numbers.{eq-or-ne, lt-or-ge, bool-cases}
 use Rattle.log_laws.specs.Members.{Has}
 use Rattle.log_laws.proofs.Tests.{allTo-at, allTo-all}
@@ -90,7 +90,7 @@ run-drop m u v all (x ∷ l) (suc n) h = go (bool-cases (heardByAll m u v all x)
     go (inl e) f = let k : suc n ≤ suc (heardRun m u v all l) = rw e at h in rw e (omega (arith, f (omega arith)))
     go (inr e) f = let k : suc n ≤ 0 = rw e at h in absurd (omega arith)
 
-longest-beyond : (t : Tree) (l : List Rec) (h k : ℕ) → longest t l h < k → k ≤ h → countsAsBase t l k ≡ false
+pub longest-beyond : (t : Tree) (l : List Rec) (h k : ℕ) → longest t l h < k → k ≤ h → countsAsBase t l k ≡ false
 unfolding longest
 longest-beyond t l zero k a b = absurd (omega arith)
 longest-beyond t l (suc h) k a b = go (bool-cases (countsAsBase t l (suc h))) (λ c d. longest-beyond t l h k c d)

@@ -1,16 +1,16 @@
 -- Every world that accepted calls leave: the base stands for the folded records, and what is folded every acting unit has heard of.
 -- Assumes nothing.
-use Prim.Native.Nat.{ℕ, zero, suc, _+_, _≤_, _<_}
+use Prim.Native.Nat.{ℕ, _+_, _≤_, _<_}
 use native.Mathlib.Omega.{arith}
 use mathlib.Core.Path.{_≡_, refl, sym, ap, _∙_, subst}
 use mathlib.Core.Logic.{_⊎_, inl, inr, ⊎-elim}
-use mathlib.Core.Bool.{Bool, true, false, cond, _||_}
+use mathlib.Core.Bool.{true, false, _||_}
 use mathlib.Core.List.{List, [], _∷_, _++_, append-assoc}
 use lib.Dec.{eqb}
 use lib.ListN.{getD, length, take, drop, length-append, take-append-drop, length-drop}
 use borrow.Author.Tests.{eqb-true, eqb-false, ne-eqb}
 use Rattle.model.specs.Record.{Rec, unit, num, seen, wellFormed}
-use Rattle.model.specs.Log.{rank, count, insert}
+use Rattle.model.specs.Log.{count, insert}
 use Rattle.model.specs.Replay.{Tree, emptyTree, presentOnes, replayFrom, replay}
 use Rattle.model.specs.Table.{tableBytes}
 use Rattle.byte_slice.proofs.Numbers.{lt-or-ge, cond-cases, and-true}
@@ -22,11 +22,11 @@ use Rattle.log_laws.proofs.Counts.{count-nil, count-append, sound-front, formed
 use Rattle.log_laws.proofs.Insert.{insert-last}
 use Rattle.log_laws.proofs.Tests.{allTo-at}
 use Rattle.tree_laws.specs.Trees.{trim}
-use Rattle.fold_laws.specs.OnBase.{noCounts, countOn, vectorOn}
-use Rattle.fold_laws.specs.Sound.{JoinsOn, Counts}
+use Rattle.fold_laws.specs.OnBase.{countOn, vectorOn}
+use Rattle.fold_laws.specs.Sound.{JoinsOn}
 use Rattle.fold_laws.specs.Lists.{isListed, listsAll, listFits}
 use Rattle.fold_laws.specs.Fold.{countsAsBase}
-use Rattle.fold_laws.specs.Heard.{Heard, Made, Behind}
+use Rattle.fold_laws.specs.Heard.{Made, Behind}
 use Rattle.fold_laws.specs.Worlds.{Store, fresh, heldOf, withLog, run, foldedBy, World, Event, starts, acts, takes, folds, at, changes, uses, putStore, after, Accepted, Names, Keeps, Kept, Inv, Back, Own}
 use Rattle.tree_laws.proofs.Trimming.{from-base, shown-from-base}
 use Rattle.fold_laws.proofs.Prefix.{shed, sound-all}

@@ -1,13 +1,12 @@
 -- The plain machine on records: what each unit has in its list, base and log, the records that it has folded, and the records used.
 -- Assumes nothing.
-use Prim.Native.Nat.{ℕ, zero, suc, _+_, _≤_, _<_}
+use Prim.Native.Nat.{ℕ, _+_, _≤_, _<_}
 use mathlib.Core.Path.{_≡_}
-use mathlib.Core.Bool.{Bool, true, false, cond}
+use mathlib.Core.Bool.{true, cond}
 use mathlib.Core.List.{List, [], _∷_, _++_}
 use lib.Dec.{eqb}
-use lib.ListN.{getD, length, take, drop}
-use Rattle.model.specs.Record.{Rec, unit, num, seen, wellFormed}
-use Rattle.model.specs.Log.{count}
+use lib.ListN.{length, take, drop}
+use Rattle.model.specs.Record.{Rec, unit, seen, wellFormed}
 use Rattle.model.specs.Replay.{Tree, emptyTree, replayFrom, replay}
 use Rattle.model.specs.Outcome.{taken}
 use Rattle.log_laws.specs.Members.{Has, Sub}
