@@ -79,10 +79,10 @@ module _ (A B₀ used : List Rec) (sA : Sound A) (agree : Agree used used) (inA 
     B = p ++ l
 
     i : Has r A
-    i = Ways.i A B₀ used sA agree inA B acc r rs (w .way)
+    i = Ways.passed A B₀ used sA agree inA B acc r rs (w .way)
 
     fr : wellFormed r ≡ true
-    fr = Ways.fr A B₀ used sA agree inA B acc r rs (w .way)
+    fr = Ways.well A B₀ used sA agree inA B acc r rs (w .way)
 
     -- r is new
     module _ (new : (t : Rec) → Has t B → unit t ≡ unit r → num t ≡ num r → ⊥) where

@@ -1,7 +1,7 @@
 -- Records of one log, taken one after another: if the lacked ones first come in rising rank and none is missing, each is
 -- taken, and in the end the taker covers the log.
 -- Assumes nothing.
-use Prim.Native.Nat.{ℕ, _≤_, _<_, max}
+use Prim.Native.Nat.{ℕ, _≤_, max}
 use native.Mathlib.Omega.{arith}
 use mathlib.Core.Path.{_≡_, _∙_}
 use mathlib.Core.Logic.{_⊎_, inl, inr}
@@ -26,7 +26,7 @@ module _ (A B₀ used : List Rec) (sA : Sound A) (agree : Agree used used) (inA 
   way-one B acc r rs w = go (Ways.way-cases A B₀ used sA agree inA B acc r rs w)
     where
       go : Has r B ⊎ ((t : Rec) → Has t B → unit t ≡ unit r → num t ≡ num r → ⊥) → (m : List Rec) × (acc′ : List Rec) × (takeOne B r ≡ taken m) × Way m acc′ rs
-      go (inl h) = (B, acc, take-held B r (Ways.fr A B₀ used sA agree inA B acc r rs w) (held-byId B r (w .sound) h), Ways.way-pass A B₀ used sA agree inA B acc r rs w h)
+      go (inl h) = (B, acc, take-held B r (Ways.well A B₀ used sA agree inA B acc r rs w) (held-byId B r (w .sound) h), Ways.way-pass A B₀ used sA agree inA B acc r rs w h)
       go (inr d) = (
         insert r B,
         r ∷ acc,

@@ -74,11 +74,12 @@ module _ (A B₀ used : List Rec) (sA : Sound A) (agree : Agree used used) (inA 
           h)
 
   module _ (B acc : List Rec) (r : Rec) (rs : List Rec) (w : Way B acc (r ∷ rs)) where
-    pub i : Has r A
-    i = w .part r (inl refl)
+    -- r is a record of A
+    pub passed : Has r A
+    passed = w .part r (inl refl)
 
-    pub fr : wellFormed r ≡ true
-    fr = formed [] A r sA i
+    pub well : wellFormed r ≡ true
+    well = formed [] A r sA passed
 
     -- r is new
     module _ (new : (t : Rec) → Has t B → unit t ≡ unit r → num t ≡ num r → ⊥) where
@@ -106,7 +107,7 @@ module _ (A B₀ used : List Rec) (sA : Sound A) (agree : Agree used used) (inA 
               firsts-has rs (r ∷ acc) s (λ x q. w .part x (inr q)) h
               (λ t q a b.
               ⊎-elim
-              (λ (z : t ≡ r). let y : s ≡ r = agree s r (inA s j) (inA r i) (sym a ∙ ap unit z) (sym b ∙ ap num z) in omega (arith, ap rank y))
+              (λ (z : t ≡ r). let y : s ≡ r = agree s r (inA s j) (inA r passed) (sym a ∙ ap unit z) (sym b ∙ ap num z) in omega (arith, ap rank y))
               (λ q′. d t (w .of-acc t q′) a b)
               q) in
               absurd (omega (arith, up .0 s f)))
@@ -116,7 +117,7 @@ module _ (A B₀ used : List Rec) (sA : Sound A) (agree : Agree used used) (inA 
       have u k =
           ⊎-elim
           (λ p.
-          let s = saw A r sA i u k p in
+          let s = saw A r sA passed u k p in
           let h : Has (s .it) B = lower-held (s .it) (s .in-log) (s .below) in
           let n : num (s .it) ≤ count u B = rw (s .of-unit) at (number-held B (s .it) (w .sound) h) in
           omega (arith, s .numbered))
@@ -127,13 +128,13 @@ module _ (A B₀ used : List Rec) (sA : Sound A) (agree : Agree used used) (inA 
       not-more =
           ⊎-elim
           (λ p. p)
-          (λ p. let (t, h, a, b) = find-held B (unit r) (num r) (w .sound) (omega (arith, well-own r fr)) p in absurd (new t h a b))
+          (λ p. let (t, h, a, b) = find-held B (unit r) (num r) (w .sound) (omega (arith, well-own r well)) p in absurd (new t h a b))
           (lt-or-ge (count (unit r) B) (num r))
 
       shut : (s : Rec) → Has s B → num s ≡ seen r (unit s) → (v : ℕ) → v < 8 → seen s v ≤ seen r v
       shut s h n v k =
           let fs = formed [] B s (w .sound) h in
-          let t = saw A r sA i (unit s) (well-unit s fs) (omega (arith, well-own s fs)) in
+          let t = saw A r sA passed (unit s) (well-unit s fs) (omega (arith, well-own s fs)) in
           let z : t .it ≡ s = agree (t .it) s (inA (t .it) (t .in-log)) (w .from s h) (t .of-unit) (t .numbered ∙ sym n) in
           subst (λ (x : Rec). seen x v ≤ seen r v) z (t .inside v k)
 
@@ -141,8 +142,8 @@ module _ (A B₀ used : List Rec) (sA : Sound A) (agree : Agree used used) (inA 
       pub joins : Joins [] B r
       joins =
           record {
-            formed = fr;
-            next = omega (arith, have (unit r) (well-unit r fr), not-more, well-own r fr, count-nil (unit r));
+            formed = well;
+            next = omega (arith, have (unit r) (well-unit r well), not-more, well-own r well, count-nil (unit r));
             within = λ u k. omega (arith, have u k, count-nil u);
             closed = λ s q n. ⊎-elim (λ x. absurd x) (λ x. shut s x n) q;
           }
@@ -154,7 +155,7 @@ module _ (A B₀ used : List Rec) (sA : Sound A) (agree : Agree used used) (inA 
       counts-one u k =
           ⊎-elim
           (λ a.
-          let n : num r ≤ count u A = subst (λ (x : ℕ). num r ≤ count x A) (a .0) (number-held A r sA i) in
+          let n : num r ≤ count u A = subst (λ (x : ℕ). num r ≤ count x A) (a .0) (number-held A r sA passed) in
           let m : num r ≡ suc (count (unit r) B) = omega (arith, joins .next, count-nil (unit r)) in
           let m′ : num r ≡ suc (count u B) = subst (λ (x : ℕ). num r ≡ suc (count x B)) (a .0) m in
           omega (arith, count-insert u r B))
@@ -175,7 +176,7 @@ module _ (A B₀ used : List Rec) (sA : Sound A) (agree : Agree used used) (inA 
             sound = sound-one;
             in-acc = λ x h. ⊎-elim (λ q. inl q) (λ q. inr (w .in-acc x q)) (has-insert r B x h);
             of-acc = λ x h. insert-has r B x (⊎-elim (λ q. inl q) (λ q. inr (w .of-acc x q)) h);
-            from = λ x h. ⊎-elim (λ (q : x ≡ r). rw q (inA r i)) (λ q. w .from x q) (has-insert r B x h);
+            from = λ x h. ⊎-elim (λ (q : x ≡ r). rw q (inA r passed)) (λ q. w .from x q) (has-insert r B x h);
             part = λ x h. w .part x (inr h);
             rising = up .1;
             all = λ x h d.
@@ -205,7 +206,7 @@ module _ (A B₀ used : List Rec) (sA : Sound A) (agree : Agree used used) (inA 
     way-cases = go (holds-cases B r)
       where
         go : Held B r → Has r B ⊎ ((t : Rec) → Has t B → unit t ≡ unit r → num t ≡ num r → ⊥)
-        go (inl (t, e, h, a, b)) = inl (held-same B r t (w .from) i h a b)
+        go (inl (t, e, h, a, b)) = inl (held-same B r t (w .from) passed h a b)
         go (inr (e, d)) = inr d
 
   -- all are put in: the taker covers
