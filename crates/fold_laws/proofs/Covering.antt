@@ -4,14 +4,13 @@ use Prim.Native.Nat.{ℕ, zero, suc, _≤_, _<_}
 use native.Mathlib.Omega.{arith}
 use mathlib.Core.Path.{_≡_, refl, sym, ap, _∙_, subst}
 use mathlib.Core.Logic.{_⊎_, inl, inr, ⊎-elim}
-use mathlib.Core.Bool.{Bool, true, false, cond, not, _||_}
+use mathlib.Core.Bool.{Bool, true, false, cond}
 use mathlib.Core.Option.{Option, none, some}
 use mathlib.Core.List.{List, [], _∷_}
-use lib.Dec.{leb, eqb}
-use lib.ListN.{getD, take, set}
-use lib.Seq.{getD-set-same, getD-set-other}
-use borrow.Author.Tests.{eqb-true, ne-eqb, leb-true}
-use Rattle.model.specs.Record.{Rec, unit, num, seen, seenVector, wellFormed}
+use lib.Dec.{eqb}
+use lib.ListN.{getD, take}
+use borrow.Author.Tests.{eqb-true}
+use Rattle.model.specs.Record.{Rec, unit, num, seen, wellFormed}
 use Rattle.model.specs.Log.{count}
 use Rattle.model.specs.Replay.{Tree}
 use Rattle.byte_slice.proofs.Numbers.{lt-or-ge, eq-or-ne, bool-cases}
@@ -19,10 +18,10 @@ use Rattle.log_laws.specs.Members.{Has, Sub, Agree}
 use Rattle.log_laws.specs.Sound.{Sound}
 use Rattle.log_laws.proofs.Formed.{well-unit, well-own}
 use Rattle.log_laws.proofs.Counts.{number-held, find-held, seen-within}
-use Rattle.log_laws.proofs.Tests.{seenVector-getD, seenVector-length, allTo-at}
 use Rattle.fold_laws.specs.Lists.{isListed}
-use Rattle.fold_laws.specs.Fold.{lastOf, heardFrom, heardBy, heardByAll, heardRun, countsAsBase, longest, runOf}
+use Rattle.fold_laws.specs.Fold.{lastOf, heardFrom, heardByAll, heardRun, countsAsBase, longest, runOf}
 use Rattle.fold_laws.specs.Heard.{Heard, Made, Behind}
+use Rattle.fold_laws.proofs.Hearing.{heard-other, heard-counted, heard-seen, heard-none, all-heard}
 
 -- what a unit saw never falls
 pub saw-more : (used : List Rec) → Agree used used → (s r : Rec) → Has s used → Made used r → wellFormed s ≡ true → wellFormed r ≡ true
@@ -87,24 +86,19 @@ last-has w (r ∷ l) s e = go (lastOf w l) refl e (λ z. last-has w l s z)
 -- heard by all: of each listed unit but the own one a record in the log has heard of it
 pub heard-some : (m u : ℕ) (v : List ℕ) (l : List Rec) (q : Rec) → getD v (unit q) 0 < num q → unit q < 8 → heardByAll m u v l q ≡ true
     → (w : ℕ) → w < 8 → isListed m w ≡ true → (w ≡ u → ⊥) → (s : Rec) × Has s l × (unit s ≡ w) × Heard q s
-unfolding heardByAll heardBy heardFrom
 heard-some m u v l q n q8 e w k lw d =
-    let t : (not (isListed m w) || leb (num q) (getD (heardBy u v l w) (unit q) 0)) ≡ true =
-    allTo-at 8 (λ (x : ℕ). not (isListed m x) || leb (num q) (getD (heardBy u v l x) (unit q) 0)) e w k in
-    go (lastOf w l) refl (leb-true (num q) (getD (heardFrom v (lastOf w l)) (unit q) 0) (rw (lw, ne-eqb w u d) at t))
+    go (lastOf w l) refl (subst (λ (x : List ℕ). num q ≤ getD x (unit q) 0) (heard-other u v l w d) (all-heard m u v l q e w k lw))
   where
     go : (o : Option Rec) → lastOf w l ≡ o → num q ≤ getD (heardFrom v (lastOf w l)) (unit q) 0 → (s : Rec) × Has s l × (unit s ≡ w) × Heard q s
-    go none z h = let y : num q ≤ getD v (unit q) 0 = rw z at h in absurd (omega arith)
+    go none z h = let y : num q ≤ getD (heardFrom v none) (unit q) 0 = rw z at h in absurd (omega (arith, heard-none v (unit q)))
     go (some s) z h =
         let (i, a) = last-has w l s z in
-        let y : num q ≤ getD (set (seenVector s) (unit s) (num s)) (unit q) 0 = rw z at h in
+        let y : num q ≤ getD (heardFrom v (some s)) (unit q) 0 = rw z at h in
         ⊎-elim
         (λ (x : unit q ≡ unit s).
-        let c : getD (set (seenVector s) (unit s) (num s)) (unit q) 0 ≡ num s = rw x (getD-set-same (seenVector s) (unit s) (num s) 0 (omega (arith, seenVector-length s))) in
+        let c : getD (heardFrom v (some s)) (unit q) 0 ≡ num s = rw x (heard-counted v s (omega arith)) in
         (s, i, a, inr (x, omega arith)))
-        (λ (x : unit q ≡ unit s → ⊥).
-        let c : getD (set (seenVector s) (unit s) (num s)) (unit q) 0 ≡ seen s (unit q) = getD-set-other (seenVector s) (unit s) (unit q) (num s) 0 x ∙ seenVector-getD s (unit q) q8 in
-        (s, i, a, inl (omega arith)))
+        (λ (x : unit q ≡ unit s → ⊥). (s, i, a, inl (omega (arith, heard-seen v s (unit q) q8 x))))
         (eq-or-ne (unit q) (unit s))
 
 run-heard : (m u : ℕ) (v : List ℕ) (all l : List Rec) (n : ℕ) → n ≤ heardRun m u v all l → (q : Rec) → Has q (take n l) → heardByAll m u v all q ≡ true

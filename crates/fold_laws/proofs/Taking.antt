@@ -9,7 +9,7 @@ use mathlib.Core.Option.{Option, none, some}
 use mathlib.Core.List.{List, [], _∷_, _++_}
 use lib.Dec.{ltb, leb}
 use lib.ListN.{getD, length}
-use borrow.Author.Tests.{ltb-true}
+use borrow.Author.Tests.{ltb-true, le-leb, lt-leb, lt-ltb}
 use Rattle.model.specs.Numbers.{malformed, notNext, notClosed, otherBytes, fullLog}
 use Rattle.model.specs.Bytes.{sameBytes}
 use Rattle.model.specs.Vector.{covers}
@@ -17,7 +17,8 @@ use Rattle.model.specs.Record.{Rec, unit, num, seenVector, wellFormed}
 use Rattle.model.specs.Log.{insert, byId}
 use Rattle.model.specs.Outcome.{Took, refused, taken}
 use Rattle.byte_slice.proofs.Numbers.{cond-cases, and-true}
-use Rattle.vector.proofs.Dominance.{covers-at}
+use Rattle.byte_slice.proofs.Compare.{same-refl}
+use Rattle.vector.proofs.Dominance.{covers-at, all-covers}
 use Rattle.log_laws.specs.Members.{Has, Sub}
 use Rattle.log_laws.specs.Sound.{Sound}
 use Rattle.log_laws.proofs.Members.{append-has}
@@ -31,7 +32,41 @@ use Rattle.fold_laws.specs.Sound.{JoinsOn, Counts}
 use Rattle.fold_laws.specs.Lists.{isListed}
 use Rattle.fold_laws.specs.Taking.{unlisted, belowBase, takeNew, takeHeld, takeOne, takeAll}
 use Rattle.fold_laws.proofs.Prefix.{shed, sound-all}
-use Rattle.fold_laws.proofs.Tests.{above-base, next-from, within-from, closed-from}
+use Rattle.fold_laws.proofs.Tests.{above-base, next-test, next-from, within-test, within-from, closed-test, closed-from}
+
+-- ---- records that are taken
+
+-- a folded record is passed over
+pub take-folded : (m : ℕ) (v : List ℕ) (l : List Rec) (r : Rec) → wellFormed r ≡ true → isListed m (unit r) ≡ true → num r ≤ getD v (unit r) 0 → takeOne m v l r ≡ taken l
+unfolding takeOne
+take-folded m v l r f a b = rw (f, a, le-leb (num r) (getD v (unit r) 0) b)
+
+-- a record that may join is taken
+pub take-new : (m : ℕ) (v : List ℕ) (l : List Rec) (r : Rec) → isListed m (unit r) ≡ true → getD v (unit r) 0 < num r → byId (unit r) (num r) l ≡ none → JoinsOn v l r → length l < 512
+    → takeOne m v l r ≡ taken (insert r l)
+unfolding takeOne takeHeld takeNew
+take-new m v l r a b e j k =
+    rw (
+      j .formed,
+      a,
+      lt-leb (num r) (getD v (unit r) 0) b,
+      e,
+      next-test v l r (j .next),
+      within-test v l r (j .within),
+      all-covers (seenVector r) v (λ u n. omega (arith, seenVector-getD r u n, j .covering u n)),
+      closed-test v l r (j .closed),
+      lt-ltb (length l) 512 k,
+    )
+
+pub take-held : (m : ℕ) (v : List ℕ) (l : List Rec) (r : Rec) → wellFormed r ≡ true → isListed m (unit r) ≡ true → getD v (unit r) 0 < num r → byId (unit r) (num r) l ≡ some r → takeOne m v l r ≡ taken l
+unfolding takeOne takeHeld
+take-held m v l r f a b e = rw (f, a, lt-leb (num r) (getD v (unit r) 0) b, e, same-refl r)
+
+pub takeAll-goes : (m : ℕ) (v : List ℕ) (l : List Rec) (r : Rec) (rs k : List Rec) → takeOne m v l r ≡ taken k → takeAll m v l (r ∷ rs) ≡ takeAll m v k rs
+unfolding takeAll
+takeAll-goes m v l r rs k e = rw (e, takeAll)
+
+-- ---- what a taken record was
 
 -- a record that is taken was passed over or compared, or is new
 one-from : (m : ℕ) (v : List ℕ) (l : List Rec) (r : Rec) (k : List Rec) → takeOne m v l r ≡ taken k → (k ≡ l) ⊎ ((wellFormed r ≡ true) × (isListed m (unit r) ≡ true) × (takeNew v l r ≡ taken k))

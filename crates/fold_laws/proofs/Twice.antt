@@ -2,28 +2,26 @@
 -- Assumes nothing.
 use Prim.Native.Nat.{ℕ, zero, suc, _+_, _≤_, _<_}
 use native.Mathlib.Omega.{arith}
-use mathlib.Core.Path.{_≡_, refl, sym, ap, ap₂, _∙_}
+use mathlib.Core.Path.{_≡_, refl, sym, ap, ap₂, _∙_, subst}
 use mathlib.Core.Logic.{_⊎_, inl, inr, ⊎-elim}
-use mathlib.Core.Bool.{true, false, cond, not, _&&_, _||_}
+use mathlib.Core.Bool.{true, false, cond, _&&_}
 use mathlib.Core.Option.{Option, none, some}
 use mathlib.Core.List.{List, [], _∷_, _++_}
 use lib.Dec.{leb}
 use lib.ListN.{getD, length, take, drop, take-append-drop}
 use lib.Seq.{take-add}
-use borrow.Author.Tests.{eq-eqb, ne-eqb, leb-true, le-leb}
 use Rattle.model.specs.Record.{Rec, unit, num}
 use Rattle.model.specs.Log.{count}
 use Rattle.model.specs.Replay.{Entry, Aside, Tree, replayFrom}
 use Rattle.byte_slice.proofs.Numbers.{eq-or-ne, lt-or-ge, bool-cases}
 use Rattle.log_laws.specs.Members.{Has}
-use Rattle.log_laws.proofs.Tests.{allTo-at, allTo-all}
 use Rattle.fold_laws.specs.OnBase.{countOn, vectorOn}
-use Rattle.fold_laws.specs.Lists.{isListed}
-use Rattle.fold_laws.specs.Fold.{lastOf, heardFrom, heardBy, heardByAll, heardRun, countsAsBase, longest, runOf}
+use Rattle.fold_laws.specs.Fold.{lastOf, heardFrom, heardByAll, heardRun, countsAsBase, longest, runOf}
 use Rattle.log_laws.proofs.Counts.{count-append}
 use Rattle.tree_laws.specs.Trees.{trim}
 use Rattle.tree_laws.proofs.Settling.{replay-append}
 use Rattle.tree_laws.proofs.Trimming.{replay-alike, trim-again}
+use Rattle.fold_laws.proofs.Hearing.{heard-self, heard-other, heard-last, heard-none, all-heard, heard-all}
 use Rattle.fold_laws.proofs.Covering.{longest-most}
 use Rattle.fold_laws.proofs.Tests.{vectorOn-getD}
 
@@ -47,27 +45,22 @@ module _ (m u : ℕ) (v : List ℕ) (l : List Rec) (n : ℕ) where
 
   -- what was heard by all then was heard by all before
   heard-before : (q : Rec) → unit q < 8 → getD v′ (unit q) 0 < num q → heardByAll m u v′ l′ q ≡ true → heardByAll m u v l q ≡ true
-  unfolding heardByAll heardBy heardFrom
   heard-before q b above e =
-      allTo-all 8 (λ (w : ℕ). not (isListed m w) || leb (num q) (getD (heardBy u v l w) (unit q) 0)) (λ w k.
-      one w (bool-cases (isListed m w)) (eq-or-ne w u) (allTo-at 8 (λ (x : ℕ). not (isListed m x) || leb (num q) (getD (heardBy u v′ l′ x) (unit q) 0)) e w k))
+      heard-all m u v l q (λ w k f.
+      let h = all-heard m u v′ l′ q e w k f in
+      ⊎-elim
+      (λ (d : w ≡ u).
+      let h′ : num q ≤ getD (vectorOn v′ l′) (unit q) 0 = rw (d, heard-self u v′ l′) at h in
+      rw (d, heard-self u v l) (omega (arith, same-vector (unit q) b)))
+      (λ (d : w ≡ u → ⊥). rw (heard-other u v l w d) (other w (lastOf w l′) refl (rw (heard-other u v′ l′ w d) at h)))
+      (eq-or-ne w u))
     where
       other : (w : ℕ) (o : Option Rec) → lastOf w l′ ≡ o → num q ≤ getD (heardFrom v′ (lastOf w l′)) (unit q) 0 → num q ≤ getD (heardFrom v (lastOf w l)) (unit q) 0
-      other w none z h = let y : num q ≤ getD v′ (unit q) 0 = rw z at h in absurd (omega arith)
+      other w none z h = let y : num q ≤ getD (heardFrom v′ none) (unit q) 0 = rw z at h in absurd (omega (arith, heard-none v′ (unit q)))
       other w (some s) z h =
           let z₂ : lastOf w l ≡ some s = ap (lastOf w) (sym (take-append-drop n l)) ∙ last-behind w (take n l) (drop n l) s z in
-          rw z₂ (rw z at h)
-
-      one : (w : ℕ) → (isListed m w ≡ true) ⊎ (isListed m w ≡ false) → (w ≡ u) ⊎ (w ≡ u → ⊥)
-          → (not (isListed m w) || leb (num q) (getD (heardBy u v′ l′ w) (unit q) 0)) ≡ true
-          → (not (isListed m w) || leb (num q) (getD (heardBy u v l w) (unit q) 0)) ≡ true
-      one w (inr f) d t = rw f
-      one w (inl f) (inl d) t =
-          let h : num q ≤ getD (vectorOn v′ l′) (unit q) 0 = leb-true (num q) (getD (vectorOn v′ l′) (unit q) 0) (rw (f, eq-eqb w u d) at t) in
-          rw (f, eq-eqb w u d) (le-leb (num q) (getD (vectorOn v l) (unit q) 0) (omega (arith, same-vector (unit q) b)))
-      one w (inl f) (inr d) t =
-          let h : num q ≤ getD (heardFrom v′ (lastOf w l′)) (unit q) 0 = leb-true (num q) (getD (heardFrom v′ (lastOf w l′)) (unit q) 0) (rw (f, ne-eqb w u d) at t) in
-          rw (f, ne-eqb w u d) (le-leb (num q) (getD (heardFrom v (lastOf w l)) (unit q) 0) (other w (lastOf w l′) refl h))
+          let y : num q ≤ getD (heardFrom v′ (some s)) (unit q) 0 = rw z at h in
+          rw z₂ (subst (λ (x : List ℕ). num q ≤ getD x (unit q) 0) (heard-last v′ v s) y)
 
   run-before : (xs : List Rec) → ((q : Rec) → Has q xs → (unit q < 8) × (getD v′ (unit q) 0 < num q)) → heardRun m u v′ l′ xs ≤ heardRun m u v l xs
   unfolding heardRun

@@ -5,15 +5,11 @@ use native.Mathlib.Omega.{arith}
 use mathlib.Core.Path.{_≡_, refl, ap, _∙_, subst}
 use mathlib.Core.Logic.{inr, ⊎-elim}
 use mathlib.Core.Bool.{true}
-use mathlib.Core.Option.{none, some}
 use mathlib.Core.List.{List, [], _∷_, _++_}
 use lib.ListN.{getD, length, length-append}
-use borrow.Author.Tests.{le-leb, lt-leb, lt-ltb}
-use Rattle.model.specs.Record.{Rec, unit, num, seen, seenVector, wellFormed}
-use Rattle.model.specs.Log.{sumTo, count, insert, byId}
+use Rattle.model.specs.Record.{Rec, unit, num, seen, wellFormed}
+use Rattle.model.specs.Log.{sumTo, count, insert}
 use Rattle.model.specs.Outcome.{taken}
-use Rattle.byte_slice.proofs.Compare.{same-refl}
-use Rattle.vector.proofs.Dominance.{all-covers}
 use Rattle.log_laws.specs.Members.{Has, Sub, Agree}
 use Rattle.log_laws.specs.Sound.{Sound}
 use Rattle.log_laws.proofs.Formed.{well-unit}
@@ -22,43 +18,14 @@ use Rattle.log_laws.proofs.Counts.{count-nil, count-append, sound-front, number
 use Rattle.log_laws.proofs.Insert.{insert-has, length-insert}
 use Rattle.log_laws.proofs.Ids.{none-byId, agree-byId}
 use Rattle.log_laws.proofs.Same.{unique}
-use Rattle.log_laws.proofs.Tests.{seenVector-getD}
 use Rattle.machine.proofs.Ways as Ways
 use Rattle.fold_laws.specs.OnBase.{countOn}
 use Rattle.fold_laws.specs.Sound.{JoinsOn, Counts}
 use Rattle.fold_laws.specs.Lists.{isListed}
-use Rattle.fold_laws.specs.Taking.{takeNew, takeHeld, takeOne, takeAll}
+use Rattle.fold_laws.specs.Taking.{takeOne, takeAll}
 use Rattle.fold_laws.proofs.Prefix.{shed, insert-all}
-use Rattle.fold_laws.proofs.Tests.{above-base, next-test, within-test, closed-test}
-
--- a record that may join is taken
-take-new : (m : ℕ) (v : List ℕ) (l : List Rec) (r : Rec) → isListed m (unit r) ≡ true → getD v (unit r) 0 < num r → byId (unit r) (num r) l ≡ none → JoinsOn v l r → length l < 512
-    → takeOne m v l r ≡ taken (insert r l)
-unfolding takeOne takeHeld takeNew
-take-new m v l r a b e j k =
-    rw (
-      j .formed,
-      a,
-      lt-leb (num r) (getD v (unit r) 0) b,
-      e,
-      next-test v l r (j .next),
-      within-test v l r (j .within),
-      all-covers (seenVector r) v (λ u n. omega (arith, seenVector-getD r u n, j .covering u n)),
-      closed-test v l r (j .closed),
-      lt-ltb (length l) 512 k,
-    )
-
-take-folded : (m : ℕ) (v : List ℕ) (l : List Rec) (r : Rec) → wellFormed r ≡ true → isListed m (unit r) ≡ true → num r ≤ getD v (unit r) 0 → takeOne m v l r ≡ taken l
-unfolding takeOne
-take-folded m v l r f a b = rw (f, a, le-leb (num r) (getD v (unit r) 0) b)
-
-take-held : (m : ℕ) (v : List ℕ) (l : List Rec) (r : Rec) → wellFormed r ≡ true → isListed m (unit r) ≡ true → getD v (unit r) 0 < num r → byId (unit r) (num r) l ≡ some r → takeOne m v l r ≡ taken l
-unfolding takeOne takeHeld
-take-held m v l r f a b e = rw (f, a, lt-leb (num r) (getD v (unit r) 0) b, e, same-refl r)
-
-takeAll-goes : (m : ℕ) (v : List ℕ) (l : List Rec) (r : Rec) (rs k : List Rec) → takeOne m v l r ≡ taken k → takeAll m v l (r ∷ rs) ≡ takeAll m v k rs
-unfolding takeAll
-takeAll-goes m v l r rs k e = rw (e, takeAll)
+use Rattle.fold_laws.proofs.Tests.{above-base}
+use Rattle.fold_laws.proofs.Taking.{take-new, take-folded, take-held, takeAll-goes}
 
 -- A: all records of the first; B₀: all that the taker holds at the point; used: records that agree, A's among them; m, v, p: the
 -- taker's list, its base vector and the records that it has folded

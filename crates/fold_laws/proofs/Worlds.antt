@@ -4,27 +4,26 @@ use Prim.Native.Nat.{ℕ, _+_, _≤_, _<_}
 use native.Mathlib.Omega.{arith}
 use mathlib.Core.Path.{_≡_, refl, sym, ap, _∙_, subst}
 use mathlib.Core.Logic.{_⊎_, inl, inr, ⊎-elim}
-use mathlib.Core.Bool.{true, false, _||_}
+use mathlib.Core.Bool.{true}
 use mathlib.Core.List.{List, [], _∷_, _++_, append-assoc}
 use lib.Dec.{eqb}
 use lib.ListN.{getD, length, take, drop, length-append, take-append-drop, length-drop}
-use borrow.Author.Tests.{eqb-true, eqb-false, ne-eqb}
+use borrow.Author.Tests.{eqb-true, eqb-false}
 use Rattle.model.specs.Record.{Rec, unit, num, seen, wellFormed}
 use Rattle.model.specs.Log.{count, insert}
 use Rattle.model.specs.Replay.{Tree, emptyTree, presentOnes, replayFrom, replay}
 use Rattle.model.specs.Table.{tableBytes}
-use Rattle.byte_slice.proofs.Numbers.{lt-or-ge, cond-cases, and-true}
+use Rattle.byte_slice.proofs.Numbers.{lt-or-ge, cond-cases}
 use Rattle.log_laws.specs.Members.{Has, Sub, Agree}
 use Rattle.log_laws.specs.Sound.{Sound}
 use Rattle.log_laws.proofs.Formed.{well-unit, well-own}
 use Rattle.log_laws.proofs.Members.{has-append, append-has, has-take}
 use Rattle.log_laws.proofs.Counts.{count-nil, count-append, sound-front, formed, unit-of, number-held, find-held, seen-within, covering-above}
 use Rattle.log_laws.proofs.Insert.{insert-last}
-use Rattle.log_laws.proofs.Tests.{allTo-at}
 use Rattle.tree_laws.specs.Trees.{trim}
 use Rattle.fold_laws.specs.OnBase.{countOn, vectorOn}
 use Rattle.fold_laws.specs.Sound.{JoinsOn}
-use Rattle.fold_laws.specs.Lists.{isListed, listsAll, listFits}
+use Rattle.fold_laws.specs.Lists.{isListed, listFits}
 use Rattle.fold_laws.specs.Fold.{countsAsBase}
 use Rattle.fold_laws.specs.Heard.{Made, Behind}
 use Rattle.fold_laws.specs.Worlds.{Store, fresh, heldOf, withLog, run, foldedBy, World, Event, starts, acts, takes, folds, at, changes, uses, putStore, after, Accepted, Names, Keeps, Kept, Inv, Back, Own}
@@ -32,6 +31,7 @@ use Rattle.tree_laws.proofs.Trimming.{from-base, shown-from-base}
 use Rattle.fold_laws.proofs.Prefix.{shed, sound-all}
 use Rattle.fold_laws.proofs.Tests.{no-counts, vectorOn-getD, above-base}
 use Rattle.fold_laws.proofs.Taking.{take-all}
+use Rattle.fold_laws.proofs.Hearing.{fits-counted}
 use Rattle.fold_laws.proofs.Twice.{counts-shift}
 use Rattle.fold_laws.proofs.Bases.{run-counts}
 use Rattle.fold_laws.proofs.Covering.{never-below, folded-behind}
@@ -111,16 +111,11 @@ same-held u m s =
 
 -- a list that fits names the units of all records held
 list-names : (used : List Rec) (u m : ℕ) (s : Store) → Kept used s → listFits m u (vectorOn (s .vector) (s .log)) ≡ true → (r : Rec) → Has r (heldOf s) → isListed m (unit r) ≡ true
-unfolding listFits listsAll
 list-names used u m s k a r i =
-    let v : List ℕ = vectorOn (s .vector) (s .log) in
     let f = formed [] (heldOf s) r (k .sound) i in
     let b = well-unit r f in
-    let e : (eqb (getD v (unit r) 0) 0 || isListed m (unit r)) ≡ true =
-    allTo-at 8 (λ (x : ℕ). eqb (getD v x 0) 0 || isListed m x) (and-true (isListed m u) (listsAll m v) a .1) (unit r) b in
-    let some-held : eqb (getD v (unit r) 0) 0 ≡ false =
-    ne-eqb (getD v (unit r) 0) 0 (λ z. omega (arith, vectorOn-getD (s .vector) (s .log) (unit r) b, counts-held used s k (unit r) b, number-held (heldOf s) r (k .sound) i, well-own r f)) in
-    rw some-held at e
+    fits-counted m u (vectorOn (s .vector) (s .log)) a (unit r) b
+    (λ z. omega (arith, vectorOn-getD (s .vector) (s .log) (unit r) b, counts-held used s k (unit r) b, number-held (heldOf s) r (k .sound) i, well-own r f))
 
 fold-kept : (used : List Rec) (u m : ℕ) (s : Store) → Kept used s → listFits m u (vectorOn (s .vector) (s .log)) ≡ true → Kept used (foldedBy u m s)
 unfolding countOn countsAsBase
