@@ -4,7 +4,7 @@ use Prim.Native.Nat.{ℕ, _≤_, _<_}
 use native.Mathlib.Omega.{arith}
 use mathlib.Core.Path.{_≡_, refl, sym, _∙_}
 use mathlib.Core.Logic.{_⊎_, inl, inr, ⊎-elim}
-use mathlib.Core.Bool.{true, cond, _&&_}
+use mathlib.Core.Bool.{true, false, cond, _&&_}
 use mathlib.Core.Option.{Option, none, some}
 use mathlib.Core.List.{List, [], _∷_, _++_}
 use lib.Dec.{ltb, leb}
@@ -40,6 +40,12 @@ use Rattle.fold_laws.proofs.Tests.{above-base, next-test, next-from, wi
 pub take-folded : (m : ℕ) (v : List ℕ) (l : List Rec) (r : Rec) → wellFormed r ≡ true → isListed m (unit r) ≡ true → num r ≤ getD v (unit r) 0 → takeOne m v l r ≡ taken l
 unfolding takeOne
 take-folded m v l r f a b = rw (f, a, le-leb (num r) (getD v (unit r) 0) b)
+
+-- a new one, next and within, that does not cover the base vector is below the base
+pub take-below : (m : ℕ) (v : List ℕ) (l : List Rec) (r : Rec) → wellFormed r ≡ true → isListed m (unit r) ≡ true → getD v (unit r) 0 < num r → byId (unit r) (num r) l ≡ none
+    → isNext v l r ≡ true → isWithin v l r ≡ true → covers (seenVector r) v ≡ false → takeOne m v l r ≡ refused belowBase
+unfolding takeOne takeHeld takeNew
+take-below m v l r f a b e n i c = rw (f, a, lt-leb (num r) (getD v (unit r) 0) b, e, n, i, c)
 
 -- a record that may join is taken
 pub take-new : (m : ℕ) (v : List ℕ) (l : List Rec) (r : Rec) → isListed m (unit r) ≡ true → getD v (unit r) 0 < num r → byId (unit r) (num r) l ≡ none → JoinsOn v l r → length l < 512
