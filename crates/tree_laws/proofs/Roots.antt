@@ -3,7 +3,7 @@
 use Prim.Native.Nat.{ℕ, zero, suc, _+_, _≤_, _<_}
 use native.Mathlib.Omega.{arith}
 use mathlib.Core.Path.{_≡_, refl, sym, ap, _∙_, subst}
-use mathlib.Core.Bool.{Bool, true, false, cond, not, _&&_, _||_, true≢false}
+use mathlib.Core.Bool.{Bool, true, false, cond, _&&_, _||_, true≢false}
 use mathlib.Core.Logic.{_⊎_, inl, inr, ⊎-elim, _↔_}
 use mathlib.Core.Option.{Option, none, some}
 use mathlib.Core.List.{List, [], _∷_, _++_}
@@ -12,7 +12,7 @@ use lib.ListN.{length}
 use borrow.Author.Tests.{eqb-true, eqb-false, eq-eqb, ne-eqb}
 use Rattle.byte_slice.proofs.Numbers.{eq-or-ne, lt-or-ge, bool-cases, cond-cases, and-true, and-wrong, true-and, not-both, test-false}
 use Rattle.model.specs.Record.{Rec, root, op, selfOf, objectOf, folderOf, labelOf}
-use Rattle.model.specs.Replay.{Entry, Tree, Verdict, fits, aside, isPresent, entryOf, isIn, hasEntries, holderOf, freeLabel, andThen, isFolder, folderStands, comesTo, isBelow, unseen, judgeMake, judgeStore, judgeRemove, judgeRename, judgeSettle, judgePlace, judgeMove, judge, newEntry, stored, renamed, moved, removed, changed, effect, apply, step, emptyTree, replayFrom, replay, presentOnes}
+use Rattle.model.specs.Replay.{Entry, Tree, Verdict, fits, aside, isPresent, entryOf, isIn, hasEntries, holderOf, freeLabel, andThen, isFolder, folderStands, comesTo, isBelow, unseen, judgeMake, judgeRemove, judgePlace, judgeMove, judge, newEntry, stored, renamed, moved, removed, changed, effect, apply, step, replayFrom, presentOnes}
 use Rattle.tree_laws.specs.Replayed.{Has, Distinct, selves, makers}
 use Rattle.tree_laws.specs.Roots.{Way, Up, Reaches, Stands, Rooted}
 use Rattle.tree_laws.proofs.Steps.{makers-append, makers-changed}

@@ -13,7 +13,7 @@ use Rattle.byte_slice.proofs.Parts.{part-length}
 use Rattle.byte_slice.proofs.PutAt.{length-padded}
 use Rattle.model.specs.Bytes.{two, padded}
 use Rattle.model.specs.Record.{Rec, op, selfOf, objectOf, labelOf, markOf, dateBytes}
-use Rattle.model.specs.Replay.{Entry, Aside, Tree, Verdict, fits, aside, judge, isPresent, newEntry, stored, renamed, moved, removed, changed, step, emptyTree, replayFrom, replay, presentOnes, isDisputed}
+use Rattle.model.specs.Replay.{Entry, Aside, Tree, Verdict, fits, aside, judge, isPresent, newEntry, stored, renamed, moved, removed, step, emptyTree, replayFrom, replay, presentOnes, isDisputed}
 use Rattle.model.specs.Table.{identityBytes, entryRow, entryRows, asideRows, tableBytes}
 use Rattle.log_laws.specs.Members.{Has as Member}
 use Rattle.log_laws.proofs.Members.{All, all-append}

@@ -1,21 +1,21 @@
 -- A new record keeps a tree sound on the vector that counts it, and so does leaving out the rows of removed entries.
 -- Assumes nothing.
-use Prim.Native.Nat.{ℕ, zero, suc, _+_, _*_, _/_, _%_, _≤_, _<_}
+use Prim.Native.Nat.{ℕ, zero, suc, _+_, _/_, _%_, _≤_, _<_}
 use native.Mathlib.Omega.{arith}
 use mathlib.Core.Path.{_≡_, refl, sym, ap, _∙_}
 use mathlib.Core.Logic.{_⊎_, inl, inr, ⊎-elim}
-use mathlib.Core.Bool.{Bool, true, false, cond, _&&_, _||_}
-use mathlib.Core.Option.{Option, none, some}
-use mathlib.Core.List.{List, [], _∷_, _++_}
+use mathlib.Core.Bool.{true, false, cond, _&&_, _||_}
+use mathlib.Core.Option.{some}
+use mathlib.Core.List.{List, [], _∷_}
 use lib.Dec.{leb, eqb}
 use lib.ListN.{getD, length, set}
 use lib.Seq.{getD-set-same, getD-set-other}
-use borrow.Author.Tests.{eqb-true, leb-true, le-leb, eq-eqb}
+use borrow.Author.Tests.{leb-true, le-leb, eq-eqb}
 use Rattle.model.specs.Bytes.{word, blank, part}
 use Rattle.model.specs.Date.{isDate}
 use Rattle.model.specs.Record.{Rec, root, identity, unit, num, op, seen, identityAt, selfOf, objectOf, folderOf, labelOf, markOf, dateBytes, names, isLabel, usesFolder, usesLabel, usesMark, unused, folderFits, dateFits, labelFits, markFits, wellFormed}
-use Rattle.model.specs.Replay.{Entry, Aside, Tree, Verdict, fits, aside, isPresent, sameLabel, labelKey, entryOf, unseen, judgeStore, judge, newEntry, stored, renamed, moved, removed, changed, settled, effect, step, emptyTree, presentOnes}
-use Rattle.byte_slice.proofs.Numbers.{eq-or-ne, bool-cases, cond-cases, and-true, or-true, not-both}
+use Rattle.model.specs.Replay.{Entry, Aside, Tree, fits, aside, isPresent, entryOf, judgeStore, judge, newEntry, stored, renamed, moved, removed, settled, step, emptyTree, presentOnes}
+use Rattle.byte_slice.proofs.Numbers.{eq-or-ne, bool-cases, and-true, or-true, not-both}
 use Rattle.byte_slice.proofs.Parts.{part-length, getD-part}
 use Rattle.byte_slice.proofs.Words.{word-part}
 use Rattle.byte_slice.proofs.Compare.{blank-getD}
@@ -23,13 +23,13 @@ use Rattle.record_label.proofs.Same.{same-key, key-same}
 use Rattle.log_laws.proofs.Members.{All, all-map, all-append}
 use Rattle.log_laws.proofs.Formed.{well-length, well-fields, well-unit, well-ops, well-own}
 use Rattle.tree_laws.specs.Replayed.{Has, Distinct, makers, whos}
-use Rattle.tree_laws.specs.Roots.{Up, Stands, Rooted}
-use Rattle.tree_laws.specs.Trees.{trim, Lone, OneLabel, NamedIn, NamedOrNone, EntryFits, AsideFits, SoundTree}
-use Rattle.tree_laws.proofs.Verdicts.{Under, Reason, reason-range, judge-store}
+use Rattle.tree_laws.specs.Roots.{Up, Rooted}
+use Rattle.tree_laws.specs.Trees.{trim, OneLabel, NamedIn, NamedOrNone, EntryFits, AsideFits, SoundTree}
+use Rattle.tree_laws.proofs.Verdicts.{reason-range, judge-store}
 use Rattle.tree_laws.proofs.Steps.{cond-elim, step-elim, effect-elim, all-changed, all-present}
 use Rattle.tree_laws.proofs.Identities.{lone-step}
-use Rattle.tree_laws.proofs.Labels.{Clash, Apart, apart-step, Named, has-made, one-label}
-use Rattle.tree_laws.proofs.Roots.{none-some, no-entries, step-rooted}
+use Rattle.tree_laws.proofs.Labels.{Apart, apart-step, has-made, one-label}
+use Rattle.tree_laws.proofs.Roots.{no-entries, step-rooted}
 use Rattle.tree_laws.proofs.Marks.{Marks, judge-marks}
 use Rattle.tree_laws.proofs.Trimming.{entry-present}
 

@@ -1,16 +1,16 @@
 -- Rows of removed entries decide nothing: a tree without them is judged alike, and the same records leave the same of both.
 -- Assumes nothing.
-use Prim.Native.Nat.{ℕ, zero, suc, _≤_, _<_}
+use Prim.Native.Nat.{ℕ, zero, suc}
 use native.Mathlib.Omega.{arith}
 use mathlib.Core.Path.{_≡_, refl, sym, ap, _∙_}
 use mathlib.Core.Logic.{_⊎_, inl, inr, ⊎-elim}
-use mathlib.Core.Bool.{Bool, true, false, cond, not, _&&_, _||_}
+use mathlib.Core.Bool.{Bool, true, false, cond, _&&_, _||_}
 use mathlib.Core.Option.{Option, none, some}
 use mathlib.Core.List.{List, [], _∷_, _++_}
 use lib.Dec.{eqb}
 use lib.ListN.{length}
-use Rattle.model.specs.Record.{Rec, root, op, selfOf, objectOf, folderOf, labelOf}
-use Rattle.model.specs.Replay.{Entry, Aside, Tree, isPresent, isIn, sameLabel, entryOf, isHolder, holderOf, hasEntries, folderStands, comesTo, isBelow, judgePlace, newEntry, stored, renamed, moved, removed, changed, settled, effect, judge, judgeMake, judgeRemove, judgeRename, judgeMove, step, replayFrom, replay, emptyTree, presentOnes}
+use Rattle.model.specs.Record.{Rec, root, selfOf, objectOf, folderOf, labelOf}
+use Rattle.model.specs.Replay.{Entry, Aside, Tree, isPresent, isIn, entryOf, isHolder, holderOf, hasEntries, folderStands, comesTo, isBelow, judgePlace, newEntry, stored, renamed, moved, removed, changed, settled, effect, judge, judgeMake, judgeRemove, judgeRename, judgeMove, step, replayFrom, replay, emptyTree, presentOnes}
 use Rattle.model.specs.Table.{tableBytes}
 use Rattle.byte_slice.proofs.Numbers.{bool-cases, and-wrong, not-both}
 use Rattle.tree_laws.specs.Trees.{trim}
