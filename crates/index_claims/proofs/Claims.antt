@@ -13,7 +13,8 @@ use Rattle.model.specs.Record.{Rec, root, op}
 use Rattle.model.specs.Log.{soundAfter}
 use Rattle.model.specs.Replay.{Entry, Tree, Verdict, fits, aside, emptyTree, holderOf, presentOnes, judge, effect, apply, step, replayFrom, replay}
 use Rattle.log_laws.specs.Members.{Has as Member}
-use Rattle.log_laws.specs.Sound.{Sound, SoundAfter}
+use Rattle.log_laws.specs.Sound.{Sound}
+use Rattle.log_laws.proofs.Counts.{sound-front}
 use Rattle.tree_judge.specs.Judged.{Asks}
 use Rattle.log_laws.proofs.Tests.{sound-means}
 use Rattle.tree_laws.proofs.Labels.{Apart, apart-replay}
@@ -53,10 +54,6 @@ module _ (l : List Rec) (sound : soundAfter [] l ≡ true) (few : length l ≤ 5
 pub start-index : indexOf emptyTree ≡ replicate 20484 0
 unfolding indexOf emptyTree presentOnes ordered indexBytes indexRows
 start-index = rw (padded-nil 20480) (replicate-append-replicate {A = ℕ} 4 20480 0)
-
-sound-front : (pre l m : List Rec) → SoundAfter pre (l ++ m) → SoundAfter pre l
-sound-front pre [] m s = tt
-sound-front pre (r ∷ l) m s = (s .0, sound-front (r ∷ pre) l m (s .1))
 
 fit-of : (l : List Rec) → Sound l → length l ≤ 512 → Fit (replay l .entries)
 fit-of l s few = record { apart = apart l; named = named-of l s; rowed = sound-rowed l s few; few = omega (arith, entries-few l) }

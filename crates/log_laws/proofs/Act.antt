@@ -14,7 +14,7 @@ use Rattle.model.specs.Numbers.{malformed, fullLog, strokeInLabel}
 use Rattle.model.specs.Bytes.{word, two, blank, part}
 use Rattle.model.specs.Vector.{vectorBytes}
 use Rattle.model.specs.Record.{Rec, unit, op, num, seen, labelOf, wellFormed}
-use Rattle.model.specs.Log.{sumTo, rank, insert, count, vectorOf}
+use Rattle.model.specs.Log.{rank, insert, count, vectorOf}
 use Rattle.model.specs.Replay.{judge, replay}
 use Rattle.model.specs.Outcome.{stamped, wishFits, hasStroke, wishNumber, reasonOf, actNumber}
 use Rattle.byte_slice.proofs.Numbers.{and-true, bool-cases, cond-cases, first-zero}
@@ -23,8 +23,7 @@ use Rattle.byte_slice.proofs.Words.{word-at, word-front, word-behind}
 use Rattle.vector.proofs.InBytes.{vectorBytes-length, vectorBytes-word}
 use Rattle.log_laws.specs.Members.{Has}
 use Rattle.log_laws.specs.Sound.{Sound, Joins}
-use Rattle.log_laws.proofs.Sums.{sumTo-eq, sumTo-lt}
-use Rattle.log_laws.proofs.Counts.{count-nil, unit-of, own-of, number-held, seen-within}
+use Rattle.log_laws.proofs.Counts.{count-nil, seen-within, covering-above}
 use Rattle.log_laws.proofs.Insert.{insert-sound, insert-last}
 use Rattle.log_laws.proofs.Tests.{vectorOf-getD}
 
@@ -77,13 +76,7 @@ module _ (u : ℕ) (l : List Rec) (w : List ℕ) (n : length w ≡ 80) where
 
   -- it ranks above every held record
   pub act-last : Sound l → (s : Rec) → Has s l → rank s < rank (stamped u l w)
-  unfolding rank
-  act-last h s i =
-      let b = unit-of [] l s h i in
-      let lt : sumTo 8 (seen s) < sumTo 8 (λ v. count v l) =
-      sumTo-lt 8 (seen s) (λ v. count v l) (seen-within l s h i) (unit s) b (omega (arith, number-held l s h i, own-of [] l s h i)) in
-      let eq : sumTo 8 (seen (stamped u l w)) ≡ sumTo 8 (λ v. count v l) = sumTo-eq 8 (seen (stamped u l w)) (λ v. count v l) stamped-seen in
-      omega arith
+  act-last h = covering-above l (stamped u l w) h (λ v k. omega (arith, stamped-seen v k))
 
   pub act-joins : getD w 0 0 ≡ u → wellFormed (stamped u l w) ≡ true → Sound l → Joins [] l (stamped u l w)
   act-joins e f h =

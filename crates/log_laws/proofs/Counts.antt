@@ -5,7 +5,7 @@ use native.Mathlib.Omega.{arith}
 use mathlib.Core.Path.{_≡_, refl, sym, ap, _∙_}
 use mathlib.Core.Logic.{_⊎_, inl, inr, ⊎-elim}
 use mathlib.Core.Bool.{true}
-use mathlib.Core.List.{List, [], _∷_}
+use mathlib.Core.List.{List, [], _∷_, _++_}
 use lib.ListN.{length}
 use borrow.Author.Tests.{eq-eqb, ne-eqb}
 use Rattle.model.specs.Record.{Rec, unit, num, seen, wellFormed}
@@ -47,6 +47,10 @@ count-plus u x l =
     (λ a. ⊎-elim (λ b. absurd (a .0 (b .0))) (λ b. omega (arith, count-nil u)) (count-cons u x []))
     (count-cons u x l)
 
+pub count-append : (u : ℕ) (p l : List Rec) → count u (p ++ l) ≡ count u p + count u l
+count-append u [] l = omega (arith, count-nil u)
+count-append u (x ∷ p) l = omega (arith, count-plus u x (p ++ l), count-plus u x p, count-append u p l)
+
 -- moving a record from the rest to what stands before leaves the total
 pub count-shift : (u : ℕ) (x : Rec) (pre l : List Rec) → count u (x ∷ pre) + count u l ≡ count u pre + count u (x ∷ l)
 count-shift u x pre l = omega (arith, count-plus u x pre, count-plus u x l)
@@ -59,6 +63,10 @@ length-counts (r ∷ l) h =
     ∙ ap suc (length-counts l (λ s i. h s (inr i)))
 
 -- ---- the records of a sound log
+
+pub sound-front : (pre l m : List Rec) → SoundAfter pre (l ++ m) → SoundAfter pre l
+sound-front pre [] m h = tt
+sound-front pre (r ∷ l) m h = (h .0, sound-front (r ∷ pre) l m (h .1))
 
 -- whatever stands before ranks below what comes after
 pub above-all : (pre l : List Rec) (p s : Rec) → SoundAfter pre l → Has p pre → Has s l → rank p < rank s
@@ -137,6 +145,16 @@ seen-within l s h i v k = omega (arith, seen-held [] l s h i v k, count-nil v)
 pub lower : (s r : Rec) → wellFormed s ≡ true → num s ≡ seen r (unit s) → ((v : ℕ) → v < 8 → seen s v ≤ seen r v) → rank s < rank r
 unfolding rank
 lower s r w c d = omega (arith, well-unit s w, sumTo-lt 8 (seen s) (seen r) d (unit s) (well-unit s w) (omega (arith, well-own s w)))
+
+-- what has seen all of a log ranks above it
+pub covering-above : (l : List Rec) (r : Rec) → Sound l → ((u : ℕ) → u < 8 → count u l ≤ seen r u) → (s : Rec) → Has s l → rank s < rank r
+unfolding rank
+covering-above l r h c s i =
+    let b = unit-of [] l s h i in
+    let lt : sumTo 8 (seen s) < sumTo 8 (seen r) =
+    sumTo-lt 8 (seen s) (seen r) (λ v k. omega (arith, seen-within l s h i v k, c v k)) (unit s) b
+    (omega (arith, number-held l s h i, own-of [] l s h i, c (unit s) b)) in
+    omega arith
 
 -- units are below 8, so equal ranks have equal units
 pub rank-unit : (x y : Rec) → unit x < 8 → unit y < 8 → rank x ≡ rank y → unit x ≡ unit y

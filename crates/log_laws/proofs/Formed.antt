@@ -1,6 +1,6 @@
 -- What a well-formed record has.
 -- Assumes nothing.
-use Prim.Native.Nat.{ℕ, suc, _-_, _<_}
+use Prim.Native.Nat.{ℕ, suc, _-_, _≤_, _<_}
 use native.Mathlib.Omega.{arith}
 use mathlib.Core.Path.{_≡_, refl}
 use mathlib.Core.Bool.{true, false, _&&_}
@@ -25,15 +25,19 @@ well-head r e =
     let (a, b) = and-true (eqb (length r) 80) (headFits r && (objectFits r && (folderFits r && (dateFits r && (labelFits r && markFits r))))) e in
     and-true (headFits r) (objectFits r && (folderFits r && (dateFits r && (labelFits r && markFits r)))) b .0
 
-pub well-label : (r : Rec) → wellFormed r ≡ true → labelFits r ≡ true
+pub well-fields : (r : Rec) → wellFormed r ≡ true → (folderFits r ≡ true) × (dateFits r ≡ true) × (labelFits r ≡ true) × (markFits r ≡ true)
 unfolding wellFormed
-well-label r e =
+well-fields r e =
     let a = and-true (eqb (length r) 80) (headFits r && (objectFits r && (folderFits r && (dateFits r && (labelFits r && markFits r))))) e .1 in
     let b = and-true (headFits r) (objectFits r && (folderFits r && (dateFits r && (labelFits r && markFits r)))) a .1 in
     let c = and-true (objectFits r) (folderFits r && (dateFits r && (labelFits r && markFits r))) b .1 in
-    let d = and-true (folderFits r) (dateFits r && (labelFits r && markFits r)) c .1 in
-    let f = and-true (dateFits r) (labelFits r && markFits r) d .1 in
-    and-true (labelFits r) (markFits r) f .0
+    let (x, d) = and-true (folderFits r) (dateFits r && (labelFits r && markFits r)) c in
+    let (y, f) = and-true (dateFits r) (labelFits r && markFits r) d in
+    let (z, g) = and-true (labelFits r) (markFits r) f in
+    (x, y, z, g)
+
+pub well-label : (r : Rec) → wellFormed r ≡ true → labelFits r ≡ true
+well-label r e = well-fields r e .2
 
 pub well-unit : (r : Rec) → wellFormed r ≡ true → unit r < 8
 unfolding headFits
@@ -42,12 +46,16 @@ well-unit r e =
     omega (arith, leb-true (unit r) 7 a)
 
 -- the operation is one of those known
-pub well-op : (r : Rec) → wellFormed r ≡ true → 0 < op r
+pub well-ops : (r : Rec) → wellFormed r ≡ true → (0 < op r) × (op r ≤ 7)
 unfolding headFits
-well-op r e =
+well-ops r e =
     let (a, b) = and-true (leb (unit r) 7) (leb 1 (op r) && (leb (op r) 7 && (leb 1 (num r) && eqb (seen r (unit r)) (num r - 1)))) (well-head r e) in
     let (c, d) = and-true (leb 1 (op r)) (leb (op r) 7 && (leb 1 (num r) && eqb (seen r (unit r)) (num r - 1))) b in
-    omega (arith, leb-true 1 (op r) c)
+    let (f, g) = and-true (leb (op r) 7) (leb 1 (num r) && eqb (seen r (unit r)) (num r - 1)) d in
+    (omega (arith, leb-true 1 (op r) c), leb-true (op r) 7 f)
+
+pub well-op : (r : Rec) → wellFormed r ≡ true → 0 < op r
+well-op r e = well-ops r e .0
 
 -- the number is one above what was seen of the own unit
 pub well-own : (r : Rec) → wellFormed r ≡ true → num r ≡ suc (seen r (unit r))

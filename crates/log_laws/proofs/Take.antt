@@ -34,7 +34,7 @@ pub taken-same : {l m : List Rec} → taken l ≡ taken m → l ≡ m
 taken-same e = cc
 
 -- a check that did not refuse
-passed : (b : Bool) (x : Took) (n : ℕ) (m : List Rec) → cond b x (refused n) ≡ taken m → (b ≡ true) × (x ≡ taken m)
+pub passed : (b : Bool) (x : Took) (n : ℕ) (m : List Rec) → cond b x (refused n) ≡ taken m → (b ≡ true) × (x ≡ taken m)
 passed true x n m e = (refl, e)
 passed false x n m e = refused-taken e
 

@@ -1,6 +1,7 @@
 pub mod Tests
 pub mod Reach
 pub mod Converge
+pub mod Ways
 pub mod Cover
 pub mod Passing
 pub mod Demand

@@ -1,16 +1,16 @@
 -- Claims P2, P3, P4 and A1: the replay, what decides nothing, and acts.
 -- Assumes nothing.
-use Prim.Native.Nat.{ℕ, _≤_, _<_}
+use Prim.Native.Nat.{ℕ, suc, _≤_, _<_}
 use mathlib.Core.Path.{_≡_, refl, sym, ap, _∙_}
 use mathlib.Core.Logic.{_⊎_, inl, inr, ⊎-elim, _↔_}
 use mathlib.Core.Bool.{true, false, not}
 use mathlib.Core.Option.{some}
 use mathlib.Core.List.{List, [], _∷_, _++_}
 use native.Mathlib.Omega.{arith}
-use lib.ListN.{getD, length}
-use Rattle.model.specs.Record.{Rec, root, op, selfOf, objectOf, labelOf, usesLabel}
+use lib.ListN.{getD, length, set}
+use Rattle.model.specs.Record.{Rec, root, unit, num, op, seen, selfOf, objectOf, labelOf, usesLabel, wellFormed}
 use Rattle.model.specs.Log.{soundAfter}
-use Rattle.model.specs.Replay.{Entry, Aside, Tree, Verdict, fits, aside, isPresent, labelKey, entryOf, unseen, isBelow, judge, standsAside, holderOf, isDisputed, renamed, step, emptyTree, replay}
+use Rattle.model.specs.Replay.{Entry, Aside, Tree, Verdict, fits, aside, isPresent, labelKey, entryOf, unseen, isBelow, judge, standsAside, holderOf, isDisputed, renamed, step, emptyTree, replayFrom, replay}
 use Rattle.model.specs.Table.{tableBytes}
 use Rattle.model.specs.Outcome.{stamped, wishFits, hasStroke, actNumber, taken, takeAll}
 use Rattle.log_laws.specs.Members.{Has as Member}
@@ -24,6 +24,7 @@ use Rattle.tree_laws.specs.Replayed.{Has, Distinct, selves, makers, whos
 use Rattle.tree_laws.specs.Before.{replayBefore}
 use Rattle.tree_laws.specs.Places.{PlacedBy, PlaceKept}
 use Rattle.tree_laws.specs.Roots.{Way, Reaches, Stands, Rooted}
+use Rattle.tree_laws.specs.Trees.{trim, SoundTree}
 use Rattle.tree_laws.proofs.Verdicts.{Under, OneOf, Reason, reason-range, judge-make, judge-store, judge-remove, judge-rename, judge-settle, judge-move, Moving, move-reasons, make-reasons, store-reasons, remove-reasons, rename-reasons, settle-reasons}
 use Rattle.tree_laws.proofs.Steps.{standings-replay, makers-replay}
 use Rattle.tree_laws.proofs.Identities as Identities
@@ -31,6 +32,8 @@ use Rattle.tree_laws.proofs.Labels as Labels
 use Rattle.tree_laws.proofs.Written.{label-written}
 use Rattle.tree_laws.proofs.Roots as Roots
 use Rattle.tree_laws.proofs.Places as Places
+use Rattle.tree_laws.proofs.Trees as Trees
+use Rattle.tree_laws.proofs.Trimming as Trimming
 use Rattle.tree_laws.proofs.Before.{replay-before}
 use Rattle.tree_laws.proofs.Dates.{dates-replay}
 use Rattle.tree_laws.proofs.Tables.{table-hidden, filled-replay, entries-few}
@@ -154,6 +157,18 @@ below-exactly = Roots.below-exactly
 pub last-place-record : (t : Tree) (r : Rec) → Rooted (t .entries) → (Has (selfOf r) (makers (t .entries)) → ⊥) → (k : ℕ) (x : Entry) → entryOf k (step t r .entries) ≡ some x
     → PlacedBy k r t x ⊎ PlaceKept k r t x
 last-place-record t r w fresh k x q = Places.place-step t r (w .alone) fresh k x q
+
+-- a record that is the next of its unit and has seen no more than v counts keeps a tree sound, on v with the record counted
+pub tree-stays-sound : (v : List ℕ) (t : Tree) (r : Rec) → length v ≡ 8 → wellFormed r ≡ true → num r ≡ suc (getD v (unit r) 0) → ((u : ℕ) → u < 8 → seen r u ≤ getD v u 0)
+    → SoundTree v t → SoundTree (set v (unit r) (num r)) (step t r)
+tree-stays-sound = Trees.sound-counted
+
+pub trimmed-tree-is-sound : (v : List ℕ) (t : Tree) → SoundTree v t → SoundTree v (trim t)
+trimmed-tree-is-sound = Trees.sound-trim
+
+-- the replay that goes on from the tree of the first records, without rows of removed entries, shows what the replay of all shows
+pub replay-from-base : (p l : List Rec) → tableBytes (replayFrom (trim (replay p)) l) ≡ tableBytes (replay (p ++ l))
+replay-from-base = Trimming.shown-from-base
 
 -- where no record is a move, the tree is that of the rules before there were moves
 pub replay-without-moves : (l : List Rec) → ((r : Rec) → Has r l → op r ≤ 6) → replay l ≡ replayBefore emptyTree l

@@ -12,5 +12,8 @@ pub mod Arrival
 pub mod Before
 pub mod Roots
 pub mod Places
+pub mod Marks
+pub mod Trimming
+pub mod Trees
 pub mod Written
 pub mod Claims

@@ -3,18 +3,20 @@
 use Prim.Native.Nat.{ℕ, zero, suc, _+_, _≤_, _<_}
 use native.Mathlib.Omega.{arith}
 use mathlib.Core.Path.{_≡_, refl, sym, ap, _∙_, subst}
-use mathlib.Core.Bool.{Bool, true, false, cond, not, _&&_, _||_, true≢false}
+use mathlib.Core.Bool.{Bool, true, false, cond, _&&_, _||_, true≢false}
 use mathlib.Core.Logic.{_⊎_, inl, inr, ⊎-elim, _↔_}
 use mathlib.Core.Option.{Option, none, some}
 use mathlib.Core.List.{List, [], _∷_, _++_}
 use lib.Dec.{leb, eqb}
 use lib.ListN.{length}
 use borrow.Author.Tests.{eqb-true, eqb-false, eq-eqb, ne-eqb}
-use Rattle.byte_slice.proofs.Numbers.{eq-or-ne, bool-cases, cond-cases, and-true, and-wrong, true-and, not-both}
+use Rattle.byte_slice.proofs.Numbers.{eq-or-ne, lt-or-ge, bool-cases, cond-cases, and-true, and-wrong, true-and, not-both, test-false}
 use Rattle.model.specs.Record.{Rec, root, op, selfOf, objectOf, folderOf, labelOf}
-use Rattle.model.specs.Replay.{Entry, Tree, Verdict, fits, aside, isPresent, entryOf, isIn, hasEntries, holderOf, freeLabel, andThen, isFolder, folderStands, comesTo, isBelow, unseen, judgeMake, judgeStore, judgeRemove, judgeRename, judgeSettle, judgePlace, judgeMove, judge, newEntry, stored, renamed, moved, removed, changed, effect, apply, step, emptyTree, replayFrom, replay, presentOnes}
+use Rattle.model.specs.Replay.{Entry, Tree, Verdict, fits, aside, isPresent, entryOf, isIn, hasEntries, holderOf, freeLabel, andThen, isFolder, folderStands, comesTo, isBelow, unseen, judgeMake, judgeRemove, judgePlace, judgeMove, judge, newEntry, stored, renamed, moved, removed, changed, effect, apply, step, replayFrom, presentOnes}
 use Rattle.tree_laws.specs.Replayed.{Has, Distinct, selves, makers}
 use Rattle.tree_laws.specs.Roots.{Way, Up, Reaches, Stands, Rooted}
+use Rattle.tree_laws.proofs.Steps.{makers-append, makers-changed}
+use Rattle.tree_laws.proofs.Identities.{has-more, distinct-more, names-step}
 
 pub none-some {ℓ} : {A : Type ℓ} {e : Entry} → none ≡ some e → A
 none-some q = absurd (let z : _≡_ {A = ℕ} 0 1 = cc in omega arith)
@@ -60,7 +62,7 @@ no-more (x ∷ xs) ys d h =
 
 -- ---- entries by identity
 
-length-makers : (es : List Entry) → length (makers es) ≡ length es
+pub length-makers : (es : List Entry) → length (makers es) ≡ length es
 unfolding makers
 length-makers [] = refl
 length-makers (e ∷ es) = ap suc (length-makers es)
@@ -109,53 +111,147 @@ unnamed k (x ∷ es) d =
     let c : eqb (x .made) k ≡ false = ne-eqb (x .made) k (λ (q : x .made ≡ k). d (inl (sym q))) in
     rw c (unnamed k es (λ i. d (inr i)))
 
--- ---- steps to the root
+-- ---- a shortest way passes no entry twice
 
-module _ (es : List Entry) (no-root : entryOf root es ≡ none) where
-  one-count : (a b k : ℕ) → Up a k es → Up b k es → a ≡ b
-  one-count zero zero k u v = refl
-  one-count zero (suc b) k u (e, q, v) = none-some (sym no-root ∙ ap (λ (x : ℕ). entryOf x es) (sym u) ∙ q)
-  one-count (suc a) zero k (e, q, u) v = none-some (sym no-root ∙ ap (λ (x : ℕ). entryOf x es) (sym v) ∙ q)
-  one-count (suc a) (suc b) k (e, q, u) (x, p, v) =
-      let y : x ≡ e = some-same (sym p ∙ q) in
-      ap suc (one-count a b (e .inside) u (subst (λ (z : Entry). Up b (z .inside) es) y v))
+or-second : (a : Bool) → (a || true) ≡ true
+or-second true = refl
+or-second false = refl
 
-  way : (s k : ℕ) → Up s k es → List ℕ
-  way zero k u = []
-  way (suc s) k (e, q, u) = k ∷ way s (e .inside) u
+-- a way is found exactly when it has fewer steps than are asked for
+pub comes-way : (es : List Entry) (n k f : ℕ) → comesTo n k f es ≡ true → (s : ℕ) × Way s k f es × (s < n)
+unfolding comesTo
+comes-way es zero k f h = absurd (true≢false (sym h))
+comes-way es (suc n) k f h =
+    ⊎-elim
+    (λ (c : eqb f k ≡ true). (0, eqb-true f k c, omega arith))
+    (λ (c : eqb f k ≡ false). go (λ g. comes-way es n k (g .inside)) (entryOf f es) refl (rw c at h))
+    (bool-cases (eqb f k))
+  where
+    go : ((g : Entry) → comesTo n k (g .inside) es ≡ true → (s : ℕ) × Way s k (g .inside) es × (s < n))
+        → (o : Option Entry) → entryOf f es ≡ o → elim o [ none ↦ false | some g ↦ comesTo n k (g .inside) es ] ≡ true → (s : ℕ) × Way s k f es × (s < suc n)
+    go more none q c = absurd (true≢false (sym c))
+    go more (some g) q c = let (s, w, b) = more g c in (suc s, (g, q, w), omega arith)
 
-  way-length : (s k : ℕ) (u : Up s k es) → length (way s k u) ≡ s
-  unfolding way
-  way-length zero k u = refl
-  way-length (suc s) k (e, q, u) = ap suc (way-length s (e .inside) u)
+pub way-comes : (es : List Entry) (n s k f : ℕ) → Way s k f es → s < n → comesTo n k f es ≡ true
+unfolding comesTo
+way-comes es zero s k f w h = absurd (omega arith)
+way-comes es (suc n) zero k f w h = rw (eq-eqb f k w)
+way-comes es (suc n) (suc s) k f (g, q, w) h = rw (q, way-comes es n s k (g .inside) w (omega arith)) (or-second (eqb f k))
 
-  way-named : (s k : ℕ) (u : Up s k es) (x : ℕ) → Has x (way s k u) → Has x (makers (presentOnes es))
-  unfolding way
-  way-named zero k u x i = absurd i
-  way-named (suc s) k (e, q, u) x (inl p) = subst (λ (y : ℕ). Has y (makers (presentOnes es))) (sym p) (entry-named k es e q)
-  way-named (suc s) k (e, q, u) x (inr i) = way-named s (e .inside) u x i
+or-false : (a b : Bool) → (a || b) ≡ false → (a ≡ false) × (b ≡ false)
+or-false true b e = absurd (true≢false e)
+or-false false b e = (refl, e)
 
-  way-up : (s k : ℕ) (u : Up s k es) (x : ℕ) → Has x (way s k u) → (b : ℕ) × Up b x es × (b ≤ s)
-  unfolding way
-  way-up zero k u x i = absurd i
-  way-up (suc s) k (e, q, u) x (inl p) = (suc s, (e, ap (λ (y : ℕ). entryOf y es) p ∙ q, u), omega arith)
-  way-up (suc s) k (e, q, u) x (inr i) = let (b, v, h) = way-up s (e .inside) u x i in (b, v, omega arith)
+module _ (es : List Entry) (k : ℕ) where
+  -- s steps lead from f to k, and no fewer do
+  abbrev Least : ℕ → ℕ → Type 0
+  Least s f = Way s k f es × (comesTo s k f es ≡ false)
 
-  way-distinct : (s k : ℕ) (u : Up s k es) → Distinct (way s k u)
-  unfolding way
-  way-distinct zero k u = tt
-  way-distinct (suc s) k (e, q, u) = (
+  least-same : (a b f : ℕ) → Least a f → Least b f → a ≡ b
+  least-same a b f u v =
+      ⊎-elim
+      (λ h. absurd (not-both (comesTo b k f es) (way-comes es b a k f (u .0) h) (v .1)))
+      (λ h.
+      ⊎-elim
+      (λ g. absurd (not-both (comesTo a k f es) (way-comes es a b k f (v .0) g) (u .1)))
+      (λ g. omega arith)
+      (lt-or-ge b a))
+      (lt-or-ge a b)
+
+  least-next : (s f : ℕ) (e : Entry) → entryOf f es ≡ some e → Way s k (e .inside) es → comesTo (suc s) k f es ≡ false → Least s (e .inside)
+  unfolding comesTo
+  least-next s f e q w c = (w, rw q at (or-false (eqb f k) (elim (entryOf f es) [ none ↦ false | some g ↦ comesTo s k (g .inside) es ]) c .1))
+
+  passed : (s f : ℕ) → Way s k f es → List ℕ
+  passed zero f w = []
+  passed (suc s) f (e, q, w) = f ∷ passed s (e .inside) w
+
+  passed-length : (s f : ℕ) (w : Way s k f es) → length (passed s f w) ≡ s
+  unfolding passed
+  passed-length zero f w = refl
+  passed-length (suc s) f (e, q, w) = ap suc (passed-length s (e .inside) w)
+
+  passed-named : (s f : ℕ) (w : Way s k f es) (x : ℕ) → Has x (passed s f w) → Has x (makers (presentOnes es))
+  unfolding passed
+  passed-named zero f w x i = absurd i
+  passed-named (suc s) f (e, q, w) x (inl p) = subst (λ (y : ℕ). Has y (makers (presentOnes es))) (sym p) (entry-named f es e q)
+  passed-named (suc s) f (e, q, w) x (inr i) = passed-named s (e .inside) w x i
+
+  passed-least : (s f : ℕ) (w : Way s k f es) → comesTo s k f es ≡ false → (x : ℕ) → Has x (passed s f w) → (b : ℕ) × Least b x × (b ≤ s)
+  unfolding passed
+  passed-least zero f w c x i = absurd i
+  passed-least (suc s) f (e, q, w) c x (inl p) = (suc s, rw p ((e, q, w), c), omega arith)
+  passed-least (suc s) f (e, q, w) c x (inr i) = let (b, v, h) = passed-least s (e .inside) w (least-next s f e q w c .1) x i in (b, v, omega arith)
+
+  passed-distinct : (s f : ℕ) (w : Way s k f es) → comesTo s k f es ≡ false → Distinct (passed s f w)
+  unfolding passed
+  passed-distinct zero f w c = tt
+  passed-distinct (suc s) f (e, q, w) c = (
     λ i.
-        let (b, v, h) = way-up s (e .inside) u k i in
-        omega (arith, one-count (suc s) b k (e, q, u) v),
-    way-distinct s (e .inside) u,
+        let d = least-next s f e q w c .1 in
+        let (b, v, h) = passed-least s (e .inside) w d f i in
+        omega (arith, least-same (suc s) b f ((e, q, w), c) v),
+    passed-distinct s (e .inside) w (least-next s f e q w c .1),
   )
 
-  few-steps : (s k : ℕ) → Up s k es → s ≤ length (presentOnes es)
-  few-steps s k u =
-      omega (arith, way-length s k u, length-makers (presentOnes es), no-more (way s k u) (makers (presentOnes es)) (way-distinct s k u) (way-named s k u))
+  least-few : (s f : ℕ) → Least s f → s ≤ length (presentOnes es)
+  least-few s f (w, c) =
+      omega (
+        arith,
+        passed-length s f w,
+        length-makers (presentOnes es),
+        no-more (passed s f w) (makers (presentOnes es)) (passed-distinct s f w c) (passed-named s f w),
+      )
 
-present-few : (es : List Entry) → length (presentOnes es) ≤ length es
+  least : (n f : ℕ) → comesTo n k f es ≡ true → (s : ℕ) × Least s f × (s < n)
+  unfolding comesTo
+  least zero f h = absurd (true≢false (sym h))
+  least (suc n) f h = go (bool-cases (comesTo n k f es)) (λ c. least n f c)
+    where
+      go : (comesTo n k f es ≡ true) ⊎ (comesTo n k f es ≡ false) → (comesTo n k f es ≡ true → (s : ℕ) × Least s f × (s < n)) → (s : ℕ) × Least s f × (s < suc n)
+      go (inl c) more = let (s, w, b) = more c in (s, w, omega arith)
+      go (inr c) more =
+          let (s, w, b) = comes-way es (suc n) k f h in
+          ⊎-elim
+          (λ (g : s < n). absurd (not-both (comesTo n k f es) (way-comes es n s k f w g) c))
+          (λ (g : n ≤ s). let e : s ≡ n = omega arith in (n, (subst (λ (y : ℕ). Way y k f es) e w, c), omega arith))
+          (lt-or-ge s n)
+
+  -- what is found by any number of steps is found by as many as there are entries
+  pub comes-few : (n f : ℕ) → comesTo n k f es ≡ true → comesTo (suc (length (presentOnes es))) k f es ≡ true
+  comes-few n f h = let (s, w, b) = least n f h in way-comes es (suc (length (presentOnes es))) s k f (w .0) (omega (arith, least-few s f w))
+
+-- ---- steps to the root
+
+up-way : (es : List Entry) (s k : ℕ) → Up s k es → Way s root k es
+up-way es zero k u = u
+up-way es (suc s) k (e, q, u) = (e, q, up-way es s (e .inside) u)
+
+-- no way is longer than that to the root
+way-short : (es : List Entry) → entryOf root es ≡ none → (s n k f : ℕ) → Way s k f es → Up n f es → s ≤ n
+way-short es no-root zero n k f w u = omega arith
+way-short es no-root (suc s) zero k f (g, q, w) u = none-some (sym no-root ∙ ap (λ (x : ℕ). entryOf x es) (sym u) ∙ q)
+way-short es no-root (suc s) (suc n) k f (g, q, w) (e, p, u) =
+    let y : e ≡ g = some-same (sym p ∙ q) in
+    let v : Up n (g .inside) es = subst (λ (z : Entry). Up n (z .inside) es) y u in
+    omega (arith, way-short es no-root s n k (g .inside) w v)
+
+few-steps : (es : List Entry) → entryOf root es ≡ none → (s k : ℕ) → Up s k es → s ≤ length (presentOnes es)
+few-steps es no-root s k u = least-few es root s k (up-way es s k u, test-false (comesTo s root k es) (λ c. later s k u c))
+  where
+    -- the root has no entry, so a way that ends there has one length
+    ends : (a b f : ℕ) → Way a root f es → Up b f es → b ≤ a
+    ends a zero f w u = omega arith
+    ends zero (suc b) f w (e, q, u) = none-some (sym no-root ∙ ap (λ (x : ℕ). entryOf x es) (sym w) ∙ q)
+    ends (suc a) (suc b) f (g, p, w) (e, q, u) =
+        let y : e ≡ g = some-same (sym q ∙ p) in
+        let v : Up b (g .inside) es = subst (λ (z : Entry). Up b (z .inside) es) y u in
+        omega (arith, ends a b (g .inside) w v)
+
+    later : (s k : ℕ) → Up s k es → comesTo s root k es ≡ true → ⊥
+    later s k u c = let (a, w, b) = comes-way es s root k c in omega (arith, ends a s k w u)
+
+pub present-few : (es : List Entry) → length (presentOnes es) ≤ length es
 unfolding presentOnes
 present-few [] = omega arith
 present-few (e ∷ es) =
@@ -188,15 +284,6 @@ stays-stands es fs h f (inr (g, q, k)) = let (x, p, _, c) = h f g q in inr (x, p
 
 abbrev pub Same : (Entry → Entry) → Type 0
 Same g = (e : Entry) → g e .made ≡ e .made
-
-pub names-changed : (g : Entry → Entry) → Same g → (k : ℕ) (es : List Entry) → makers (changed g k es) ≡ makers es
-unfolding makers changed
-names-changed g h k [] = refl
-names-changed g h k (e ∷ es) =
-    ⊎-elim
-    (λ (c : (eqb (e .made) k && isPresent e) ≡ true). rw c (ap (λ (x : ℕ). x ∷ makers es) (h e)))
-    (λ (c : (eqb (e .made) k && isPresent e) ≡ false). rw c (ap (λ (l : List ℕ). e .made ∷ l) (names-changed g h k es)))
-    (bool-cases (eqb (e .made) k && isPresent e))
 
 pub entry-other : (g : Entry → Entry) → Same g → (k j : ℕ) → (j ≡ k → ⊥) → (es : List Entry) → entryOf j (changed g k es) ≡ entryOf j es
 unfolding entryOf changed
@@ -278,7 +365,7 @@ module _ (es : List Entry) (w : Rooted es) (g : Entry → Entry) (h : Same g) (p
 
   kept-rooted : Rooted (changed g k es)
   kept-rooted =
-      let n = names-changed g h k es in
+      let n = makers-changed g h k es in
       record {
         alone = rw n (w .alone);
         rootless = λ i. w .rootless (rw n at i);
@@ -324,20 +411,13 @@ entry-new k (x ∷ es) n q m p =
     (λ (c : (eqb (x .made) k && isPresent x) ≡ false). rw c (entry-new k es n (rw c at q) m p))
     (bool-cases (eqb (x .made) k && isPresent x))
 
-pub has-last : (x : ℕ) (es : List Entry) (n : Entry) → Has x (makers (es ++ (n ∷ []))) → Has x (makers es) ⊎ (x ≡ n .made)
+has-last : (x : ℕ) (es : List Entry) (n : Entry) → Has x (makers (es ++ (n ∷ []))) → Has x (makers es) ⊎ (x ≡ n .made)
 unfolding makers
-has-last x [] n (inl q) = inr q
-has-last x [] n (inr i) = absurd i
-has-last x (e ∷ es) n (inl q) = inl (inl q)
-has-last x (e ∷ es) n (inr i) = ⊎-elim (λ j. inl (inr j)) (λ q. inr q) (has-last x es n i)
+has-last x es n i = has-more (makers es) (n .made) x (rw (makers-append es (n ∷ [])) at i)
 
-pub alone-last : (es : List Entry) (n : Entry) → Distinct (makers es) → (Has (n .made) (makers es) → ⊥) → Distinct (makers (es ++ (n ∷ [])))
+alone-last : (es : List Entry) (n : Entry) → Distinct (makers es) → (Has (n .made) (makers es) → ⊥) → Distinct (makers (es ++ (n ∷ [])))
 unfolding makers
-alone-last [] n d h = (λ i. i, tt)
-alone-last (e ∷ es) n d h = (
-  λ i. ⊎-elim (λ j. d .0 j) (λ (q : e .made ≡ n .made). h (inl (sym q))) (has-last (e .made) es n i),
-  alone-last es n (d .1) (λ i. h (inr i)),
-)
+alone-last es n d h = rw (makers-append es (n ∷ [])) (distinct-more (makers es) (n .made) d h)
 
 make-rooted : (es : List Entry) → Rooted es → (n : Entry) → (Has (n .made) (makers es) → ⊥) → (n .made ≡ root → ⊥) → isPresent n ≡ true → Stands (n .inside) es → Rooted (es ++ (n ∷ []))
 make-rooted es w n fresh proper p st =
@@ -422,7 +502,7 @@ module _ (es : List Entry) (w : Rooted es) (k : ℕ) (e : Entry) (q : entryOf k 
   remove-rooted : Rooted rest
   unfolding rest
   remove-rooted =
-      let n = names-changed removed keeps k es in
+      let n = makers-changed removed keeps k es in
       record {
         alone = rw n (w .alone);
         rootless = λ i. w .rootless (rw n at i);
@@ -466,10 +546,6 @@ module _ (es : List Entry) (w : Rooted es) (r : Rec) (k : ℕ) (e : Entry) (q : 
       let d : f ≡ k → ⊥ = eqb-false f k a in
       let v : comesTo n k (x .inside) es ≡ false = rw y at b in
       (x, others f d ∙ y, avoids n s (x .inside) (omega arith) u v)
-    where
-      or-false : (a b : Bool) → (a || b) ≡ false → (a ≡ false) × (b ≡ false)
-      or-false true b e = absurd (true≢false e)
-      or-false false b e = (refl, e)
 
   up-folder : (s : ℕ) × Up s (folderOf r) turned
   unfolding isBelow
@@ -503,7 +579,7 @@ module _ (es : List Entry) (w : Rooted es) (r : Rec) (k : ℕ) (e : Entry) (q : 
   move-rooted : Rooted turned
   unfolding turned moved
   move-rooted =
-      let n = names-changed (moved r) holds k es in
+      let n = makers-changed (moved r) holds k es in
       record {
         alone = rw n (w .alone);
         rootless = λ i. w .rootless (rw n at i);
@@ -621,37 +697,6 @@ module _ (t : Tree) (r : Rec) (w : Rooted (t .entries)) (fresh : Has (selfOf r) 
 
 -- ---- a list of records
 
-pub names-step : (t : Tree) (r : Rec) (k : ℕ) → Has k (makers (step t r .entries)) → Has k (makers (t .entries)) ⊎ (k ≡ selfOf r)
-unfolding step apply effect newEntry stored removed renamed moved
-names-step t r k i = go (judge r t) i
-  where
-    es : List Entry
-    es = t .entries
-
-    go : (v : Verdict) → Has k (makers (apply v r t .entries)) → Has k (makers es) ⊎ (k ≡ selfOf r)
-    go (aside n m) i = inl i
-    go fits i =
-        ⊎-elim
-        (λ (c : leb (op r) 2 ≡ true). has-last k es (newEntry r) (rw c at i))
-        (λ (c : leb (op r) 2 ≡ false).
-        ⊎-elim
-        (λ (d : eqb (op r) 3 ≡ true). inl (rw (c, d, names-changed (stored r) (λ e. refl) (objectOf r) es) at i))
-        (λ (d : eqb (op r) 3 ≡ false).
-        ⊎-elim
-        (λ (f : eqb (op r) 4 ≡ true). inl (rw (c, d, f, names-changed removed (λ e. refl) (objectOf r) es) at i))
-        (λ (f : eqb (op r) 4 ≡ false).
-        ⊎-elim
-        (λ (g : eqb (op r) 5 ≡ true). inl (rw (c, d, f, g, names-changed (renamed r) (λ e. refl) (objectOf r) es) at i))
-        (λ (g : eqb (op r) 5 ≡ false).
-        ⊎-elim
-        (λ (h : eqb (op r) 6 ≡ true). inl (rw (c, d, f, g, h) at i))
-        (λ (h : eqb (op r) 6 ≡ false). inl (rw (c, d, f, g, h, names-changed (moved r) (λ e. refl) (objectOf r) es) at i))
-        (bool-cases (eqb (op r) 6)))
-        (bool-cases (eqb (op r) 5)))
-        (bool-cases (eqb (op r) 4)))
-        (bool-cases (eqb (op r) 3)))
-        (bool-cases (leb (op r) 2))
-
 pub replay-rooted : (t : Tree) (l : List Rec) → Rooted (t .entries) → Distinct (selves l) → (Has root (selves l) → ⊥) → ((r : Rec) → Has r l → op r ≡ 0 → ⊥)
     → ((k : ℕ) → Has k (makers (t .entries)) → Has k (selves l) → ⊥) → Rooted (replayFrom t l .entries)
 unfolding replayFrom selves
@@ -673,44 +718,11 @@ rooted-reaches es w k e q =
 
 -- ---- which folders are at or below an entry
 
-or-second : (a : Bool) → (a || true) ≡ true
-or-second true = refl
-or-second false = refl
-
-comes-way : (es : List Entry) (n k f : ℕ) → comesTo n k f es ≡ true → (s : ℕ) × Way s k f es
-unfolding comesTo
-comes-way es zero k f h = absurd (true≢false (sym h))
-comes-way es (suc n) k f h =
-    ⊎-elim
-    (λ (c : eqb f k ≡ true). (0, eqb-true f k c))
-    (λ (c : eqb f k ≡ false). go (λ g. comes-way es n k (g .inside)) (entryOf f es) refl (rw c at h))
-    (bool-cases (eqb f k))
-  where
-    go : ((g : Entry) → comesTo n k (g .inside) es ≡ true → (s : ℕ) × Way s k (g .inside) es)
-        → (o : Option Entry) → entryOf f es ≡ o → elim o [ none ↦ false | some g ↦ comesTo n k (g .inside) es ] ≡ true → (s : ℕ) × Way s k f es
-    go more none q c = absurd (true≢false (sym c))
-    go more (some g) q c = let (s, w) = more g c in (suc s, (g, q, w))
-
-way-comes : (es : List Entry) (n s k f : ℕ) → Way s k f es → s < n → comesTo n k f es ≡ true
-unfolding comesTo
-way-comes es zero s k f w h = absurd (omega arith)
-way-comes es (suc n) zero k f w h = rw (eq-eqb f k w)
-way-comes es (suc n) (suc s) k f (g, q, w) h = rw (q, way-comes es n s k (g .inside) w (omega arith)) (or-second (eqb f k))
-
--- no way is longer than that to the root
-way-short : (es : List Entry) → entryOf root es ≡ none → (s n k f : ℕ) → Way s k f es → Up n f es → s ≤ n
-way-short es no-root zero n k f w u = omega arith
-way-short es no-root (suc s) zero k f (g, q, w) u = none-some (sym no-root ∙ ap (λ (x : ℕ). entryOf x es) (sym u) ∙ q)
-way-short es no-root (suc s) (suc n) k f (g, q, w) (e, p, u) =
-    let y : e ≡ g = some-same (sym p ∙ q) in
-    let v : Up n (g .inside) es = subst (λ (z : Entry). Up n (z .inside) es) y u in
-    omega (arith, way-short es no-root s n k (g .inside) w v)
-
 -- so a folder is found at or below an entry exactly when a way leads from it to the entry
 pub below-exactly : (es : List Entry) → Rooted es → (k f : ℕ) → Stands f es → (isBelow k f es ≡ true) ↔ ((s : ℕ) × Way s k f es)
 unfolding isBelow
 below-exactly es w k f h = (
-  λ b. comes-way es (suc (length es)) k f b,
+  λ b. let (s, v, _) = comes-way es (suc (length es)) k f b in (s, v),
   λ p.
       let (s, v) = p in
       let (n, u) = up-from es w f h in

@@ -3,12 +3,16 @@
 use Prim.Native.Nat.{ℕ, _≤_, _<_}
 use mathlib.Core.Path.{_≡_, refl, sym, ap, _∙_}
 use mathlib.Core.Bool.{Bool, true, false, cond, _&&_}
+use mathlib.Core.Logic.{⊎-elim}
+use mathlib.Core.Option.{some}
 use mathlib.Core.List.{List, [], _∷_, _++_, append-assoc, append-nil}
 use lib.Dec.{leb, eqb}
 use native.Mathlib.Omega.{arith}
 use borrow.Author.Tests.{leb-true, leb-false, eqb-true, eqb-false, le-leb, lt-leb, ne-eqb}
+use Rattle.byte_slice.proofs.Numbers.{bool-cases}
+use Rattle.log_laws.proofs.Members.{All}
 use Rattle.model.specs.Record.{Rec, op, selfOf, objectOf}
-use Rattle.model.specs.Replay.{Entry, Aside, Tree, Verdict, fits, aside, isPresent, newEntry, stored, renamed, moved, removed, changed, settled, effect, apply, judge, step, replayFrom}
+use Rattle.model.specs.Replay.{Entry, Aside, Tree, Verdict, fits, aside, isPresent, entryOf, newEntry, stored, renamed, moved, removed, changed, settled, effect, apply, judge, step, replayFrom, presentOnes}
 use Rattle.tree_laws.specs.Replayed.{makers, Standing, standings, standing, standAside, making, makesFit}
 
 -- ---- one record
@@ -105,18 +109,34 @@ standings-replay t (r ∷ l) =
 
 -- ---- the entries
 
-makers-append : (l m : List Entry) → makers (l ++ m) ≡ makers l ++ makers m
+pub makers-append : (l m : List Entry) → makers (l ++ m) ≡ makers l ++ makers m
 unfolding makers
 makers-append [] m = refl
 makers-append (e ∷ l) m = ap (λ (x : List ℕ). e .made ∷ x) (makers-append l m)
 
-makers-changed : (f : Entry → Entry) → ((e : Entry) → f e .made ≡ e .made) → (k : ℕ) (l : List Entry) → makers (changed f k l) ≡ makers l
+pub makers-changed : (f : Entry → Entry) → ((e : Entry) → f e .made ≡ e .made) → (k : ℕ) (l : List Entry) → makers (changed f k l) ≡ makers l
 unfolding makers changed
 makers-changed f h k [] = refl
 makers-changed f h k (e ∷ l) =
     cond-elim (λ (x : List Entry). makers x ≡ e .made ∷ makers l) (eqb (e .made) k && isPresent e) (f e ∷ l) (e ∷ changed f k l)
     (λ _. ap (λ (x : ℕ). x ∷ makers l) (h e))
     (λ _. ap (λ (x : List ℕ). e .made ∷ x) (makers-changed f h k l))
+
+-- what holds of all entries, and of the changed one afterwards, holds of all afterwards
+pub all-changed : (P : Entry → Type 0) (g : Entry → Entry) (k : ℕ) (es : List Entry) → ((e : Entry) → entryOf k es ≡ some e → P e → P (g e)) → All P es → All P (changed g k es)
+unfolding changed entryOf
+all-changed P g k [] h a = tt
+all-changed P g k (e ∷ es) h a =
+    ⊎-elim
+    (λ (c : (eqb (e .made) k && isPresent e) ≡ true). rw c (h e (rw c) (a .0), a .1))
+    (λ (c : (eqb (e .made) k && isPresent e) ≡ false). rw c (a .0, all-changed P g k es (λ x q. h x (rw c q)) (a .1)))
+    (bool-cases (eqb (e .made) k && isPresent e))
+
+pub all-present : (P : Entry → Type 0) (es : List Entry) → All P es → All P (presentOnes es)
+unfolding presentOnes
+all-present P [] a = tt
+all-present P (e ∷ es) a =
+    cond-elim (All P) (isPresent e) (e ∷ presentOnes es) (presentOnes es) (λ _. (a .0, all-present P es (a .1))) (λ _. all-present P es (a .1))
 
 -- entries are only added, one for a make that fits
 pub makers-step : (t : Tree) (r : Rec) → makers (step t r .entries) ≡ makers (t .entries) ++ making (judge r t) r

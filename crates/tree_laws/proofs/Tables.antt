@@ -13,14 +13,15 @@ use Rattle.byte_slice.proofs.Parts.{part-length}
 use Rattle.byte_slice.proofs.PutAt.{length-padded}
 use Rattle.model.specs.Bytes.{two, padded}
 use Rattle.model.specs.Record.{Rec, op, selfOf, objectOf, labelOf, markOf, dateBytes}
-use Rattle.model.specs.Replay.{Entry, Aside, Tree, Verdict, fits, aside, judge, isPresent, newEntry, stored, renamed, moved, removed, changed, step, emptyTree, replayFrom, replay, presentOnes, isDisputed}
+use Rattle.model.specs.Replay.{Entry, Aside, Tree, Verdict, fits, aside, judge, isPresent, newEntry, stored, renamed, moved, removed, step, emptyTree, replayFrom, replay, presentOnes, isDisputed}
 use Rattle.model.specs.Table.{identityBytes, entryRow, entryRows, asideRows, tableBytes}
 use Rattle.log_laws.specs.Members.{Has as Member}
 use Rattle.log_laws.proofs.Members.{All, all-append}
 use Rattle.tree_laws.specs.Replayed.{makers, making, makesFit, mapped, mappedTree, undated, undatedTree, isDatePlace, hideFrom, hideDates}
 use Rattle.tree_laws.proofs.Blind.{Telling, blind, length-map, present-map}
 use Rattle.tree_laws.proofs.Dates.{forgotten, kept}
-use Rattle.tree_laws.proofs.Steps.{cond-elim, effect-elim, step-elim, makers-replay}
+use Rattle.tree_laws.proofs.Steps.{cond-elim, effect-elim, step-elim, all-changed, all-present, makers-replay}
+use Rattle.tree_laws.proofs.Roots.{length-makers, present-few}
 
 -- ---- hiding
 
@@ -81,14 +82,6 @@ length-rows s (e ∷ es) h a =
     let d : ℕ = cond (isDisputed (e .made) s) 1 0 in
     omega (arith, length-append (entryRow d e) (entryRows s es), row-length d e (a .0), length-rows s es (omega arith) (a .1))
 
-pub present-filled : (es : List Entry) → All Filled es → All Filled (presentOnes es)
-unfolding presentOnes
-present-filled [] a = tt
-present-filled (e ∷ es) a =
-    cond-elim (All Filled) (isPresent e) (e ∷ presentOnes es) (presentOnes es)
-    (λ _. (a .0, present-filled es (a .1)))
-    (λ _. present-filled es (a .1))
-
 -- from the row n on, a row hidden at the places p is the row of its entry as it is told by g
 abbrev pub Hides : (ℕ → Bool) → (Entry → Entry) → List Aside → ℕ → List Entry → Type 0
 Hides p g s n [] = Unit {0}
@@ -143,7 +136,7 @@ module _ (p : ℕ → Bool) (d m : Telling) (f : (e : Entry) → Filled e → Fi
   hidden-table v t a h r =
       let s : List Aside = t .asides in
       let ps : List Entry = presentOnes (t .entries) in
-      let b : All Filled ps = present-filled (t .entries) a in
+      let b : All Filled ps = all-present Filled (t .entries) a in
       let P : List ℕ = padded 36864 (entryRows s ps) in
       let A : List ℕ = padded 6144 (asideRows s) in
       let u : mapped g ps ≡ presentOnes (mapped g (t .entries)) = sym (present-map d m (t .entries)) in
@@ -208,17 +201,9 @@ pub table-hidden : (t : Tree) → All Filled (t .entries) → length (presentOne
 unfolding hideDates undatedTree undated blind forgotten kept
 table-hidden t a h =
     hidden-table isDatePlace forgotten kept (λ e f. (refl, f .1, f .2)) date-places t a h
-    (rows-undated (t .asides) (presentOnes (t .entries)) 0 (omega arith) (present-filled (t .entries) a))
+    (rows-undated (t .asides) (presentOnes (t .entries)) 0 (omega arith) (all-present Filled (t .entries) a))
 
 -- ---- the entries of a log
-
-filled-changed : (g : Entry → Entry) → ((e : Entry) → Filled e → Filled (g e)) → (k : ℕ) (es : List Entry) → All Filled es → All Filled (changed g k es)
-unfolding changed
-filled-changed g h k [] a = tt
-filled-changed g h k (e ∷ es) a =
-    cond-elim (All Filled) (eqb (e .made) k && isPresent e) (g e ∷ es) (e ∷ changed g k es)
-    (λ _. (h e (a .0), a .1))
-    (λ _. (a .0, filled-changed g h k es (a .1)))
 
 filled-step : (t : Tree) (r : Rec) → length r ≡ 80 → All Filled (t .entries) → All Filled (step t r .entries)
 unfolding newEntry stored renamed moved removed dateBytes labelOf markOf
@@ -230,11 +215,11 @@ filled-step t r n a =
     step-elim P t r
     (λ _. effect-elim P r t
     (λ _. all-append Filled (t .entries) (newEntry r ∷ []) a ((d, l, m), tt))
-    (λ _. filled-changed (stored r) (λ e f. (d, f .1, m)) (objectOf r) (t .entries) a)
-    (λ _. filled-changed removed (λ e f. f) (objectOf r) (t .entries) a)
-    (λ _. filled-changed (renamed r) (λ e f. (f .0, l, f .2)) (objectOf r) (t .entries) a)
+    (λ _. all-changed Filled (stored r) (objectOf r) (t .entries) (λ e _ f. (d, f .1, m)) a)
+    (λ _. all-changed Filled removed (objectOf r) (t .entries) (λ e _ f. f) a)
+    (λ _. all-changed Filled (renamed r) (objectOf r) (t .entries) (λ e _ f. (f .0, l, f .2)) a)
     (λ _. a)
-    (λ _. filled-changed (moved r) (λ e f. (f .0, l, f .2)) (objectOf r) (t .entries) a))
+    (λ _. all-changed Filled (moved r) (objectOf r) (t .entries) (λ e _ f. (f .0, l, f .2)) a))
     (λ x k _. a)
 
 pub filled-replay : (t : Tree) (l : List Rec) → ((r : Rec) → Member r l → length r ≡ 80) → All Filled (t .entries) → All Filled (replayFrom t l .entries)
@@ -243,19 +228,6 @@ filled-replay t [] h a = a
 filled-replay t (r ∷ l) h a = filled-replay (step t r) l (λ s i. h s (inr i)) (filled-step t r (h r (inl refl)) a)
 
 -- ---- at most one entry for a record
-
-present-few : (es : List Entry) → length (presentOnes es) ≤ length es
-unfolding presentOnes
-present-few [] = omega arith
-present-few (e ∷ es) =
-    cond-elim (λ (x : List Entry). length x ≤ suc (length es)) (isPresent e) (e ∷ presentOnes es) (presentOnes es)
-    (λ _. omega (arith, present-few es))
-    (λ _. omega (arith, present-few es))
-
-length-makers : (es : List Entry) → length (makers es) ≡ length es
-unfolding makers
-length-makers [] = refl
-length-makers (e ∷ es) = ap suc (length-makers es)
 
 making-few : (v : Verdict) (r : Rec) → length (making v r) ≤ 1
 unfolding making

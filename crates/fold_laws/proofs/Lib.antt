@@ -1,0 +1,12 @@
+pub mod Prefix
+pub mod Tests
+pub mod Taking
+pub mod Hearing
+pub mod Covering
+pub mod Way
+pub mod Twice
+pub mod Bases
+pub mod Worlds
+pub mod Alike
+pub mod Examples
+pub mod Claims
