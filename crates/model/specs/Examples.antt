@@ -587,6 +587,12 @@ further =
     ((0 · 1, B, 4 · 1, 0 · 2, true) ∷ [])
     ((1 · 1, 17, 0 · 1, true) ∷ (2 · 1, 17, 0 · 1, true) ∷ (3 · 1, 17, 0 · 1, true) ∷ [])
     -- wishes: into itself, a stroke first, one that fits
+    -- a store and a rename inside a folder: the folder stays, the store gives date and mark, the rename the label alone
+    ∷ whole (makesFolder 3 (0 · 1) [] root A ∷ makesTrace 4 (0 · 2) (1 ∷ []) (0 · 1) B ∷ stores 5 (0 · 3) (2 ∷ []) (0 · 2) ∷ renames 6 (0 · 4) (3 ∷ []) (0 · 2) C ∷ [])
+    ((record { made = 0 · 1; kind = 1; inside = root; label = padded 32 A; contents = 0 · 1; date = two 2025 ++ (3 ∷ 3 ∷ []); mark = replicate 16 0; placing = 0 · 1 }, false)
+    ∷ (record { made = 0 · 2; kind = 2; inside = 0 · 1; label = padded 32 C; contents = 0 · 3; date = two 2025 ++ (3 ∷ 5 ∷ []); mark = replicate 16 (0 · 3); placing = 0 · 4 }, false)
+    ∷ [])
+    []
     ∷ wishes 0 (makesFolder 3 (0 · 1) [] root A ∷ []) (moves 3 (0 · 0) [] (0 · 1) (0 · 1) B) 25
     ∷ wishes 0 (makesFolder 3 (0 · 1) [] root A ∷ []) (moves 3 (0 · 0) [] (0 · 1) (0 · 1) (47 ∷ [])) 24
     ∷ wishes 0 (makesFolder 3 (0 · 1) [] root A ∷ []) (moves 3 (0 · 0) [] (0 · 1) root B) 0

@@ -78,6 +78,7 @@ module _ (t : Tree) (r : Rec) (alone : Distinct (makers (t .entries))) (fresh : 
         last = ap (λ (e : Entry). e .placing) (y .0);
         label = ap (λ (e : Entry). e .label) (y .0);
         folder = λ _. ap (λ (e : Entry). e .inside) (y .0);
+        kept = λ (z : op r ≡ 5). let w : ⊥ = omega (arith, o) in absurd w;
       }))
       (entry-last k (t .entries) (newEntry r) x q)
 
@@ -131,6 +132,7 @@ module _ (t : Tree) (r : Rec) (alone : Distinct (makers (t .entries))) (fresh : 
         last = ap (λ (v : Entry). v .placing) a;
         label = ap (λ (v : Entry). v .label) a;
         folder = λ n. absurd (n o);
+        kept = λ _. (e, z, ap (λ (v : Entry). v .inside) a);
       }))
       (λ y. same (y .1) (λ _ p. ⊎-elim (λ a. omega (arith, a .0)) (λ a. y .0 (sym (a .1))) p))
       (changed-back (renamed r) (λ e. refl) rename-there (objectOf r) k (t .entries) x q)
@@ -151,6 +153,7 @@ module _ (t : Tree) (r : Rec) (alone : Distinct (makers (t .entries))) (fresh : 
         last = ap (λ (v : Entry). v .placing) a;
         label = ap (λ (v : Entry). v .label) a;
         folder = λ _. ap (λ (v : Entry). v .inside) a;
+        kept = λ (z : op r ≡ 5). let w : ⊥ = omega (arith, o) in absurd w;
       }))
       (λ y. same (y .1) (λ _ p. ⊎-elim (λ a. omega (arith, a .0)) (λ a. y .0 (sym (a .1))) p))
       (changed-back (moved r) (λ e. refl) move-there (objectOf r) k (t .entries) x q)

@@ -11,13 +11,15 @@ use Rattle.model.specs.Replay.{Entry, Tree, fits, entryOf, judge}
 abbrev pub Placing : ℕ → Rec → Type 0
 Placing k r = ((op r ≤ 2) × (selfOf r ≡ k)) ⊎ (((op r ≡ 5) ⊎ (6 < op r)) × (objectOf r ≡ k))
 
--- the record fits and is the last place record of the entry k, which is then x: its label is the record's, and the folder unless it is a rename
+-- the record fits and is the last place record of the entry k, which is then x: its label is the record's, and its folder too; a rename leaves
+-- it in its folder
 pub record PlacedBy (k : ℕ) (r : Rec) (t : Tree) (x : Entry) : Type 0 where
   pub fit : judge r t ≡ fits
   pub places : Placing k r
   pub last : x .placing ≡ selfOf r
   pub label : x .label ≡ labelOf r
   pub folder : (op r ≡ 5 → ⊥) → x .inside ≡ folderOf r
+  pub kept : op r ≡ 5 → (e : Entry) × (entryOf k (t .entries) ≡ some e) × (x .inside ≡ e .inside)
 
 -- the record does not place the entry k, or does not fit: last place record, label and folder are as they were
 pub record PlaceKept (k : ℕ) (r : Rec) (t : Tree) (x : Entry) : Type 0 where

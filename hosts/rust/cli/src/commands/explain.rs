@@ -34,7 +34,7 @@ fn run(session: &mut Session) -> Outcome<Status> {
     }
     let words = session.args.words();
     if words.is_empty() {
-        return Err(usage("N wanted, 1 to 21 or 24"));
+        return Err(usage("N wanted, 1 to 21, 24 or 25"));
     }
     let rows: Vec<&Row> = words
         .iter()
@@ -51,7 +51,7 @@ fn of_table(word: &str) -> Read<&'static Row> {
     let number = number(word, 1..=u8::MAX, "N").ok();
     number.and_then(row).ok_or_else(|| {
         Usage(format!(
-            "N: {word:?} is no number of the table, 1 to 21 or 24"
+            "N: {word:?} is no number of the table, 1 to 21, 24 or 25"
         ))
     })
 }
@@ -66,6 +66,7 @@ fn of_aside(number: u8) -> Option<&'static str> {
         16 => "a folder was removed while someone put an entry in it: it stays",
         17 => "two people changed one entry",
         18 => "a settle of something that does not stand aside, or no longer does",
+        25 => "two people moved folders, and one would lie in or below itself: one move acts",
         _ => return None,
     })
 }
