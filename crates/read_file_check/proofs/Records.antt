@@ -12,7 +12,7 @@ use lib.ListN.{length, take, drop}
 use borrow.Author.Tests.{ne-eqb, lt-ltb}
 use Rattle.model.specs.Bytes.{part}
 use Rattle.model.specs.Record.{Rec}
-use Rattle.model.specs.Log.{recordFault}
+use Rattle.model.specs.Log.{noCounts, recordFault}
 use Rattle.model.specs.Block.{countIn}
 use Rattle.model.specs.File.{blockAt, fault, recordsCounted, fileRecord, fileRecordsFrom, fileRecords, recordsFault}
 use Rattle.byte_slice.proofs.Numbers.{eq-or-ne}
@@ -55,9 +55,9 @@ module _ (at : ℕ → Rec) where
       let q : suc n - suc m ≡ n - m = omega arith in
       let t : ltb i 512 ≡ true = lt-ltb i 512 (omega arith) in
       ⊎-elim
-      (λ (e : recordFault (before at i) (at i) ≡ 0). rw (t, e, p, q) (in-order m (suc i) n (omega arith) (omega arith)))
-      (λ (e : recordFault (before at i) (at i) ≡ 0 → ⊥). rw (t, ne-eqb (recordFault (before at i) (at i)) 0 e, ne-eqb (recordFault (before at i) (at i)) 0 e))
-      (eq-or-ne (recordFault (before at i) (at i)) 0)
+      (λ (e : recordFault noCounts (before at i) (at i) ≡ 0). rw (t, e, p, q) (in-order m (suc i) n (omega arith) (omega arith)))
+      (λ (e : recordFault noCounts (before at i) (at i) ≡ 0 → ⊥). rw (t, ne-eqb (recordFault noCounts (before at i) (at i)) 0 e, ne-eqb (recordFault noCounts (before at i) (at i)) 0 e))
+      (eq-or-ne (recordFault noCounts (before at i) (at i)) 0)
 
   -- a fault stands among the records judged
   found-below : (n i : ℕ) → firstFault at i n .at ≤ i + n
@@ -65,9 +65,9 @@ module _ (at : ℕ → Rec) where
   found-below zero i = omega arith
   found-below (suc n) i =
       ⊎-elim
-      (λ (e : recordFault (before at i) (at i) ≡ 0). rw e (omega (arith, found-below n (suc i))))
-      (λ (e : recordFault (before at i) (at i) ≡ 0 → ⊥). rw (ne-eqb (recordFault (before at i) (at i)) 0 e) (omega arith))
-      (eq-or-ne (recordFault (before at i) (at i)) 0)
+      (λ (e : recordFault noCounts (before at i) (at i) ≡ 0). rw e (omega (arith, found-below n (suc i))))
+      (λ (e : recordFault noCounts (before at i) (at i) ≡ 0 → ⊥). rw (ne-eqb (recordFault noCounts (before at i) (at i)) 0 e) (omega arith))
+      (eq-or-ne (recordFault noCounts (before at i) (at i)) 0)
 
 -- ---- what `records_fault` is asked, over plain values
 

@@ -12,7 +12,7 @@ use lib.ListN.{getD, length}
 use borrow.Author.Tests.{lt-ltb, le-ltb, le-leb, lt-leb, ne-eqb}
 use Rattle.model.specs.Bytes.{sameBytes}
 use Rattle.model.specs.Record.{Rec, unit, num, wellFormed}
-use Rattle.model.specs.Log.{rank, insert, count, byId, isNext, isWithin, isClosed}
+use Rattle.model.specs.Log.{rank, insert, count, noCounts, byId, isNext, isWithin, isClosed}
 use Rattle.model.specs.Outcome.{Took, refused, taken, takeNew, takeHeld, takeOne}
 use Rattle.byte_slice.proofs.Numbers.{lt-or-ge, eq-or-ne, bool-cases}
 use Rattle.log_laws.proofs.Formed.{well-unit, well-own}
@@ -63,7 +63,7 @@ module _ (at : ℕ → Rec) (top : ℕ) (m : List Rec) (held places seens : List
   new-is : (r : Rec) → unit r < 8 → takeNew m r ≡ tookNew (newBy held used places seens r) (insert r m)
   unfolding takeNew newBy tookNew
   new-is r u8 =
-      rw (join-is at top m held places seens h r u8, e) (go (isNext m r && isWithin m r) (isClosed m r) (ltb (length m) 512))
+      rw (join-is at top m held places seens h r u8, e) (go (isNext noCounts m r && isWithin noCounts m r) (isClosed noCounts m r) (ltb (length m) 512))
     where
       go : (a b c : Bool) → cond a (cond b (cond c (taken (insert r m)) (refused 11)) (refused 9)) (refused 8)
           ≡ tookNew (cond (eqb (cond a (cond b 0 9) 8) 0) (cond c 0 11) (cond a (cond b 0 9) 8)) (insert r m)
