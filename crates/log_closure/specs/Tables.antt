@@ -67,8 +67,9 @@ admitOf base r p held floor places seens =
     (noted 0 (set held (unit r) (getD held (unit r) 0 + 1)) (rank r + 1) (set places (slotOf (unit r) (num r - getD base (unit r) 0)) p) (putAt seens (8 * p) (seenVector r)))
     (noted (faultBy base floor held places seens r) held floor places seens)
 
--- a record more of each unit has a place in the tables
+-- a record more of each unit comes behind the base vector and has a place in the tables
 pub record Spare (base held : List ℕ) : Type 0 where
+  pub behind : (u : ℕ) → u < 8 → getD base u 0 ≤ getD held u 0
   pub below : (u : ℕ) → u < 8 → getD held u 0 < getD base u 0 + 512
 
 -- the positions of the records counted lie in the tables
