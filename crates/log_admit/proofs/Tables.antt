@@ -253,8 +253,8 @@ unfolding count byId
 indexed-none base at held places seens n e p s =
     record {
       counts = e ∙ ext-getD 0 base (vectorOn base []) (n ∙ sym (vectorOn-length base [])) (λ u k.
-      let b : u < 8 = omega arith in
-      omega (arith, vectorOn-getD base [] u b));
+          let b : u < 8 = omega arith in
+          omega (arith, vectorOn-getD base [] u b));
       places-long = p;
       seens-long = s;
       few = omega arith;

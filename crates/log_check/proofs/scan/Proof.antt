@@ -63,7 +63,9 @@ loop-less : tie.Need-loop-less Inv-loop μ-loop
 loop-less c = search needs
 
 loop-again : tie.Need-loop-again Inv-loop μ-loop
-loop-again c = (omega arith, search needs, search needs, search needs, search (scan-first), search (scan-more), search (scan-passed))
+loop-again c =
+    let passed = c .before .before .before .before .before .before .before .before .before .before .before .before .before .loop .inv .6 in
+    (omega arith, search needs, search needs, search needs, search (scan-first), search (scan-more), search (scan-passed, passed))
 
 same-length-3 : tie.Need-same-length-3 Inv-loop μ-loop
 same-length-3 c = search needs

@@ -1,5 +1,5 @@
 use Rattle.log_admit.proofs.Faults.{unit-small}
-use Rattle.take_beside.proofs.Checks.{new-refuses, new-least, new-most, new-spare, new-notes}
+use Rattle.take_beside.proofs.Checks.{new-refuses, new-least, new-most, new-above, new-behind, new-notes}
 use borrow.Author.Needs.{needs}
 use Rattle.take_beside.proofs.take_new.Statement.{statement}
 use Rattle.take_beside.proofs.take_new.Tie as tie
@@ -28,14 +28,23 @@ cast-u c = search needs
 number-of-requires : tie.Need-number-of-requires
 number-of-requires c κs = search needs
 
+mul-f : tie.Need-mul-f
+mul-f c = search needs
+
+element-copy-out-f : tie.Need-element-copy-out-f
+element-copy-out-f c = search (unit-small)
+
+counted-requires : tie.Need-counted-requires
+counted-requires c κs = (search (unit-small), search (new-above))
+
+sub-note : tie.Need-sub-note
+sub-note c = search (new-behind)
+
 note-requires : tie.Need-note-requires
 note-requires c κs = (search (unit-small), search (new-least), search (new-most), search needs, search needs, search needs)
 
-bump-requires : tie.Need-bump-requires
-bump-requires c κs = (search (unit-small), search (new-spare))
-
-add-t23 : tie.Need-add-t23
-add-t23 c = search needs
+add-t32 : tie.Need-add-t32
+add-t32 c = search needs
 
 same-length-3 : tie.Need-same-length-3
 same-length-3 c = search needs
@@ -58,9 +67,12 @@ take-new-spec =
     unit-of-requires
     cast-u
     number-of-requires
+    mul-f
+    element-copy-out-f
+    counted-requires
+    sub-note
     note-requires
-    bump-requires
-    add-t23
+    add-t32
     same-length-3
     same-length-4
     returns-2)
