@@ -39,8 +39,10 @@ fn same_at(rec: &[u8], q: usize, work: &[u8]) -> bool
     byte_slice::same(&work[at..at + 80], rec)
 }
 
-// One record of a block, which stands at the place used: 7, then 10 if its identity is held, else 8, 9, 11.
+// One record of a block, which stands at the place used: 7, then 10 if its identity is held, else 8, 9, 11. One that the base vector
+// `under` counts is passed over.
 fn take_at(
+    under: Vector,
     rec: &[u8],
     held: Vector,
     used: usize,
@@ -48,8 +50,8 @@ fn take_at(
     places: &mut [u16],
     seens: &mut [u16],
 ) -> Judged
-    requires { ⌜ (length (now rec) ≡ recordSize) × (used ≤ logPlaces) × (length (now work) ≡ workSize) × (length (now places) ≡ placesSize) × (length (now seens) ≡ seensSize) × Placed (held .counts) (now places) × Counted (held .counts) used ⌝ }
-    ensures { λ r. ⌜ step (r .number) (r .held .counts) (r .used) (now (places .exit)) (now (seens .exit)) ≡ takeBy (laidAt Log (now (work .entry))) (now (rec .entry)) used (held .counts) used (now (places .entry)) (now (seens .entry)) ⌝ }
+    requires { ⌜ (length (now rec) ≡ recordSize) × (used ≤ logPlaces) × (length (now work) ≡ workSize) × (length (now places) ≡ placesSize) × (length (now seens) ≡ seensSize) × Placed (under .counts) (held .counts) (now places) × Counted (under .counts) (held .counts) used ⌝ }
+    ensures { λ r. ⌜ step (r .number) (r .held .counts) (r .used) (now (places .exit)) (now (seens .exit)) ≡ takeBy (under .counts) (laidAt Log (now (work .entry))) (now (rec .entry)) used (held .counts) used (now (places .entry)) (now (seens .entry)) ⌝ }
 {
     if !record::well_formed(rec) {
         return Judged {
@@ -61,9 +63,17 @@ fn take_at(
     let u = record::unit_of(rec) as usize;
     let c = record::number_of(rec);
     if held.counts[u] < c {
-        return take_new(rec, used, held, used, places, seens);
+        return take_new(under, rec, used, held, used, places, seens);
     }
-    let q = log_closure::position(places, u, c);
+    let f = under.counts[u];
+    if c <= f {
+        return Judged {
+            number: 0,
+            held,
+            used,
+        };
+    }
+    let q = log_closure::position(places, u, c - f);
     if same_at(rec, q, work) {
         return Judged {
             number: 0,
@@ -98,8 +108,9 @@ fn judge_into(
     let mut j: usize = 0;
     while j < n {
         let at = 28 + 80 * j;
+        let under = vector::zero_vector();
         put(work, 80 * used, &b[at..at + 80]);
-        let t = take_at(&b[at..at + 80], held, used, work, places, seens);
+        let t = take_at(under, &b[at..at + 80], held, used, work, places, seens);
         if t.number != 0 {
             return t;
         }

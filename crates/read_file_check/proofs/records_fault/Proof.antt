@@ -9,6 +9,9 @@ records-counted-requires c κs = search needs
 at-most-512-requires : tie.Need-at-most-512-requires
 at-most-512-requires c κs = search needs
 
+zero-vector-requires : tie.Need-zero-vector-requires
+zero-vector-requires c κs = search needs
+
 scan-requires : tie.Need-scan-requires
 scan-requires c κs = (search needs, search (file-laid), search needs, search needs)
 
@@ -48,6 +51,7 @@ records-fault-spec =
     (tie.spec
     records-counted-requires
     at-most-512-requires
+    zero-vector-requires
     scan-requires
     cast-t16
     same-length
