@@ -43,8 +43,8 @@ sub-note c = search (new-behind)
 note-requires : tie.Need-note-requires
 note-requires c κs = (search (unit-small), search (new-least), search (new-most), search needs, search needs, search needs)
 
-add-t32 : tie.Need-add-t32
-add-t32 c = search needs
+add-t22 : tie.Need-add-t22
+add-t22 c = search needs
 
 same-length-3 : tie.Need-same-length-3
 same-length-3 c = search needs
@@ -53,7 +53,20 @@ same-length-4 : tie.Need-same-length-4
 same-length-4 c = search needs
 
 returns-2 : tie.Need-returns-2
-returns-2 c = search (new-notes)
+returns-2 c =
+    let note = c .before .before .before .before in
+    let counted = note .before .before .before in
+    let number = counted .before .before in
+    let fault = number .before .before .before in
+    let judged = fault .new-fault .ensures in
+    let passed = number .before .before .if1 .left in
+    let seen = fault .before .before .before .seen-vector .ensures in
+    let unit = number .before .unit-of .ensures in
+    let numbered = number .number-of .ensures in
+    let more = counted .counted .ensures in
+    let placed = note .note .ensures .0 in
+    let rowed = note .note .ensures .1 in
+    search (new-notes, judged, passed, seen, unit, numbered, more, placed, rowed)
 
 pub take-new-spec : {M : Type 1} → statement M
 take-new-spec =
@@ -72,7 +85,7 @@ take-new-spec =
     counted-requires
     sub-note
     note-requires
-    add-t32
+    add-t22
     same-length-3
     same-length-4
     returns-2)
