@@ -125,30 +125,38 @@ module _ (base : List ℕ) (at : ℕ → Rec) (r : Rec) (p : ℕ) (held : List �
     unfolding takeBy
     take-unheld h o f = f ∙ rw (← e, not-false w g, ← a, ← b, lt-leb c (getD held u 0) h)
 
-    module _ (h : c ≤ getD held u 0) where
-      -- it comes before
-      pub take-before : c ≤ getD base u 0 → step 0 held used places seens ≡ takeBy base at r p held used places seens
-      unfolding takeBy heldBy
-      take-before k = rw (← e, not-false w g, ← a, ← b, le-leb c (getD held u 0) h, le-leb c (getD base u 0) k)
+    pub take-known : c ≤ getD held u 0 → (n : ℕ) → n ≡ heldBy base at places r → step n held used places seens ≡ takeBy base at r p held used places seens
+    unfolding takeBy
+    take-known h n f = rw (f, ← e, not-false w g, ← a, ← b, le-leb c (getD held u 0) h)
 
-      module _ (l : getD base u 0 < c) where
-        pub held-least : 1 ≤ c - getD base u 0
-        held-least = omega arith
+    pub known-within : c ≤ getD held u 0 → num r ≤ getD held (unit r) 0
+    known-within h = rw (← a, ← b) h
 
-        pub held-most : Placed base held places → c - getD base u 0 ≤ 512
-        held-most k = omega (arith, k .few u unit-judged)
+-- ---- a record whose identity is held, or comes before
 
-        module _ (q d : ℕ) (i : q ≡ positionOf places u d) (j : d ≡ c - getD base u 0) where
-          pub held-inside : Placed base held places → q < 518
-          held-inside k = rw (i, j) (k .inside u (c - getD base u 0) unit-judged held-least (omega arith))
+module _ (base : List ℕ) (at : ℕ → Rec) (r : Rec) (places : List ℕ) (u c : ℕ) (a : u ≡ unit r) (b : c ≡ num r) where
+  pub held-before : c ≤ getD base u 0 → 0 ≡ heldBy base at places r
+  unfolding heldBy
+  held-before k = rw (← a, ← b, le-leb c (getD base u 0) k)
 
-          module _ (t : Bool) (f : t ≡ sameBytes (at q) r) where
-            held-number : takeBy base at r p held used places seens ≡ step (cond t 0 10) held used places seens
-            unfolding takeBy heldBy
-            held-number = rw (← e, not-false w g, ← a, ← b, le-leb c (getD held u 0) h, lt-leb c (getD base u 0) l, ← j, ← i, ← f)
+  module _ (l : getD base u 0 < c) (q d : ℕ) (i : q ≡ positionOf places u d) (j : d ≡ c - getD base u 0) (t : Bool) (f : t ≡ sameBytes (at q) r) where
+    pub held-differs : not t ≡ true → 10 ≡ heldBy base at places r
+    unfolding heldBy
+    held-differs z = rw (← a, ← b, lt-leb c (getD base u 0) l, ← j, ← i, ← f, not-true t z)
 
-            pub take-held : t ≡ true → step 0 held used places seens ≡ takeBy base at r p held used places seens
-            take-held z = sym (rw z at held-number)
+    pub held-same : not t ≡ false → 0 ≡ heldBy base at places r
+    unfolding heldBy
+    held-same z = rw (← a, ← b, lt-leb c (getD base u 0) l, ← j, ← i, ← f, not-false t z)
 
-            pub take-differs : t ≡ false → step 10 held used places seens ≡ takeBy base at r p held used places seens
-            take-differs z = sym (rw z at held-number)
+module _ (base held places : List ℕ) (r : Rec) (w : wellFormed r ≡ true) (k : Placed base held places) (h : num r ≤ getD held (unit r) 0) (u c : ℕ) (a : u ≡ unit r) (b : c ≡ num r) where
+  pub held-unit : u < 8
+  held-unit = rw a (well-unit r w)
+
+  within : c ≤ getD held u 0
+  within = rw (a, b) h
+
+  pub held-most : c - getD base u 0 ≤ 512
+  held-most = omega (arith, within, k .few u held-unit)
+
+  pub held-inside : getD base u 0 < c → (q d : ℕ) → q ≡ positionOf places u d → d ≡ c - getD base u 0 → q < 518
+  held-inside l q d i j = rw (i, j) (k .inside u (c - getD base u 0) held-unit (omega arith) (omega (arith, within)))

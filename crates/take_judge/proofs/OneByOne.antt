@@ -16,6 +16,7 @@ use Rattle.model.specs.Outcome.{Took, refused, taken, takeNew, takeHeld, takeOn
 use Rattle.byte_slice.proofs.Numbers.{bool-cases}
 use Rattle.log_laws.proofs.Counts.{no-counts}
 use Rattle.log_laws.proofs.Formed.{well-own}
+use Rattle.log_laws.proofs.Take.{takeAll-nil, takeAll-goes, takeAll-stops}
 use Rattle.take_beside.specs.Judging.{takeNewOn, takeHeldOn, takeOneOn, takeAllOn, afterOn, afterToOn, after, afterTo, JudgeGives}
 
 module _ (base : List ℕ) where
@@ -49,17 +50,16 @@ one-none l r =
     (bool-cases (wellFormed r))
 
 pub all-none : (rs l : List Rec) → takeAllOn noCounts l rs ≡ takeAll l rs
-unfolding takeAllOn takeAll
-all-none [] l = refl
-all-none (r ∷ rs) l = rw (one-none l r) (go (takeOne l r))
+all-none [] l = all-nil noCounts l ∙ sym (takeAll-nil l)
+all-none (r ∷ rs) l = go (takeOne l r) refl (λ m. all-none rs m)
   where
-    go : (t : Took) → elim t [ refused n ↦ refused n | taken m ↦ takeAllOn noCounts m rs ] ≡ elim t [ refused n ↦ refused n | taken m ↦ takeAll m rs ]
-    go (refused n) = refl
-    go (taken m) = all-none rs m
+    go : (t : Took) → takeOne l r ≡ t → ((m : List Rec) → takeAllOn noCounts m rs ≡ takeAll m rs) → takeAllOn noCounts l (r ∷ rs) ≡ takeAll l (r ∷ rs)
+    go (refused n) e k = all-stops noCounts l r rs n (one-none l r ∙ e) ∙ sym (takeAll-stops l r rs n e)
+    go (taken m) e k = all-goes noCounts l r rs m (one-none l r ∙ e) ∙ (k m ∙ sym (takeAll-goes l r rs m e))
 
 pub after-none : (l : List Rec) (r : Rec) → afterOn noCounts l r ≡ after l r
 unfolding afterOn after
-after-none l r = rw (one-none l r)
+after-none l r = rw (one-none l r, afterOn)
 
 pub after-to-none : (l : List Rec) (at : ℕ → Rec) (n : ℕ) → afterToOn noCounts l at n ≡ afterTo l at n
 unfolding afterToOn afterTo

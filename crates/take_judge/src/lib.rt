@@ -1,18 +1,38 @@
 // The records of a block judged one after another beside those held behind a base vector. Nothing is written but the tables.
 ghost use mathlib.Core.Path.{_≡_};
+ghost use mathlib.Core.Bool.{true};
 ghost use Prim.Native.Nat.{_+_, _≤_, _<_};
-ghost use lib.ListN.{length};
+ghost use lib.ListN.{length, getD};
 ghost use Rattle.model.specs.Lengths.{recordSize, blockSize, logSize, logPlaces};
+ghost use Rattle.model.specs.Record.{unit, num, wellFormed};
 ghost use Rattle.model.specs.Log.{recordsOf};
 ghost use Rattle.model.specs.Block.{countIn};
 ghost use Rattle.log_closure.specs.Tables.{placesSize, seensSize, Placed, Indexed};
 ghost use Rattle.log_check.specs.declared.Layout.the-variants.{Log};
 ghost use Rattle.log_check.specs.Places.{laidAt};
-ghost use Rattle.take_beside.specs.Judging.{Counted, heldAt, step, takeBy, judgement, judgeOf, JudgeGives};
+ghost use Rattle.take_beside.specs.Judging.{Counted, heldAt, step, heldBy, takeBy, judgement, judgeOf, JudgeGives};
 use take_beside::Judged;
 use take_beside::same_held;
 use take_beside::take_new;
 use vector::Vector;
+
+// 10 of a well-formed record whose identity is held with other bytes, or 0. One that the base vector counts is passed over.
+fn held_fault(base: Vector, rec: &[u8], held: Vector, log: &[u8], b: &[u8], places: &[u16]) -> u8
+    requires { ⌜ (length (now rec) ≡ recordSize) × (wellFormed (now rec) ≡ true) × (num (now rec) ≤ getD (held .counts) (unit (now rec)) 0) × (length (now log) ≡ logSize) × (length (now b) ≡ blockSize) × (length (now places) ≡ placesSize) × Placed (base .counts) (held .counts) (now places) ⌝ }
+    ensures { λ r. ⌜ r ≡ heldBy (base .counts) (heldAt (now (log .entry)) (now (b .entry))) (now (places .entry)) (now (rec .entry)) ⌝ }
+{
+    let u = record::unit_of(rec) as usize;
+    let c = record::number_of(rec);
+    let f = base.counts[u];
+    if c <= f {
+        return 0;
+    }
+    let q = log_closure::position(places, u, c - f);
+    if !same_held(rec, q, log, b) {
+        return 10;
+    }
+    0
+}
 
 // One record of a block: 7, then 10 if its identity is held, else 8, 9, 11. One that the base vector counts is passed over; a new one is
 // held at the position p.
@@ -42,27 +62,8 @@ pub fn take_record(
     if held.counts[u] < c {
         return take_new(base, rec, p, held, used, places, seens);
     }
-    let f = base.counts[u];
-    if c <= f {
-        return Judged {
-            number: 0,
-            held,
-            used,
-        };
-    }
-    let q = log_closure::position(places, u, c - f);
-    if same_held(rec, q, log, b) {
-        return Judged {
-            number: 0,
-            held,
-            used,
-        };
-    }
-    Judged {
-        number: 10,
-        held,
-        used,
-    }
+    let number = held_fault(base, rec, held, log, b, places);
+    Judged { number, held, used }
 }
 
 // The n records of a block, one after another: the number of the first that is refused, or 0. Earlier ones count as held.

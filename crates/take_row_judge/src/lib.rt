@@ -3,16 +3,17 @@
 ghost use mathlib.Core.Path.{_≡_};
 ghost use mathlib.Core.Bool.{true};
 ghost use Prim.Native.Nat.{_+_, _≤_, _<_};
-ghost use lib.ListN.{length};
+ghost use lib.ListN.{length, getD};
 ghost use Rattle.model.specs.Lengths.{recordSize, blockSize, logSize, fileSize, logPlaces};
 ghost use Rattle.model.specs.Bytes.{sameBytes};
+ghost use Rattle.model.specs.Record.{unit, num, wellFormed};
 ghost use Rattle.model.specs.Log.{recordsOf, soundLog};
 ghost use Rattle.model.specs.Block.{countIn};
 ghost use Rattle.model.specs.File.{blocksIn};
 ghost use Rattle.log_closure.specs.Tables.{placesSize, seensSize, Placed};
 ghost use Rattle.log_check.specs.declared.Layout.the-variants.{Log};
 ghost use Rattle.log_check.specs.Places.{laidAt};
-ghost use Rattle.take_beside.specs.Judging.{Counted, step, takeBy};
+ghost use Rattle.take_beside.specs.Judging.{Counted, step, heldBy, takeBy};
 ghost use Rattle.take_row_store.specs.Grown.{workSize};
 ghost use Rattle.take_row_judge.specs.Kept.{Kept, JudgedInto, JudgedOne, JudgedRow};
 use byte_slice::put;
@@ -39,8 +40,25 @@ fn same_at(rec: &[u8], q: usize, work: &[u8]) -> bool
     byte_slice::same(&work[at..at + 80], rec)
 }
 
-// One record of a block, which stands at the place used: 7, then 10 if its identity is held, else 8, 9, 11. One that the base vector
-// `under` counts is passed over.
+// 10 of a well-formed record whose identity is held with other bytes, or 0. One that the base vector `under` counts is passed over.
+fn held_fault(under: Vector, rec: &[u8], held: Vector, work: &[u8], places: &[u16]) -> u8
+    requires { ⌜ (length (now rec) ≡ recordSize) × (wellFormed (now rec) ≡ true) × (num (now rec) ≤ getD (held .counts) (unit (now rec)) 0) × (length (now work) ≡ workSize) × (length (now places) ≡ placesSize) × Placed (under .counts) (held .counts) (now places) ⌝ }
+    ensures { λ r. ⌜ r ≡ heldBy (under .counts) (laidAt Log (now (work .entry))) (now (places .entry)) (now (rec .entry)) ⌝ }
+{
+    let u = record::unit_of(rec) as usize;
+    let c = record::number_of(rec);
+    let f = under.counts[u];
+    if c <= f {
+        return 0;
+    }
+    let q = log_closure::position(places, u, c - f);
+    if !same_at(rec, q, work) {
+        return 10;
+    }
+    0
+}
+
+// One record of a block, which stands at the place used: 7, then 10 if its identity is held, else 8, 9, 11.
 fn take_at(
     under: Vector,
     rec: &[u8],
@@ -65,27 +83,8 @@ fn take_at(
     if held.counts[u] < c {
         return take_new(under, rec, used, held, used, places, seens);
     }
-    let f = under.counts[u];
-    if c <= f {
-        return Judged {
-            number: 0,
-            held,
-            used,
-        };
-    }
-    let q = log_closure::position(places, u, c - f);
-    if same_at(rec, q, work) {
-        return Judged {
-            number: 0,
-            held,
-            used,
-        };
-    }
-    Judged {
-        number: 10,
-        held,
-        used,
-    }
+    let number = held_fault(under, rec, held, work, places);
+    Judged { number, held, used }
 }
 
 // The n records of a block, one after another: the number of the first that is refused, or 0. Each new one is laid behind those held.
