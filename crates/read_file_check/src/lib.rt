@@ -62,9 +62,10 @@ fn records_fault(file: &[u8], n: usize, places: &mut [u16], seens: &mut [u16]) -
     let s = scan(base, file, Layout::File, m, places, seens);
     let held = s.held;
     if s.number != 0 {
+        let place = (s.at / 6) as u8;
         return Judged {
             number: s.number,
-            place: (s.at / 6) as u8,
+            place,
             held,
         };
     }
