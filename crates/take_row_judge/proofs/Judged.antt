@@ -131,5 +131,8 @@ pub row-gives : (log row : List ℕ) (archive u base n number : ℕ) (work : Lis
     → held ≡ vectorOf (heldIn (recordsOf log) base work used) → JudgedRow log base archive u row n number work used held
 row-gives log row archive u base n number work used held q g c = record { answers = q; grown = g; counts = c }
 
+pub kept-counts : (l : List Rec) (base : ℕ) (work : List ℕ) (used : ℕ) (held places seens : List ℕ) → Kept l base work used held places seens → held ≡ vectorOf (heldIn l base work used)
+kept-counts l base work used held places seens k = k .indexed .counts ∙ vectorOn-none (heldIn l base work used)
+
 pub one-kept : {l : List Rec} {base archive u m number used : ℕ} {b work work′ held places seens : List ℕ} → JudgedOne l base archive u b work m number work′ used held places seens → number ≡ 0 → Kept l base work′ used held places seens
 one-kept j z = j .kept z
