@@ -2,22 +2,22 @@
 -- Assumes nothing.
 use Prim.Native.Nat.{ℕ, zero, suc, _≤_}
 use native.Mathlib.Omega.{arith}
-use mathlib.Core.Path.{_≡_, refl, sym, ap, _∙_}
+use mathlib.Core.Path.{_≡_, refl, sym, ap, _∙_, subst}
 use mathlib.Core.Logic.{⊎-elim}
 use mathlib.Core.Bool.{Bool, true, false, cond, not, _&&_}
 use mathlib.Core.List.{List}
 use lib.Dec.{leb, eqb}
 use lib.ListN.{length, replicate}
 use borrow.Author.Tests.{eqb-true, not-true, not-false}
-use Rattle.model.specs.Log.{vectorOf, recordsOf, soundLog}
+use Rattle.model.specs.Log.{vectorOf, noCounts, recordsOf, soundLog}
 use Rattle.model.specs.Outcome.{Outcome, refusal, firstOf, earlyNumber, guardNumber, guarded}
 use Rattle.byte_slice.proofs.Numbers.{bool-cases, first-stops, first-zero}
 use Rattle.call_answer.proofs.Guards.{early-long, early-lent, early-unit, refused-by}
 use Rattle.log_closure.specs.Tables.{Indexed, tables}
 use Rattle.log_check.specs.declared.Layout.the-variants.{Log}
 use Rattle.log_check.specs.Places.{laidAt}
-use Rattle.log_check.specs.InOrder.{heldOf, Check, checked, checkOf}
-use Rattle.log_check.proofs.Sound.{checked-sound, checked-used, checked-held, known-held}
+use Rattle.log_check.specs.InOrder.{soundLogOn, heldOf, Check, checked, checkOf}
+use Rattle.log_check.proofs.Sound.{checked-sound, checked-used, checked-held, plain-sound, known-held}
 use Rattle.call_guard.specs.Opened.{Opening, opened, openedBy, openOf, filledBy, fillOf}
 
 -- ---- the ways out of `judged`, `open` and `open_into`
@@ -53,30 +53,36 @@ module _ (u : ℕ) (log : List ℕ) (ok row : Bool) (n : ℕ) (e : n ≡ earlyNu
     pub passed-long : length log ≡ 40960
     passed-long = early-long u log ok row (sym e ∙ z)
 
-    module _ (s : Bool) (used : ℕ) (held : List ℕ) (es : s ≡ soundLog log) (eu : used ≡ length (recordsOf log)) (eh : held ≡ heldOf log) where
-      pub judged-opened : (o : Opening) → o ≡ cond s (opened 0 held used) (opened 19 (replicate 8 0) 0) → o ≡ openOf u log ok row
-      unfolding openOf openedBy
-      judged-opened o w = w ∙ ⊎-elim sounds (λ (t : s ≡ false). rw (← e, z, ← es, t)) (bool-cases s)
-        where
-          sounds : s ≡ true → cond s (opened 0 held used) (opened 19 (replicate 8 0) 0) ≡ openedBy (firstOf (earlyNumber u log ok row) (cond (soundLog log) 0 19)) log
-          sounds t = rw (← e, z, ← es, t, eu, known-held log es (rw t) eh)
+    -- the log is checked behind no record
+    module _ (base : List ℕ) (b : base ≡ noCounts) where
+      module _ (s : Bool) (used : ℕ) (held : List ℕ) (es : s ≡ soundLogOn base log) (eu : used ≡ length (recordsOf log)) (eh : held ≡ heldOf base log) where
+        sounds-is : s ≡ soundLog log
+        sounds-is = (rw b at es) ∙ plain-sound log
 
-    module _ (places₀ seens₀ : List ℕ) (s : Bool) (used : ℕ) (held places seens : List ℕ) (c : checked s used held places seens ≡ checkOf log places₀ seens₀) where
-      pub into-opened : (o : Opening) → o ≡ cond s (opened 0 held used) (opened 19 (replicate 8 0) 0) → o ≡ openOf u log ok row
-      into-opened = judged-opened s used held (checked-sound log places₀ seens₀ c) (checked-used log places₀ seens₀ c) (checked-held log places₀ seens₀ c)
+        pub judged-opened : (o : Opening) → o ≡ cond s (opened 0 held used) (opened 19 (replicate 8 0) 0) → o ≡ openOf u log ok row
+        unfolding openOf openedBy
+        judged-opened o w = w ∙ ⊎-elim sounds (λ (t : s ≡ false). rw (← e, z, ← sounds-is, t)) (bool-cases s)
+          where
+            sounds : s ≡ true → cond s (opened 0 held used) (opened 19 (replicate 8 0) 0) ≡ openedBy (firstOf (earlyNumber u log ok row) (cond (soundLog log) 0 19)) log
+            sounds t = rw (← e, z, ← sounds-is, t, eu, known-held log sounds-is (rw t) (rw b at eh))
 
-      pub into-filled : tables places seens ≡ fillOf u log ok row places₀ seens₀
-      unfolding fillOf filledBy
-      into-filled = rw (← e, z) (ap (λ (x : Check). tables (x .places) (x .seens)) c)
+      module _ (places₀ seens₀ : List ℕ) (s : Bool) (used : ℕ) (held places seens : List ℕ) (c : checked s used held places seens ≡ checkOf base log places₀ seens₀) where
+        pub into-opened : (o : Opening) → o ≡ cond s (opened 0 held used) (opened 19 (replicate 8 0) 0) → o ≡ openOf u log ok row
+        into-opened = judged-opened s used held (checked-sound base log places₀ seens₀ c) (checked-used base log places₀ seens₀ c) (checked-held base log places₀ seens₀ c)
 
-      pub into-holds : (soundLog log ≡ true → Indexed (laidAt Log log) used (recordsOf log) held places seens)
-          → (m : ℕ) (h : List ℕ) (k : ℕ) → opened m h k ≡ cond s (opened 0 held used) (opened 19 (replicate 8 0) 0) → m ≡ 0 → Indexed (laidAt Log log) k (recordsOf log) h places seens
-      into-holds f m h k w y = ⊎-elim sounds (λ (t : s ≡ false). absurd (let o : opened m h k ≡ opened 19 (replicate 8 0) 0 = rw t at w in omega (arith, sym (ap (λ (x : Opening). x .number) o) ∙ y))) (bool-cases s)
-        where
-          sounds : s ≡ true → Indexed (laidAt Log log) k (recordsOf log) h places seens
-          sounds t =
-              let o : opened m h k ≡ opened 0 held used = rw t at w in
-              rw (ap (λ (x : Opening). x .held) o, ap (λ (x : Opening). x .used) o) (f (sym (checked-sound log places₀ seens₀ c) ∙ t))
+        pub into-filled : tables places seens ≡ fillOf u log ok row places₀ seens₀
+        unfolding fillOf filledBy
+        into-filled = rw (← e, z) (ap (λ (x : Check). tables (x .places) (x .seens)) (rw b at c))
+
+        pub into-holds : (soundLogOn base log ≡ true → Indexed base (laidAt Log log) used (recordsOf log) held places seens)
+            → (m : ℕ) (h : List ℕ) (k : ℕ) → opened m h k ≡ cond s (opened 0 held used) (opened 19 (replicate 8 0) 0) → m ≡ 0 → Indexed noCounts (laidAt Log log) k (recordsOf log) h places seens
+        into-holds f m h k w y = ⊎-elim sounds (λ (t : s ≡ false). absurd (let o : opened m h k ≡ opened 19 (replicate 8 0) 0 = rw t at w in omega (arith, sym (ap (λ (x : Opening). x .number) o) ∙ y))) (bool-cases s)
+          where
+            sounds : s ≡ true → Indexed noCounts (laidAt Log log) k (recordsOf log) h places seens
+            sounds t =
+                let o : opened m h k ≡ opened 0 held used = rw t at w in
+                let i : Indexed base (laidAt Log log) used (recordsOf log) held places seens = f (sym (checked-sound base log places₀ seens₀ c) ∙ t) in
+                rw (ap (λ (x : Opening). x .held) o, ap (λ (x : Opening). x .used) o) (subst (λ (v : List ℕ). Indexed v (laidAt Log log) used (recordsOf log) held places seens) b i)
 
 -- ---- what a call knows
 

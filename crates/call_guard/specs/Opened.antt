@@ -4,7 +4,7 @@ use Prim.Native.Nat.{ℕ, zero, suc}
 use mathlib.Core.Bool.{Bool}
 use mathlib.Core.List.{List}
 use lib.ListN.{length, replicate}
-use Rattle.model.specs.Log.{vectorOf, recordsOf}
+use Rattle.model.specs.Log.{vectorOf, noCounts, recordsOf}
 use Rattle.model.specs.Outcome.{earlyNumber, guardNumber}
 use Rattle.log_closure.specs.Tables.{Tables, tables}
 use Rattle.log_check.specs.InOrder.{Check, checkOf}
@@ -30,7 +30,7 @@ openOf u log ok row = openedBy (guardNumber u log ok row) log
 
 -- as the check of the log leaves them, or as they were if the log was not judged
 unfoldable pub filledBy : ℕ → List ℕ → List ℕ → List ℕ → Tables
-filledBy zero log places seens = let c : Check = checkOf log places seens in tables (c .places) (c .seens)
+filledBy zero log places seens = let c : Check = checkOf noCounts log places seens in tables (c .places) (c .seens)
 filledBy (suc n) log places seens = tables places seens
 
 unfoldable pub fillOf : ℕ → List ℕ → Bool → Bool → List ℕ → List ℕ → Tables

@@ -2,7 +2,7 @@
 ghost use mathlib.Core.Path.{_≡_};
 ghost use mathlib.Core.Bool.{cond};
 ghost use lib.ListN.{length, replicate};
-ghost use Rattle.model.specs.Log.{recordsOf};
+ghost use Rattle.model.specs.Log.{noCounts, recordsOf};
 ghost use Rattle.log_closure.specs.Tables.{placesSize, seensSize, tables, Indexed};
 ghost use Rattle.log_check.specs.declared.Layout.the-variants.{Log};
 ghost use Rattle.log_check.specs.Places.{laidAt};
@@ -56,7 +56,8 @@ pub fn open(log: &[u8], unit: u8, lent: bool, row: bool) -> Opened
     if n != 0 {
         return refused(n);
     }
-    judged(check(log))
+    let base = vector::zero_vector();
+    judged(check(base, log))
 }
 
 // The same, and the records of the log are noted in the tables.
@@ -71,11 +72,12 @@ pub fn open_into(
     requires { ⌜ (length (now places) ≡ placesSize) × (length (now seens) ≡ seensSize) ⌝ }
     ensures outright { λ r. ⌜ opened (r .number) (r .held .counts) (r .used) ≡ openOf unit (now (log .entry)) lent row ⌝ }
     ensures filled { λ r. ⌜ tables (now (places .exit)) (now (seens .exit)) ≡ fillOf unit (now (log .entry)) lent row (now (places .entry)) (now (seens .entry)) ⌝ }
-    ensures holds { λ r. ⌜ (r .number ≡ 0 → Indexed (laidAt Log (now (log .entry))) (r .used) (recordsOf (now (log .entry))) (r .held .counts) (now (places .exit)) (now (seens .exit))) ⌝ }
+    ensures holds { λ r. ⌜ (r .number ≡ 0 → Indexed noCounts (laidAt Log (now (log .entry))) (r .used) (recordsOf (now (log .entry))) (r .held .counts) (now (places .exit)) (now (seens .exit))) ⌝ }
 {
     let n = early_number(log, unit, lent, row);
     if n != 0 {
         return refused(n);
     }
-    judged(check_into(log, places, seens))
+    let base = vector::zero_vector();
+    judged(check_into(base, log, places, seens))
 }

@@ -14,7 +14,7 @@ use Rattle.model.specs.Numbers.{badBuffer, badUnit}
 use Rattle.model.specs.Bytes.{two, padded, sameBytes}
 use Rattle.model.specs.Vector.{vectorBytes}
 use Rattle.model.specs.Record.{Rec, unit, num, labelOf, wellFormed}
-use Rattle.model.specs.Log.{count, vectorOf, recordsOf, logBytes, byId, isNext, isWithin, isClosed}
+use Rattle.model.specs.Log.{count, vectorOf, noCounts, recordsOf, logBytes, byId, isNext, isWithin, isClosed}
 use Rattle.model.specs.Replay.{Verdict, fits, aside, judge, replay}
 use Rattle.model.specs.Block.{sumsHold, headerHolds, blockFault, archiveIn, blockRecords, letters}
 use Rattle.model.specs.File.{blockCount, fileOf, blockAt}
@@ -88,7 +88,7 @@ one-few l r = few-cond (wellFormed r) _ _ (go (byId (unit r) (num r) l)) (omega 
     go : (o : Option Rec) → Few (takeHeld o l r)
     go (some s) = few-cond (sameBytes s r) _ _ tt (omega arith)
     go none =
-        few-cond (isNext l r && isWithin l r) _ _ (few-cond (isClosed l r) _ _ (few-cond (ltb (length l) 512) _ _ tt (omega arith)) (omega arith)) (omega arith)
+        few-cond (isNext noCounts l r && isWithin noCounts l r) _ _ (few-cond (isClosed noCounts l r) _ _ (few-cond (ltb (length l) 512) _ _ tt (omega arith)) (omega arith)) (omega arith)
 
 all-few : (rs l : List Rec) → Few (takeAll l rs)
 all-few [] l = subst Few (sym (takeAll-nil l)) tt

@@ -10,7 +10,7 @@ use lib.Dec.{eqb}
 use lib.ListN.{length, take}
 use Rattle.model.specs.Vector.{handedCount}
 use Rattle.model.specs.Record.{Rec}
-use Rattle.model.specs.Log.{recordsOf, soundAfter, soundLog, logBytes, vectorOf}
+use Rattle.model.specs.Log.{recordsOf, soundAfter, soundLog, logBytes, vectorOf, noCounts}
 use Rattle.model.specs.Block.{blockRecords, countIn}
 use Rattle.model.specs.File.{readOf, headerOf}
 use Rattle.model.specs.Outcome.{Outcome, outcome, guarded, startOf, actOf, lacking, handBlock, handOf, writeOf, Took, refused, taken, takeAll, givenFault, tookAll, tookBlock, takeOf, showOf}
@@ -27,14 +27,14 @@ use Rattle.encoding_laws.proofs.Merging.{merge-keeps}
 use Rattle.encoding_laws.proofs.Calls.{Guarded, guarded-cases, guarded-passes, log-good, sound-back, take-done, start-keeps, act-keeps, hand-keeps, write-keeps, take-keeps, show-keeps}
 
 -- L2: the records of a good log are sound, and it is the bytes of these records and of no other sound ones
-pub one-reading : (b : List ℕ) → Good b → (l : List Rec) → soundAfter [] l ≡ true → length l ≤ 512 → (logBytes l ≡ b) ↔ (l ≡ recordsOf b)
+pub one-reading : (b : List ℕ) → Good b → (l : List Rec) → soundAfter noCounts [] l ≡ true → length l ≤ 512 → (logBytes l ≡ b) ↔ (l ≡ recordsOf b)
 one-reading b g l h k = (
   λ (e : logBytes l ≡ b). sym (sound-back l (sound-means l h) k) ∙ ap recordsOf e,
   λ (e : l ≡ recordsOf b). ap logBytes e ∙ sound-bytes b (g .long) (g .sound),
 )
 
 -- the bytes of at most 512 well-formed records are a sound log exactly if the records are sound
-pub sound-bytes-exactly : (l : List Rec) → Proper l → length l ≤ 512 → (soundLog (logBytes l) ≡ true) ↔ (soundAfter [] l ≡ true)
+pub sound-bytes-exactly : (l : List Rec) → Proper l → length l ≤ 512 → (soundLog (logBytes l) ≡ true) ↔ (soundAfter noCounts [] l ≡ true)
 sound-bytes-exactly l p k = (
   λ e. means-sound l (subst Sound (records-back l p k) (sound-records (logBytes l) e)),
   λ e. log-sound l (sound-means l e) k,

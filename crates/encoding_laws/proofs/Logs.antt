@@ -10,7 +10,7 @@ use lib.ListN.{length, take, drop, replicate, take-append-drop, length-drop}
 use lib.Seq.{take-at, drop-at, take-add, length-take-le}
 use Rattle.model.specs.Bytes.{blank, padded, joined}
 use Rattle.model.specs.Record.{Rec, wellFormed}
-use Rattle.model.specs.Log.{recordsIn, recordsOf, soundAfter, soundLog, logBytes}
+use Rattle.model.specs.Log.{noCounts, recordsIn, recordsOf, soundAfter, soundLog, logBytes}
 use Rattle.byte_slice.proofs.Numbers.{cond-cases, and-true}
 use Rattle.byte_slice.proofs.Compare.{blank-zeros, blank-eq, blank-take}
 use Rattle.byte_slice.proofs.PutAt.{length-padded}
@@ -99,11 +99,11 @@ bytes-back b n e =
 
 pub sound-records : (b : List ℕ) → soundLog b ≡ true → Sound (recordsOf b)
 unfolding soundLog
-sound-records b e = sound-means (recordsOf b) (and-true (soundAfter [] (recordsOf b)) (blank (drop (80 * length (recordsOf b)) b)) e .0)
+sound-records b e = sound-means (recordsOf b) (and-true (soundAfter noCounts [] (recordsOf b)) (blank (drop (80 * length (recordsOf b)) b)) e .0)
 
 pub sound-bytes : (b : List ℕ) → length b ≡ 40960 → soundLog b ≡ true → logBytes (recordsOf b) ≡ b
 unfolding soundLog
-sound-bytes b n e = bytes-back b n (and-true (soundAfter [] (recordsOf b)) (blank (drop (80 * length (recordsOf b)) b)) e .1)
+sound-bytes b n e = bytes-back b n (and-true (soundAfter noCounts [] (recordsOf b)) (blank (drop (80 * length (recordsOf b)) b)) e .1)
 
 pub sound-few : (b : List ℕ) → length (recordsOf b) ≤ 512
 unfolding recordsOf

@@ -10,7 +10,7 @@ use lib.Dec.{ltb, eqb}
 use lib.ListN.{length}
 use borrow.Author.Tests.{eqb-true, eqb-false, ltb-true}
 use Rattle.model.specs.Record.{Rec}
-use Rattle.model.specs.Log.{recordFault, soundAfter}
+use Rattle.model.specs.Log.{noCounts, recordFault, soundAfter}
 use Rattle.model.specs.File.{fileLength, Fault, fault, blocksIn, blocksFault, fileRecords, recordsFault, countsFault, orElse, fileFault, checkedFault, notRead, readBack, readOf}
 use Rattle.byte_slice.proofs.Numbers.{bool-cases, true-and}
 use Rattle.log_laws.proofs.Tests.{sound-means}
@@ -18,19 +18,19 @@ use Rattle.encoding_laws.specs.Keeps.{Reads}
 use Rattle.encoding_laws.proofs.Calls.{log-good}
 
 -- records without a fault are sound, and there are at most 512
-pub faultless-records : (l pre : List Rec) (i : ℕ) → i ≤ 512 → recordsFault pre i l .number ≡ 0 → (soundAfter pre l ≡ true) × (i + length l ≤ 512)
+pub faultless-records : (l pre : List Rec) (i : ℕ) → i ≤ 512 → recordsFault pre i l .number ≡ 0 → (soundAfter noCounts pre l ≡ true) × (i + length l ≤ 512)
 unfolding recordsFault soundAfter fault
 faultless-records [] pre i k e = (refl, omega arith)
 faultless-records (r ∷ l) pre i k e =
-    full (bool-cases (ltb i 512)) (bool-cases (eqb (recordFault pre r) 0)) (λ h d. faultless-records l (r ∷ pre) (suc i) h d)
+    full (bool-cases (ltb i 512)) (bool-cases (eqb (recordFault noCounts pre r) 0)) (λ h d. faultless-records l (r ∷ pre) (suc i) h d)
   where
-    full : (ltb i 512 ≡ true) ⊎ (ltb i 512 ≡ false) → (eqb (recordFault pre r) 0 ≡ true) ⊎ (eqb (recordFault pre r) 0 ≡ false)
-        → (suc i ≤ 512 → recordsFault (r ∷ pre) (suc i) l .number ≡ 0 → (soundAfter (r ∷ pre) l ≡ true) × (suc i + length l ≤ 512))
-        → (soundAfter pre (r ∷ l) ≡ true) × (i + length (r ∷ l) ≤ 512)
+    full : (ltb i 512 ≡ true) ⊎ (ltb i 512 ≡ false) → (eqb (recordFault noCounts pre r) 0 ≡ true) ⊎ (eqb (recordFault noCounts pre r) 0 ≡ false)
+        → (suc i ≤ 512 → recordsFault (r ∷ pre) (suc i) l .number ≡ 0 → (soundAfter noCounts (r ∷ pre) l ≡ true) × (suc i + length l ≤ 512))
+        → (soundAfter noCounts pre (r ∷ l) ≡ true) × (i + length (r ∷ l) ≤ 512)
     full (inl a) (inl b) f =
         let (x, y) = f (omega (arith, ltb-true i 512 a)) (rw (a, b) at e) in
-        (true-and (eqb (recordFault pre r) 0) (soundAfter (r ∷ pre) l) b x, omega arith)
-    full (inl a) (inr b) f = let z : recordFault pre r ≡ 0 = rw (a, b) at e in absurd (eqb-false (recordFault pre r) 0 b z)
+        (true-and (eqb (recordFault noCounts pre r) 0) (soundAfter noCounts (r ∷ pre) l) b x, omega arith)
+    full (inl a) (inr b) f = let z : recordFault noCounts pre r ≡ 0 = rw (a, b) at e in absurd (eqb-false (recordFault noCounts pre r) 0 b z)
     full (inr a) b f = let z : _≡_ {A = ℕ} 11 0 = rw a at e in absurd (omega arith)
 
 -- the first of two faults is none if there is none
@@ -42,7 +42,7 @@ no-fault a b e = go (bool-cases (eqb (a .number) 0))
     go (inl h) = (eqb-true (a .number) 0 h, rw h at e)
     go (inr h) = let z : a .number ≡ 0 = rw h at e in absurd (eqb-false (a .number) 0 h z)
 
-pub file-records : (f : List ℕ) → fileFault f .number ≡ 0 → (soundAfter [] (fileRecords f) ≡ true) × (length (fileRecords f) ≤ 512)
+pub file-records : (f : List ℕ) → fileFault f .number ≡ 0 → (soundAfter noCounts [] (fileRecords f) ≡ true) × (length (fileRecords f) ≤ 512)
 unfolding fileFault
 file-records f e =
     let (_, d) = no-fault (blocksFault f 0 (blocksIn f)) (orElse (recordsFault [] 0 (fileRecords f)) (countsFault f)) e in

@@ -12,7 +12,7 @@ use lib.Seq.{take-at}
 use borrow.Author.Tests.{eq-eqb}
 use Rattle.model.specs.Record.{Rec}
 use Rattle.model.specs.Bytes.{padded}
-use Rattle.model.specs.Log.{vectorOf, soundAfter, recordsOf, logBytes}
+use Rattle.model.specs.Log.{vectorOf, noCounts, soundAfter, recordsOf, logBytes}
 use Rattle.model.specs.Block.{blockOf, senderIn}
 use Rattle.model.specs.File.{blockCount, headerOf, fileBlock, fileTo, fileOf, blocksIn, blockAt, fileRecords, readBack, readOf}
 use Rattle.model.specs.Outcome.{Outcome, outcome, refusal, guarded, writeOf}
@@ -33,11 +33,11 @@ pub one-to-86-blocks : (n : ℕ) → n ≤ 512 → (1 ≤ blockCount n) × (bloc
 one-to-86-blocks n h = (Written.some-blocks n, few-blocks n h)
 
 -- of 512 bytes each
-pub blocks-of-512 : (archive u : ℕ) (l : List Rec) → soundAfter [] l ≡ true → length l ≤ 512 → u ≤ 7 → length (fileOf archive u l) ≡ 512 * blockCount (length l)
+pub blocks-of-512 : (archive u : ℕ) (l : List Rec) → soundAfter noCounts [] l ≡ true → length l ≤ 512 → u ≤ 7 → length (fileOf archive u l) ≡ 512 * blockCount (length l)
 blocks-of-512 archive u l s h k = Written.file-bytes archive u l (sound-means l s) h k
 
 -- block k holds six records from 6 times k on, or what is left of them
-pub block-of-file : (archive u : ℕ) (l : List Rec) → soundAfter [] l ≡ true → length l ≤ 512 → u ≤ 7 → (k : ℕ) → k < blockCount (length l)
+pub block-of-file : (archive u : ℕ) (l : List Rec) → soundAfter noCounts [] l ≡ true → length l ≤ 512 → u ≤ 7 → (k : ℕ) → k < blockCount (length l)
     → blockAt (fileOf archive u l) k ≡ blockOf (headerOf archive u k l) (take 6 (drop (6 * k) l))
 block-of-file archive u l s h v k b = Written.block-is archive u l (sound-means l s) h v k b
 
@@ -48,7 +48,7 @@ empty-log-is-one-block archive u = refl
 
 -- ---- F2: a written file is accepted, and read back as the same log, archive and unit
 
-pub written-then-read : (archive u : ℕ) (l : List Rec) (log : List ℕ) → soundAfter [] l ≡ true → length l ≤ 512 → u ≤ 7 → length log ≡ 40960
+pub written-then-read : (archive u : ℕ) (l : List Rec) (log : List ℕ) → soundAfter noCounts [] l ≡ true → length l ≤ 512 → u ≤ 7 → length log ≡ 40960
     → readOf log (fileOf archive u l) ≡ record { number = 0; place = 0; archive = archive; sender = u; records = length l; vector = vectorOf l; log = logBytes l }
 written-then-read archive u l log s h k e = Written.read-is archive u l (sound-means l s) h k log e
 

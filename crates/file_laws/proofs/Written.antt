@@ -12,7 +12,7 @@ use lib.Seq.{getD-take, getD-drop}
 use borrow.Author.Tests.{eq-eqb, ne-eqb, lt-ltb, le-ltb, le-leb}
 use Rattle.model.specs.Bytes.{padded}
 use Rattle.model.specs.Record.{Rec}
-use Rattle.model.specs.Log.{vectorOf, soundAfter, recordFault, logBytes}
+use Rattle.model.specs.Log.{vectorOf, noCounts, soundAfter, recordFault, logBytes}
 use Rattle.model.specs.Block.{blockOf, blockFault, archiveIn, senderIn, placeIn, countIn, vectorIn, recordAt, blockRecords}
 use Rattle.model.specs.File.{blockCount, headerOf, fileBlock, fileOf, fileLength, blocksIn, blockAt, countFits, agrees, fileBlockFault, fault, blocksFault, recordsCounted, fileRecords, recordsFault, countsFault, orElse, fileFault, readBack, readOf}
 use Rattle.byte_slice.proofs.Numbers.{lt-or-ge, eq-or-ne, and-true}
@@ -28,11 +28,11 @@ use Rattle.file_laws.proofs.Records.{record-in-block, getD-recordsFrom,
 
 -- ---- records that are sound have no fault
 
-pub sound-faultless : (l pre : List Rec) (i : ℕ) → soundAfter pre l ≡ true → i + length l ≤ 512 → recordsFault pre i l ≡ fault 0 0
+pub sound-faultless : (l pre : List Rec) (i : ℕ) → soundAfter noCounts pre l ≡ true → i + length l ≤ 512 → recordsFault pre i l ≡ fault 0 0
 unfolding recordsFault soundAfter
 sound-faultless [] pre i s h = refl
 sound-faultless (r ∷ l) pre i s h =
-    let (a, b) = and-true (eqb (recordFault pre r) 0) (soundAfter (r ∷ pre) l) s in
+    let (a, b) = and-true (eqb (recordFault noCounts pre r) 0) (soundAfter noCounts (r ∷ pre) l) s in
     rw (lt-ltb i 512 (omega arith), a) (sound-faultless l (r ∷ pre) (suc i) b (omega arith))
 
 -- ---- counts of blocks

@@ -6,14 +6,13 @@ use mathlib.Core.List.{List, []}
 use lib.ListN.{getD, length, drop}
 use lib.Seq.{drop-append-seam}
 use Rattle.model.specs.Record.{Rec}
-use Rattle.model.specs.Log.{sumTo, count}
+use Rattle.model.specs.Log.{sumTo, count, countOn}
 use Rattle.model.specs.Replay.{replayFrom, replay}
 use Rattle.model.specs.Table.{tableBytes}
 use Rattle.log_laws.specs.Members.{Agree}
 use Rattle.log_laws.proofs.Sums.{sumTo-eq}
 use Rattle.log_laws.proofs.Counts.{length-counts, unit-of, sound-front}
 use Rattle.log_laws.proofs.Same.{same}
-use Rattle.fold_laws.specs.OnBase.{countOn}
 use Rattle.fold_laws.specs.Worlds.{Store, heldOf, World, Inv}
 use Rattle.fold_laws.proofs.Worlds.{counts-held, replay-held}
 

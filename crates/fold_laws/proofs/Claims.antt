@@ -10,29 +10,27 @@ use lib.Dec.{leb}
 use lib.ListN.{getD, length, take, drop, length-append}
 use borrow.Author.Tests.{leb-true}
 use Rattle.model.specs.Record.{Rec, unit, seen}
-use Rattle.model.specs.Log.{sumTo, count, vectorOf, allTo}
+use Rattle.model.specs.Log.{sumTo, count, vectorOf, countOn, vectorOn, allTo, soundAfter}
 use Rattle.model.specs.Replay.{Tree, presentOnes, replayFrom, replay}
 use Rattle.model.specs.Table.{tableBytes}
 use Rattle.model.specs.Outcome.{taken, lacking}
 use Rattle.byte_slice.proofs.Numbers.{and-true}
+use Rattle.log_laws.specs.Sound.{SoundAfter}
 use Rattle.log_laws.specs.Members.{Has, Sub, Agree}
 use Rattle.log_laws.proofs.Formed.{well-unit}
 use Rattle.log_laws.proofs.Members.{append-has, has-drop}
 use Rattle.log_laws.proofs.Counts.{count-nil, unit-of}
 use Rattle.log_laws.proofs.Lacking.{union-length}
-use Rattle.log_laws.proofs.Tests.{allTo-at}
+use Rattle.log_laws.proofs.Tests.{allTo-at, vectorOn-getD}
 use Rattle.machine.specs.Claim.{firsts}
 use Rattle.machine.proofs.Tests.{Rising}
 use Rattle.machine.proofs.Ways as Ways
 use Rattle.tree_laws.specs.Trees.{trim, SoundTree}
-use Rattle.fold_laws.specs.OnBase.{countOn, vectorOn, soundAfter}
-use Rattle.fold_laws.specs.Sound.{SoundOn}
 use Rattle.fold_laws.specs.Lists.{bits, isListed}
 use Rattle.fold_laws.specs.Taking.{takeAll}
 use Rattle.fold_laws.specs.Fold.{heardRun, countsAsBase, runOf}
 use Rattle.fold_laws.specs.Worlds.{Store, heldOf, run, foldedBy, World, Event, starts, acts, takes, folds, at, changes, after, bare, play, AllAccepted, Names, Naming, Keeping, Inv, Back, Own}
-use Rattle.fold_laws.proofs.Prefix.{shed}
-use Rattle.fold_laws.proofs.Tests.{vectorOn-getD, above-base}
+use Rattle.fold_laws.proofs.Prefix.{shed, above-base}
 use Rattle.fold_laws.proofs.Way as Way
 use Rattle.fold_laws.proofs.Worlds as Worlds
 use Rattle.fold_laws.proofs.Alike as Alike
@@ -47,8 +45,8 @@ unfolding runOf
 longest-run m u v t l h = (Bases.run-counts m u v t l h, Twice.longest-beyond t l (heardRun m u v l l))
 
 -- base and log stay sound, whatever records in front are folded, from any sound base and log
-pub any-fold-sound : (v : List ℕ) (t : Tree) (l : List Rec) (n : ℕ) → SoundOn v [] l → SoundTree v t
-    → SoundTree (vectorOn v (take n l)) (trim (replayFrom t (take n l))) × SoundOn (vectorOn v (take n l)) [] (drop n l)
+pub any-fold-sound : (v : List ℕ) (t : Tree) (l : List Rec) (n : ℕ) → SoundAfter v [] l → SoundTree v t
+    → SoundTree (vectorOn v (take n l)) (trim (replayFrom t (take n l))) × SoundAfter (vectorOn v (take n l)) [] (drop n l)
 any-fold-sound = Bases.fold-sound
 
 -- ---- from the first world on

@@ -12,9 +12,9 @@ use lib.ListN.{getD}
 use lib.Seq.{getD-set-same, getD-set-other}
 use borrow.Author.Tests.{eq-eqb, ne-eqb, leb-true, le-leb}
 use Rattle.model.specs.Record.{Rec, unit, num, seen, seenVector}
+use Rattle.model.specs.Log.{vectorOn}
 use Rattle.byte_slice.proofs.Numbers.{bool-cases, and-true}
 use Rattle.log_laws.proofs.Tests.{seenVector-getD, seenVector-length, allTo-at, allTo-all}
-use Rattle.fold_laws.specs.OnBase.{vectorOn}
 use Rattle.fold_laws.specs.Lists.{isListed, listsAll, listFits}
 use Rattle.fold_laws.specs.Fold.{lastOf, heardFrom, heardBy, heardByAll}
 

@@ -1,5 +1,4 @@
 pub mod Prefix
-pub mod Tests
 pub mod Taking
 pub mod Hearing
 pub mod Covering

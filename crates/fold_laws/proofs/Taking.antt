@@ -14,7 +14,7 @@ use Rattle.model.specs.Numbers.{malformed, notNext, notClosed, otherBytes, full
 use Rattle.model.specs.Bytes.{sameBytes}
 use Rattle.model.specs.Vector.{covers}
 use Rattle.model.specs.Record.{Rec, unit, num, seenVector, wellFormed}
-use Rattle.model.specs.Log.{insert, byId}
+use Rattle.model.specs.Log.{insert, byId, isNext, isWithin, isClosed}
 use Rattle.model.specs.Outcome.{Took, refused, taken}
 use Rattle.byte_slice.proofs.Numbers.{cond-cases, and-true}
 use Rattle.byte_slice.proofs.Compare.{same-refl}
@@ -25,14 +25,12 @@ use Rattle.log_laws.proofs.Members.{append-has}
 use Rattle.log_laws.proofs.Counts.{formed}
 use Rattle.log_laws.proofs.Insert.{has-insert, insert-has, length-insert}
 use Rattle.log_laws.proofs.Same.{unique}
-use Rattle.log_laws.proofs.Tests.{seenVector-getD}
+use Rattle.log_laws.proofs.Tests.{seenVector-getD, next-test-on, next-from-on, within-test-on, within-from-on, closed-test-on, closed-from}
 use Rattle.log_laws.proofs.Take.{refused-taken, taken-same, passed}
-use Rattle.fold_laws.specs.OnBase.{isNext, isWithin, isClosed}
 use Rattle.fold_laws.specs.Sound.{JoinsOn, Counts}
 use Rattle.fold_laws.specs.Lists.{isListed}
 use Rattle.fold_laws.specs.Taking.{unlisted, belowBase, takeNew, takeHeld, takeOne, takeAll}
-use Rattle.fold_laws.proofs.Prefix.{shed, sound-all}
-use Rattle.fold_laws.proofs.Tests.{above-base, next-test, next-from, within-test, within-from, closed-test, closed-from}
+use Rattle.fold_laws.proofs.Prefix.{shed, sound-all, above-base}
 
 -- ---- records that are taken
 
@@ -57,10 +55,10 @@ take-new m v l r a b e j k =
       a,
       lt-leb (num r) (getD v (unit r) 0) b,
       e,
-      next-test v l r (j .next),
-      within-test v l r (j .within),
+      next-test-on v l r (j .next),
+      within-test-on v l r (j .within),
       all-covers (seenVector r) v (λ u n. omega (arith, seenVector-getD r u n, j .covering u n)),
-      closed-test v l r (j .closed),
+      closed-test-on v l r (j .closed),
       lt-ltb (length l) 512 k,
     )
 
@@ -108,8 +106,8 @@ module _ (v : List ℕ) (p : List Rec) (c : Counts v p) where
         sym (taken-same e₄),
         record {
           formed = f;
-          next = next-from v l r n;
-          within = within-from v l r i;
+          next = next-from-on v l r n;
+          within = within-from-on v l r i;
           covering = λ u j. omega (arith, seenVector-getD r u j, covers-at (seenVector r) v b u j);
           closed = closed-from v l r (λ x y i j. unique [] (p ++ l) h x y (in-held x i) (in-held y j)) (λ s j. formed [] (p ++ l) s h (in-held s j))
               (λ s j. above-base v [] l s (shed v p l c h) j) d;

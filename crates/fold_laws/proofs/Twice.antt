@@ -11,11 +11,11 @@ use lib.Dec.{leb}
 use lib.ListN.{getD, length, take, drop, take-append-drop}
 use lib.Seq.{take-add}
 use Rattle.model.specs.Record.{Rec, unit, num}
-use Rattle.model.specs.Log.{count}
+use Rattle.model.specs.Log.{count, countOn, vectorOn}
 use Rattle.model.specs.Replay.{Entry, Aside, Tree, replayFrom}
 use Rattle.byte_slice.proofs.Numbers.{eq-or-ne, lt-or-ge, bool-cases}
 use Rattle.log_laws.specs.Members.{Has}
-use Rattle.fold_laws.specs.OnBase.{countOn, vectorOn}
+use Rattle.log_laws.proofs.Tests.{vectorOn-getD}
 use Rattle.fold_laws.specs.Fold.{lastOf, heardFrom, heardByAll, heardRun, countsAsBase, longest, runOf}
 use Rattle.log_laws.proofs.Counts.{count-append}
 use Rattle.tree_laws.specs.Trees.{trim}
@@ -23,7 +23,6 @@ use Rattle.tree_laws.proofs.Settling.{replay-append}
 use Rattle.tree_laws.proofs.Trimming.{replay-alike, trim-again}
 use Rattle.fold_laws.proofs.Hearing.{heard-self, heard-other, heard-last, heard-none, all-heard, heard-all}
 use Rattle.fold_laws.proofs.Covering.{longest-most}
-use Rattle.fold_laws.proofs.Tests.{vectorOn-getD}
 
 last-behind : (w : ℕ) (a b : List Rec) (s : Rec) → lastOf w b ≡ some s → lastOf w (a ++ b) ≡ some s
 unfolding lastOf
@@ -38,7 +37,6 @@ module _ (m u : ℕ) (v : List ℕ) (l : List Rec) (n : ℕ) where
   l′ = drop n l
 
   same-vector : (x : ℕ) → x < 8 → getD (vectorOn v′ l′) x 0 ≡ getD (vectorOn v l) x 0
-  unfolding countOn
   same-vector x b =
       let c : count x l ≡ count x (take n l) + count x (drop n l) = ap (count x) (sym (take-append-drop n l)) ∙ count-append x (take n l) (drop n l) in
       omega (arith, vectorOn-getD v′ l′ x b, vectorOn-getD v (take n l) x b, vectorOn-getD v l x b)

@@ -8,23 +8,21 @@ use mathlib.Core.Bool.{true}
 use mathlib.Core.List.{List, [], _∷_, _++_}
 use lib.ListN.{getD, length, length-append}
 use Rattle.model.specs.Record.{Rec, unit, num, seen, wellFormed}
-use Rattle.model.specs.Log.{sumTo, count, insert}
+use Rattle.model.specs.Log.{sumTo, insert, count, countOn}
 use Rattle.model.specs.Outcome.{taken}
 use Rattle.log_laws.specs.Members.{Has, Sub, Agree}
 use Rattle.log_laws.specs.Sound.{Sound}
 use Rattle.log_laws.proofs.Formed.{well-unit}
 use Rattle.log_laws.proofs.Members.{has-append, append-has}
-use Rattle.log_laws.proofs.Counts.{count-nil, count-append, sound-front, number-held}
+use Rattle.log_laws.proofs.Counts.{count-nil, no-counts, count-append, sound-front, number-held}
 use Rattle.log_laws.proofs.Insert.{insert-has, length-insert}
 use Rattle.log_laws.proofs.Ids.{none-byId, agree-byId}
 use Rattle.log_laws.proofs.Same.{unique}
 use Rattle.machine.proofs.Ways as Ways
-use Rattle.fold_laws.specs.OnBase.{countOn}
 use Rattle.fold_laws.specs.Sound.{JoinsOn, Counts}
 use Rattle.fold_laws.specs.Lists.{isListed}
 use Rattle.fold_laws.specs.Taking.{takeOne, takeAll}
-use Rattle.fold_laws.proofs.Prefix.{shed, insert-all}
-use Rattle.fold_laws.proofs.Tests.{above-base}
+use Rattle.fold_laws.proofs.Prefix.{shed, insert-all, above-base}
 use Rattle.fold_laws.proofs.Taking.{take-new, take-folded, take-held, takeAll-goes}
 
 -- A: all records of the first; B₀: all that the taker holds at the point; used: records that agree, A's among them; m, v, p: the
@@ -55,13 +53,12 @@ module _ (A B₀ used : List Rec) (sA : Sound A) (agree : Agree used used) (inA 
     module _ (new : (t : Rec) → Has t B → unit t ≡ unit r → num t ≡ num r → ⊥) where
       -- it joins what is held, and covers the base
       joins-on : JoinsOn v l r
-      unfolding countOn
       joins-on =
           let j = Ways.joins A B₀ used sA agree inA B acc r rs (w .way) new in
           record {
             formed = fr;
-            next = omega (arith, j .next, count-nil (unit r), count-append (unit r) p l, c (unit r) (well-unit r fr));
-            within = λ u k. omega (arith, j .within u k, count-nil u, count-append u p l, c u k);
+            next = omega (arith, j .next, count-nil (unit r), no-counts (unit r), count-append (unit r) p l, c (unit r) (well-unit r fr));
+            within = λ u k. omega (arith, j .within u k, count-nil u, no-counts u, count-append u p l, c u k);
             covering = over r i (λ h. new r (w .kept r h) refl refl);
             closed = λ s h n u k. j .closed s (inr (append-has p l s (inr h))) n u k;
           }

@@ -10,7 +10,7 @@ use lib.Dec.{eqb}
 use lib.ListN.{getD, length, take, drop, length-append, take-append-drop, length-drop}
 use borrow.Author.Tests.{eqb-true, eqb-false}
 use Rattle.model.specs.Record.{Rec, unit, num, seen, wellFormed}
-use Rattle.model.specs.Log.{count, insert}
+use Rattle.model.specs.Log.{insert, count, countOn, vectorOn}
 use Rattle.model.specs.Replay.{Tree, emptyTree, presentOnes, replayFrom, replay}
 use Rattle.model.specs.Table.{tableBytes}
 use Rattle.byte_slice.proofs.Numbers.{lt-or-ge, cond-cases}
@@ -18,18 +18,17 @@ use Rattle.log_laws.specs.Members.{Has, Sub, Agree}
 use Rattle.log_laws.specs.Sound.{Sound}
 use Rattle.log_laws.proofs.Formed.{well-unit, well-own}
 use Rattle.log_laws.proofs.Members.{has-append, append-has, has-take}
-use Rattle.log_laws.proofs.Counts.{count-nil, count-append, sound-front, formed, unit-of, number-held, find-held, seen-within, covering-above}
+use Rattle.log_laws.proofs.Counts.{count-nil, count-append, sound-front, formed, unit-of, number-held, find-held, seen-within, covering-above, no-counts}
 use Rattle.log_laws.proofs.Insert.{insert-last}
 use Rattle.tree_laws.specs.Trees.{trim}
-use Rattle.fold_laws.specs.OnBase.{countOn, vectorOn}
+use Rattle.log_laws.proofs.Tests.{vectorOn-getD}
 use Rattle.fold_laws.specs.Sound.{JoinsOn}
 use Rattle.fold_laws.specs.Lists.{isListed, listFits}
 use Rattle.fold_laws.specs.Fold.{countsAsBase}
 use Rattle.fold_laws.specs.Heard.{Made, Behind}
 use Rattle.fold_laws.specs.Worlds.{Store, fresh, heldOf, withLog, run, foldedBy, World, Event, starts, acts, takes, folds, at, changes, uses, putStore, after, Accepted, Names, Keeps, Kept, Inv, Back, Own}
 use Rattle.tree_laws.proofs.Trimming.{from-base, shown-from-base}
-use Rattle.fold_laws.proofs.Prefix.{shed, sound-all}
-use Rattle.fold_laws.proofs.Tests.{no-counts, vectorOn-getD, above-base}
+use Rattle.fold_laws.proofs.Prefix.{shed, sound-all, above-base}
 use Rattle.fold_laws.proofs.Taking.{take-all}
 use Rattle.fold_laws.proofs.Hearing.{fits-counted}
 use Rattle.fold_laws.proofs.Twice.{counts-shift}
@@ -39,7 +38,6 @@ use Rattle.fold_laws.proofs.Covering.{never-below, folded-behind}
 -- ---- counts of all records held
 
 pub counts-held : (used : List Rec) (s : Store) → Kept used s → (x : ℕ) → x < 8 → countOn (s .vector) x (s .log) ≡ count x (heldOf s)
-unfolding countOn
 counts-held used s k x b = omega (arith, k .counts x b, count-append x (s .folded) (s .log))
 
 wider : (used more : List Rec) (s : Store) → Sub used more → Kept used s → Kept more s
@@ -59,7 +57,6 @@ module _ (used : List Rec) (s : Store) (r : Rec) (k : Kept used s) (mine : isLis
   sees x b = saw x b ∙ counts-held used s k x b
 
   act-joins : JoinsOn (s .vector) (s .log) r
-  unfolding countOn
   act-joins =
       record {
         formed = f;
@@ -118,7 +115,7 @@ list-names used u m s k a r i =
     (λ z. omega (arith, vectorOn-getD (s .vector) (s .log) (unit r) b, counts-held used s k (unit r) b, number-held (heldOf s) r (k .sound) i, well-own r f))
 
 fold-kept : (used : List Rec) (u m : ℕ) (s : Store) → Kept used s → listFits m u (vectorOn (s .vector) (s .log)) ≡ true → Kept used (foldedBy u m s)
-unfolding countOn countsAsBase
+unfolding countsAsBase
 fold-kept used u m s k a =
     let l : List Rec = take (run u m s) (s .log) in
     let none-more : run u m s + 0 ≡ run u m s = omega arith in

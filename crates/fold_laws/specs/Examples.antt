@@ -8,13 +8,12 @@ use lib.Dec.{eqb}
 use lib.ListN.{take, drop}
 use Rattle.model.specs.Bytes.{sameBytes}
 use Rattle.model.specs.Record.{Rec, root}
-use Rattle.model.specs.Log as Log
+use Rattle.model.specs.Log.{noCounts, vectorOn, soundAfter}
 use Rattle.model.specs.Replay.{Aside, Tree, emptyTree, replayFrom}
 use Rattle.model.specs.Outcome.{Took, refused, taken}
 use Rattle.model.specs.Examples.{_·_, makesFolder, makesTrace, stores, removes, sameFlag, A, B, C}
 use Rattle.tree_laws.specs.Replayed.{makers}
 use Rattle.tree_laws.specs.Trees.{trim}
-use Rattle.fold_laws.specs.OnBase.{noCounts, vectorOn, soundAfter}
 use Rattle.fold_laws.specs.Lists.{listFits}
 use Rattle.fold_laws.specs.Taking.{takeOne}
 use Rattle.fold_laws.specs.Fold.{runOf}
@@ -43,13 +42,13 @@ goesOn m u v t l ss = soundAfter v [] l && (eqb (runOf m u v t l) 0 && stand (re
 
 unfoldable pub right : Row → Bool
 right (folds m u l n ks ss) =
-    Log.soundAfter [] l
+    soundAfter noCounts [] l
     && (listFits m u (vectorOn noCounts l)
     && (eqb (runOf m u noCounts emptyTree l) n
     && (sameBytes (makers (trim (replayFrom emptyTree (take n l)) .entries)) ks
     && goesOn m u (vectorOn noCounts (take n l)) (trim (replayFrom emptyTree (take n l))) (drop n l) ss)))
 right (gives m u v b) = sameFlag (listFits m u v) b
-right (takes m p l r n) = Log.soundAfter [] (p ++ l) && eqb (answerOf (takeOne m (vectorOn noCounts p) l r)) n
+right (takes m p l r n) = soundAfter noCounts [] (p ++ l) && eqb (answerOf (takeOne m (vectorOn noCounts p) l r)) n
 
 unfoldable pub allRight : List Row → Bool
 allRight [] = true

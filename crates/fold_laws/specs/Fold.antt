@@ -7,9 +7,8 @@ use mathlib.Core.List.{List, [], _∷_}
 use lib.Dec.{leb, eqb}
 use lib.ListN.{getD, length, take, set}
 use Rattle.model.specs.Record.{Rec, unit, num, seenVector}
-use Rattle.model.specs.Log.{allTo}
+use Rattle.model.specs.Log.{vectorOn, allTo}
 use Rattle.model.specs.Replay.{Tree, presentOnes, replayFrom}
-use Rattle.fold_laws.specs.OnBase.{vectorOn}
 use Rattle.fold_laws.specs.Lists.{isListed}
 
 -- the last record of unit w

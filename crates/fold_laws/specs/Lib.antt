@@ -1,4 +1,3 @@
-pub mod OnBase
 pub mod Sound
 pub mod Lists
 pub mod Taking

@@ -1,27 +1,13 @@
--- What the tests of a log on a base decide, as facts to reason with.
+-- A record that joins a log on a base, and the vector of the base.
 -- Assumes nothing.
 use Prim.Native.Nat.{ℕ, suc, _≤_, _<_}
 use mathlib.Core.Path.{_≡_}
 use mathlib.Core.Bool.{true}
-use mathlib.Core.List.{List, [], _∷_}
+use mathlib.Core.List.{List}
 use lib.ListN.{getD}
 use Rattle.model.specs.Record.{Rec, unit, num, seen, wellFormed}
-use Rattle.model.specs.Log.{rank, count}
+use Rattle.model.specs.Log.{count, countOn}
 use Rattle.log_laws.specs.Members.{Has}
-use Rattle.fold_laws.specs.OnBase.{countOn}
-
--- the record r behind the records pre, which stand last first
-pub record NextOn (v : List ℕ) (pre : List Rec) (r : Rec) : Type 0 where
-  pub formed : wellFormed r ≡ true
-  pub next : num r ≡ suc (countOn v (unit r) pre)
-  pub within : (u : ℕ) → u < 8 → seen r u ≤ countOn v u pre
-  pub closed : (s : Rec) → Has s pre → num s ≡ seen r (unit s) → (w : ℕ) → w < 8 → seen s w ≤ seen r w
-  pub above : (s : Rec) → Has s pre → rank s < rank r
-
--- the records l behind the records pre
-abbrev pub SoundOn : List ℕ → List Rec → List Rec → Type 0
-SoundOn v pre [] = Unit {0}
-SoundOn v pre (r ∷ l) = NextOn v pre r × SoundOn v (r ∷ pre) l
 
 -- the record r, whose seen covers the base vector, may join the log l
 pub record JoinsOn (v : List ℕ) (l : List Rec) (r : Rec) : Type 0 where

@@ -10,9 +10,8 @@ use Rattle.model.specs.Numbers.{malformed, notNext, notClosed, otherBytes, full
 use Rattle.model.specs.Bytes.{sameBytes}
 use Rattle.model.specs.Vector.{covers}
 use Rattle.model.specs.Record.{Rec, unit, num, seenVector, wellFormed}
-use Rattle.model.specs.Log.{insert, byId}
+use Rattle.model.specs.Log.{insert, byId, isNext, isWithin, isClosed}
 use Rattle.model.specs.Outcome.{Took, refused, taken}
-use Rattle.fold_laws.specs.OnBase.{isNext, isWithin, isClosed}
 use Rattle.fold_laws.specs.Lists.{isListed}
 
 -- a unit is not listed

@@ -7,12 +7,12 @@ use mathlib.Core.List.{List, [], _∷_, _++_}
 use lib.Dec.{eqb}
 use lib.ListN.{length, take, drop}
 use Rattle.model.specs.Record.{Rec, unit, seen, wellFormed}
+use Rattle.model.specs.Log.{noCounts, countOn, vectorOn}
 use Rattle.model.specs.Replay.{Tree, emptyTree, replayFrom, replay}
 use Rattle.model.specs.Outcome.{taken}
 use Rattle.log_laws.specs.Members.{Has, Sub}
 use Rattle.log_laws.specs.Sound.{Sound}
 use Rattle.tree_laws.specs.Trees.{trim}
-use Rattle.fold_laws.specs.OnBase.{noCounts, countOn, vectorOn}
 use Rattle.fold_laws.specs.Sound.{Counts}
 use Rattle.fold_laws.specs.Lists.{isListed, listFits}
 use Rattle.fold_laws.specs.Taking.{takeAll}

@@ -10,7 +10,7 @@ use lib.ListN.{length, replicate, length-append, replicate-append-replicate}
 use Rattle.byte_slice.proofs.PutAt.{padded-nil}
 use Rattle.model.specs.Bytes.{padded}
 use Rattle.model.specs.Record.{Rec, root, op}
-use Rattle.model.specs.Log.{soundAfter}
+use Rattle.model.specs.Log.{noCounts, soundAfter}
 use Rattle.model.specs.Replay.{Entry, Tree, Verdict, fits, aside, emptyTree, holderOf, presentOnes, judge, effect, apply, step, replayFrom, replay}
 use Rattle.log_laws.specs.Members.{Has as Member}
 use Rattle.log_laws.specs.Sound.{Sound}
@@ -35,7 +35,7 @@ apart : (l : List Rec) → Apart (replay l .entries)
 unfolding replay emptyTree
 apart l = apart-replay emptyTree l tt
 
-module _ (l : List Rec) (sound : soundAfter [] l ≡ true) (few : length l ≤ 512) (f : ℕ) (fits : f < 4294967296) where
+module _ (l : List Rec) (sound : soundAfter noCounts [] l ≡ true) (few : length l ≤ 512) (f : ℕ) (fits : f < 4294967296) where
   -- I1: looking up a folder and a label, in capitals or small letters, gives the identity of the one entry that has them, or 0 where the tree has none
   pub find-exact : (t : List ℕ) → findIn (indexOf (replay l)) f t ≡ madeOf (holderOf root f t (replay l .entries))
   unfolding indexOf
@@ -67,7 +67,7 @@ unfolding replay replayFrom
 one-more l r = replay-append emptyTree l (r ∷ [])
 
 -- I4: one record more behind a log: what the record does to an index that is right leaves it right
-pub index-kept : (l : List Rec) (r : Rec) → soundAfter [] (l ++ (r ∷ [])) ≡ true → length (l ++ (r ∷ [])) ≤ 512
+pub index-kept : (l : List Rec) (r : Rec) → soundAfter noCounts [] (l ++ (r ∷ [])) ≡ true → length (l ++ (r ∷ [])) ≤ 512
     → stepIn (judge r (replay l)) r (replay l) (indexOf (replay l)) ≡ indexOf (replay (l ++ (r ∷ [])))
 unfolding step apply stepIn indexOf
 index-kept l r sound few =

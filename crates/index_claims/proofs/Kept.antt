@@ -11,7 +11,7 @@ use lib.ListN.{length, drop, replicate}
 use borrow.Author.Tests.{eq-eqb, ne-eqb}
 use Rattle.model.specs.Bytes.{blank}
 use Rattle.model.specs.Record.{Rec}
-use Rattle.model.specs.Log.{recordsOf, soundLog, soundAfter}
+use Rattle.model.specs.Log.{noCounts, recordsOf, soundLog, soundAfter}
 use Rattle.model.specs.Replay.{Entry, fits, judge, emptyTree, replayFrom, replay, presentOnes}
 use Rattle.model.specs.Outcome.{Outcome, outcome, orRefused, earlyNumber, guardNumber, startOf, stamped, actNumber, acted, actOf, takeOf}
 use Rattle.row_model.specs.Row.{rowFits, tryFrom, tryAll, RowTaken, tookRow, takeRowOf}
@@ -144,9 +144,9 @@ accepted-zero u log w z = go (guarded-cases u log [] (eqb (length w) 80) done)
     go (inl (a, b, g, e)) = none (actNumber u (recordsOf log) w) (sym (ap (λ (o : Outcome). o .number) e) ∙ z)
     go (inr (n, e)) = absurd (omega (arith, sym (ap (λ (o : Outcome). o .number) e) ∙ z))
 
-after-sound : (log : List ℕ) → soundLog log ≡ true → soundAfter [] (recordsOf log) ≡ true
+after-sound : (log : List ℕ) → soundLog log ≡ true → soundAfter noCounts [] (recordsOf log) ≡ true
 unfolding soundLog
-after-sound log s = and-true (soundAfter [] (recordsOf log)) (blank (drop (80 * length (recordsOf log)) log)) s .0
+after-sound log s = and-true (soundAfter noCounts [] (recordsOf log)) (blank (drop (80 * length (recordsOf log)) log)) s .0
 
 act-fresh : (u : ℕ) (log i w : List ℕ) → i ≡ indexOfLog log → actOf u log w .number ≡ 0
     → changeIn (stamped u (recordsOf log) w) (replay (recordsOf log)) i ≡ indexOfLog (actOf u log w .log)
@@ -160,7 +160,7 @@ act-fresh u log i w e z =
     (λ k. absurd (omega (arith, sym (ap (λ (o : Outcome). o .number) (k .1)) ∙ z)))
     (λ k. k .1)
     (act-cases u log w) in
-    let s : soundAfter [] (l ++ (r ∷ [])) ≡ true = rw m at (after-sound x (g .sound)) in
+    let s : soundAfter noCounts [] (l ++ (r ∷ [])) ≡ true = rw m at (after-sound x (g .sound)) in
     let few : length (l ++ (r ∷ [])) ≤ 512 = rw m at (sound-few x) in
     let v : judge r (replay l) ≡ fits = act-accepted u l w .0 (accepted-zero u log w z) .3 in
     rw e ((rw v at (index-kept l r s few)) ∙ ap (λ (k : List Rec). indexOf (replay k)) (sym m))

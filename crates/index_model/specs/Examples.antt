@@ -8,7 +8,7 @@ use lib.Dec.{eqb}
 use lib.ListN.{length, drop, replicate}
 use Rattle.model.specs.Bytes.{two, sameBytes, part, padded}
 use Rattle.model.specs.Record.{Rec, root}
-use Rattle.model.specs.Log.{soundAfter, logBytes}
+use Rattle.model.specs.Log.{noCounts, soundAfter, logBytes}
 use Rattle.model.specs.Replay.{judge, replay}
 use Rattle.model.specs.Outcome.{outcome, stamped}
 use Rattle.model.specs.Examples.{_·_, makesFolder, makesTrace, stores, removes, renames, moves, sameFlag, A, B, C}
@@ -78,12 +78,12 @@ traces =
 
 unfoldable pub right : Example → Bool
 right (comes f t g s b) = sameFlag (keyBefore (folderKey f) t (folderKey g) s) b
-right (indexes l ks) = soundAfter [] l && sameBytes (entriesIn (indexOf (replay l)) 0 (rowsIn (indexOf (replay l)))) ks
+right (indexes l ks) = soundAfter noCounts [] l && sameBytes (entriesIn (indexOf (replay l)) 0 (rowsIn (indexOf (replay l)))) ks
 right (lists l f i ks) =
-    soundAfter [] l && (eqb (firstIn (indexOf (replay l)) f) i && sameBytes (listIn (indexOf (replay l)) f) ks)
-right (finds l f t k) = soundAfter [] l && eqb (findIn (indexOf (replay l)) f (padded 32 t)) k
+    soundAfter noCounts [] l && (eqb (firstIn (indexOf (replay l)) f) i && sameBytes (listIn (indexOf (replay l)) f) ks)
+right (finds l f t k) = soundAfter noCounts [] l && eqb (findIn (indexOf (replay l)) f (padded 32 t)) k
 right (changes l r ks) =
-    soundAfter [] (l ++ (r ∷ []))
+    soundAfter noCounts [] (l ++ (r ∷ []))
     && sameBytes (entriesIn (stepIn (judge r (replay l)) r (replay l) (indexOf (replay l))) 0 (length ks)) ks
 right (lends n b) = sameFlag (indexFits (replicate n 7)) b
 right (answers n k x y) =

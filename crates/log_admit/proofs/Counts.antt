@@ -13,10 +13,10 @@ use lib.ListN.{getD, length, set, length-set}
 use lib.Seq.{getD-set-same, getD-set-other, ext-getD}
 use borrow.Author.Tests.{eq-eqb, ne-eqb}
 use Rattle.model.specs.Record.{Rec, unit, num}
-use Rattle.model.specs.Log.{count, countsTo, vectorOf, byId}
+use Rattle.model.specs.Log.{count, countOn, countsOnTo, vectorOn, byId}
 use Rattle.byte_slice.proofs.Numbers.{eq-or-ne}
 use Rattle.log_laws.proofs.Counts.{count-cons}
-use Rattle.log_laws.proofs.Tests.{vectorOf-length, vectorOf-getD}
+use Rattle.log_laws.proofs.Tests.{vectorOn-length, vectorOn-getD}
 
 -- ---- counts
 
@@ -55,22 +55,22 @@ pub byId-other : (r : Rec) (l : List Rec) (u c : ℕ) → ((unit r ≡ u) × (nu
 unfolding byId
 byId-other r l u c d = rw (other-test r u c d)
 
-pub vector-cons : (r : Rec) (l : List Rec) → unit r < 8 → vectorOf (r ∷ l) ≡ set (vectorOf l) (unit r) (getD (vectorOf l) (unit r) 0 + 1)
-vector-cons r l h =
-    let v = vectorOf l in
-    let n : length (set v (unit r) (getD v (unit r) 0 + 1)) ≡ 8 = simp length-set (vectorOf-length l) in
-    ext-getD 0 (vectorOf (r ∷ l)) (set v (unit r) (getD v (unit r) 0 + 1)) (vectorOf-length (r ∷ l) ∙ sym n) (λ u k. at u (rw (vectorOf-length (r ∷ l)) at k))
+pub vector-cons : (base : List ℕ) (r : Rec) (l : List Rec) → unit r < 8 → vectorOn base (r ∷ l) ≡ set (vectorOn base l) (unit r) (getD (vectorOn base l) (unit r) 0 + 1)
+vector-cons base r l h =
+    let v = vectorOn base l in
+    let n : length (set v (unit r) (getD v (unit r) 0 + 1)) ≡ 8 = simp length-set (vectorOn-length base l) in
+    ext-getD 0 (vectorOn base (r ∷ l)) (set v (unit r) (getD v (unit r) 0 + 1)) (vectorOn-length base (r ∷ l) ∙ sym n) (λ u k. at u (rw (vectorOn-length base (r ∷ l)) at k))
   where
-    at : (u : ℕ) → u < 8 → getD (vectorOf (r ∷ l)) u 0 ≡ getD (set (vectorOf l) (unit r) (getD (vectorOf l) (unit r) 0 + 1)) u 0
+    at : (u : ℕ) → u < 8 → getD (vectorOn base (r ∷ l)) u 0 ≡ getD (set (vectorOn base l) (unit r) (getD (vectorOn base l) (unit r) 0 + 1)) u 0
     at u k =
         ⊎-elim
         (λ (a : (unit r ≡ u) × (count u (r ∷ l) ≡ suc (count u l))).
-        vectorOf-getD (r ∷ l) u k
-        ∙ rw (a .0, getD-set-same (vectorOf l) u (getD (vectorOf l) u 0 + 1) 0 (omega (arith, vectorOf-length l)), vectorOf-getD l u k, a .1, add-one))
+        let w : getD (set (vectorOn base l) u (getD (vectorOn base l) u 0 + 1)) u 0 ≡ getD (vectorOn base l) u 0 + 1 =
+        getD-set-same (vectorOn base l) u (getD (vectorOn base l) u 0 + 1) 0 (omega (arith, vectorOn-length base l)) in
+        rw (a .0) (omega (arith, vectorOn-getD base (r ∷ l) u k, vectorOn-getD base l u k)))
         (λ (a : (unit r ≡ u → ⊥) × (count u (r ∷ l) ≡ count u l)).
-        vectorOf-getD (r ∷ l) u k
-        ∙ a .1
-        ∙ rw (getD-set-other (vectorOf l) (unit r) u (getD (vectorOf l) (unit r) 0 + 1) 0 (λ e. a .0 (sym e))) (sym (vectorOf-getD l u k)))
+        rw (getD-set-other (vectorOn base l) (unit r) u (getD (vectorOn base l) (unit r) 0 + 1) 0 (λ e. a .0 (sym e)))
+        (omega (arith, vectorOn-getD base (r ∷ l) u k, vectorOn-getD base l u k)))
         (count-cons u r l)
 
 -- ---- lists that count alike and have the same record of each identity
@@ -79,11 +79,11 @@ pub record Alike (a b : List Rec) : Type 0 where
   pub counts : (u : ℕ) → count u a ≡ count u b
   pub records : (u c : ℕ) → byId u c a ≡ byId u c b
 
-pub alike-vector : {a b : List Rec} → Alike a b → vectorOf a ≡ vectorOf b
-unfolding vectorOf countsTo
-alike-vector {a} {b} k = go 8
+pub alike-vector : {a b : List Rec} (base : List ℕ) → Alike a b → vectorOn base a ≡ vectorOn base b
+unfolding vectorOn countsOnTo
+alike-vector {a} {b} base k = go 8
   where
-    go : (n : ℕ) → countsTo a n ≡ countsTo b n
+    go : (n : ℕ) → countsOnTo base a n ≡ countsOnTo base b n
     go zero = refl
     go (suc n) = rw (go n, k .counts n)
 

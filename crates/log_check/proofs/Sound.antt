@@ -13,15 +13,16 @@ use lib.Seq.{drop-drop, take-all}
 use borrow.Author.Tests.{eq-eqb, ne-eqb, eqb-true, not-false}
 use Rattle.model.specs.Bytes.{blank, part}
 use Rattle.model.specs.Record.{Rec}
-use Rattle.model.specs.Log.{vectorOf, recordFault, soundAfter, recordsIn, recordsOf, soundLog}
+use Rattle.model.specs.Log.{vectorOf, noCounts, recordFault, soundAfter, recordsIn, recordsOf, soundLog}
 use Rattle.byte_slice.proofs.Numbers.{cond-cases, eq-or-ne, and-true}
 use Rattle.byte_slice.proofs.Parts.{part-is}
+use Rattle.log_laws.proofs.Tests.{vectorOn-none}
 use Rattle.encoding_laws.proofs.Logs.{sound-few}
 use Rattle.log_closure.specs.Tables.{Indexed}
 use Rattle.log_check.specs.declared.Layout.the-variants.{Log}
 use Rattle.log_check.specs.Places.{offsetOf, laidAt, Laid}
 use Rattle.log_check.proofs.Scans.{fault-zeros}
-use Rattle.log_check.specs.InOrder.{listed, before, Found, firstFault, scanned, scanOf, ScanGives, heldOf, Check, checked, checkOf}
+use Rattle.log_check.specs.InOrder.{listed, before, Found, firstFault, scanned, scanOf, ScanGives, soundLogOn, heldOf, Check, checked, checkOf}
 
 -- ---- the records of a log, place by place
 
@@ -77,14 +78,14 @@ module _ (b : List ℕ) where
 
 -- ---- sound by the pass
 
-pub sound-pass : (at : ℕ → Rec) (i n : ℕ) → soundAfter (before at i) (listed at i n) ≡ eqb (firstFault at i n .number) 0
+pub sound-pass : (base : List ℕ) (at : ℕ → Rec) (i n : ℕ) → soundAfter base (before at i) (listed at i n) ≡ eqb (firstFault base at i n .number) 0
 unfolding soundAfter listed firstFault before
-sound-pass at i zero = refl
-sound-pass at i (suc n) =
+sound-pass base at i zero = refl
+sound-pass base at i (suc n) =
     ⊎-elim
-    (λ (e : recordFault (before at i) (at i) ≡ 0). rw e (sound-pass at (suc i) n))
-    (λ (e : recordFault (before at i) (at i) ≡ 0 → ⊥). rw (ne-eqb (recordFault (before at i) (at i)) 0 e) (sym (ne-eqb (recordFault (before at i) (at i)) 0 e)))
-    (eq-or-ne (recordFault (before at i) (at i)) 0)
+    (λ (e : recordFault base (before at i) (at i) ≡ 0). rw e (sound-pass base at (suc i) n))
+    (λ (e : recordFault base (before at i) (at i) ≡ 0 → ⊥). rw (ne-eqb (recordFault base (before at i) (at i)) 0 e) (sym (ne-eqb (recordFault base (before at i) (at i)) 0 e)))
+    (eq-or-ne (recordFault base (before at i) (at i)) 0)
 
 -- ---- what `check_into` and `check` are asked, over plain values
 
@@ -96,36 +97,35 @@ module _ (b : List ℕ) (n : ℕ) (e : n ≡ length (recordsOf b)) where
   pub log-few : n ≤ 512
   log-few = omega (arith, sound-few b)
 
-  module _ (number place : ℕ) (held places seens : List ℕ) (g : ScanGives (laidAt Log b) n number place held places seens) where
-    pass-is : soundAfter [] (recordsOf b) ≡ eqb number 0
+  module _ (base : List ℕ) (number place : ℕ) (held places seens : List ℕ) (g : ScanGives base (laidAt Log b) n number place held places seens) where
+    pass-is : soundAfter base [] (recordsOf b) ≡ eqb number 0
     unfolding before
     pass-is =
-        rw (← listed-records b n e) (sound-pass (laidAt Log b) 0 n)
+        rw (← listed-records b n e) (sound-pass base (laidAt Log b) 0 n)
         ∙ ap (λ (x : Found). eqb (x .number) 0) (sym (g .first))
 
-    pub fault-unsound : (number ≡ 0 → ⊥) → soundLog b ≡ true → ⊥
-    unfolding soundLog
-    fault-unsound z t = z (eqb-true number 0 (sym pass-is ∙ and-true (soundAfter [] (recordsOf b)) (blank (drop (80 * length (recordsOf b)) b)) t .0))
+    pub fault-unsound : (number ≡ 0 → ⊥) → soundLogOn base b ≡ true → ⊥
+    fault-unsound z t = z (eqb-true number 0 (sym pass-is ∙ and-true (soundAfter base [] (recordsOf b)) (blank (drop (80 * length (recordsOf b)) b)) t .0))
 
-    pub records-indexed : number ≡ 0 → Indexed (laidAt Log b) n (recordsOf b) held places seens
-    records-indexed z = subst (λ (l : List Rec). Indexed (laidAt Log b) n l held places seens) (listed-records b n e) (g .holds z)
+    pub records-indexed : number ≡ 0 → Indexed base (laidAt Log b) n (recordsOf b) held places seens
+    records-indexed z = subst (λ (l : List Rec). Indexed base (laidAt Log b) n l held places seens) (listed-records b n e) (g .holds z)
 
-    module _ (places₀ seens₀ : List ℕ) (o : scanned number place held places seens ≡ scanOf (laidAt Log b) n places₀ seens₀) where
-      pub fault-left : (number ≡ 0 → ⊥) → checked false n held places seens ≡ checkOf b places₀ seens₀
-      unfolding checkOf heldOf soundLog
+    module _ (places₀ seens₀ : List ℕ) (o : scanned number place held places seens ≡ scanOf base (laidAt Log b) n places₀ seens₀) where
+      pub fault-left : (number ≡ 0 → ⊥) → checked false n held places seens ≡ checkOf base b places₀ seens₀
+      unfolding checkOf heldOf
       fault-left z =
-          let h : held ≡ replicate 8 0 = fault-zeros (laidAt Log b) n places₀ seens₀ (scanned number place held places seens) o z in
+          let h : held ≡ replicate 8 0 = fault-zeros base (laidAt Log b) n places₀ seens₀ (scanned number place held places seens) o z in
           rw (h, pass-is, ne-eqb number 0 z, ← e, ← o)
 
-      pub records-left : length b ≡ 40960 → number ≡ 0 → (t : Bool) → t ≡ blank (take (40960 - 80 * n) (drop (80 * n) b)) → checked t n held places seens ≡ checkOf b places₀ seens₀
-      unfolding checkOf heldOf soundLog
+      pub records-left : length b ≡ 40960 → number ≡ 0 → (t : Bool) → t ≡ blank (take (40960 - 80 * n) (drop (80 * n) b)) → checked t n held places seens ≡ checkOf base b places₀ seens₀
+      unfolding checkOf heldOf
       records-left k z t q =
           let d : take (40960 - 80 * n) (drop (80 * n) b) ≡ drop (80 * n) b = take-all (40960 - 80 * n) (drop (80 * n) b) (simp length-drop (omega arith)) in
           rw (q, d, pass-is, eq-eqb number 0 z, ← e, ← o, ← records-indexed z .counts)
 
 -- what `check_into` leaves, told apart
-module _ (b places₀ seens₀ : List ℕ) {t : Bool} {n : ℕ} {held places seens : List ℕ} (o : checked t n held places seens ≡ checkOf b places₀ seens₀) where
-  pub checked-sound : t ≡ soundLog b
+module _ (base b places₀ seens₀ : List ℕ) {t : Bool} {n : ℕ} {held places seens : List ℕ} (o : checked t n held places seens ≡ checkOf base b places₀ seens₀) where
+  pub checked-sound : t ≡ soundLogOn base b
   unfolding checkOf
   checked-sound = ap (λ (x : Check). x .sound) o
 
@@ -133,15 +133,21 @@ module _ (b places₀ seens₀ : List ℕ) {t : Bool} {n : ℕ} {held places see
   unfolding checkOf
   checked-used = ap (λ (x : Check). x .used) o
 
-  pub checked-held : held ≡ heldOf b
+  pub checked-held : held ≡ heldOf base b
   unfolding checkOf
   checked-held = ap (λ (x : Check). x .held) o
+
+-- ---- with no record before
+
+pub plain-sound : (b : List ℕ) → soundLogOn noCounts b ≡ soundLog b
+unfolding soundLog
+plain-sound b = refl
 
 -- what is known of a log that was checked and found sound
 module _ (b : List ℕ) {s : Bool} (judged : s ≡ soundLog b) (holds : not s ≡ false) where
   pub known-sound : soundLog b ≡ true
   known-sound = sym judged ∙ not-false s holds
 
-  pub known-held : {h : List ℕ} → h ≡ heldOf b → h ≡ vectorOf (recordsOf b)
+  pub known-held : {h : List ℕ} → h ≡ heldOf noCounts b → h ≡ vectorOf (recordsOf b)
   unfolding heldOf soundLog
-  known-held e = e ∙ rw (and-true (soundAfter [] (recordsOf b)) (blank (drop (80 * length (recordsOf b)) b)) known-sound .0)
+  known-held e = e ∙ rw (and-true (soundAfter noCounts [] (recordsOf b)) (blank (drop (80 * length (recordsOf b)) b)) known-sound .0) (vectorOn-none (recordsOf b))

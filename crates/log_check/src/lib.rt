@@ -1,15 +1,15 @@
-// The lent log: its records checked in order.
+// The lent log: its records checked in order, behind a base vector.
 ghost use mathlib.Core.Path.{_≡_};
 ghost use mathlib.Core.Bool.{true};
 ghost use Prim.Native.Nat.{_+_, _≤_, _<_};
 ghost use lib.ListN.{length, replicate};
 ghost use Rattle.model.specs.Lengths.{logSize, logPlaces};
 ghost use Rattle.model.specs.Bytes.{blank};
-ghost use Rattle.model.specs.Log.{recordsOf, soundLog};
+ghost use Rattle.model.specs.Log.{recordsOf};
 ghost use Rattle.log_closure.specs.Tables.{placesSize, seensSize, Indexed};
 ghost use Rattle.log_check.specs.declared.Layout.the-variants.{Log};
 ghost use Rattle.log_check.specs.Places.{offsetOf, laidAt, Laid};
-ghost use Rattle.log_check.specs.InOrder.{scanned, scanOf, ScanGives, heldOf, checked, checkOf};
+ghost use Rattle.log_check.specs.InOrder.{scanned, scanOf, ScanGives, soundLogOn, heldOf, checked, checkOf};
 use log_admit::Before;
 use log_closure::PLACES;
 use log_closure::SEENS;
@@ -23,14 +23,14 @@ pub enum Layout {
     File,
 }
 
-// The first fault among records, or 0, and where; and the counts of the records, zeros if one has a fault.
+// The first fault among records, or 0, and where; and the base vector with the records counted, zeros if one has a fault.
 pub struct Scanned {
     pub number: u8,
     pub at: usize,
     pub held: Vector,
 }
 
-// Whether a log is sound; how many records it has; and their counts, zeros if one has a fault.
+// Whether a log is sound; how many records it has; and the base vector with them counted, zeros if one has a fault.
 pub struct Checked {
     pub sound: bool,
     pub used: usize,
@@ -50,6 +50,7 @@ pub fn offset(layout: Layout, i: usize) -> usize
 
 // The first n records are judged one after another, and noted up to the first that has a fault.
 pub fn scan(
+    base: Vector,
     bytes: &[u8],
     layout: Layout,
     n: usize,
@@ -57,18 +58,18 @@ pub fn scan(
     seens: &mut [u16],
 ) -> Scanned
     requires { ⌜ (n ≤ logPlaces) × Laid layout (now bytes) n × (length (now places) ≡ placesSize) × (length (now seens) ≡ seensSize) ⌝ }
-    ensures outright { λ r. ⌜ scanned (r .number) (r .at) (r .held .counts) (now (places .exit)) (now (seens .exit)) ≡ scanOf (laidAt layout (now (bytes .entry))) n (now (places .entry)) (now (seens .entry)) ⌝ }
-    ensures gives { λ r. ⌜ ScanGives (laidAt layout (now (bytes .entry))) n (r .number) (r .at) (r .held .counts) (now (places .exit)) (now (seens .exit)) ⌝ }
+    ensures outright { λ r. ⌜ scanned (r .number) (r .at) (r .held .counts) (now (places .exit)) (now (seens .exit)) ≡ scanOf (base .counts) (laidAt layout (now (bytes .entry))) n (now (places .entry)) (now (seens .entry)) ⌝ }
+    ensures gives { λ r. ⌜ ScanGives (base .counts) (laidAt layout (now (bytes .entry))) n (r .number) (r .at) (r .held .counts) (now (places .exit)) (now (seens .exit)) ⌝ }
 {
     let none = vector::zero_vector();
     let mut b = Before {
-        held: none,
+        held: base,
         floor: 0,
     };
     let mut i: usize = 0;
     while i < n {
         let at = offset(layout, i);
-        let a = log_admit::admit(&bytes[at..at + 80], i, b, places, seens);
+        let a = log_admit::admit(base, &bytes[at..at + 80], i, b, places, seens);
         if a.number != 0 {
             return Scanned {
                 number: a.number,
@@ -116,13 +117,13 @@ pub fn used(log: &[u8]) -> usize
 }
 
 // A log is checked, and its records are noted in the tables up to the first that has a fault.
-pub fn check_into(log: &[u8], places: &mut [u16], seens: &mut [u16]) -> Checked
+pub fn check_into(base: Vector, log: &[u8], places: &mut [u16], seens: &mut [u16]) -> Checked
     requires { ⌜ (length (now log) ≡ logSize) × (length (now places) ≡ placesSize) × (length (now seens) ≡ seensSize) ⌝ }
-    ensures outright { λ r. ⌜ checked (r .sound) (r .used) (r .held .counts) (now (places .exit)) (now (seens .exit)) ≡ checkOf (now (log .entry)) (now (places .entry)) (now (seens .entry)) ⌝ }
-    ensures holds { λ r. ⌜ (soundLog (now (log .entry)) ≡ true → Indexed (laidAt Log (now (log .entry))) (r .used) (recordsOf (now (log .entry))) (r .held .counts) (now (places .exit)) (now (seens .exit))) ⌝ }
+    ensures outright { λ r. ⌜ checked (r .sound) (r .used) (r .held .counts) (now (places .exit)) (now (seens .exit)) ≡ checkOf (base .counts) (now (log .entry)) (now (places .entry)) (now (seens .entry)) ⌝ }
+    ensures holds { λ r. ⌜ (soundLogOn (base .counts) (now (log .entry)) ≡ true → Indexed (base .counts) (laidAt Log (now (log .entry))) (r .used) (recordsOf (now (log .entry))) (r .held .counts) (now (places .exit)) (now (seens .exit))) ⌝ }
 {
     let n = used(log);
-    let s = scan(log, Layout::Log, n, places, seens);
+    let s = scan(base, log, Layout::Log, n, places, seens);
     let held = s.held;
     if s.number != 0 {
         return Checked {
@@ -154,12 +155,12 @@ pub fn fresh_seens() -> [u16; SEENS]
     [0u16; SEENS]
 }
 
-// A log is checked: sound or not, how many records it has, and their counts, zeros if one has a fault.
-pub fn check(log: &[u8]) -> Checked
+// A log is checked: sound or not, how many records it has, and the base vector with them counted, zeros if one has a fault.
+pub fn check(base: Vector, log: &[u8]) -> Checked
     requires { ⌜ length (now log) ≡ logSize ⌝ }
-    ensures { λ r. ⌜ (r .sound ≡ soundLog (now (log .entry))) × (r .used ≡ length (recordsOf (now (log .entry)))) × (r .held .counts ≡ heldOf (now (log .entry))) ⌝ }
+    ensures { λ r. ⌜ (r .sound ≡ soundLogOn (base .counts) (now (log .entry))) × (r .used ≡ length (recordsOf (now (log .entry)))) × (r .held .counts ≡ heldOf (base .counts) (now (log .entry))) ⌝ }
 {
     let mut places = fresh_places();
     let mut seens = fresh_seens();
-    check_into(log, &mut places, &mut seens)
+    check_into(base, log, &mut places, &mut seens)
 }

@@ -1,4 +1,5 @@
-// The tables of the records held: where each stands, what each has seen, and whether a seen is closed by them.
+// The tables of the records held: where each stands, what each has seen, and whether a seen is closed by them. Of each unit the records
+// come behind those that a base vector counts; a table goes by the relative number, the number less that count.
 ghost use mathlib.Core.Path.{_≡_};
 ghost use Prim.Native.Nat.{_+_, _*_, _≤_, _<_};
 ghost use lib.ListN.{length};
@@ -18,7 +19,7 @@ fn index(x: u16) -> usize
     x as usize
 }
 
-// Where the position of the record u.c stands.
+// Where the position of the record of unit u with the relative number c stands.
 pub fn slot(u: usize, c: u16) -> usize
     requires { ⌜ (u < 8) × (1 ≤ c) × (c ≤ 512) ⌝ }
     ensures { λ r. ⌜ (r ≡ slotOf u c) × (r < 4096) ⌝ }
@@ -26,7 +27,7 @@ pub fn slot(u: usize, c: u16) -> usize
     512 * u + (index(c) - 1)
 }
 
-// The position of the record u.c.
+// The position of the record of unit u with the relative number c.
 pub fn position(places: &[u16], u: usize, c: u16) -> usize
     requires { ⌜ (length (now places) ≡ 4096) × (u < 8) × (1 ≤ c) × (c ≤ 512) ⌝ }
     ensures { λ r. ⌜ r ≡ positionOf (now (places .entry)) u c ⌝ }
@@ -56,44 +57,46 @@ fn row_at(seens: &[u16], p: usize) -> Vector
 }
 
 // The seen of the record that s counts last of unit u is nowhere above s, its eight counts compared at once.
-fn unit_covered(places: &[u16], seens: &[u16], s: Vector, u: usize) -> bool
-    requires { ⌜ (length (now places) ≡ 4096) × (length (now seens) ≡ 4144) × Placed (s .counts) (now places) × (u < 8) ⌝ }
-    ensures { λ r. ⌜ r ≡ unitClosed (now (places .entry)) (now (seens .entry)) (s .counts) u ⌝ }
+fn unit_covered(base: Vector, places: &[u16], seens: &[u16], s: Vector, u: usize) -> bool
+    requires { ⌜ (length (now places) ≡ 4096) × (length (now seens) ≡ 4144) × Placed (base .counts) (s .counts) (now places) × (u < 8) ⌝ }
+    ensures { λ r. ⌜ r ≡ unitClosed (base .counts) (now (places .entry)) (now (seens .entry)) (s .counts) u ⌝ }
 {
     let c = s.counts[u];
-    if c == 0 {
+    let f = base.counts[u];
+    if c <= f {
         return true;
     }
-    let p = position(places, u, c);
+    let p = position(places, u, c - f);
     vector::covers(s, row_at(seens, p))
 }
 
 // A quick test before `is_closed`, which it spares where every row is covered.
-pub fn all_covered(places: &[u16], seens: &[u16], s: Vector) -> bool
-    requires { ⌜ (length (now places) ≡ 4096) × (length (now seens) ≡ 4144) × Placed (s .counts) (now places) ⌝ }
-    ensures { λ r. ⌜ r ≡ closedBy (now (places .entry)) (now (seens .entry)) (s .counts) ⌝ }
+pub fn all_covered(base: Vector, places: &[u16], seens: &[u16], s: Vector) -> bool
+    requires { ⌜ (length (now places) ≡ 4096) × (length (now seens) ≡ 4144) × Placed (base .counts) (s .counts) (now places) ⌝ }
+    ensures { λ r. ⌜ r ≡ closedBy (base .counts) (now (places .entry)) (now (seens .entry)) (s .counts) ⌝ }
 {
     for u in 0..8 {
-        if !unit_covered(places, seens, s, u) {
+        if !unit_covered(base, places, seens, s, u) {
             return false;
         }
     }
     true
 }
 
-// For each unit u with count c above 0, the seen of record u.c is nowhere above s. Document 01 asks for this form: nested loops over units
+// For each unit u with count c above the base vector's, the seen of record u.c is nowhere above s. Document 01 asks for this form: nested loops over units
 // and counts, left by a label at the first count that breaks closure.
-pub fn is_closed(places: &[u16], seens: &[u16], s: Vector) -> bool
-    requires { ⌜ (length (now places) ≡ 4096) × (length (now seens) ≡ 4144) × Placed (s .counts) (now places) ⌝ }
-    ensures { λ r. ⌜ r ≡ closedBy (now (places .entry)) (now (seens .entry)) (s .counts) ⌝ }
+pub fn is_closed(base: Vector, places: &[u16], seens: &[u16], s: Vector) -> bool
+    requires { ⌜ (length (now places) ≡ 4096) × (length (now seens) ≡ 4144) × Placed (base .counts) (s .counts) (now places) ⌝ }
+    ensures { λ r. ⌜ r ≡ closedBy (base .counts) (now (places .entry)) (now (seens .entry)) (s .counts) ⌝ }
 {
     let mut closed = true;
     'units: for u in 0..8 {
         let c = s.counts[u];
-        if c == 0 {
+        let f = base.counts[u];
+        if c <= f {
             continue 'units;
         }
-        let p = position(places, u, c);
+        let p = position(places, u, c - f);
         for v in 0..8 {
             if s.counts[v] < seens[8 * p + v] {
                 closed = false;

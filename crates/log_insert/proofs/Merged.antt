@@ -10,7 +10,7 @@ use lib.ListN.{length, take, drop, replicate, take-append-drop, length-append, l
 use lib.Seq.{drop-drop, take-take}
 use Rattle.model.specs.Bytes.{blank, part, putAt, padded, joined}
 use Rattle.model.specs.Record.{Rec}
-use Rattle.model.specs.Log.{rank, insert, soundAfter, recordsOf, soundLog, logBytes}
+use Rattle.model.specs.Log.{noCounts, rank, insert, soundAfter, recordsOf, soundLog, logBytes}
 use Rattle.byte_slice.proofs.Numbers.{and-true}
 use Rattle.byte_slice.proofs.Parts.{part-is, part-split, part-none, part-length, part-start, part-take}
 use Rattle.byte_slice.proofs.PutAt.{put-front, take-put, drop-put-at}
@@ -51,7 +51,7 @@ module _ (log₀ recs : List ℕ) (n k : ℕ) (long : length log₀ ≡ 40960) (
   rest-zero : drop (80 * (n + k)) log₀ ≡ replicate (40960 - 80 * (n + k)) 0
   unfolding soundLog
   rest-zero =
-      let b : blank (drop (80 * n) log₀) ≡ true = rw (← e) at (and-true (soundAfter [] (recordsOf log₀)) (blank (drop (80 * length (recordsOf log₀)) log₀)) s .1) in
+      let b : blank (drop (80 * n) log₀) ≡ true = rw (← e) at (and-true (soundAfter noCounts [] (recordsOf log₀)) (blank (drop (80 * length (recordsOf log₀)) log₀)) s .1) in
       let f : 80 * n + 80 * k ≡ 80 * (n + k) = omega arith in
       let d : blank (drop (80 * (n + k)) log₀) ≡ true = rw (drop-drop (80 * k) (80 * n) log₀, f) at (blank-drop (80 * k) (drop (80 * n) log₀) b) in
       let m : length (drop (80 * (n + k)) log₀) ≡ 40960 - 80 * (n + k) = simp length-drop (omega arith) in

@@ -11,7 +11,7 @@ use lib.Dec.{leb}
 use lib.ListN.{take, drop}
 use borrow.Author.Tests.{lt-ltb, le-ltb, le-leb, lt-leb}
 use Rattle.model.specs.Record.{Rec}
-use Rattle.model.specs.Log.{rank, insert}
+use Rattle.model.specs.Log.{noCounts, rank, insert}
 use Rattle.byte_slice.proofs.Numbers.{lt-or-ge}
 use Rattle.byte_slice.proofs.Parts.{part-is}
 use Rattle.log_laws.specs.Members.{Has}
@@ -34,7 +34,7 @@ module _ (at : ℕ → Rec) where
       (λ k. let e : j ≡ i = omega arith in inl (ap at e))
       (lt-or-ge i j)
 
-  rises : (pre : List Rec) (i n : ℕ) → SoundAfter pre (listed at i n) → (j k : ℕ) → i ≤ j → j < k → k < i + n → rank (at j) < rank (at k)
+  rises : (pre : List Rec) (i n : ℕ) → SoundAfter noCounts pre (listed at i n) → (j k : ℕ) → i ≤ j → j < k → k < i + n → rank (at j) < rank (at k)
   unfolding listed
   rises pre i zero h j k a b c = absurd (omega arith)
   rises pre i (suc n) h j k a b c =

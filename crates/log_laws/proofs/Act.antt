@@ -14,7 +14,7 @@ use Rattle.model.specs.Numbers.{malformed, fullLog, strokeInLabel}
 use Rattle.model.specs.Bytes.{word, two, blank, part}
 use Rattle.model.specs.Vector.{vectorBytes}
 use Rattle.model.specs.Record.{Rec, unit, op, num, seen, labelOf, wellFormed}
-use Rattle.model.specs.Log.{rank, insert, count, vectorOf}
+use Rattle.model.specs.Log.{rank, insert, count, vectorOf, noCounts}
 use Rattle.model.specs.Replay.{judge, replay}
 use Rattle.model.specs.Outcome.{stamped, wishFits, hasStroke, wishNumber, reasonOf, actNumber}
 use Rattle.byte_slice.proofs.Numbers.{and-true, bool-cases, cond-cases, first-zero}
@@ -23,7 +23,7 @@ use Rattle.byte_slice.proofs.Words.{word-at, word-front, word-behind}
 use Rattle.vector.proofs.InBytes.{vectorBytes-length, vectorBytes-word}
 use Rattle.log_laws.specs.Members.{Has}
 use Rattle.log_laws.specs.Sound.{Sound, Joins}
-use Rattle.log_laws.proofs.Counts.{count-nil, seen-within, covering-above}
+use Rattle.log_laws.proofs.Counts.{count-nil, no-counts, seen-within, covering-above}
 use Rattle.log_laws.proofs.Insert.{insert-sound, insert-last}
 use Rattle.log_laws.proofs.Tests.{vectorOf-getD}
 
@@ -78,15 +78,15 @@ module _ (u : ℕ) (l : List Rec) (w : List ℕ) (n : length w ≡ 80) where
   pub act-last : Sound l → (s : Rec) → Has s l → rank s < rank (stamped u l w)
   act-last h = covering-above l (stamped u l w) h (λ v k. omega (arith, stamped-seen v k))
 
-  pub act-joins : getD w 0 0 ≡ u → wellFormed (stamped u l w) ≡ true → Sound l → Joins [] l (stamped u l w)
+  pub act-joins : getD w 0 0 ≡ u → wellFormed (stamped u l w) ≡ true → Sound l → Joins noCounts [] l (stamped u l w)
   act-joins e f h =
       let r : Rec = stamped u l w in
       let c : unit r ≡ u = stamped-unit ∙ e in
       let m : num r ≡ suc (count (unit r) l) = stamped-num ∙ ap (λ (x : ℕ). suc (count x l)) (sym c) in
       record {
         formed = f;
-        next = omega (arith, count-nil (unit r));
-        within = λ v k. omega (arith, stamped-seen v k);
+        next = omega (arith, count-nil (unit r), no-counts (unit r));
+        within = λ v k. omega (arith, stamped-seen v k, no-counts v);
         closed = λ s i _ v k. ⊎-elim (λ x. absurd x) (λ x. omega (arith, stamped-seen v k, seen-within l s h x v k)) i;
       }
 

@@ -8,15 +8,16 @@ use mathlib.Core.Bool.{_&&_}
 use mathlib.Core.Option.{Option, none, some}
 use mathlib.Core.List.{List, [], _∷_}
 use lib.Dec.{eqb}
+use lib.ListN.{getD}
 use borrow.Author.Tests.{eqb-true, eq-eqb}
 use Rattle.model.specs.Record.{Rec, unit, num}
-use Rattle.model.specs.Log.{count, insert, byId}
+use Rattle.model.specs.Log.{count, noCounts, countOn, insert, byId}
 use Rattle.byte_slice.proofs.Numbers.{cond-cases, and-true, true-and, not-both}
 use Rattle.log_laws.specs.Members.{Has, Agree}
-use Rattle.log_laws.specs.Sound.{Sound}
-use Rattle.log_laws.proofs.Counts.{find-held, number-held}
+use Rattle.log_laws.specs.Sound.{SoundOn, Sound}
+use Rattle.log_laws.proofs.Counts.{find-held-on, number-held-on}
 use Rattle.log_laws.proofs.Insert.{has-insert, insert-has}
-use Rattle.log_laws.proofs.Same.{unique}
+use Rattle.log_laws.proofs.Same.{unique-on}
 
 pub some-none {ℓ} : {A : Type ℓ} {s : Rec} → some s ≡ none → A
 some-none e = absurd (let z : _≡_ {A = ℕ} 0 1 = cc in omega arith)
@@ -65,26 +66,26 @@ agree-byId l s g i = go (byId (unit s) (num s) l) refl
     go none e = absurd (byId-none (unit s) (num s) l e s i refl refl)
     go (some t) e = let (j, a, b) = byId-some (unit s) (num s) l t e in e ∙ ap some (g t s j i a b)
 
-pub held-byId : (l : List Rec) (s : Rec) → Sound l → Has s l → byId (unit s) (num s) l ≡ some s
-held-byId l s h i = agree-byId l s (unique [] l h) i
+pub held-byId-on : (base : List ℕ) (l : List Rec) (s : Rec) → SoundOn base l → Has s l → byId (unit s) (num s) l ≡ some s
+held-byId-on base l s h i = agree-byId l s (unique-on base [] l h) i
 
 -- in a sound log an identity is held exactly if its number is at least 1 and within the count
-pub within-byId : (l : List Rec) (u c : ℕ) → Sound l → 0 < c → c ≤ count u l → (s : Rec) × (byId u c l ≡ some s)
-within-byId l u c h lo hi =
-    let (s, i, a, b) = find-held l u c h lo hi in
-    (s, subst (λ (x : ℕ). byId x c l ≡ some s) a (subst (λ (y : ℕ). byId (unit s) y l ≡ some s) b (held-byId l s h i)))
+pub within-byId : (base : List ℕ) (l : List Rec) (u c : ℕ) → SoundOn base l → getD base u 0 < c → c ≤ countOn base u l → (s : Rec) × (byId u c l ≡ some s)
+within-byId base l u c h lo hi =
+    let (s, i, a, b) = find-held-on base l u c h lo hi in
+    (s, subst (λ (x : ℕ). byId x c l ≡ some s) a (subst (λ (y : ℕ). byId (unit s) y l ≡ some s) b (held-byId-on base l s h i)))
 
-pub beyond-byId : (l : List Rec) (u c : ℕ) → Sound l → count u l < c → byId u c l ≡ none
-beyond-byId l u c h k =
-    none-byId u c l (λ s i a b. let n : num s ≤ count u l = rw a at (number-held l s h i) in omega arith)
+pub beyond-byId : (base : List ℕ) (l : List Rec) (u c : ℕ) → SoundOn base l → countOn base u l < c → byId u c l ≡ none
+beyond-byId base l u c h k =
+    none-byId u c l (λ s i a b. let n : num s ≤ countOn base u l = rw a at (number-held-on base l s h i) in omega arith)
 
 -- ---- after an insertion
 
-pub byId-inserted : (r : Rec) (l : List Rec) → Sound (insert r l) → byId (unit r) (num r) (insert r l) ≡ some r
-byId-inserted r l h = held-byId (insert r l) r h (insert-has r l r (inl refl))
+pub byId-inserted : (base : List ℕ) (r : Rec) (l : List Rec) → SoundOn base (insert r l) → byId (unit r) (num r) (insert r l) ≡ some r
+byId-inserted base r l h = held-byId-on base (insert r l) r h (insert-has r l r (inl refl))
 
-pub byId-kept : (r : Rec) (l : List Rec) (u c : ℕ) → Sound l → Sound (insert r l) → ((unit r ≡ u) → num r ≡ c → ⊥) → byId u c (insert r l) ≡ byId u c l
-byId-kept r l u c h k d = go (byId u c l) refl
+pub byId-kept : (base : List ℕ) (r : Rec) (l : List Rec) (u c : ℕ) → SoundOn base l → SoundOn base (insert r l) → ((unit r ≡ u) → num r ≡ c → ⊥) → byId u c (insert r l) ≡ byId u c l
+byId-kept base r l u c h k d = go (byId u c l) refl
   where
     go : (o : Option Rec) → byId u c l ≡ o → byId u c (insert r l) ≡ byId u c l
     go none e =
@@ -97,5 +98,10 @@ byId-kept r l u c h k d = go (byId u c l) refl
     go (some s) e =
         let (i, a, b) = byId-some u c l s e in
         subst (λ (x : ℕ). byId x c (insert r l) ≡ some s) a
-        (subst (λ (y : ℕ). byId (unit s) y (insert r l) ≡ some s) b (held-byId (insert r l) s k (insert-has r l s (inr i))))
+        (subst (λ (y : ℕ). byId (unit s) y (insert r l) ≡ some s) b (held-byId-on base (insert r l) s k (insert-has r l s (inr i))))
         ∙ sym e
+
+-- ---- with no record before
+
+pub held-byId : (l : List Rec) (s : Rec) → Sound l → Has s l → byId (unit s) (num s) l ≡ some s
+held-byId = held-byId-on noCounts

@@ -5,15 +5,15 @@ use native.Mathlib.Omega.{arith}
 use mathlib.Core.Path.{_≡_, refl, sym, ap, _∙_, subst}
 use mathlib.Core.Logic.{_⊎_, inl, inr, ⊎-elim}
 use mathlib.Core.List.{List, [], _∷_, _++_}
-use lib.ListN.{length}
+use lib.ListN.{getD, length}
 use borrow.Author.Tests.{lt-ltb, le-ltb}
 use Rattle.model.specs.Record.{Rec, unit, num, seen}
-use Rattle.model.specs.Log.{rank, insert, count}
+use Rattle.model.specs.Log.{rank, insert, count, noCounts, countOn}
 use Rattle.byte_slice.proofs.Numbers.{lt-or-ge, eq-or-ne}
 use Rattle.log_laws.specs.Members.{Has}
-use Rattle.log_laws.specs.Sound.{SoundAfter, Sound, Joins}
+use Rattle.log_laws.specs.Sound.{SoundAfter, SoundOn, Sound, Joins}
 use Rattle.log_laws.proofs.Formed.{well-unit, well-own}
-use Rattle.log_laws.proofs.Counts.{count-cons, count-other, count-plus, count-shift, find, formed, numbers, above-all, lower, rank-unit}
+use Rattle.log_laws.proofs.Counts.{count-cons, count-other, count-plus, count-shift, find, formed-on, numbers-on, above-all-on, lower, rank-unit}
 
 -- ---- what an insertion has
 
@@ -89,16 +89,16 @@ insert-last (x ∷ l) r h =
 -- ---- the place of a record that may join
 
 -- if r ranks below all of l, what it saw stands before
-early : (pre l : List Rec) (r : Rec) → SoundAfter pre l → Joins pre l r → ((s : Rec) → Has s l → rank r < rank s) → (u : ℕ) → u < 8 → seen r u ≤ count u pre
-early pre l r h j low u k =
+early : (base : List ℕ) (pre l : List Rec) (r : Rec) → SoundAfter base pre l → Joins base pre l r → ((s : Rec) → Has s l → rank r < rank s) → (u : ℕ) → u < 8 → seen r u ≤ countOn base u pre
+early base pre l r h j low u k =
     ⊎-elim
     (λ e.
-    let (s, m, a, b) = find pre l u (seen r u) h e (j .within u k) in
+    let (s, m, a, b) = find base pre l u (seen r u) h e (j .within u k) in
     let q : num s ≡ seen r (unit s) = b ∙ ap (seen r) (sym a) in
-    let w : rank s < rank r = lower s r (formed pre l s h m) q (j .closed s (inr m) q) in
+    let w : rank s < rank r = lower s r (formed-on base pre l s h m) q (j .closed s (inr m) q) in
     absurd (omega (arith, low s m)))
     (λ e. e)
-    (lt-or-ge (count u pre) (seen r u))
+    (lt-or-ge (countOn base u pre) (seen r u))
 
 -- what stands before gets r besides
 record Wider (r : Rec) (pre wide : List Rec) : Type 0 where
@@ -127,18 +127,18 @@ wider-cons r pre wide x w =
     mem s (inr m) = ⊎-elim (λ e. inl e) (λ i. inr (inr i)) (w .members s m)
 
 -- what comes after is sound still
-widen : (r : Rec) (pre wide l : List Rec) → unit r < 8 → Wider r pre wide → SoundAfter pre l → count (unit r) pre < num r → count (unit r) l ≡ 0
-    → ((s : Rec) → Has s l → rank r < rank s) → SoundAfter wide l
-widen r pre wide [] b8 w h n z low = tt
-widen r pre wide (x ∷ l) b8 w h n z low = (
+widen : (base : List ℕ) (r : Rec) (pre wide l : List Rec) → unit r < 8 → Wider r pre wide → SoundAfter base pre l → countOn base (unit r) pre < num r → count (unit r) l ≡ 0
+    → ((s : Rec) → Has s l → rank r < rank s) → SoundAfter base wide l
+widen base r pre wide [] b8 w h n z low = tt
+widen base r pre wide (x ∷ l) b8 w h n z low = (
   record {
     formed = h .0 .formed;
-    next = h .0 .next ∙ ap suc (sym (w .others (unit x) away));
+    next = omega (arith, h .0 .next, w .others (unit x) away);
     within = λ u k. omega (arith, h .0 .within u k, w .more u);
     closed = λ s m e. ⊎-elim (λ q. absurd (last s q e)) (λ i. h .0 .closed s i e) (w .members s m);
     above = λ s m. ⊎-elim (λ q. rw q (low x (inl refl))) (λ i. h .0 .above s i) (w .members s m);
   },
-  widen r (x ∷ pre) (x ∷ wide) l b8 (wider-cons r pre wide x w) (h .1) (omega (arith, count-other (unit r) x pre (λ e. away (sym e)))) none
+  widen base r (x ∷ pre) (x ∷ wide) l b8 (wider-cons r pre wide x w) (h .1) (omega (arith, count-other (unit r) x pre (λ e. away (sym e)))) none
       (λ s m. low s (inr m)),
 )
   where
@@ -154,20 +154,20 @@ widen r pre wide (x ∷ l) b8 w h n z low = (
         omega (arith, h .0 .within (unit r) b8)
 
 -- r before all of l
-first : (pre l : List Rec) (r : Rec) → SoundAfter pre l → Joins pre l r → ((s : Rec) → Has s pre → rank s < rank r)
-    → ((s : Rec) → Has s l → rank r < rank s) → SoundAfter pre (r ∷ l)
-first pre l r h j up low =
+first : (base : List ℕ) (pre l : List Rec) (r : Rec) → SoundAfter base pre l → Joins base pre l r → ((s : Rec) → Has s pre → rank s < rank r)
+    → ((s : Rec) → Has s l → rank r < rank s) → SoundAfter base pre (r ∷ l)
+first base pre l r h j up low =
     let b8 = well-unit r (j .formed) in
-    let e = early pre l r h j low in
+    let e = early base pre l r h j low in
     let n : count (unit r) l ≡ 0 = omega (arith, e (unit r) b8, j .next, well-own r (j .formed)) in
-    let m : num r ≡ suc (count (unit r) pre) = omega (arith, j .next) in (
+    let m : num r ≡ suc (countOn base (unit r) pre) = omega (arith, j .next) in (
       record { formed = j .formed; next = m; within = e; closed = λ s i. j .closed s (inl i); above = up },
-      widen r pre (r ∷ pre) l b8 (wider-one r pre) h (omega arith) n low,
+      widen base r pre (r ∷ pre) l b8 (wider-one r pre) h (omega arith) n low,
     )
 
 -- no held record has r's rank
-apart : (pre l : List Rec) (x r : Rec) → SoundAfter pre (x ∷ l) → Joins pre (x ∷ l) r → rank x ≤ rank r → rank x < rank r
-apart pre l x r h j le =
+apart : (base : List ℕ) (pre l : List Rec) (x r : Rec) → SoundAfter base pre (x ∷ l) → Joins base pre (x ∷ l) r → rank x ≤ rank r → rank x < rank r
+apart base pre l x r h j le =
     ⊎-elim
     (λ e. e)
     (λ e.
@@ -183,18 +183,18 @@ apart pre l x r h j le =
     between : unit x ≡ unit r → (num x ≡ seen r (unit r) → ⊥) → rank x < rank r
     between q n =
         let own = well-own r (j .formed) in
-        let t : num x ≤ count (unit r) pre + count (unit r) (x ∷ l) = rw q at (numbers pre (x ∷ l) x h (inl refl) .1) in
-        let z : num x ≡ suc (count (unit r) pre) = h .0 .next ∙ ap (λ (w : ℕ). suc (count w pre)) q in
-        let lo : count (unit r) (x ∷ pre) < seen r (unit r) =
+        let t : num x ≤ countOn base (unit r) pre + count (unit r) (x ∷ l) = rw q at (numbers-on base pre (x ∷ l) x h (inl refl) .1) in
+        let z : num x ≡ suc (countOn base (unit r) pre) = h .0 .next ∙ ap (λ (w : ℕ). suc (countOn base w pre)) q in
+        let lo : countOn base (unit r) (x ∷ pre) < seen r (unit r) =
         ⊎-elim (λ a. omega (arith, j .next)) (λ a. absurd (a .0 q)) (count-cons (unit r) x pre) in
-        let hi : seen r (unit r) ≤ count (unit r) (x ∷ pre) + count (unit r) l = omega (arith, count-shift (unit r) x pre l, j .next) in
-        let (s, m, a, b) = find (x ∷ pre) l (unit r) (seen r (unit r)) (h .1) lo hi in
+        let hi : seen r (unit r) ≤ countOn base (unit r) (x ∷ pre) + count (unit r) l = omega (arith, count-shift (unit r) x pre l, j .next) in
+        let (s, m, a, b) = find base (x ∷ pre) l (unit r) (seen r (unit r)) (h .1) lo hi in
         let c : num s ≡ seen r (unit s) = b ∙ ap (seen r) (sym a) in
-        let y : rank s < rank r = lower s r (formed (x ∷ pre) l s (h .1) m) c (j .closed s (inr (inr m)) c) in
-        omega (arith, above-all (x ∷ pre) l x s (h .1) (inl refl) m)
+        let y : rank s < rank r = lower s r (formed-on base (x ∷ pre) l s (h .1) m) c (j .closed s (inr (inr m)) c) in
+        omega (arith, above-all-on base (x ∷ pre) l x s (h .1) (inl refl) m)
 
-joins-shift : (pre l : List Rec) (x r : Rec) → Joins pre (x ∷ l) r → Joins (x ∷ pre) l r
-joins-shift pre l x r j =
+joins-shift : (base : List ℕ) (pre l : List Rec) (x r : Rec) → Joins base pre (x ∷ l) r → Joins base (x ∷ pre) l r
+joins-shift base pre l x r j =
     record {
       formed = j .formed;
       next = omega (arith, j .next, count-shift (unit r) x pre l);
@@ -207,24 +207,28 @@ joins-shift pre l x r j =
     move s (inl (inr m)) = inl m
     move s (inr m) = inr (inr m)
 
-insert-after : (pre l : List Rec) (r : Rec) → SoundAfter pre l → Joins pre l r → ((s : Rec) → Has s pre → rank s < rank r) → SoundAfter pre (insert r l)
-insert-after pre [] r h j up = rw (insert-nil r) (first pre [] r h j up (λ s m. absurd m))
-insert-after pre (x ∷ l) r h j up =
+insert-after : (base : List ℕ) (pre l : List Rec) (r : Rec) → SoundAfter base pre l → Joins base pre l r → ((s : Rec) → Has s pre → rank s < rank r) → SoundAfter base pre (insert r l)
+insert-after base pre [] r h j up = rw (insert-nil r) (first base pre [] r h j up (λ s m. absurd m))
+insert-after base pre (x ∷ l) r h j up =
     ⊎-elim
-    (λ k. subst (SoundAfter pre) (sym (k .1)) (first pre (x ∷ l) r h j up (below (k .0))))
+    (λ k. subst (SoundAfter base pre) (sym (k .1)) (first base pre (x ∷ l) r h j up (below (k .0))))
     (λ k.
-    subst (SoundAfter pre) (sym (k .1))
-    (h .0, insert-after (x ∷ pre) l r (h .1) (joins-shift pre l x r j) (over (apart pre l x r h j (k .0)))))
+    subst (SoundAfter base pre) (sym (k .1))
+    (h .0, insert-after base (x ∷ pre) l r (h .1) (joins-shift base pre l x r j) (over (apart base pre l x r h j (k .0)))))
     (insert-cons r x l)
   where
     below : rank r < rank x → (s : Rec) → Has s (x ∷ l) → rank r < rank s
     below e s (inl q) = rw q e
-    below e s (inr m) = omega (arith, above-all (x ∷ pre) l x s (h .1) (inl refl) m)
+    below e s (inr m) = omega (arith, above-all-on base (x ∷ pre) l x s (h .1) (inl refl) m)
 
     over : rank x < rank r → (s : Rec) → Has s (x ∷ pre) → rank s < rank r
     over e s (inl q) = rw q e
     over e s (inr m) = up s m
 
 -- a record that is next, whose seen is held and closed, goes in at its rank
-pub insert-sound : (l : List Rec) (r : Rec) → Sound l → Joins [] l r → Sound (insert r l)
-insert-sound l r h j = insert-after [] l r h j (λ s m. absurd m)
+pub insert-sound-on : (base : List ℕ) (l : List Rec) (r : Rec) → SoundOn base l → Joins base [] l r → SoundOn base (insert r l)
+insert-sound-on base l r h j = insert-after base [] l r h j (λ s m. absurd m)
+
+-- with no record before
+pub insert-sound : (l : List Rec) (r : Rec) → Sound l → Joins noCounts [] l r → Sound (insert r l)
+insert-sound = insert-sound-on noCounts

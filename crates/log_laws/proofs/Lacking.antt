@@ -8,13 +8,13 @@ use mathlib.Core.List.{List, [], _∷_}
 use lib.ListN.{getD, length}
 use borrow.Author.Tests.{lt-ltb, le-ltb}
 use Rattle.model.specs.Record.{Rec, unit, num}
-use Rattle.model.specs.Log.{sumTo, count, vectorOf}
+use Rattle.model.specs.Log.{sumTo, count, vectorOf, noCounts, countOn}
 use Rattle.model.specs.Outcome.{lacking}
 use Rattle.byte_slice.proofs.Numbers.{lt-or-ge, eq-or-ne}
 use Rattle.log_laws.specs.Members.{Has, Sub}
 use Rattle.log_laws.specs.Sound.{SoundAfter, Sound}
 use Rattle.log_laws.proofs.Sums.{sumTo-plus}
-use Rattle.log_laws.proofs.Counts.{count-nil, count-own, count-other, length-counts, unit-of, find-held}
+use Rattle.log_laws.proofs.Counts.{count-nil, count-own, count-other, no-counts, length-counts, unit-of, find-held}
 use Rattle.log_laws.proofs.Tests.{vectorOf-getD}
 
 abbrev pub Lacked : List ℕ → Rec → List Rec → Type 0
@@ -79,13 +79,14 @@ absent-lacked a b h r k p i d =
     (lt-or-ge (count (unit r) b) (num r)))
 
 -- how many of a unit are lacked
-pub count-lacking : (v : List ℕ) (u : ℕ) (pre l : List Rec) → SoundAfter pre l → count u (lacking v l) + max (count u pre) (getD v u 0) ≡ max (count u pre + count u l) (getD v u 0)
-count-lacking v u pre [] h = omega (arith, ap (count u) (lacking-nil v), count-nil u)
-count-lacking v u pre (r ∷ l) h =
-    let ih = count-lacking v u (r ∷ pre) l (h .1) in
+pub count-lacking-on : (base v : List ℕ) (u : ℕ) (pre l : List Rec) → SoundAfter base pre l
+    → count u (lacking v l) + max (countOn base u pre) (getD v u 0) ≡ max (countOn base u pre + count u l) (getD v u 0)
+count-lacking-on base v u pre [] h = omega (arith, ap (count u) (lacking-nil v), count-nil u)
+count-lacking-on base v u pre (r ∷ l) h =
+    let ih = count-lacking-on base v u (r ∷ pre) l (h .1) in
     ⊎-elim
     (λ (e : unit r ≡ u).
-    let n : num r ≡ suc (count u pre) = h .0 .next ∙ ap (λ (x : ℕ). suc (count x pre)) e in
+    let n : num r ≡ suc (countOn base u pre) = h .0 .next ∙ ap (λ (x : ℕ). suc (countOn base x pre)) e in
     let own : (m : List Rec) → count u (r ∷ m) ≡ suc (count u m) = λ m. subst (λ (x : ℕ). count x (r ∷ m) ≡ suc (count x m)) e (count-own r m) in
     ⊎-elim
     (λ k.
@@ -101,6 +102,9 @@ count-lacking v u pre (r ∷ l) h =
     (λ k. omega (arith, count-other u r pre e, count-other u r l e, ap (count u) (k .1)))
     (lacking-cons v r l))
     (eq-or-ne (unit r) u)
+
+pub count-lacking : (v : List ℕ) (u : ℕ) (pre l : List Rec) → SoundAfter noCounts pre l → count u (lacking v l) + max (count u pre) (getD v u 0) ≡ max (count u pre + count u l) (getD v u 0)
+count-lacking v u pre l h = omega (arith, count-lacking-on noCounts v u pre l h, no-counts u)
 
 -- the union of two logs: what one lacks, and its own
 pub union-length : (a b : List Rec) → Sound a → Sound b → length (lacking (vectorOf b) a) + length b ≡ sumTo 8 (λ u. max (count u a) (count u b))

@@ -8,22 +8,22 @@ use mathlib.Core.Bool.{Bool, true, false, cond, _&&_}
 use mathlib.Core.Option.{Option, none, some}
 use mathlib.Core.List.{List, [], _∷_}
 use lib.Dec.{ltb}
-use lib.ListN.{length}
+use lib.ListN.{getD, length}
 use borrow.Author.Tests.{ltb-true, lt-ltb}
 use Rattle.model.specs.Numbers.{malformed, notNext, notClosed, otherBytes, fullLog}
 use Rattle.model.specs.Bytes.{sameBytes}
 use Rattle.model.specs.Record.{Rec, unit, num, wellFormed}
-use Rattle.model.specs.Log.{insert, byId, isNext, isWithin, isClosed}
+use Rattle.model.specs.Log.{insert, noCounts, byId, isNext, isWithin, isClosed}
 use Rattle.model.specs.Outcome.{Took, refused, taken, takeNew, takeHeld, takeOne, takeAll}
 use Rattle.byte_slice.proofs.Numbers.{and-true}
 use Rattle.byte_slice.proofs.Compare.{same-eq, same-refl}
 use Rattle.log_laws.specs.Members.{Has, Sub}
-use Rattle.log_laws.specs.Sound.{Sound, Joins}
-use Rattle.log_laws.proofs.Counts.{count-nil, formed}
+use Rattle.log_laws.specs.Sound.{SoundOn, Sound, Joins}
+use Rattle.log_laws.proofs.Counts.{count-nil, no-counts, formed, formed-on, numbers-on}
 use Rattle.log_laws.proofs.Insert.{insert-sound, has-insert, insert-has, length-insert}
-use Rattle.log_laws.proofs.Same.{unique}
+use Rattle.log_laws.proofs.Same.{unique-on}
 use Rattle.log_laws.proofs.Ids.{byId-some, held-byId}
-use Rattle.log_laws.proofs.Tests.{next-test, next-from, within-test, within-from, closed-test, closed-from}
+use Rattle.log_laws.proofs.Tests.{next-test, next-from-on, within-test, within-from-on, closed-test, closed-from}
 
 -- ---- a refusal is no success
 
@@ -40,31 +40,39 @@ passed false x n m e = refused-taken e
 
 -- ---- a record that may join, by test
 
-pub joins-from : (l : List Rec) (r : Rec) → Sound l → wellFormed r ≡ true → isNext l r ≡ true → isWithin l r ≡ true → isClosed l r ≡ true → Joins [] l r
-joins-from l r h f p q c =
+pub joins-from-on : (base : List ℕ) (l : List Rec) (r : Rec) → SoundOn base l → wellFormed r ≡ true
+    → isNext base l r ≡ true → isWithin base l r ≡ true → isClosed base l r ≡ true → Joins base [] l r
+joins-from-on base l r h f p q c =
     record {
       formed = f;
-      next = omega (arith, next-from l r p, count-nil (unit r));
-      within = λ u k. omega (arith, within-from l r q u k, count-nil u);
-      closed = λ s i n. ⊎-elim (λ x. absurd x) (λ x. closed-from l r (unique [] l h) (λ t j. formed [] l t h j) c s x n) i;
+      next = omega (arith, next-from-on base l r p, count-nil (unit r));
+      within = λ u k. omega (arith, within-from-on base l r q u k, count-nil u);
+      closed = λ s i n. ⊎-elim (λ x. absurd x) (λ x. closed-from base l r (unique-on base [] l h) (λ t j. formed-on base [] l t h j) beyond c s x n) i;
     }
+  where
+    beyond : (s : Rec) → Has s l → getD base (unit s) 0 < num s
+    beyond s i = omega (arith, numbers-on base [] l s h i .0, count-nil (unit s))
+
+pub joins-from : (l : List Rec) (r : Rec) → Sound l → wellFormed r ≡ true
+    → isNext noCounts l r ≡ true → isWithin noCounts l r ≡ true → isClosed noCounts l r ≡ true → Joins noCounts [] l r
+joins-from = joins-from-on noCounts
 
 -- ---- one record
 
 -- the record r is new and was laid in
 pub record New (l : List Rec) (r : Rec) (m : List Rec) : Type 0 where
   pub inserted : m ≡ insert r l
-  pub joins : Joins [] l r
+  pub joins : Joins noCounts [] l r
   pub room : length l < 512
 
 new-from : (l : List Rec) (r : Rec) (m : List Rec) → Sound l → wellFormed r ≡ true → takeNew l r ≡ taken m → New l r m
 unfolding takeNew
 new-from l r m h f e =
     let last : Took = cond (ltb (length l) 512) (taken (insert r l)) (refused fullLog) in
-    let (a, e₁) = passed (isNext l r && isWithin l r) (cond (isClosed l r) last (refused notClosed)) notNext m e in
-    let (b, e₂) = passed (isClosed l r) last notClosed m e₁ in
+    let (a, e₁) = passed (isNext noCounts l r && isWithin noCounts l r) (cond (isClosed noCounts l r) last (refused notClosed)) notNext m e in
+    let (b, e₂) = passed (isClosed noCounts l r) last notClosed m e₁ in
     let (c, e₃) = passed (ltb (length l) 512) (taken (insert r l)) fullLog m e₂ in
-    let (p, q) = and-true (isNext l r) (isWithin l r) a in
+    let (p, q) = and-true (isNext noCounts l r) (isWithin noCounts l r) a in
     record { inserted = sym (taken-same e₃); joins = joins-from l r h f p q b; room = ltb-true (length l) 512 c }
 
 -- a record that is taken was held, or is new
@@ -82,14 +90,14 @@ one-from l r m h e =
         inl (sym (taken-same d₁), rw (sym (same-eq s r b)) i)
 
 -- and the other way round
-pub take-new : (l : List Rec) (r : Rec) → byId (unit r) (num r) l ≡ none → Joins [] l r → length l < 512 → takeOne l r ≡ taken (insert r l)
+pub take-new : (l : List Rec) (r : Rec) → byId (unit r) (num r) l ≡ none → Joins noCounts [] l r → length l < 512 → takeOne l r ≡ taken (insert r l)
 unfolding takeOne takeHeld takeNew
 take-new l r e j k =
     rw (
       j .formed,
       e,
-      next-test l r (omega (arith, j .next, count-nil (unit r))),
-      within-test l r (λ u b. omega (arith, j .within u b, count-nil u)),
+      next-test l r (omega (arith, j .next, count-nil (unit r), no-counts (unit r))),
+      within-test l r (λ u b. omega (arith, j .within u b, count-nil u, no-counts u)),
       closed-test l r (λ s i. j .closed s (inr i)),
       lt-ltb (length l) 512 k,
     )

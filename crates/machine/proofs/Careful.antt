@@ -15,7 +15,7 @@ use borrow.Author.Tests.{ltb-false}
 use Rattle.model.specs.Numbers.{notClosed, otherBytes, fullLog}
 use Rattle.model.specs.Bytes.{sameBytes}
 use Rattle.model.specs.Record.{Rec, unit, num, seen, wellFormed}
-use Rattle.model.specs.Log.{sumTo, rank, count, vectorOf, recordsOf, logBytes, insert, byId, isClosed}
+use Rattle.model.specs.Log.{sumTo, rank, count, vectorOf, noCounts, recordsOf, logBytes, insert, byId, isClosed}
 use Rattle.model.specs.Block.{blockRecords}
 use Rattle.model.specs.Outcome.{Outcome, outcome, refusal, lacking, Took, refused, taken, takeNew, takeHeld, takeOne, takeAll, givenFault, tookAll, tookBlock, takeOf}
 use Rattle.byte_slice.proofs.Numbers.{lt-or-ge, eq-or-ne, bool-cases}
@@ -227,7 +227,7 @@ module _ (A B : List Rec) (sA : Sound A) where
     -- it is new: next and within, so only closure and room are asked
     newly : byId (unit x) (num x) m ≡ none → Gone (takeNew m x)
     unfolding takeNew
-    newly q = go (bool-cases (isClosed m x)) (bool-cases (ltb (length m) 512))
+    newly q = go (bool-cases (isClosed noCounts m x)) (bool-cases (ltb (length m) 512))
       where
         beyond : count (unit x) m < num x
         beyond =
@@ -254,10 +254,10 @@ module _ (A B : List Rec) (sA : Sound A) where
             (λ c. omega (arith, count-insert u x m, k .room u b))
             (count-cons u x m)
 
-        joins : isClosed m x ≡ true → Joins [] m x
+        joins : isClosed noCounts m x ≡ true → Joins noCounts [] m x
         joins c = joins-from m x (k .sound) one-formed (next-test m x next) (within-test m x have) c
 
-        go : (isClosed m x ≡ true) ⊎ (isClosed m x ≡ false) → (ltb (length m) 512 ≡ true) ⊎ (ltb (length m) 512 ≡ false) → Gone (takeNew m x)
+        go : (isClosed noCounts m x ≡ true) ⊎ (isClosed noCounts m x ≡ false) → (ltb (length m) 512 ≡ true) ⊎ (ltb (length m) 512 ≡ false) → Gone (takeNew m x)
         go (inr c) d = inr (notClosed, rw (next-test m x next, within-test m x have, c), inr (inl refl))
         go (inl c) (inr d) =
             let h = insert-sound m x (k .sound) (joins c) in

@@ -104,7 +104,7 @@ passed : Bench → Bool
 passed s = quickPassing 7 0 1 (length (s .given)) s passing && asked s (quickFlow 7 1 s passing) (quickPlay 7 s passing)
 
 computed : (passed (quickPlay 7 bare before) && sameBytes (numbers (quickOutcomes 7 bare (before ++ passing))) expected) ≡ true
-unfolding wish none plain block file vector before passing numbers expected asked passed quick quickPlay quickOutcomes quickPassing quickFlow word long blank sameBytes part padded joined W.coversTo W.covers W.countsAt W.vectorAt W.countBytes W.vectorBytes D.isLeap D.daysOf D.isDate R.identity R.unit R.op R.num R.seen R.seenVector R.identityAt R.selfOf R.objectOf R.folderOf R.dateBytes R.labelOf R.markOf R.textLength R.printable R.isLabel R.usesObject R.usesFolder R.usesLabel R.usesMark R.unused R.names R.objectFits R.folderFits R.labelFits R.markFits R.dateFits R.headFits R.wellFormed L.rank L.insert L.count L.countsTo L.vectorOf L.byId L.isNext L.isWithin L.allTo L.nowhereAbove L.isClosed L.rises L.recordFault L.soundAfter L.recordsIn L.recordsOf L.soundLog L.logBytes P.emptyTree P.isPresent P.lower P.labelKey P.sameLabel P.entryOf P.isIn P.isHolder P.holderOf P.hasEntries P.standsAside P.unseen P.freeLabel P.andThen P.isFolder P.folderStands P.judgeMake P.judgeStore P.judgeRemove P.judgeRename P.comesTo P.isBelow P.judgePlace P.judgeMove P.judgeSettle P.judge P.newEntry P.stored P.renamed P.moved P.removed P.changed P.settled P.effect P.apply P.step P.replayFrom P.replay B.firstTo B.secondTo B.headBytes B.bodyBytes B.sealed B.blockOf B.countIn B.archiveIn B.senderIn B.placeIn B.vectorIn B.sumsHold B.headerHolds B.blockFault B.recordAt B.recordsFrom B.blockRecords F.blockCount F.headerOf F.fileBlock F.fileTo F.fileOf F.blockAt O.startOf O.guarded O.stamped O.wishFits O.hasStroke O.reasonOf O.actNumber O.acted O.actOf O.lacking O.handBlock O.handOf O.writeOf O.takeNew O.takeHeld O.takeOne O.takeAll O.givenFault O.tookAll O.tookBlock O.takeOf O.showOf M.unitOf M.held M.heldVector M.blockGiven M.done M.ifAccepted M.blocksTo M.gives M.uses M.put M.after M.next M.play M.outcomes C.isSome C.holds C.distinct C.passes C.passing C.flowOf C.flow C.lacked C.holdsAll C.firsts C.below C.rising C.zeros
+unfolding wish none plain block file vector before passing numbers expected asked passed quick quickPlay quickOutcomes quickPassing quickFlow word long blank sameBytes part padded joined W.coversTo W.covers W.countsAt W.vectorAt W.countBytes W.vectorBytes D.isLeap D.daysOf D.isDate R.identity R.unit R.op R.num R.seen R.seenVector R.identityAt R.selfOf R.objectOf R.folderOf R.dateBytes R.labelOf R.markOf R.textLength R.printable R.isLabel R.usesObject R.usesFolder R.usesLabel R.usesMark R.unused R.names R.objectFits R.folderFits R.labelFits R.markFits R.dateFits R.headFits R.wellFormed L.rank L.insert L.count L.countsTo L.countsOnTo L.vectorOn L.vectorOf L.byId L.isNext L.isWithin L.allTo L.nowhereAbove L.isClosed L.rises L.recordFault L.soundAfter L.recordsIn L.recordsOf L.soundLog L.logBytes P.emptyTree P.isPresent P.lower P.labelKey P.sameLabel P.entryOf P.isIn P.isHolder P.holderOf P.hasEntries P.standsAside P.unseen P.freeLabel P.andThen P.isFolder P.folderStands P.judgeMake P.judgeStore P.judgeRemove P.judgeRename P.comesTo P.isBelow P.judgePlace P.judgeMove P.judgeSettle P.judge P.newEntry P.stored P.renamed P.moved P.removed P.changed P.settled P.effect P.apply P.step P.replayFrom P.replay B.firstTo B.secondTo B.headBytes B.bodyBytes B.sealed B.blockOf B.countIn B.archiveIn B.senderIn B.placeIn B.vectorIn B.sumsHold B.headerHolds B.blockFault B.recordAt B.recordsFrom B.blockRecords F.blockCount F.headerOf F.fileBlock F.fileTo F.fileOf F.blockAt O.startOf O.guarded O.stamped O.wishFits O.hasStroke O.reasonOf O.actNumber O.acted O.actOf O.lacking O.handBlock O.handOf O.writeOf O.takeNew O.takeHeld O.takeOne O.takeAll O.givenFault O.tookAll O.tookBlock O.takeOf O.showOf M.unitOf M.held M.heldVector M.blockGiven M.done M.ifAccepted M.blocksTo M.gives M.uses M.put M.after M.next M.play M.outcomes C.isSome C.holds C.distinct C.passes C.passing C.flowOf C.flow C.lacked C.holdsAll C.firsts C.below C.rising C.zeros
 computed = refl
 
 -- the types of the entry points can hold the arguments

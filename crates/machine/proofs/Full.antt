@@ -43,14 +43,14 @@ ofUnit u [] = true
 ofUnit u (r ∷ l) = eqb (R.unit r) u && ofUnit u l
 
 computed :
-    (L.soundAfter [] A ≡ true)
-    × (L.soundAfter [] B ≡ true)
+    (L.soundAfter L.noCounts [] A ≡ true)
+    × (L.soundAfter L.noCounts [] B ≡ true)
     × (length (O.lacking (L.vectorOf B) A) + length B ≡ 512)
     × (length A ≡ 256)
     × (length B ≡ 256)
     × (ofUnit 0 A ≡ true)
     × (ofUnit 1 B ≡ true)
-unfolding make made A B ofUnit word long blank sameBytes part W.coversTo W.covers W.countsAt W.vectorAt D.isLeap D.daysOf D.isDate R.unit R.op R.num R.seen R.seenVector R.textLength R.printable R.isLabel R.usesObject R.usesFolder R.usesLabel R.usesMark R.unused R.names R.objectFits R.folderFits R.labelFits R.markFits R.dateFits R.headFits R.wellFormed R.labelOf L.rank L.count L.countsTo L.vectorOf L.byId L.isNext L.isWithin L.allTo L.nowhereAbove L.isClosed L.rises L.recordFault L.soundAfter O.lacking
+unfolding make made A B ofUnit word long blank sameBytes part W.coversTo W.covers W.countsAt W.vectorAt D.isLeap D.daysOf D.isDate R.unit R.op R.num R.seen R.seenVector R.textLength R.printable R.isLabel R.usesObject R.usesFolder R.usesLabel R.usesMark R.unused R.names R.objectFits R.folderFits R.labelFits R.markFits R.dateFits R.headFits R.wellFormed R.labelOf L.rank L.count L.countsTo L.countsOnTo L.vectorOn L.vectorOf L.byId L.isNext L.isWithin L.allTo L.nowhereAbove L.isClosed L.rises L.recordFault L.soundAfter O.lacking
 computed = (refl, refl, refl, refl, refl, refl, refl)
 
 of-unit : (u : ℕ) (l : List R.Rec) → ofUnit u l ≡ true → (r : R.Rec) → Has r l → R.unit r ≡ u

@@ -11,7 +11,7 @@ use lib.ListN.{length, getD, take, drop, replicate, take-append-drop, length-dro
 use lib.Seq.{drop-drop}
 use Rattle.model.specs.Vector.{lacksOf, comparisonOf, blocksFor}
 use Rattle.model.specs.Record.{Rec, unit, num}
-use Rattle.model.specs.Log.{sumTo, rank, count, vectorOf, recordsOf, logBytes}
+use Rattle.model.specs.Log.{sumTo, rank, count, vectorOf, noCounts, recordsOf, logBytes}
 use Rattle.model.specs.Outcome.{Outcome, outcome, lacking, handBlock, handOf, taken, takeAll, takeOf}
 use Rattle.log_laws.specs.Members.{Has, Sub, Agree}
 use Rattle.log_laws.specs.Sound.{SoundAfter, Sound}
@@ -35,7 +35,7 @@ use Rattle.machine.proofs.Cover.{Way, way-all}
 
 -- ---- rising lists
 
-pub sound-rising : (pre l : List Rec) → SoundAfter pre l → Rising l
+pub sound-rising : (pre l : List Rec) → SoundAfter noCounts pre l → Rising l
 sound-rising pre [] h = tt
 sound-rising pre (r ∷ l) h = (λ s i. above-all (r ∷ pre) l r s (h .1) (inl refl) i, sound-rising (r ∷ pre) l (h .1))
 

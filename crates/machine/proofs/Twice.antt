@@ -38,15 +38,15 @@ B = lost ∷ []
 
 -- both logs are sound; nothing is lacking; carefully asked, 10; and the bytes differ
 pub computed :
-    (L.soundAfter [] A ≡ true)
-    × (L.soundAfter [] B ≡ true)
+    (L.soundAfter L.noCounts [] A ≡ true)
+    × (L.soundAfter L.noCounts [] B ≡ true)
     × (O.lacking (L.vectorOf B) A ≡ [])
     × (O.takeAll B (O.lacking (lowered (L.vectorOf B)) A) ≡ O.refused 10)
     × (sameBytes again lost ≡ false)
     × (R.unit again ≡ R.unit lost)
     × (R.num again ≡ R.num lost)
     × (R.num lost ≡ L.count (R.unit lost) B)
-unfolding make lost again A B lowered word long blank sameBytes part W.coversTo W.covers W.countsAt W.vectorAt D.isLeap D.daysOf D.isDate R.unit R.op R.num R.seen R.seenVector R.textLength R.printable R.isLabel R.usesObject R.usesFolder R.usesLabel R.usesMark R.unused R.names R.objectFits R.folderFits R.labelFits R.markFits R.dateFits R.headFits R.wellFormed L.count L.countsTo L.vectorOf L.byId L.isNext L.isWithin L.allTo L.nowhereAbove L.isClosed L.rises L.recordFault L.soundAfter O.lacking O.takeHeld O.takeOne O.takeAll R.labelOf
+unfolding make lost again A B lowered word long blank sameBytes part W.coversTo W.covers W.countsAt W.vectorAt D.isLeap D.daysOf D.isDate R.unit R.op R.num R.seen R.seenVector R.textLength R.printable R.isLabel R.usesObject R.usesFolder R.usesLabel R.usesMark R.unused R.names R.objectFits R.folderFits R.labelFits R.markFits R.dateFits R.headFits R.wellFormed L.count L.countsTo L.countsOnTo L.vectorOn L.vectorOf L.byId L.isNext L.isWithin L.allTo L.nowhereAbove L.isClosed L.rises L.recordFault L.soundAfter O.lacking O.takeHeld O.takeOne O.takeAll R.labelOf
 computed = (refl, refl, refl, refl, refl, refl, refl, refl)
 
 -- so the careful asking of unit 1 ends with a refusal

@@ -9,13 +9,13 @@ use mathlib.Core.Bool.{true, false}
 use mathlib.Core.List.{List, [], _∷_}
 use lib.ListN.{length}
 use Rattle.model.specs.Record.{Rec, unit, num, seen, wellFormed}
-use Rattle.model.specs.Log.{sumTo, rank, count, insert}
+use Rattle.model.specs.Log.{sumTo, rank, count, noCounts, insert}
 use Rattle.byte_slice.proofs.Numbers.{lt-or-ge, eq-or-ne}
 use Rattle.log_laws.specs.Members.{Has, Sub, Agree}
 use Rattle.log_laws.specs.Sound.{Sound, Joins}
 use Rattle.log_laws.proofs.Formed.{well-unit, well-own}
 use Rattle.log_laws.proofs.Sums.{sumTo-le}
-use Rattle.log_laws.proofs.Counts.{count-cons, count-nil, length-counts, number-held, find-held, formed, unit-of}
+use Rattle.log_laws.proofs.Counts.{count-cons, count-nil, no-counts, length-counts, number-held, find-held, formed, unit-of}
 use Rattle.log_laws.proofs.Insert.{insert-sound, has-insert, insert-has, count-insert}
 use Rattle.log_laws.proofs.Seen.{saw}
 use Rattle.machine.specs.Claim.{holds, firsts}
@@ -139,12 +139,12 @@ module _ (A B₀ used : List Rec) (sA : Sound A) (agree : Agree used used) (inA 
           subst (λ (x : Rec). seen x v ≤ seen r v) z (t .inside v k)
 
       -- so it may join
-      pub joins : Joins [] B r
+      pub joins : Joins noCounts [] B r
       joins =
           record {
             formed = well;
-            next = omega (arith, have (unit r) (well-unit r well), not-more, well-own r well, count-nil (unit r));
-            within = λ u k. omega (arith, have u k, count-nil u);
+            next = omega (arith, have (unit r) (well-unit r well), not-more, well-own r well, count-nil (unit r), no-counts (unit r));
+            within = λ u k. omega (arith, have u k, count-nil u, no-counts u);
             closed = λ s q n. ⊎-elim (λ x. absurd x) (λ x. shut s x n) q;
           }
 
@@ -156,7 +156,7 @@ module _ (A B₀ used : List Rec) (sA : Sound A) (agree : Agree used used) (inA 
           ⊎-elim
           (λ a.
           let n : num r ≤ count u A = subst (λ (x : ℕ). num r ≤ count x A) (a .0) (number-held A r sA passed) in
-          let m : num r ≡ suc (count (unit r) B) = omega (arith, joins .next, count-nil (unit r)) in
+          let m : num r ≡ suc (count (unit r) B) = omega (arith, joins .next, count-nil (unit r), no-counts (unit r)) in
           let m′ : num r ≡ suc (count u B) = subst (λ (x : ℕ). num r ≡ suc (count x B)) (a .0) m in
           omega (arith, count-insert u r B))
           (λ a. omega (arith, count-insert u r B, w .room u k))

@@ -51,10 +51,10 @@ marks [] = []
 marks (e ∷ l) = e .mark ∷ marks l
 
 pub record Computed : Type 0 where
-  pub sound-disputed : L.soundAfter [] (disputed right) ≡ true
-  pub sound-overwritten : L.soundAfter [] (overwritten right) ≡ true
-  pub sound-refused : L.soundAfter [] (refused right) ≡ true
-  pub sound-restored : L.soundAfter [] (restored right) ≡ true
+  pub sound-disputed : L.soundAfter L.noCounts [] (disputed right) ≡ true
+  pub sound-overwritten : L.soundAfter L.noCounts [] (overwritten right) ≡ true
+  pub sound-refused : L.soundAfter L.noCounts [] (refused right) ≡ true
+  pub sound-restored : L.soundAfter L.noCounts [] (restored right) ≡ true
   pub apart-disputed : OneMarkApart 0 (disputed right) (disputed wrong)
   pub apart-overwritten : OneMarkApart 0 (overwritten right) (overwritten wrong)
   pub apart-refused : OneMarkApart 1 (refused right) (refused wrong)
@@ -75,7 +75,7 @@ pub record Computed : Type 0 where
   pub other-stored : marks (P.replay (restored wrong) .entries) ≡ wrong ∷ []
 
 computed : Computed
-unfolding word blank sameBytes part padded Vec.coversTo Vec.covers Vec.countsAt Vec.vectorAt Vec.countBytes Vec.vectorBytes D.isLeap D.daysOf D.isDate R.identity R.unit R.op R.num R.seen R.seenVector R.identityAt R.selfOf R.objectOf R.folderOf R.dateBytes R.labelOf R.markOf R.textLength R.printable R.isLabel R.usesObject R.usesFolder R.usesLabel R.usesMark R.unused R.names R.objectFits R.folderFits R.labelFits R.markFits R.dateFits R.headFits R.wellFormed L.rank L.count L.countsTo L.vectorOf L.byId L.isNext L.isWithin L.allTo L.nowhereAbove L.isClosed L.rises L.recordFault L.soundAfter P.emptyTree P.isPresent P.lower P.labelKey P.sameLabel P.entryOf P.isIn P.isHolder P.holderOf P.unseen P.freeLabel P.andThen P.isFolder P.folderStands P.judgeMake P.judgeStore P.judgeRename P.judge P.newEntry P.stored P.renamed P.changed P.effect P.apply P.step P.replayFrom P.replay identityBytes encode march stores renames traceOf right wrong traced disputed overwritten refused restored marks
+unfolding word blank sameBytes part padded Vec.coversTo Vec.covers Vec.countsAt Vec.vectorAt Vec.countBytes Vec.vectorBytes D.isLeap D.daysOf D.isDate R.identity R.unit R.op R.num R.seen R.seenVector R.identityAt R.selfOf R.objectOf R.folderOf R.dateBytes R.labelOf R.markOf R.textLength R.printable R.isLabel R.usesObject R.usesFolder R.usesLabel R.usesMark R.unused R.names R.objectFits R.folderFits R.labelFits R.markFits R.dateFits R.headFits R.wellFormed L.rank L.count L.countsTo L.countsOnTo L.vectorOn L.vectorOf L.byId L.isNext L.isWithin L.allTo L.nowhereAbove L.isClosed L.rises L.recordFault L.soundAfter P.emptyTree P.isPresent P.lower P.labelKey P.sameLabel P.entryOf P.isIn P.isHolder P.holderOf P.unseen P.freeLabel P.andThen P.isFolder P.folderStands P.judgeMake P.judgeStore P.judgeRename P.judge P.newEntry P.stored P.renamed P.changed P.effect P.apply P.step P.replayFrom P.replay identityBytes encode march stores renames traceOf right wrong traced disputed overwritten refused restored marks
 computed =
     record {
       sound-disputed = refl;
@@ -117,7 +117,7 @@ computed =
     before₁ (suc zero) h d = absurd (d refl)
     before₁ (suc (suc j)) h d = refl
 
-small : (i : ℕ) (l m : List R.Rec) → L.soundAfter [] l ≡ true → OneMarkApart i l m → length (getD m i []) ≡ 80 → StaysSmall i l m
+small : (i : ℕ) (l m : List R.Rec) → L.soundAfter L.noCounts [] l ≡ true → OneMarkApart i l m → length (getD m i []) ≡ 80 → StaysSmall i l m
 small i l m s a n = two-logs i l m s (sound-but-mark i l m s a n) a
 
 pub one-differs : StaysSmall 0 (disputed right) (disputed wrong)

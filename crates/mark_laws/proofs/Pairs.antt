@@ -6,6 +6,7 @@ use mathlib.Core.Path.{_≡_, refl, ap}
 use mathlib.Core.List.{List, [], _∷_}
 use lib.ListN.{getD, length, take, drop}
 use Rattle.model.specs.Record.{Rec}
+use Rattle.model.specs.Log.{noCounts}
 use Rattle.model.specs.Replay.{Tree, step, replayFrom}
 use Rattle.log_laws.specs.Sound.{SoundAfter}
 use Rattle.tree_laws.specs.Replayed.{Pairs}
@@ -62,7 +63,7 @@ replay-at t [] j h = absurd (omega arith)
 replay-at t (r ∷ l) zero h = refl
 replay-at t (r ∷ l) (suc j) h = replay-at (step t r) l j (omega arith)
 
-pub sound-take : (j : ℕ) (pre l : List Rec) → SoundAfter pre l → SoundAfter pre (take j l)
+pub sound-take : (j : ℕ) (pre l : List Rec) → SoundAfter noCounts pre l → SoundAfter noCounts pre (take j l)
 sound-take zero pre l h = tt
 sound-take (suc j) pre [] h = tt
 sound-take (suc j) pre (r ∷ l) h = (h .0, sound-take j (r ∷ pre) l (h .1))

@@ -8,7 +8,7 @@ use mathlib.Core.List.{List, [], _∷_}
 use lib.ListN.{getD, length, take}
 use Rattle.byte_slice.proofs.Numbers.{lt-or-ge, eq-or-ne}
 use Rattle.model.specs.Record.{Rec, op}
-use Rattle.model.specs.Log.{rank}
+use Rattle.model.specs.Log.{rank, noCounts}
 use Rattle.log_laws.specs.Members.{Has}
 use Rattle.log_laws.specs.Sound.{SoundAfter, Sound}
 use Rattle.log_laws.proofs.Counts.{above-all}
@@ -18,7 +18,7 @@ use Rattle.mark_laws.proofs.Pairs.{pairs-length, pairs-get}
 use Rattle.mark_laws.proofs.Sound.{rank-but-mark}
 
 module _ (R : Rec → Rec → Type 0) (level : (x y : Rec) → R x y → rank x ≡ rank y) where
-  pairs-by-rank : (pre ere l m : List Rec) → SoundAfter pre l → SoundAfter ere m → ((x : Rec) → Has x l → (y : Rec) × Has y m × R x y)
+  pairs-by-rank : (pre ere l m : List Rec) → SoundAfter noCounts pre l → SoundAfter noCounts ere m → ((x : Rec) → Has x l → (y : Rec) × Has y m × R x y)
       → ((y : Rec) → Has y m → (x : Rec) × Has x l × R x y) → Pairs R l m
   pairs-by-rank pre ere [] [] h k to back = tt
   pairs-by-rank pre ere [] (y ∷ m) h k to back = let (x, i, a) = back y (inl refl) in absurd i
@@ -61,7 +61,7 @@ has-at [] j h = absurd (omega arith)
 has-at (x ∷ l) zero h = inl refl
 has-at (x ∷ l) (suc j) h = inr (has-at l j (omega arith))
 
-rising : (pre l : List Rec) → SoundAfter pre l → (i j : ℕ) → i < j → j < length l → rank (getD l i []) < rank (getD l j [])
+rising : (pre l : List Rec) → SoundAfter noCounts pre l → (i j : ℕ) → i < j → j < length l → rank (getD l i []) < rank (getD l j [])
 rising pre [] h i j a b = absurd (omega arith)
 rising pre (x ∷ l) h i zero a b = absurd (omega arith)
 rising pre (x ∷ l) h zero (suc j) a b = above-all (x ∷ pre) l x (getD l j []) (h .1) (inl refl) (has-at l j (omega arith))

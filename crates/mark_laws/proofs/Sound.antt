@@ -13,7 +13,7 @@ use Rattle.byte_slice.proofs.Numbers.{eq-or-ne}
 use Rattle.byte_slice.proofs.Words.{word-same}
 use Rattle.model.specs.Bytes.{word}
 use Rattle.model.specs.Record.{Rec, unit, op, num, seen, labelOf, usesMark, unused, names, objectFits, folderFits, labelFits, markFits, dateFits, headFits, wellFormed}
-use Rattle.model.specs.Log.{rank, count}
+use Rattle.model.specs.Log.{rank, count, noCounts, countOn}
 use Rattle.log_laws.specs.Members.{Has}
 use Rattle.log_laws.specs.Sound.{Next, SoundAfter, Sound}
 use Rattle.log_laws.proofs.Sums.{sumTo-eq}
@@ -134,11 +134,11 @@ fronts-cons pre ere r s b t f =
       twins = λ y i. ⊎-elim (λ (q : y ≡ s). (r, inl refl, b, rw q t)) (λ j. let (x, k, w, z) = f .twins y j in (x, inr k, w, z)) i;
     }
 
-next-twin : (pre ere : List Rec) (r s : Rec) → Twin r s → Fronts pre ere → Next pre r → Next ere s
+next-twin : (pre ere : List Rec) (r s : Rec) → Twin r s → Fronts pre ere → Next noCounts pre r → Next noCounts ere s
 next-twin pre ere r s t f n =
     record {
       formed = t .formed (n .formed);
-      next = sym (t .of-num) ∙ n .next ∙ ap suc (f .counts (unit r)) ∙ ap (λ (u : ℕ). suc (count u ere)) (t .of-unit);
+      next = sym (t .of-num) ∙ n .next ∙ ap (λ (k : ℕ). suc (getD noCounts (unit r) 0 + k)) (f .counts (unit r)) ∙ ap (λ (u : ℕ). suc (countOn noCounts u ere)) (t .of-unit);
       within = λ u h. omega (arith, t .of-seen u h, f .counts u, n .within u h);
       closed = λ y i q v h.
           let (x, j, b, z) = f .twins y i in
@@ -147,7 +147,7 @@ next-twin pre ere r s t f n =
       above = λ y i. let (x, j, b, z) = f .twins y i in omega (arith, n .above x j, twin-rank x y z, twin-rank r s t);
     }
 
-sound-twins : (pre ere l m : List Rec) → Fronts pre ere → Pairs Twin l m → SoundAfter pre l → SoundAfter ere m
+sound-twins : (pre ere l m : List Rec) → Fronts pre ere → Pairs Twin l m → SoundAfter noCounts pre l → SoundAfter noCounts ere m
 sound-twins pre ere [] [] f p h = tt
 sound-twins pre ere [] (s ∷ m) f p h = absurd p
 sound-twins pre ere (r ∷ l) [] f p h = absurd p

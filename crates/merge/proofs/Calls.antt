@@ -1,6 +1,7 @@
 -- What merging is asked, over plain values: a file without a fault, and each way out of the call.
 -- Assumes nothing.
 use Prim.Native.Nat.{ℕ, zero, suc, _+_, _-_, _*_, _/_, _≤_, _<_}
+use native.Mathlib.Nat.{zero-add}
 use native.Mathlib.Omega.{arith}
 use mathlib.Core.Path.{_≡_, refl, sym, ap, _∙_}
 use mathlib.Core.Logic.{inl, inr}
@@ -10,12 +11,13 @@ use lib.ListN.{length, take, drop}
 use borrow.Author.Tests.{eq-eqb, ne-eqb, not-true, not-false}
 use Rattle.model.specs.Bytes.{part}
 use Rattle.model.specs.Record.{Rec}
-use Rattle.model.specs.Log.{vectorOf}
+use Rattle.model.specs.Log.{vectorOf, noCounts}
 use Rattle.model.specs.Block.{vectorIn}
 use Rattle.model.specs.File.{fileLength, blockAt, Fault, fault, recordsCounted, fileRecords, fileFault, checkedFault}
 use Rattle.model.specs.Merge.{union, unionFault, merged, unless, unlessAny, joinedFile, mergeOf}
 use Rattle.log_laws.specs.Members.{Has}
-use Rattle.log_laws.proofs.Counts.{formed}
+use Rattle.log_laws.proofs.Counts.{no-counts, formed}
+use Rattle.log_laws.proofs.Tests.{vectorOn-none}
 use Rattle.encoding_laws.proofs.Merging.{checked-both, file-sound, file-few}
 use Rattle.file_laws.proofs.Records.{length-fileRecords}
 use Rattle.file_laws.proofs.Rewritten.{vector-right}
@@ -32,18 +34,18 @@ use Rattle.merge_check.specs.Tables.{Positioned, AllFormed, Fine}
 
 -- the tables that a check leaves have the positions
 pub positions : (f : List ℕ) (n : ℕ) (places seens : List ℕ)
-    → (n ≡ 0 → Indexed (laidAt File f) (recordsCounted f) (fileRecords f) (vectorOf (fileRecords f)) places seens)
+    → (n ≡ 0 → Indexed noCounts (laidAt File f) (recordsCounted f) (fileRecords f) (vectorOf (fileRecords f)) places seens)
     → n ≡ 0 → Positioned (laidAt File f) (recordsCounted f) (fileRecords f) (vectorOf (fileRecords f)) places
 positions f n places seens h z =
     let i = h z in
     record {
-      counts = i .counts;
+      counts = i .counts ∙ vectorOn-none (fileRecords f);
       long = i .places-long;
       few = i .few;
       room = i .room;
       below = λ u c a b d. i .stands u c a b d .below;
-      found = λ u c a b d. i .stands u c a b d .found;
-      beyond = i .beyond;
+      found = λ u c a b d. rw (no-counts u, zero-add) at (i .stands u c a b d .found);
+      beyond = λ u c d. i .beyond u c (omega (arith, no-counts u));
     }
 
 -- ---- a file without a fault

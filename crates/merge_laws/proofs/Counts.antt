@@ -7,7 +7,7 @@ use mathlib.Core.Logic.{inl, inr, ⊎-elim}
 use mathlib.Core.List.{List, [], _∷_}
 use lib.ListN.{getD, length}
 use Rattle.model.specs.Record.{Rec}
-use Rattle.model.specs.Log.{rank, count, insert, vectorOf}
+use Rattle.model.specs.Log.{rank, count, insert, vectorOf, noCounts}
 use Rattle.model.specs.Outcome.{lacking}
 use Rattle.model.specs.Merge.{insertAll, union}
 use Rattle.log_laws.specs.Members.{Has}
@@ -58,7 +58,7 @@ has-at [] i h = absurd (omega arith)
 has-at (r ∷ l) zero h = inl refl
 has-at (r ∷ l) (suc i) h = inr (has-at l i (omega arith))
 
-pub lacking-rises : (v : List ℕ) (pre l : List Rec) → SoundAfter pre l → (j : ℕ) → suc j < length (lacking v l)
+pub lacking-rises : (v : List ℕ) (pre l : List Rec) → SoundAfter noCounts pre l → (j : ℕ) → suc j < length (lacking v l)
     → rank (getD (lacking v l) j []) < rank (getD (lacking v l) (suc j) [])
 lacking-rises v pre [] s j h = absurd (omega (arith, ap (λ (x : List Rec). length x) (lacking-nil v)))
 lacking-rises v pre (r ∷ l) s j h =

@@ -9,14 +9,14 @@ use mathlib.Core.Bool.{true}
 use mathlib.Core.List.{List, [], _∷_}
 use lib.ListN.{getD, length}
 use Rattle.model.specs.Record.{Rec, unit, num, seen, wellFormed}
-use Rattle.model.specs.Log.{rank, count, insert, vectorOf}
+use Rattle.model.specs.Log.{rank, count, insert, vectorOf, noCounts}
 use Rattle.model.specs.Outcome.{lacking, taken, takeOne, takeAll}
 use Rattle.model.specs.Merge.{insertAll, union}
 use Rattle.byte_slice.proofs.Numbers.{lt-or-ge}
 use Rattle.log_laws.specs.Members.{Has, Sub, Agree}
 use Rattle.log_laws.specs.Sound.{SoundAfter, Sound, Joins}
 use Rattle.log_laws.proofs.Formed.{well-own, well-unit}
-use Rattle.log_laws.proofs.Counts.{above-all, formed, unit-of, own-of, number-held, find-held, count-nil}
+use Rattle.log_laws.proofs.Counts.{above-all, formed, unit-of, own-of, number-held, find-held, count-nil, no-counts}
 use Rattle.log_laws.proofs.Same.{unique}
 use Rattle.log_laws.proofs.Ids.{held-byId, none-byId}
 use Rattle.log_laws.proofs.Insert.{insert-sound, has-insert, insert-has, length-insert}
@@ -29,7 +29,7 @@ use Rattle.merge_laws.specs.Both.{Both}
 -- b: the second log; pre: what of it was looked at, last first; rs: what is still to come; acc: what is put together so far
 record Going (a b pre rs acc : List Rec) : Type 0 where
   sound : Sound acc
-  rest : SoundAfter pre rs
+  rest : SoundAfter noCounts pre rs
   inside : Sub rs b
   past : Sub pre b
   done : (s : Rec) → Has s b → Has s rs ⊎ Has s acc
@@ -100,12 +100,12 @@ module _ (a b : List Rec) (sa : Sound a) (sb : Sound b) (agree : Agree a b) wher
           let e : s ≡ w .it = unique [] acc (g .sound) s (w .it) i h (sym (w .of-unit)) (n ∙ sym (w .numbered)) in
           rw e (w .inside v k)
 
-      joins : Joins [] acc r
+      joins : Joins noCounts [] acc r
       joins =
           record {
             formed = fr;
-            next = omega (arith, next, count-nil (unit r));
-            within = λ u k. omega (arith, within u k, count-nil u);
+            next = omega (arith, next, count-nil (unit r), no-counts (unit r));
+            within = λ u k. omega (arith, within u k, count-nil u, no-counts u);
             closed = λ s i. ⊎-elim (λ x. absurd x) (λ x. closed s x) i;
           }
 

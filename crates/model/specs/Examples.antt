@@ -10,7 +10,7 @@ use Rattle.model.specs.Bytes.{two, sameBytes, padded, joined}
 use Rattle.model.specs.Vector.{Compared, compareOf, comparisonOf, handedCount, blocksFor, vectorBytes}
 use Rattle.model.specs.Date.{isDate}
 use Rattle.model.specs.Record.{Rec, identity, unitOf, numberOf, root, wellFormed}
-use Rattle.model.specs.Log.{recordFault, soundAfter, vectorOf}
+use Rattle.model.specs.Log.{recordFault, soundAfter, vectorOf, noCounts}
 use Rattle.model.specs.Replay.{Entry, Aside, Tree, labelKey, replay, presentOnes, isDisputed}
 use Rattle.model.specs.Table.{identityBytes, entryRow, asideRow}
 use Rattle.model.specs.Block.{bodyBytes, archiveIn, senderIn, vectorIn}
@@ -137,7 +137,7 @@ showsWhole s (e ∷ l) (x ∷ xs) = (sameEntry e (x .0) && sameFlag (isDisputed 
 -- the records are a sound log, and their replay shows these entries and asides
 unfoldable pub shows : List Rec → List Shown → List Standing → Bool
 shows l es ss =
-    soundAfter [] l
+    soundAfter noCounts [] l
     && (showsEntries (replay l .asides) (presentOnes (replay l .entries)) es && showsAsides (replay l .asides) ss)
 
 -- ---- the rows
@@ -175,6 +175,8 @@ pub data Row : Type 0 where
   blocks : ℕ → ℕ → Row
   -- the records of a file before a record, last first, that record, and its fault
   faulty : List Rec → Rec → ℕ → Row
+  -- how many records of each unit come before, the records behind them, last first, a record, and its fault
+  follows : List ℕ → List Rec → Rec → ℕ → Row
   -- a text of the listing, and its bytes
   prints : List ℕ → List ℕ → Row
   -- the records of two files, and those of both, whichever file comes first
@@ -250,27 +252,28 @@ heads f a u v = eqb (archiveIn (blockAt f 0)) a && (eqb (senderIn (blockAt f 0))
 unfoldable pub right : Row → Bool
 right (vectors a b n) = eqb (compareOf a b) n
 right (behind a b n f s) = says (comparisonOf a b) n f s
-right (hands l v n) = soundAfter [] l && (eqb (handedCount v (vectorOf l)) n && eqb (length (take 6 (lacking v l))) n)
+right (hands l v n) = soundAfter noCounts [] l && (eqb (handedCount v (vectorOf l)) n && eqb (length (take 6 (lacking v l))) n)
 right (brings n k) = eqb (blocksFor n) k
 right (whole l es ss) =
-    soundAfter [] l
+    soundAfter noCounts [] l
     && (showsWhole (replay l .asides) (presentOnes (replay l .entries)) es && showsAsides (replay l .asides) ss)
 right (date y m d b) = sameFlag (isDate y m d) b
 right (formed r b) = sameFlag (wellFormed r) b
 right (counts t k) = sameBytes (labelKey t) k
 right (tree l es ss) = shows l es ss
-right (takes l rs es ss) = soundAfter [] l && showsTaken (takeAll l rs) es ss
-right (refuses l rs n) = soundAfter [] l && isRefused (takeAll l rs) n
+right (takes l rs es ss) = soundAfter noCounts [] l && showsTaken (takeAll l rs) es ss
+right (refuses l rs n) = soundAfter noCounts [] l && isRefused (takeAll l rs) n
 right (wishes u l w n) = eqb (actNumber u l w) n
 right (guards n u w e) = eqb (actOf u (replicate n 0) w .number) e
 right (turnsAway n) =
     eqb (acted 0 A A n .number) n && (eqb (acted 0 A A n .place) 0 && sameBytes (acted 0 A A n .log) A)
 right (blocks n k) = eqb (blockCount n) k
-right (faulty l r n) = eqb (recordFault l r) n
+right (faulty l r n) = eqb (recordFault noCounts l r) n
+right (follows v l r n) = eqb (recordFault v l r) n
 right (prints t b) = sameBytes t b
 right (unites l m u) =
-    soundAfter [] l && (soundAfter [] m && (soundAfter [] u && (sameRecords (union l m) u && sameRecords (union m l) u)))
-right (clashes l n m e) = soundAfter [] l && (soundAfter [] m && sameFault (recordsClash l n m) e)
+    soundAfter noCounts [] l && (soundAfter noCounts [] m && (soundAfter noCounts [] u && (sameRecords (union l m) u && sameRecords (union m l) u)))
+right (clashes l n m e) = soundAfter noCounts [] l && (soundAfter noCounts [] m && sameFault (recordsClash l n m) e)
 right (parts a l b m e) =
     keeps (mergeFiles (fault 0 0) (fault 0 0) (unsealed a 0 l) (unsealed b 1 m) A B) e (cond (eqb (e .number) 0) 0 2)
 right (blames a b c e w) = keeps (unlessAny a b c A B (merged 0 0 0 1 C C)) e w
@@ -655,6 +658,13 @@ further =
     ∷ faulty (makesTrace 3 (1 · 1) [] root A ∷ []) (makesTrace 3 (0 · 1) [] root B) 20
     ∷ faulty (makesTrace 3 (0 · 1) [] root A ∷ []) (makesTrace 3 (0 · 3) (2 ∷ []) root B) 8
     ∷ faulty (makesTrace 3 (1 · 1) (1 ∷ []) root B ∷ makesTrace 3 (0 · 1) [] root A ∷ []) (makesTrace 3 (2 · 1) (0 ∷ 1 ∷ []) root C) 9
+    -- two records of unit 0 and one of unit 1 come before: numbers and seen go on from there, and what those records had seen is not asked
+    ∷ follows (2 ∷ 1 ∷ []) [] (makesTrace 3 (0 · 3) (2 ∷ 1 ∷ []) root A) 0
+    ∷ follows (2 ∷ 1 ∷ []) [] (makesTrace 3 (0 · 1) [] root A) 8
+    ∷ follows (2 ∷ 1 ∷ []) [] (makesTrace 3 (0 · 3) (2 ∷ 2 ∷ []) root A) 8
+    ∷ follows (2 ∷ 1 ∷ []) [] (makesTrace 3 (2 · 1) (1 ∷ 1 ∷ []) root C) 0
+    ∷ follows (2 ∷ 1 ∷ []) (makesTrace 3 (1 · 2) (2 ∷ 1 ∷ []) root B ∷ []) (makesTrace 3 (2 · 1) (1 ∷ 2 ∷ []) root C) 9
+    ∷ follows (2 ∷ 1 ∷ []) (makesTrace 3 (1 · 2) (2 ∷ 1 ∷ []) root B ∷ []) (makesTrace 3 (2 · 1) (2 ∷ 2 ∷ []) root C) 0
     -- a record with a stroke is well formed, is taken, and its entry can be renamed
     ∷ formed (march 3 1 (0 · 1) [] root root (65 ∷ 47 ∷ []) []) true
     ∷ takes [] (makesTrace 3 (0 · 1) [] root (47 ∷ []) ∷ []) ((0 · 1, 47 ∷ [], 0 · 1, 0 · 1, false) ∷ []) []

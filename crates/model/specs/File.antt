@@ -10,7 +10,7 @@ use Rattle.model.specs.Numbers.{badBuffer, badLength, fullLog, badFile}
 use Rattle.model.specs.Lengths.{logSize}
 use Rattle.model.specs.Bytes.{sameBytes, part, padded}
 use Rattle.model.specs.Record.{Rec}
-use Rattle.model.specs.Log.{vectorOf, recordFault, logBytes}
+use Rattle.model.specs.Log.{vectorOf, noCounts, recordFault, logBytes}
 use Rattle.model.specs.Block.{Header, blockOf, blockFault, archiveIn, senderIn, placeIn, countIn, vectorIn}
 use Rattle.model.specs.Vector.{vectorBytes}
 
@@ -104,7 +104,7 @@ unfoldable pub recordsFault : List Rec → ℕ → List Rec → Fault
 recordsFault pre i [] = fault 0 0
 recordsFault pre i (r ∷ l) =
     cond (ltb i 512)
-    (cond (eqb (recordFault pre r) 0) (recordsFault (r ∷ pre) (suc i) l) (fault (recordFault pre r) (i / 6)))
+    (cond (eqb (recordFault noCounts pre r) 0) (recordsFault (r ∷ pre) (suc i) l) (fault (recordFault noCounts pre r) (i / 6)))
     (fault fullLog (i / 6))  -- 11
 
 -- the header's vector against the record counts, at the last block [F48]

@@ -6,7 +6,7 @@ use mathlib.Core.Bool.{Bool, true, false, cond, _&&_}
 use mathlib.Core.Option.{Option, none, some}
 use mathlib.Core.List.{List, [], _∷_, _++_}
 use lib.Dec.{ltb, leb, eqb}
-use lib.ListN.{getD, length, take, drop}
+use lib.ListN.{getD, length, take, drop, replicate}
 use Rattle.model.specs.Numbers.{malformed, notNext, notClosed, badFile}
 use Rattle.model.specs.Bytes.{blank, padded, joined}
 use Rattle.model.specs.Vector.{covers}
@@ -44,20 +44,39 @@ countsTo l (suc n) = countsTo l n ++ (count n l ∷ [])
 unfoldable pub vectorOf : List Rec → List ℕ
 vectorOf l = countsTo l 8
 
+-- ---- records behind a base vector: of each unit as many records come before
+
+-- no record comes before
+abbrev pub noCounts : List ℕ
+noCounts = replicate 8 0
+
+-- of unit u, the records that come before and those of the list
+abbrev pub countOn : List ℕ → ℕ → List Rec → ℕ
+countOn v u l = getD v u 0 + count u l
+
+-- these counts of the first n units
+unfoldable pub countsOnTo : List ℕ → List Rec → ℕ → List ℕ
+countsOnTo v l zero = []
+countsOnTo v l (suc n) = countsOnTo v l n ++ (countOn v n l ∷ [])
+
+-- these counts of the eight units
+unfoldable pub vectorOn : List ℕ → List Rec → List ℕ
+vectorOn v l = countsOnTo v l 8
+
 -- the record u.c
 unfoldable pub byId : ℕ → ℕ → List Rec → Option Rec
 byId u c [] = none
 byId u c (r ∷ l) = cond (eqb (unit r) u && eqb (num r) c) (some r) (byId u c l)
 
--- ---- a record beside those held
+-- ---- a record beside those held, behind the base vector v
 
 -- the number is one above the held records of its unit [F46]
-unfoldable pub isNext : List Rec → Rec → Bool
-isNext l r = eqb (num r) (suc (count (unit r) l))
+unfoldable pub isNext : List ℕ → List Rec → Rec → Bool
+isNext v l r = eqb (num r) (suc (countOn v (unit r) l))
 
 -- seen is within the held counts [F46]
-unfoldable pub isWithin : List Rec → Rec → Bool
-isWithin l r = covers (vectorOf l) (seenVector r)
+unfoldable pub isWithin : List ℕ → List Rec → Rec → Bool
+isWithin v l r = covers (vectorOn v l) (seenVector r)
 
 unfoldable pub allTo : ℕ → (ℕ → Bool) → Bool
 allTo zero p = true
@@ -68,9 +87,9 @@ unfoldable pub nowhereAbove : Rec → Option Rec → Bool
 nowhereAbove r none = true
 nowhereAbove r (some s) = covers (seenVector r) (seenVector s)
 
--- for each unit u with count c above 0, the seen of record u.c is nowhere above it [F14] [F47]
-unfoldable pub isClosed : List Rec → Rec → Bool
-isClosed l r = allTo 8 (λ u. cond (eqb (seen r u) 0) true (nowhereAbove r (byId u (seen r u) l)))
+-- for each unit u with count c above that of v, the seen of record u.c is nowhere above it [F14] [F47]
+unfoldable pub isClosed : List ℕ → List Rec → Rec → Bool
+isClosed v l r = allTo 8 (λ u. cond (leb (seen r u) (getD v u 0)) true (nowhereAbove r (byId u (seen r u) l)))
 
 -- ranks above the record just before; the records before stand last first [F45]
 unfoldable pub rises : List Rec → Rec → Bool
@@ -80,20 +99,20 @@ rises (s ∷ l) r = ltb (rank s) (rank r)
 -- ---- a sound log
 
 -- the first of 7, 20, 8 and 9 that holds of a record behind others, or 0; the records before stand last first [F44]
-unfoldable pub recordFault : List Rec → Rec → ℕ
-recordFault pre r =
+unfoldable pub recordFault : List ℕ → List Rec → Rec → ℕ
+recordFault v pre r =
     cond (wellFormed r)
     (cond (rises pre r)
-    (cond (isNext pre r && isWithin pre r)
-    (cond (isClosed pre r) 0 notClosed)  -- 9
+    (cond (isNext v pre r && isWithin v pre r)
+    (cond (isClosed v pre r) 0 notClosed)  -- 9
     notNext)  -- 8
     badFile)  -- 20
     malformed  -- 7
 
 -- well formed and closed, in rising rank, each number next, each seen within the counts before it
-unfoldable pub soundAfter : List Rec → List Rec → Bool
-soundAfter pre [] = true
-soundAfter pre (r ∷ l) = eqb (recordFault pre r) 0 && soundAfter (r ∷ pre) l
+unfoldable pub soundAfter : List ℕ → List Rec → List Rec → Bool
+soundAfter v pre [] = true
+soundAfter v pre (r ∷ l) = eqb (recordFault v pre r) 0 && soundAfter v (r ∷ pre) l
 
 -- the records of up to n places of 80 bytes, up to the first place that is all zero
 unfoldable pub recordsIn : ℕ → List ℕ → List Rec
@@ -106,7 +125,7 @@ recordsOf b = recordsIn 512 b
 
 -- the records are sound and the unused places are zero [F63]
 unfoldable pub soundLog : List ℕ → Bool
-soundLog b = soundAfter [] (recordsOf b) && blank (drop (80 * length (recordsOf b)) b)
+soundLog b = soundAfter noCounts [] (recordsOf b) && blank (drop (80 * length (recordsOf b)) b)
 
 -- the 40,960 bytes of a log
 unfoldable pub logBytes : List Rec → List ℕ

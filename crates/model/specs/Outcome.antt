@@ -12,7 +12,7 @@ use Rattle.model.specs.Lengths.{recordSize, blockSize, logSize, fileSize
 use Rattle.model.specs.Bytes.{two, blank, sameBytes, part, padded}
 use Rattle.model.specs.Vector.{vectorBytes}
 use Rattle.model.specs.Record.{Rec, unit, num, labelOf, wellFormed}
-use Rattle.model.specs.Log.{insert, count, vectorOf, byId, isNext, isWithin, isClosed, recordsOf, soundLog, logBytes}
+use Rattle.model.specs.Log.{insert, count, vectorOf, noCounts, byId, isNext, isWithin, isClosed, recordsOf, soundLog, logBytes}
 use Rattle.model.specs.Replay.{Verdict, fits, aside, judge, replay}
 use Rattle.model.specs.Table.{tableBytes}
 use Rattle.model.specs.Block.{blockOf, blockFault, archiveIn, blockRecords}
@@ -132,8 +132,8 @@ pub data Took : Type 0 where
 -- [F70]
 unfoldable pub takeNew : List Rec → Rec → Took
 takeNew l r =
-    cond (isNext l r && isWithin l r)
-    (cond (isClosed l r)
+    cond (isNext noCounts l r && isWithin noCounts l r)
+    (cond (isClosed noCounts l r)
     (cond (ltb (length l) 512) (taken (insert r l)) (refused fullLog))  -- 11
     (refused notClosed))  -- 9
     (refused notNext)  -- 8

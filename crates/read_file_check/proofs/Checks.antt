@@ -9,7 +9,7 @@ use lib.Dec.{leb, eqb}
 use lib.ListN.{length, take, drop, replicate}
 use borrow.Author.Tests.{eq-eqb, ne-eqb, eqb-true, leb-true, not-true, not-false}
 use Rattle.model.specs.Bytes.{sameBytes, part}
-use Rattle.model.specs.Log.{vectorOf}
+use Rattle.model.specs.Log.{vectorOf, noCounts}
 use Rattle.model.specs.Block.{vectorIn}
 use Rattle.model.specs.File.{fileLength, blockAt, Fault, fault, blocksFault, recordsCounted, fileRecords, recordsFault, countsFault, orElse, fileFault, checkedFault, notRead, readBack, readOf}
 use Rattle.byte_slice.proofs.Numbers.{and-true}
@@ -17,6 +17,7 @@ use Rattle.block_laws.proofs.Faults.{header-right, stored-header}
 use Rattle.file_laws.proofs.Rewritten.{blocks-passed, block-passed}
 use Rattle.read_file_blocks.proofs.Agreement.{blocks-counted}
 use Rattle.encoding_laws.proofs.Reading.{checked-right}
+use Rattle.log_laws.proofs.Tests.{vectorOn-none}
 use Rattle.log_closure.specs.Tables.{tables, Indexed}
 use Rattle.log_check.specs.declared.Layout.the-variants.{File}
 use Rattle.log_check.specs.Places.{laidAt}
@@ -75,6 +76,9 @@ module _ (f : List ℕ) (n : ℕ) (whole : length f ≡ 512 * n) where
       read-left z held places seens e = rw (blocks-counted f n whole, ← eb, z, ← e)
 
     module _ (rn rp : ℕ) (held places seens : List ℕ) (z : bn ≡ 0) (j : Judges f rn rp held places seens) where
+      counted : rn ≡ 0 → held ≡ vectorOf (fileRecords f)
+      counted y = j .holds y .counts ∙ vectorOn-none (fileRecords f)
+
       records-next : fileFault f ≡ orElse (fault rn rp) (countsFault f)
       unfolding orElse fault
       records-next = blocks-first ∙ rw (z, ← j .first)
@@ -86,7 +90,7 @@ module _ (f : List ℕ) (n : ℕ) (whole : length f ≡ 512 * n) where
       module _ {v : List ℕ} {t : Bool} (y : rn ≡ 0) (ev : v ≡ vectorIn (take (512 - 0) (drop 0 f))) (et : t ≡ sameBytes v held) where
         compared : t ≡ sameBytes (vectorIn (blockAt f 0)) (vectorOf (fileRecords f))
         unfolding blockAt part
-        compared = rw (← j .holds y .counts, ← ev) et
+        compared = rw (← counted y, ← ev) et
 
         vector-last : fileFault f ≡ countsFault f
         unfolding orElse fault
@@ -100,8 +104,8 @@ module _ (f : List ℕ) (n : ℕ) (whole : length f ≡ 512 * n) where
         unfolding countsFault
         nothing-refused h = sym (vector-last ∙ rw (← compared, not-false t h))
 
-      pub file-indexed : rn ≡ 0 → Indexed (laidAt File f) (recordsCounted f) (fileRecords f) (vectorOf (fileRecords f)) places seens
-      file-indexed y = rw (← j .holds y .counts) (j .holds y)
+      pub file-indexed : rn ≡ 0 → Indexed noCounts (laidAt File f) (recordsCounted f) (fileRecords f) (vectorOf (fileRecords f)) places seens
+      file-indexed y = rw (← counted y) (j .holds y)
 
 -- ---- the ways out of `checked_fault`
 

@@ -12,7 +12,7 @@ use lib.ListN.{length, take, drop}
 use borrow.Author.Tests.{ne-eqb, lt-ltb}
 use Rattle.model.specs.Bytes.{part}
 use Rattle.model.specs.Record.{Rec}
-use Rattle.model.specs.Log.{recordFault}
+use Rattle.model.specs.Log.{noCounts, recordFault}
 use Rattle.model.specs.Block.{countIn}
 use Rattle.model.specs.File.{blockAt, fault, recordsCounted, fileRecord, fileRecordsFrom, fileRecords, recordsFault}
 use Rattle.byte_slice.proofs.Numbers.{eq-or-ne}
@@ -46,7 +46,7 @@ module _ (at : ℕ → Rec) where
   -- a pass over the first m of n records decides, or leaves it to those behind
   in-order : (m i n : ℕ) → i + m ≤ 512 → m ≤ n
       → recordsFault (before at i) i (listed at i n)
-      ≡ cond (eqb (firstFault at i m .number) 0) (recordsFault (before at (i + m)) (i + m) (listed at (i + m) (n - m))) (fault (firstFault at i m .number) (firstFault at i m .at / 6))
+      ≡ cond (eqb (firstFault noCounts at i m .number) 0) (recordsFault (before at (i + m)) (i + m) (listed at (i + m) (n - m))) (fault (firstFault noCounts at i m .number) (firstFault noCounts at i m .at / 6))
   unfolding firstFault recordsFault listed before
   in-order zero i n h g = rw (add-zero, sub-zero)
   in-order (suc m) i zero h g = absurd (omega arith)
@@ -55,23 +55,26 @@ module _ (at : ℕ → Rec) where
       let q : suc n - suc m ≡ n - m = omega arith in
       let t : ltb i 512 ≡ true = lt-ltb i 512 (omega arith) in
       ⊎-elim
-      (λ (e : recordFault (before at i) (at i) ≡ 0). rw (t, e, p, q) (in-order m (suc i) n (omega arith) (omega arith)))
-      (λ (e : recordFault (before at i) (at i) ≡ 0 → ⊥). rw (t, ne-eqb (recordFault (before at i) (at i)) 0 e, ne-eqb (recordFault (before at i) (at i)) 0 e))
-      (eq-or-ne (recordFault (before at i) (at i)) 0)
+      (λ (e : recordFault noCounts (before at i) (at i) ≡ 0). rw (t, e, p, q) (in-order m (suc i) n (omega arith) (omega arith)))
+      (λ (e : recordFault noCounts (before at i) (at i) ≡ 0 → ⊥). rw (t, ne-eqb (recordFault noCounts (before at i) (at i)) 0 e, ne-eqb (recordFault noCounts (before at i) (at i)) 0 e))
+      (eq-or-ne (recordFault noCounts (before at i) (at i)) 0)
 
   -- a fault stands among the records judged
-  found-below : (n i : ℕ) → firstFault at i n .at ≤ i + n
+  found-below : (n i : ℕ) → firstFault noCounts at i n .at ≤ i + n
   unfolding firstFault
   found-below zero i = omega arith
   found-below (suc n) i =
       ⊎-elim
-      (λ (e : recordFault (before at i) (at i) ≡ 0). rw e (omega (arith, found-below n (suc i))))
-      (λ (e : recordFault (before at i) (at i) ≡ 0 → ⊥). rw (ne-eqb (recordFault (before at i) (at i)) 0 e) (omega arith))
-      (eq-or-ne (recordFault (before at i) (at i)) 0)
+      (λ (e : recordFault noCounts (before at i) (at i) ≡ 0). rw e (omega (arith, found-below n (suc i))))
+      (λ (e : recordFault noCounts (before at i) (at i) ≡ 0 → ⊥). rw (ne-eqb (recordFault noCounts (before at i) (at i)) 0 e) (omega arith))
+      (eq-or-ne (recordFault noCounts (before at i) (at i)) 0)
 
 -- ---- what `records_fault` is asked, over plain values
 
-module _ (f : List ℕ) (total m number place : ℕ) (held places seens : List ℕ) (g : ScanGives (laidAt File f) m number place held places seens) (em : m ≡ min total 512) where
+module _ (f : List ℕ) (total m number place : ℕ) (held places seens base : List ℕ) (y : base ≡ noCounts) (g₀ : ScanGives base (laidAt File f) m number place held places seens) (em : m ≡ min total 512) where
+  g : ScanGives noCounts (laidAt File f) m number place held places seens
+  g = rw y at g₀
+
   pub small-place : place / 6 < 256
   small-place = omega (arith, ap (λ (x : Found). x .at) (g .first), found-below (laidAt File f) m 0)
 
@@ -101,9 +104,9 @@ module _ (f : List ℕ) (total m number place : ℕ) (held places seens : List �
 
 -- ---- what it leaves
 
-pub records-left : (f : List ℕ) (total m number place : ℕ) (held places seens places₀ seens₀ : List ℕ)
-    → scanned number place held places seens ≡ scanOf (laidAt File f) m places₀ seens₀ → m ≡ min total 512 → total ≡ recordsCounted f → left held places seens ≡ recordsLeft f places₀ seens₀
+pub records-left : (f : List ℕ) (total m number place : ℕ) (held places seens places₀ seens₀ base : List ℕ) → base ≡ noCounts
+    → scanned number place held places seens ≡ scanOf base (laidAt File f) m places₀ seens₀ → m ≡ min total 512 → total ≡ recordsCounted f → left held places seens ≡ recordsLeft f places₀ seens₀
 unfolding recordsLeft
-records-left f total m number place held places seens places₀ seens₀ o em et =
-    let e : scanned number place held places seens ≡ scanOf (laidAt File f) (min (recordsCounted f) 512) places₀ seens₀ = rw (em, et) at o in
+records-left f total m number place held places seens places₀ seens₀ base y o em et =
+    let e : scanned number place held places seens ≡ scanOf noCounts (laidAt File f) (min (recordsCounted f) 512) places₀ seens₀ = rw (em, et, y) at o in
     ap (λ (x : Scan). left (x .held) (x .places) (x .seens)) e

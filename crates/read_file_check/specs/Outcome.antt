@@ -6,6 +6,7 @@ use mathlib.Core.Bool.{cond}
 use mathlib.Core.List.{List, []}
 use lib.Dec.{eqb}
 use Rattle.model.specs.Lengths.{logPlaces}
+use Rattle.model.specs.Log.{noCounts}
 use Rattle.model.specs.File.{fault, blocksIn, blocksFault, recordsCounted, fileRecords, recordsFault, ReadBack}
 use Rattle.log_closure.specs.Tables.{Tables, tables, Indexed}
 use Rattle.log_check.specs.declared.Layout.the-variants.{File}
@@ -15,7 +16,7 @@ use Rattle.log_check.specs.InOrder.{Scan, scanOf}
 -- the first fault of a file's records, or tables that have them all
 pub record Judges (f : List ℕ) (number place : ℕ) (held places seens : List ℕ) : Type 0 where
   pub first : fault number place ≡ recordsFault [] 0 (fileRecords f)
-  pub holds : number ≡ 0 → Indexed (laidAt File f) (recordsCounted f) (fileRecords f) held places seens
+  pub holds : number ≡ 0 → Indexed noCounts (laidAt File f) (recordsCounted f) (fileRecords f) held places seens
 
 -- the counts and the tables that a pass leaves
 pub record Left : Type 0 where
@@ -29,7 +30,7 @@ left held places seens = record { held = held; places = places; seens = seens }
 -- the pass over the first 512 records of a file
 unfoldable pub recordsLeft : List ℕ → List ℕ → List ℕ → Left
 recordsLeft f places seens =
-    let s : Scan = scanOf (laidAt File f) (min (recordsCounted f) logPlaces) places seens in
+    let s : Scan = scanOf noCounts (laidAt File f) (min (recordsCounted f) logPlaces) places seens in
     left (s .held) (s .places) (s .seens)
 
 -- the tables that checking a file leaves: no record is judged if a block has a fault

@@ -3,7 +3,7 @@ ghost use mathlib.Core.Path.{_≡_};
 ghost use Prim.Native.Nat.{_*_, _<_, _≤_, min};
 ghost use lib.ListN.{length};
 ghost use Rattle.model.specs.Lengths.{logPlaces};
-ghost use Rattle.model.specs.Log.{vectorOf};
+ghost use Rattle.model.specs.Log.{vectorOf, noCounts};
 ghost use Rattle.model.specs.File.{fault, recordsCounted, fileRecords, fileFault, checkedFault};
 ghost use Rattle.log_closure.specs.Tables.{placesSize, seensSize, tables, Indexed};
 ghost use Rattle.log_check.specs.declared.Layout.the-variants.{File};
@@ -58,12 +58,14 @@ fn records_fault(file: &[u8], n: usize, places: &mut [u16], seens: &mut [u16]) -
 {
     let total = records_counted(file, n);
     let m = at_most_512(total);
-    let s = scan(file, Layout::File, m, places, seens);
+    let base = vector::zero_vector();
+    let s = scan(base, file, Layout::File, m, places, seens);
     let held = s.held;
     if s.number != 0 {
+        let place = (s.at / 6) as u8;
         return Judged {
             number: s.number,
-            place: (s.at / 6) as u8,
+            place,
             held,
         };
     }
@@ -87,7 +89,7 @@ pub fn file_fault_into(file: &[u8], n: usize, places: &mut [u16], seens: &mut [u
     requires { ⌜ (length (now file) ≡ 512 * n) × (1 ≤ n) × (n ≤ 86) × (length (now places) ≡ placesSize) × (length (now seens) ≡ seensSize) ⌝ }
     ensures outright { λ r. ⌜ fault (r .number) (r .place) ≡ fileFault (now (file .entry)) ⌝ }
     ensures leaves { λ r. ⌜ tables (now (places .exit)) (now (seens .exit)) ≡ fileTables (now (file .entry)) (now (places .entry)) (now (seens .entry)) ⌝ }
-    ensures holds { λ r. ⌜ (r .number ≡ 0 → Indexed (laidAt File (now (file .entry))) (recordsCounted (now (file .entry))) (fileRecords (now (file .entry))) (vectorOf (fileRecords (now (file .entry)))) (now (places .exit)) (now (seens .exit))) ⌝ }
+    ensures holds { λ r. ⌜ (r .number ≡ 0 → Indexed noCounts (laidAt File (now (file .entry))) (recordsCounted (now (file .entry))) (fileRecords (now (file .entry))) (vectorOf (fileRecords (now (file .entry)))) (now (places .exit)) (now (seens .exit))) ⌝ }
 {
     let b = blocks_fault(file, n);
     if b.number != 0 {

@@ -11,7 +11,7 @@ use borrow.Author.Tests.{lt-ltb, le-ltb}
 use Rattle.model.specs.Vector.{blocksFor}
 use Rattle.model.specs.Bytes.{part, padded}
 use Rattle.model.specs.Record.{Rec, unit, num}
-use Rattle.model.specs.Log.{count}
+use Rattle.model.specs.Log.{count, noCounts}
 use Rattle.model.specs.File.{headerOf, blockAt}
 use Rattle.model.specs.Outcome.{lacking, handBlock}
 use Rattle.byte_slice.proofs.Numbers.{lt-or-ge, eq-or-ne}
@@ -20,7 +20,7 @@ use Rattle.block_laws.proofs.Fields.{Sized, length-block}
 use Rattle.log_laws.specs.Members.{Has}
 use Rattle.log_laws.specs.Sound.{SoundAfter, Sound}
 use Rattle.log_laws.proofs.Formed.{well-unit}
-use Rattle.log_laws.proofs.Counts.{count-own, numbers, unit-of}
+use Rattle.log_laws.proofs.Counts.{count-own, no-counts, numbers, unit-of}
 use Rattle.log_laws.proofs.Lacking.{lacking-cons, lacking-nil, lacking-beyond, has-lacking}
 use Rattle.encoding_laws.proofs.Files.{sized-take, sized-drop, six}
 use Rattle.row_model.specs.Row.{rowBlock, rowTo, rowOf}
@@ -47,14 +47,14 @@ module _ (v : List ℕ) (r : Rec) (u : unit r < length v) where
   other s d = getD-set-other v (unit r) (unit s) (num r) 0 d
 
   -- behind r the records of its unit have higher numbers
-  behind : (pre l : List Rec) → getD v (unit r) 0 < num r → SoundAfter pre (r ∷ l) → lacking (set v (unit r) (num r)) l ≡ lacking v l
+  behind : (pre l : List Rec) → getD v (unit r) 0 < num r → SoundAfter noCounts pre (r ∷ l) → lacking (set v (unit r) (num r)) l ≡ lacking v l
   behind pre l g h =
       sym (lacking-alike v (set v (unit r) (num r)) l
       (λ s i.
       ⊎-elim
       (λ (e : unit s ≡ unit r).
       let n : count (unit s) (r ∷ pre) < num s = numbers (r ∷ pre) l s (h .1) i .0 in
-      let m : num r < num s = omega (arith, (rw e at n), count-own r pre, h .0 .next) in
+      let m : num r < num s = omega (arith, (rw e at n), count-own r pre, h .0 .next, no-counts (unit r)) in
       inl (rw e (omega (arith, g)), rw (e, own) m))
       (λ (d : unit s ≡ unit r → ⊥).
       ⊎-elim
@@ -78,7 +78,7 @@ cons-same : {x y : Rec} {a b : List Rec} → x ∷ a ≡ y ∷ b → (x ≡ y) �
 cons-same {x} {y} {a} {b} e = ((let p : x ≡ y = cc in p), (let q : a ≡ b = cc in q))
 
 -- the first record that a vector lacks, counted as held: the others are lacked still
-raise-one : (v : List ℕ) (pre l : List Rec) (r : Rec) (w : List Rec) → unit r < length v → SoundAfter pre l → lacking v l ≡ r ∷ w → lacking (set v (unit r) (num r)) l ≡ w
+raise-one : (v : List ℕ) (pre l : List Rec) (r : Rec) (w : List Rec) → unit r < length v → SoundAfter noCounts pre l → lacking v l ≡ r ∷ w → lacking (set v (unit r) (num r)) l ≡ w
 raise-one v pre [] r w u h e = absurd (let z : _≡_ {A = ℕ} 0 1 = cc (lacking-nil v) in omega arith)
 raise-one v pre (x ∷ l) r w u h e =
     ⊎-elim
@@ -94,7 +94,7 @@ raise-one v pre (x ∷ l) r w u h e =
     first : x ≡ r → lacking v l ≡ w → getD v (unit x) 0 < num x → lacking (set v (unit r) (num r)) (x ∷ l) ≡ w
     first p q g =
         let g′ : getD v (unit r) 0 < num r = subst (λ (y : Rec). getD v (unit y) 0 < num y) p g in
-        let h′ : SoundAfter pre (r ∷ l) = subst (λ (y : Rec). SoundAfter pre (y ∷ l)) p h in
+        let h′ : SoundAfter noCounts pre (r ∷ l) = subst (λ (y : Rec). SoundAfter noCounts pre (y ∷ l)) p h in
         ap (λ (y : Rec). lacking (set v (unit r) (num r)) (y ∷ l)) p ∙ not-lacked (set v (unit r) (num r)) r l (rw (own v r u) (omega arith)) ∙ behind v r u pre l g′ h′ ∙ q
 
 -- ---- the vector raised by the first k records that it lacks

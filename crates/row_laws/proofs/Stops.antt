@@ -12,7 +12,7 @@ use lib.ListN.{length, take}
 use borrow.Author.Tests.{eq-eqb, ne-eqb}
 use Rattle.model.specs.Bytes.{sameBytes}
 use Rattle.model.specs.Record.{Rec, unit, num, wellFormed}
-use Rattle.model.specs.Log.{insert, byId, isNext, isWithin, isClosed, recordsOf}
+use Rattle.model.specs.Log.{noCounts, insert, byId, isNext, isWithin, isClosed, recordsOf}
 use Rattle.model.specs.Block.{letters, sumsHold, headerHolds, archiveIn, blockFault, blockRecords}
 use Rattle.model.specs.File.{blocksIn, blockAt}
 use Rattle.model.specs.Outcome.{Outcome, Took, refused, taken, takeNew, takeHeld, takeOne, takeAll, givenFault, tookAll, tookBlock, takeOf}
@@ -43,8 +43,8 @@ module _ where
   fair-new : (l : List Rec) (r : Rec) → Fair (takeNew l r)
   unfolding takeNew Fair
   fair-new l r =
-      fair-cond (isNext l r && isWithin l r) (cond (isClosed l r) (cond (ltb (length l) 512) (taken (insert r l)) (refused 11)) (refused 9)) (refused 8)
-      (fair-cond (isClosed l r) (cond (ltb (length l) 512) (taken (insert r l)) (refused 11)) (refused 9)
+      fair-cond (isNext noCounts l r && isWithin noCounts l r) (cond (isClosed noCounts l r) (cond (ltb (length l) 512) (taken (insert r l)) (refused 11)) (refused 9)) (refused 8)
+      (fair-cond (isClosed noCounts l r) (cond (ltb (length l) 512) (taken (insert r l)) (refused 11)) (refused 9)
       (fair-cond (ltb (length l) 512) (taken (insert r l)) (refused 11) tt (omega arith, omega arith))
       (omega arith, omega arith))
       (omega arith, omega arith)

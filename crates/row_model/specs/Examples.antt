@@ -8,7 +8,7 @@ use lib.Dec.{eqb}
 use lib.ListN.{length, take, drop, replicate}
 use Rattle.model.specs.Bytes.{word, blank, sameBytes, joined}
 use Rattle.model.specs.Record.{Rec, root}
-use Rattle.model.specs.Log.{soundAfter, logBytes}
+use Rattle.model.specs.Log.{noCounts, soundAfter, logBytes}
 use Rattle.model.specs.Replay.{Entry, replay}
 use Rattle.model.specs.Block.{archiveIn, senderIn, placeIn, vectorIn, blockRecords}
 use Rattle.model.specs.File.{blockAt}
@@ -99,8 +99,8 @@ right (turnsAway u log row n) =
 right (lendsTrial c t p n) =
     eqb (tryOf 7 8 (replicate 40960 0) [] (replicate c 9) (replicate t 9) (replicate p 9) .number) n
 right (reports l k n m b a) = isReport (reported (joined l) (tried k n (joined m))) m b a
-right (disputes l rs ks) = soundAfter [] l && disputesTaken l (takeAll l rs) ks
-right (cuts u l v w rs) = soundAfter [] l && isRow u w (rowOf 7 u l v) rs (512 * length rs)
+right (disputes l rs ks) = soundAfter noCounts [] l && disputesTaken l (takeAll l rs) ks
+right (cuts u l v w rs) = soundAfter noCounts [] l && isRow u w (rowOf 7 u l v) rs (512 * length rs)
 right (handsOut u l v w rs) = isHanded (handRowOf 7 u (logBytes l) v (replicate 44032 9)) u w rs
 right (handsNone u log n e) = isRefused (handRowOf 7 u log [] (replicate n 9)) e (replicate n 9)
 

@@ -4,7 +4,7 @@ ghost use mathlib.Core.Bool.{true};
 ghost use mathlib.Core.List.{[]};
 ghost use lib.ListN.{length};
 ghost use Rattle.model.specs.Lengths.{logSize};
-ghost use Rattle.model.specs.Log.{recordsOf, soundLog};
+ghost use Rattle.model.specs.Log.{noCounts, recordsOf, soundLog};
 ghost use Rattle.model.specs.Outcome.{outcome, givenFault, tookBlock, takeOf};
 ghost use Rattle.log_closure.specs.Tables.{placesSize, seensSize, Indexed};
 ghost use Rattle.log_check.specs.declared.Layout.the-variants.{Log};
@@ -25,16 +25,17 @@ pub fn take_block(
     places: &mut [u16],
     seens: &mut [u16],
 ) -> u8
-    requires { ⌜ (length (now log) ≡ logSize) × (soundLog (now log) ≡ true) × (used ≡ length (recordsOf (now log))) × (length (now places) ≡ placesSize) × (length (now seens) ≡ seensSize) × Indexed (laidAt Log (now log)) used (recordsOf (now log)) (held .counts) (now places) (now seens) ⌝ }
+    requires { ⌜ (length (now log) ≡ logSize) × (soundLog (now log) ≡ true) × (used ≡ length (recordsOf (now log))) × (length (now places) ≡ placesSize) × (length (now seens) ≡ seensSize) × Indexed noCounts (laidAt Log (now log)) used (recordsOf (now log)) (held .counts) (now places) (now seens) ⌝ }
     ensures took { λ r. ⌜ outcome r 0 (now (log .exit)) [] 0 ≡ tookBlock (now (log .entry)) (now (b .entry)) (givenFault archive (now (b .entry))) ⌝ }
-    ensures tables { λ r. ⌜ judgement r (now (places .exit)) (now (seens .exit)) ≡ judgeGiven (givenFault archive (now (b .entry))) (now (log .entry)) (now (b .entry)) (held .counts) used (now (places .entry)) (now (seens .entry)) ⌝ }
+    ensures tables { λ r. ⌜ judgement r (now (places .exit)) (now (seens .exit)) ≡ judgeGiven noCounts (givenFault archive (now (b .entry))) (now (log .entry)) (now (b .entry)) (held .counts) used (now (places .entry)) (now (seens .entry)) ⌝ }
 {
     let f = take_beside::given_fault(archive, b);
     if f != 0 {
         return f;
     }
     let n = block_read::count_in(b) as usize;
-    let k = take_judge::judge_block(b, n, log, held, used, places, seens);
+    let base = vector::zero_vector();
+    let k = take_judge::judge_block(base, b, n, log, held, used, places, seens);
     if k != 0 {
         return k;
     }

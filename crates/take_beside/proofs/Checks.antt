@@ -13,7 +13,7 @@ use Rattle.model.specs.Record.{Rec, unit, num, seenVector, wellFormed}
 use Rattle.model.specs.Block.{archiveIn, blockFault, recordAt}
 use Rattle.model.specs.Outcome.{givenFault}
 use Rattle.byte_slice.proofs.Parts.{part-is}
-use Rattle.log_laws.proofs.Formed.{well-unit, well-own}
+use Rattle.log_laws.proofs.Formed.{well-unit}
 use Rattle.log_closure.specs.Tables.{slotOf, positionOf, joinFault, Placed}
 use Rattle.log_admit.proofs.Faults.{formed, join-next}
 use Rattle.log_check.specs.Places.{offsetOf, laidAt}
@@ -53,24 +53,24 @@ module _ (log b rec : List ℕ) (p : ℕ) (t : Bool) where
 
 -- ---- a new record
 
-module _ (r : Rec) (held : List ℕ) (used : ℕ) (places seens : List ℕ) (n : ℕ) (e : n ≡ joinFault held places seens r) where
-  pub new-barred : (n ≡ 0 → ⊥) → n ≡ newBy held used places seens r
+module _ (r : Rec) (base held : List ℕ) (used : ℕ) (places seens : List ℕ) (n : ℕ) (e : n ≡ joinFault base held places seens r) where
+  pub new-barred : (n ≡ 0 → ⊥) → n ≡ newBy base held used places seens r
   unfolding newBy
   new-barred h = rw (← e, ne-eqb n 0 h)
 
   module _ (z : n ≡ 0) where
-    pub new-full : 512 ≤ used → 11 ≡ newBy held used places seens r
+    pub new-full : 512 ≤ used → 11 ≡ newBy base held used places seens r
     unfolding newBy
     new-full k = rw (← e, eq-eqb n 0 z, le-ltb used 512 k)
 
-    pub new-none : used < 512 → 0 ≡ newBy held used places seens r
+    pub new-none : used < 512 → 0 ≡ newBy base held used places seens r
     unfolding newBy
     new-none k = rw (← e, eq-eqb n 0 z, lt-ltb used 512 k)
 
 -- ---- a new record is refused or held
 
-module _ (r : Rec) (held : List ℕ) (used : ℕ) (places seens : List ℕ) (n : ℕ) (e : n ≡ newBy held used places seens r) where
-  pub new-refuses : (p : ℕ) → (n ≡ 0 → ⊥) → step n held used places seens ≡ newStep r p held used places seens
+module _ (r : Rec) (base held : List ℕ) (used : ℕ) (places seens : List ℕ) (n : ℕ) (e : n ≡ newBy base held used places seens r) where
+  pub new-refuses : (p : ℕ) → (n ≡ 0 → ⊥) → step n held used places seens ≡ newStep base r p held used places seens
   unfolding newStep
   new-refuses p h = rw (← e, ne-eqb n 0 h)
 
@@ -78,33 +78,42 @@ module _ (r : Rec) (held : List ℕ) (used : ℕ) (places seens : List ℕ) (n :
     -- it is its unit's next, and there is room
     pub new-free : (num r ≡ suc (getD held (unit r) 0)) × (used < 512)
     unfolding newBy
-    new-free = go (eqb (joinFault held places seens r) 0) (ltb used 512) refl refl (sym e ∙ z)
+    new-free = go (eqb (joinFault base held places seens r) 0) (ltb used 512) refl refl (sym e ∙ z)
       where
-        go : (a b : Bool) → eqb (joinFault held places seens r) 0 ≡ a → ltb used 512 ≡ b → _≡_ {A = ℕ} (cond a (cond b 0 11) (joinFault held places seens r)) 0 → (num r ≡ suc (getD held (unit r) 0)) × (used < 512)
-        go true true p q x = (join-next r held places seens (eqb-true (joinFault held places seens r) 0 p), ltb-true used 512 q)
+        go : (a b : Bool) → eqb (joinFault base held places seens r) 0 ≡ a → ltb used 512 ≡ b → _≡_ {A = ℕ} (cond a (cond b 0 11) (joinFault base held places seens r)) 0 → (num r ≡ suc (getD held (unit r) 0)) × (used < 512)
+        go true true p q x = (join-next r base held places seens (eqb-true (joinFault base held places seens r) 0 p), ltb-true used 512 q)
         go true false p q x = absurd (omega arith)
-        go false b p q x = absurd (eqb-false (joinFault held places seens r) 0 p x)
+        go false b p q x = absurd (eqb-false (joinFault base held places seens r) 0 p x)
 
-    module _ (c : ℕ) (b : c ≡ num r) where
-      pub new-least : 1 ≤ c
-      new-least = omega (arith, new-free .0)
+    module _ (w : wellFormed r ≡ true) (g : Counted base held used) (u c : ℕ) (a : u ≡ unit r) (b : c ≡ num r) where
+      new-unit : u < 8
+      new-unit = rw a (well-unit r w)
 
-      pub new-most : wellFormed r ≡ true → Counted held used → c ≤ 512
-      new-most w k = omega (arith, new-free .0, new-free .1, k .within (unit r) (well-unit r w))
+      new-held : c ≡ suc (getD held u 0)
+      new-held = b ∙ rw a (new-free .0)
 
-    pub new-spare : wellFormed r ≡ true → Counted held used → (u : ℕ) → u ≡ unit r → getD held u 0 < 65535
-    new-spare w k u a = omega (arith, new-free .1, k .within u (rw a (well-unit r w)))
+      pub new-above : getD held u 0 < c
+      new-above = omega (arith, new-held)
 
-    pub new-notes : (p u c : ℕ) (s held′ places′ seens′ : List ℕ) → u ≡ unit r → c ≡ num r → s ≡ seenVector r
-        → held′ ≡ set held u (getD held u 0 + 1) → places′ ≡ set places (slotOf u c) p → seens′ ≡ putAt seens (8 * p) s
-        → step 0 held′ (used + 1) places′ seens′ ≡ newStep r p held used places seens
+      pub new-behind : getD base u 0 ≤ c
+      new-behind = omega (arith, new-held, g .behind u new-unit)
+
+      pub new-least : 1 ≤ c - getD base u 0
+      new-least = omega (arith, new-held, g .behind u new-unit)
+
+      pub new-most : c - getD base u 0 ≤ 512
+      new-most = omega (arith, new-held, new-free .1, g .within u new-unit)
+
+    pub new-notes : (p u c d : ℕ) (s held′ places′ seens′ : List ℕ) → u ≡ unit r → c ≡ num r → d ≡ c - getD base u 0 → s ≡ seenVector r
+        → held′ ≡ set held u (getD held u 0 + 1) → places′ ≡ set places (slotOf u d) p → seens′ ≡ putAt seens (8 * p) s
+        → step 0 held′ (used + 1) places′ seens′ ≡ newStep base r p held used places seens
     unfolding newStep
-    new-notes p u c s held′ places′ seens′ a b f g h i = rw (← e, z, g, h, i, a, b, f)
+    new-notes p u c d s held′ places′ seens′ a b o f g h i = rw (← e, z, g, h, i, o, a, b, f)
 
 -- ---- a record of a block
 
-module _ (at : ℕ → Rec) (r : Rec) (p : ℕ) (held : List ℕ) (used : ℕ) (places seens : List ℕ) (w : Bool) (e : w ≡ wellFormed r) where
-  pub take-malformed : not w ≡ true → step 7 held used places seens ≡ takeBy at r p held used places seens
+module _ (base : List ℕ) (at : ℕ → Rec) (r : Rec) (p : ℕ) (held : List ℕ) (used : ℕ) (places seens : List ℕ) (w : Bool) (e : w ≡ wellFormed r) where
+  pub take-malformed : not w ≡ true → step 7 held used places seens ≡ takeBy base at r p held used places seens
   unfolding takeBy
   take-malformed g = rw (← e, not-true w g)
 
@@ -112,28 +121,42 @@ module _ (at : ℕ → Rec) (r : Rec) (p : ℕ) (held : List ℕ) (used : ℕ) (
     pub unit-judged : u < 8
     unit-judged = rw a (well-unit r (formed r w e g))
 
-    pub take-unheld : getD held u 0 < c → (o : Step) → o ≡ newStep r p held used places seens → o ≡ takeBy at r p held used places seens
+    pub take-unheld : getD held u 0 < c → (o : Step) → o ≡ newStep base r p held used places seens → o ≡ takeBy base at r p held used places seens
     unfolding takeBy
     take-unheld h o f = f ∙ rw (← e, not-false w g, ← a, ← b, lt-leb c (getD held u 0) h)
 
-    module _ (h : c ≤ getD held u 0) where
-      pub held-least : 1 ≤ c
-      held-least = omega (arith, well-own r (formed r w e g))
+    pub take-known : c ≤ getD held u 0 → (n : ℕ) → n ≡ heldBy base at places r → step n held used places seens ≡ takeBy base at r p held used places seens
+    unfolding takeBy
+    take-known h n f = rw (f, ← e, not-false w g, ← a, ← b, le-leb c (getD held u 0) h)
 
-      pub held-most : Placed held places → c ≤ 512
-      held-most k = omega (arith, k .few u unit-judged)
+    pub known-within : c ≤ getD held u 0 → num r ≤ getD held (unit r) 0
+    known-within h = rw (← a, ← b) h
 
-      module _ (q : ℕ) (i : q ≡ positionOf places u c) where
-        pub held-inside : Placed held places → q < 518
-        held-inside k = rw i (k .inside u c unit-judged held-least h)
+-- ---- a record whose identity is held, or comes before
 
-        module _ (t : Bool) (f : t ≡ sameBytes (at q) r) where
-          held-number : takeBy at r p held used places seens ≡ step (cond t 0 10) held used places seens
-          unfolding takeBy heldBy
-          held-number = rw (← e, not-false w g, ← a, ← b, le-leb c (getD held u 0) h, ← i, ← f)
+module _ (base : List ℕ) (at : ℕ → Rec) (r : Rec) (places : List ℕ) (u c : ℕ) (a : u ≡ unit r) (b : c ≡ num r) where
+  pub held-before : c ≤ getD base u 0 → 0 ≡ heldBy base at places r
+  unfolding heldBy
+  held-before k = rw (← a, ← b, le-leb c (getD base u 0) k)
 
-          pub take-held : t ≡ true → step 0 held used places seens ≡ takeBy at r p held used places seens
-          take-held z = sym (rw z at held-number)
+  module _ (l : getD base u 0 < c) (q d : ℕ) (i : q ≡ positionOf places u d) (j : d ≡ c - getD base u 0) (t : Bool) (f : t ≡ sameBytes (at q) r) where
+    pub held-differs : not t ≡ true → 10 ≡ heldBy base at places r
+    unfolding heldBy
+    held-differs z = rw (← a, ← b, lt-leb c (getD base u 0) l, ← j, ← i, ← f, not-true t z)
 
-          pub take-differs : t ≡ false → step 10 held used places seens ≡ takeBy at r p held used places seens
-          take-differs z = sym (rw z at held-number)
+    pub held-same : not t ≡ false → 0 ≡ heldBy base at places r
+    unfolding heldBy
+    held-same z = rw (← a, ← b, lt-leb c (getD base u 0) l, ← j, ← i, ← f, not-false t z)
+
+module _ (base held places : List ℕ) (r : Rec) (w : wellFormed r ≡ true) (k : Placed base held places) (h : num r ≤ getD held (unit r) 0) (u c : ℕ) (a : u ≡ unit r) (b : c ≡ num r) where
+  pub held-unit : u < 8
+  held-unit = rw a (well-unit r w)
+
+  within : c ≤ getD held u 0
+  within = rw (a, b) h
+
+  pub held-most : c - getD base u 0 ≤ 512
+  held-most = omega (arith, within, k .few u held-unit)
+
+  pub held-inside : getD base u 0 < c → (q d : ℕ) → q ≡ positionOf places u d → d ≡ c - getD base u 0 → q < 518
+  held-inside l q d i j = rw (i, j) (k .inside u (c - getD base u 0) held-unit (omega arith) (omega (arith, within)))

@@ -1,4 +1,4 @@
-// A block given, and a record of it that is new, judged beside those held.
+// A block given, and a record of it that is new, judged beside those held behind a base vector.
 ghost use mathlib.Core.Path.{_≡_};
 ghost use mathlib.Core.Bool.{true};
 ghost use Prim.Native.Nat.{_+_, _≤_, _<_};
@@ -52,6 +52,7 @@ pub fn same_held(rec: &[u8], p: usize, log: &[u8], b: &[u8]) -> bool
 
 // The first of 8, 9 and 11 that holds of a well-formed record whose identity is not held, or 0.
 pub fn new_fault(
+    base: Vector,
     rec: &[u8],
     s: Vector,
     held: Vector,
@@ -59,10 +60,10 @@ pub fn new_fault(
     places: &[u16],
     seens: &[u16],
 ) -> u8
-    requires { ⌜ (length (now rec) ≡ recordSize) × (wellFormed (now rec) ≡ true) × (s .counts ≡ seenVector (now rec)) × (length (now places) ≡ placesSize) × (length (now seens) ≡ seensSize) × Placed (held .counts) (now places) ⌝ }
-    ensures { λ r. ⌜ r ≡ newBy (held .counts) used (now (places .entry)) (now (seens .entry)) (now (rec .entry)) ⌝ }
+    requires { ⌜ (length (now rec) ≡ recordSize) × (wellFormed (now rec) ≡ true) × (s .counts ≡ seenVector (now rec)) × (length (now places) ≡ placesSize) × (length (now seens) ≡ seensSize) × Placed (base .counts) (held .counts) (now places) ⌝ }
+    ensures { λ r. ⌜ r ≡ newBy (base .counts) (held .counts) used (now (places .entry)) (now (seens .entry)) (now (rec .entry)) ⌝ }
 {
-    let f = log_admit::join_fault(rec, s, held, places, seens);
+    let f = log_admit::join_fault(base, rec, s, held, places, seens);
     if f != 0 {
         return f;
     }
@@ -74,6 +75,7 @@ pub fn new_fault(
 
 // A well-formed record whose identity is not held is refused, or held at the position p.
 pub fn take_new(
+    base: Vector,
     rec: &[u8],
     p: usize,
     held: Vector,
@@ -81,17 +83,19 @@ pub fn take_new(
     places: &mut [u16],
     seens: &mut [u16],
 ) -> Judged
-    requires { ⌜ (length (now rec) ≡ recordSize) × (wellFormed (now rec) ≡ true) × (p < 518) × (used ≤ logPlaces) × (length (now places) ≡ placesSize) × (length (now seens) ≡ seensSize) × Placed (held .counts) (now places) × Counted (held .counts) used ⌝ }
-    ensures { λ r. ⌜ step (r .number) (r .held .counts) (r .used) (now (places .exit)) (now (seens .exit)) ≡ newStep (now (rec .entry)) p (held .counts) used (now (places .entry)) (now (seens .entry)) ⌝ }
+    requires { ⌜ (length (now rec) ≡ recordSize) × (wellFormed (now rec) ≡ true) × (p < 518) × (used ≤ logPlaces) × (length (now places) ≡ placesSize) × (length (now seens) ≡ seensSize) × Placed (base .counts) (held .counts) (now places) × Counted (base .counts) (held .counts) used ⌝ }
+    ensures { λ r. ⌜ step (r .number) (r .held .counts) (r .used) (now (places .exit)) (now (seens .exit)) ≡ newStep (base .counts) (now (rec .entry)) p (held .counts) used (now (places .entry)) (now (seens .entry)) ⌝ }
 {
     let s = record::seen_vector(rec);
-    let number = new_fault(rec, s, held, used, places, seens);
+    let number = new_fault(base, rec, s, held, used, places, seens);
     if number != 0 {
         return Judged { number, held, used };
     }
     let u = record::unit_of(rec) as usize;
-    log_admit::note(u, record::number_of(rec), p, s, places, seens);
-    let more = vector::bump(held, u);
+    let n = record::number_of(rec);
+    let f = base.counts[u];
+    let more = log_admit::counted(held, u, n);
+    log_admit::note(u, n - f, p, s, places, seens);
     Judged {
         number: 0,
         held: more,

@@ -1,26 +1,26 @@
 -- What judging a record by the tables says of taking it into the list of the records held.
 -- Assumes nothing.
-use Prim.Native.Nat.{ℕ, zero, suc, _≤_, _<_}
+use Prim.Native.Nat.{ℕ, zero, suc, _+_, _-_, _≤_, _<_}
 use native.Mathlib.Omega.{arith}
 use mathlib.Core.Path.{_≡_, refl, sym, ap, _∙_, subst}
 use mathlib.Core.Logic.{_⊎_, inl, inr, ⊎-elim}
 use mathlib.Core.Bool.{Bool, true, false, cond, _&&_}
-use mathlib.Core.Option.{none}
+use mathlib.Core.Option.{none, some}
 use mathlib.Core.List.{List, [], _∷_, _++_}
 use lib.Dec.{ltb, eqb}
 use lib.ListN.{getD, length}
 use borrow.Author.Tests.{lt-ltb, le-ltb, le-leb, lt-leb, ne-eqb}
 use Rattle.model.specs.Bytes.{sameBytes}
 use Rattle.model.specs.Record.{Rec, unit, num, wellFormed}
-use Rattle.model.specs.Log.{rank, insert, count, byId, isNext, isWithin, isClosed}
-use Rattle.model.specs.Outcome.{Took, refused, taken, takeNew, takeHeld, takeOne}
+use Rattle.model.specs.Log.{rank, insert, countOn, byId, isNext, isWithin, isClosed}
+use Rattle.model.specs.Outcome.{Took, refused, taken}
 use Rattle.byte_slice.proofs.Numbers.{lt-or-ge, eq-or-ne, bool-cases}
-use Rattle.log_laws.proofs.Formed.{well-unit, well-own}
+use Rattle.log_laws.proofs.Formed.{well-unit}
 use Rattle.log_laws.proofs.Insert.{length-insert}
 use Rattle.log_closure.specs.Tables.{positionOf, Indexed}
 use Rattle.log_admit.proofs.Counts.{Alike, alike-inside, count-few}
 use Rattle.log_admit.proofs.Tables.{held-at, join-is, indexed-note, indexed-alike, indexed-where}
-use Rattle.take_beside.specs.Judging.{Counted, Step, step, heldBy, newBy, newStep, takeBy, after}
+use Rattle.take_beside.specs.Judging.{Counted, Step, step, heldBy, newBy, newStep, takeBy, takeNewOn, takeHeldOn, takeOneOn, afterOn}
 use Rattle.take_beside.proofs.Checks.{new-free}
 
 -- ---- insertion puts the record somewhere
@@ -46,24 +46,28 @@ alike-insert r l e =
 
 -- ---- the list afterwards
 
-pub after-taken : (l : List Rec) (r : Rec) (m : List Rec) → takeOne l r ≡ taken m → after l r ≡ m
-unfolding after
-after-taken l r m e = rw (e, after)
+pub after-taken : (base : List ℕ) (l : List Rec) (r : Rec) (m : List Rec) → takeOneOn base l r ≡ taken m → afterOn base l r ≡ m
+unfolding afterOn
+after-taken base l r m e = rw (e, afterOn)
 
 -- 0 takes, another number refuses
 tookNew : ℕ → List Rec → Took
 tookNew zero l = taken l
 tookNew (suc n) l = refused (suc n)
 
-module _ (at : ℕ → Rec) (top : ℕ) (m : List Rec) (held places seens : List ℕ) (h : Indexed at top m held places seens) (used : ℕ) (e : used ≡ length m) where
-  pub counted : Counted held used
-  counted = record { within = λ u k. omega (arith, held-at at top m held places seens h u k, count-few u m) }
+module _ (base : List ℕ) (at : ℕ → Rec) (top : ℕ) (m : List Rec) (held places seens : List ℕ) (h : Indexed base at top m held places seens) (used : ℕ) (e : used ≡ length m) where
+  pub counted : Counted base held used
+  counted =
+      record {
+        behind = λ u k. omega (arith, held-at base at top m held places seens h u k);
+        within = λ u k. omega (arith, held-at base at top m held places seens h u k, count-few u m);
+      }
 
   -- a new record, by the tables and by the list
-  new-is : (r : Rec) → unit r < 8 → takeNew m r ≡ tookNew (newBy held used places seens r) (insert r m)
-  unfolding takeNew newBy tookNew
+  new-is : (r : Rec) → unit r < 8 → takeNewOn base m r ≡ tookNew (newBy base held used places seens r) (insert r m)
+  unfolding takeNewOn newBy tookNew
   new-is r u8 =
-      rw (join-is at top m held places seens h r u8, e) (go (isNext m r && isWithin m r) (isClosed m r) (ltb (length m) 512))
+      rw (join-is base at top m held places seens h r u8, e) (go (isNext base m r && isWithin base m r) (isClosed base m r) (ltb (length m) 512))
     where
       go : (a b c : Bool) → cond a (cond b (cond c (taken (insert r m)) (refused 11)) (refused 9)) (refused 8)
           ≡ tookNew (cond (eqb (cond a (cond b 0 9) 8) 0) (cond c 0 11) (cond a (cond b 0 9) 8)) (insert r m)
@@ -76,20 +80,20 @@ module _ (at : ℕ → Rec) (top : ℕ) (m : List Rec) (held places seens : List
     -- taken: the tables have the records held then
     pub record Accepts (o : Step) : Type 0 where
       pub zero-number : o .number ≡ 0
-      pub takes : takeOne m r ≡ taken (after m r)
-      pub indexed : Indexed at (suc p) (after m r) (o .held) (o .places) (o .seens)
-      pub counts : o .used ≡ length (after m r)
+      pub takes : takeOneOn base m r ≡ taken (afterOn base m r)
+      pub indexed : Indexed base at (suc p) (afterOn base m r) (o .held) (o .places) (o .seens)
+      pub counts : o .used ≡ length (afterOn base m r)
 
     abbrev pub Refuses : Step → Type 0
-    Refuses o = (o .number ≡ 0 → ⊥) × (takeOne m r ≡ refused (o .number))
+    Refuses o = (o .number ≡ 0 → ⊥) × (takeOneOn base m r ≡ refused (o .number))
 
-    accepts : (o : Step) (l : List Rec) → o .number ≡ 0 → takeOne m r ≡ taken l → Indexed at (suc p) l (o .held) (o .places) (o .seens) → o .used ≡ length l → Accepts o
+    accepts : (o : Step) (l : List Rec) → o .number ≡ 0 → takeOneOn base m r ≡ taken l → Indexed base at (suc p) l (o .held) (o .places) (o .seens) → o .used ≡ length l → Accepts o
     accepts o l z t i c =
-        let a : l ≡ after m r = sym (after-taken m r l t) in
+        let a : l ≡ afterOn base m r = sym (after-taken base m r l t) in
         record {
           zero-number = z;
           takes = t ∙ ap taken a;
-          indexed = subst (λ (x : List Rec). Indexed at (suc p) x (o .held) (o .places) (o .seens)) a i;
+          indexed = subst (λ (x : List Rec). Indexed base at (suc p) x (o .held) (o .places) (o .seens)) a i;
           counts = c ∙ ap (λ (x : List Rec). length x) a;
         }
 
@@ -97,52 +101,68 @@ module _ (at : ℕ → Rec) (top : ℕ) (m : List Rec) (held places seens : List
       u8 : unit r < 8
       u8 = well-unit r w
 
+      -- it comes before
+      beside-before : num r ≤ getD base (unit r) 0 → Accepts (step (heldBy base at places r) held used places seens)
+      unfolding takeOneOn heldBy
+      beside-before k =
+          let z = le-leb (num r) (getD base (unit r) 0) k in
+          accepts (step (heldBy base at places r) held used places seens) m (rw z) (rw (w, z)) (indexed-where base at top m held places seens h at (suc p) (omega arith) hi (λ x y. refl)) e
+
       -- its identity is held
-      beside-held : num r ≤ getD held (unit r) 0 → Refuses (step (heldBy at places r) held used places seens) ⊎ Accepts (step (heldBy at places r) held used places seens)
-      unfolding takeOne takeHeld heldBy
-      beside-held k =
-          let s = h .stands (unit r) (num r) u8 (omega (arith, well-own r w)) (omega (arith, held-at at top m held places seens h (unit r) u8)) in
+      beside-here : num r ≤ getD held (unit r) 0 → getD base (unit r) 0 < num r → Refuses (step (heldBy base at places r) held used places seens) ⊎ Accepts (step (heldBy base at places r) held used places seens)
+      unfolding takeOneOn takeHeldOn heldBy
+      beside-here k l =
+          let d : ℕ = num r - getD base (unit r) 0 in
+          let s = h .stands (unit r) d u8 (omega arith) (omega (arith, held-at base at top m held places seens h (unit r) u8)) in
+          let c : getD base (unit r) 0 + d ≡ num r = omega arith in
+          let f : byId (unit r) (num r) m ≡ some (at (positionOf places (unit r) d)) = rw c at (s .found) in
+          let y = lt-leb (num r) (getD base (unit r) 0) l in
           ⊎-elim
-          (λ (z : sameBytes (at (positionOf places (unit r) (num r))) r ≡ true). inr (accepts (step (heldBy at places r) held used places seens) m (rw z) (rw (w, s .found, z)) (indexed-where at top m held places seens h at (suc p) (omega arith) hi (λ x y. refl)) e))
-          (λ (z : sameBytes (at (positionOf places (unit r) (num r))) r ≡ false). inl (rw z (λ x. omega (arith, x)), rw (w, s .found, z)))
-          (bool-cases (sameBytes (at (positionOf places (unit r) (num r))) r))
+          (λ (z : sameBytes (at (positionOf places (unit r) d)) r ≡ true). inr (accepts (step (heldBy base at places r) held used places seens) m (rw (y, z)) (rw (w, y, f, z)) (indexed-where base at top m held places seens h at (suc p) (omega arith) hi (λ x y. refl)) e))
+          (λ (z : sameBytes (at (positionOf places (unit r) d)) r ≡ false). inl (rw (y, z) (λ x. omega (arith, x)), rw (w, y, f, z)))
+          (bool-cases (sameBytes (at (positionOf places (unit r) d)) r))
+
+      beside-held : num r ≤ getD held (unit r) 0 → Refuses (step (heldBy base at places r) held used places seens) ⊎ Accepts (step (heldBy base at places r) held used places seens)
+      beside-held k = ⊎-elim (λ l. beside-here k l) (λ l. inr (beside-before l)) (lt-or-ge (getD base (unit r) 0) (num r))
 
       -- its identity is not held
       absent : getD held (unit r) 0 < num r → byId (unit r) (num r) m ≡ none
-      absent k = h .beyond (unit r) (num r) (omega (arith, held-at at top m held places seens h (unit r) u8))
+      absent k = h .beyond (unit r) (num r) (omega (arith, held-at base at top m held places seens h (unit r) u8))
 
-      one-new : getD held (unit r) 0 < num r → takeOne m r ≡ tookNew (newBy held used places seens r) (insert r m)
-      unfolding takeOne takeHeld
-      one-new k = rw (w, absent k) (new-is r u8)
+      one-new : getD held (unit r) 0 < num r → takeOneOn base m r ≡ tookNew (newBy base held used places seens r) (insert r m)
+      unfolding takeOneOn takeHeldOn
+      one-new k =
+          let l : getD base (unit r) 0 < num r = omega (arith, held-at base at top m held places seens h (unit r) u8) in
+          rw (w, lt-leb (num r) (getD base (unit r) 0) l, absent k) (new-is r u8)
 
-      indexed-insert : getD held (unit r) 0 < num r → newBy held used places seens r ≡ 0 → (o : Step) → o ≡ newStep r p held used places seens → Indexed at (suc p) (insert r m) (o .held) (o .places) (o .seens)
+      indexed-insert : getD held (unit r) 0 < num r → newBy base held used places seens r ≡ 0 → (o : Step) → o ≡ newStep base r p held used places seens → Indexed base at (suc p) (insert r m) (o .held) (o .places) (o .seens)
       unfolding newStep
       indexed-insert k z o f =
-          let (n, free) = new-free r held used places seens (newBy held used places seens r) refl z in
-          let n′ : num r ≡ suc (count (unit r) m) = n ∙ ap suc (held-at at top m held places seens h (unit r) u8) in
-          let i = indexed-note at top m held places seens h r p u8 n′ (omega arith) lo hi q in
-          rw (f, z) (indexed-alike at (suc p) (r ∷ m) _ _ _ i (insert r m) (alike-insert r m (absent k)) (omega (arith, length-insert r m)))
+          let (n, free) = new-free r base held used places seens (newBy base held used places seens r) refl z in
+          let n′ : num r ≡ suc (countOn base (unit r) m) = n ∙ ap suc (held-at base at top m held places seens h (unit r) u8) in
+          let i = indexed-note base at top m held places seens h r p u8 n′ (omega arith) lo hi q in
+          rw (f, z) (indexed-alike base at (suc p) (r ∷ m) _ _ _ i (insert r m) (alike-insert r m (absent k)) (omega (arith, length-insert r m)))
 
-      beside-new : getD held (unit r) 0 < num r → Refuses (newStep r p held used places seens) ⊎ Accepts (newStep r p held used places seens)
+      beside-new : getD held (unit r) 0 < num r → Refuses (newStep base r p held used places seens) ⊎ Accepts (newStep base r p held used places seens)
       unfolding newStep tookNew
       beside-new k =
           ⊎-elim
-          (λ (z : newBy held used places seens r ≡ 0).
-          let t : takeOne m r ≡ taken (insert r m) = rw z at (one-new k) in
-          inr (accepts (newStep r p held used places seens) (insert r m) (rw z) t (indexed-insert k z (newStep r p held used places seens) refl) (rw z (omega (arith, length-insert r m)))))
-          (λ (z : newBy held used places seens r ≡ 0 → ⊥). inl (rw (ne-eqb (newBy held used places seens r) 0 z) (z, one-new k ∙ refuses (newBy held used places seens r) z)))
-          (eq-or-ne (newBy held used places seens r) 0)
+          (λ (z : newBy base held used places seens r ≡ 0).
+          let t : takeOneOn base m r ≡ taken (insert r m) = rw z at (one-new k) in
+          inr (accepts (newStep base r p held used places seens) (insert r m) (rw z) t (indexed-insert k z (newStep base r p held used places seens) refl) (rw z (omega (arith, length-insert r m)))))
+          (λ (z : newBy base held used places seens r ≡ 0 → ⊥). inl (rw (ne-eqb (newBy base held used places seens r) 0 z) (z, one-new k ∙ refuses (newBy base held used places seens r) z)))
+          (eq-or-ne (newBy base held used places seens r) 0)
         where
           refuses : (n : ℕ) → (n ≡ 0 → ⊥) → tookNew n (insert r m) ≡ refused n
           refuses zero y = absurd (y refl)
           refuses (suc n) y = refl
 
-    refused-malformed : wellFormed r ≡ false → takeOne m r ≡ refused 7
-    unfolding takeOne
+    refused-malformed : wellFormed r ≡ false → takeOneOn base m r ≡ refused 7
+    unfolding takeOneOn
     refused-malformed w = rw w
 
     -- the two ways of a record
-    pub beside : (o : Step) → o ≡ takeBy at r p held used places seens → Refuses o ⊎ Accepts o
+    pub beside : (o : Step) → o ≡ takeBy base at r p held used places seens → Refuses o ⊎ Accepts o
     unfolding takeBy
     beside o f =
         ⊎-elim
@@ -154,8 +174,8 @@ module _ (at : ℕ → Rec) (top : ℕ) (m : List Rec) (held places seens : List
         (λ (w : wellFormed r ≡ false). rw (f, w) (inl ((λ x. omega (arith, x)), refused-malformed w)))
         (bool-cases (wellFormed r))
 
-    module _ (o : Step) (f : o ≡ takeBy at r p held used places seens) where
-      pub beside-refused : (o .number ≡ 0 → ⊥) → takeOne m r ≡ refused (o .number)
+    module _ (o : Step) (f : o ≡ takeBy base at r p held used places seens) where
+      pub beside-refused : (o .number ≡ 0 → ⊥) → takeOneOn base m r ≡ refused (o .number)
       beside-refused z = ⊎-elim (λ (x : Refuses o). x .1) (λ (x : Accepts o). absurd (z (x .zero-number))) (beside o f)
 
       pub beside-taken : o .number ≡ 0 → Accepts o

@@ -1,2 +1,3 @@
+pub mod OneByOne
 pub mod Beside
 pub mod Going

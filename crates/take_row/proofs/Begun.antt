@@ -10,7 +10,7 @@ use lib.Dec.{leb, eqb}
 use lib.ListN.{length}
 use borrow.Author.Tests.{eq-eqb, ne-eqb, eqb-true, leb-true}
 use Rattle.model.specs.Bytes.{part, putAt}
-use Rattle.model.specs.Log.{vectorOf, recordsOf, soundLog, logBytes}
+use Rattle.model.specs.Log.{vectorOf, noCounts, recordsOf, soundLog, logBytes}
 use Rattle.model.specs.Outcome.{guardNumber}
 use Rattle.row_model.specs.Row.{Tried, tried, rowFits, tryAll, tookRow, rowTaken, takeRowOf}
 use Rattle.byte_slice.proofs.Numbers.{and-true}
@@ -48,7 +48,7 @@ row-short n h =
 -- ---- what is held at first
 
 module _ (log work fresh : List ℕ) (used : ℕ) (held places seens : List ℕ) (long : length log ≡ 40960) (sound : soundLog log ≡ true) (e : used ≡ length (recordsOf log)) (w : work ≡ putAt fresh 0 log)
-    (i : Indexed (laidAt Log log) used (recordsOf log) held places seens) where
+    (i : Indexed noCounts (laidAt Log log) used (recordsOf log) held places seens) where
   few : used ≤ 512
   few = omega (arith, sound-few log)
 
@@ -65,7 +65,7 @@ module _ (log work fresh : List ℕ) (used : ℕ) (held places seens : List ℕ)
   row-kept =
       record {
         grown = record { from = omega arith; few = few; first = e; sound = λ j h. none j (omega (arith, sub-self used)) };
-        indexed = rw (held-none (recordsOf log) used work) (indexed-where (laidAt Log log) used (recordsOf log) held places seens i (laidAt Log work) used (omega arith) (omega (arith, few)) copied);
+        indexed = rw (held-none (recordsOf log) used work) (indexed-where noCounts (laidAt Log log) used (recordsOf log) held places seens i (laidAt Log work) used (omega arith) (omega (arith, few)) copied);
       }
 
 -- ---- the row is judged and its records are put in
@@ -107,6 +107,6 @@ module _ (archive u : ℕ) (log row : List ℕ) {n used : ℕ} {held : List ℕ}
 pub row-long : (u : ℕ) (log row : List ℕ) {n used : ℕ} {held : List ℕ} {fit : Bool} → fit ≡ rowFits (length row) → opened n held used ≡ openOf u log true fit → n ≡ 0 → length row ≤ 44032
 row-long u log row {fit = fit} l e z = row-short (length row) (sym l ∙ open-row u log true fit e z)
 
-pub row-indexed : (log : List ℕ) (n used : ℕ) (held places seens : List ℕ) → (n ≡ 0 → Indexed (laidAt Log log) used (recordsOf log) held places seens) → n ≡ 0
-    → Indexed (laidAt Log log) used (recordsOf log) held places seens
+pub row-indexed : (log : List ℕ) (n used : ℕ) (held places seens : List ℕ) → (n ≡ 0 → Indexed noCounts (laidAt Log log) used (recordsOf log) held places seens) → n ≡ 0
+    → Indexed noCounts (laidAt Log log) used (recordsOf log) held places seens
 row-indexed log n used held places seens f z = f z

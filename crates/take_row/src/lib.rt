@@ -4,7 +4,7 @@ ghost use mathlib.Core.Bool.{true};
 ghost use Prim.Native.Nat.{_≤_};
 ghost use lib.ListN.{length};
 ghost use Rattle.model.specs.Lengths.{logSize, fileSize};
-ghost use Rattle.model.specs.Log.{vectorOf, recordsOf, soundLog};
+ghost use Rattle.model.specs.Log.{vectorOf, noCounts, recordsOf, soundLog};
 ghost use Rattle.row_model.specs.Row.{rowFits, tried, tryAll, rowTaken, takeRowOf};
 ghost use Rattle.log_closure.specs.Tables.{placesSize, seensSize, Indexed};
 ghost use Rattle.log_check.specs.declared.Layout.the-variants.{Log};
@@ -54,7 +54,7 @@ pub fn take_blocks(
     places: &mut [u16],
     seens: &mut [u16],
 ) -> RowJudged
-    requires { ⌜ (length (now row) ≤ fileSize) × (unit ≤ 7) × (length (now log) ≡ logSize) × (soundLog (now log) ≡ true) × (used ≡ length (recordsOf (now log))) × (length (now work) ≡ workSize) × (length (now places) ≡ placesSize) × (length (now seens) ≡ seensSize) × Indexed (laidAt Log (now log)) used (recordsOf (now log)) (held .counts) (now places) (now seens) ⌝ }
+    requires { ⌜ (length (now row) ≤ fileSize) × (unit ≤ 7) × (length (now log) ≡ logSize) × (soundLog (now log) ≡ true) × (used ≡ length (recordsOf (now log))) × (length (now work) ≡ workSize) × (length (now places) ≡ placesSize) × (length (now seens) ≡ seensSize) × Indexed noCounts (laidAt Log (now log)) used (recordsOf (now log)) (held .counts) (now places) (now seens) ⌝ }
     ensures took { λ r. ⌜ tried (r .taken) (r .stopped) (now (log .exit)) ≡ tryAll archive unit (now (log .entry)) (now (row .entry)) ⌝ }
     ensures counted { λ r. ⌜ (r .used ≡ length (recordsOf (now (log .exit)))) × (r .held .counts ≡ vectorOf (recordsOf (now (log .exit)))) ⌝ }
 {

@@ -16,6 +16,7 @@ use Rattle.model.specs.Outcome.{Outcome, outcome, refusal, taken, refused, take
 use Rattle.byte_slice.proofs.Numbers.{eq-or-ne}
 use Rattle.byte_slice.proofs.Parts.{part-take}
 use Rattle.block_laws.proofs.Faults.{header-right, stored-header}
+use Rattle.log_laws.proofs.Tests.{vectorOn-none}
 use Rattle.encoding_laws.proofs.Logs.{sound-proper, proper-sized, length-logBytes, log-sound, sound-bytes}
 use Rattle.encoding_laws.proofs.Calls.{sound-back}
 use Rattle.log_check.specs.declared.Layout.the-variants.{Log}
@@ -95,7 +96,7 @@ given-few archive b f e z n q =
 
 module _ (archive u : ℕ) (b : List ℕ) (l : List Rec) (base : ℕ) (work : List ℕ) (m : ℕ) (held places seens : List ℕ) (h : u ≤ 7) (k : Kept l base work m held places seens) (f : ℕ) (e : f ≡ givenFault archive b) where
   pub one-bad : (f ≡ 0 → ⊥) → JudgedOne l base archive u b work m f work m held places seens
-  one-bad z = record { answers = bad archive u b l base work m (k .grown) h f e z; grown = k .grown; counts = k .indexed .counts; kept = λ y. k }
+  one-bad z = record { answers = bad archive u b l base work m (k .grown) h f e z; grown = k .grown; counts = k .indexed .counts ∙ vectorOn-none (heldIn l base work m); kept = λ y. k }
 
   module _ (z : f ≡ 0) (number : ℕ) (work′ : List ℕ) (used : ℕ) (held′ places′ seens′ : List ℕ) (j : JudgedInto l base b work m number work′ used held′ places′ seens′) where
     same : (p : ℕ) → p < m → laidAt Log work p ≡ laidAt Log work′ p
@@ -107,7 +108,7 @@ module _ (archive u : ℕ) (b : List ℕ) (l : List Rec) (base : ℕ) (work : Li
         record {
           answers = rw (← held-alike l base work work′ m same) (no archive u b l base work m (k .grown) h f e z (j .refuses y));
           grown = grown-alike l base work m (k .grown) work′ same;
-          counts = rw (← held-alike l base work work′ m same) (k .indexed .counts);
+          counts = rw (← held-alike l base work work′ m same) (k .indexed .counts ∙ vectorOn-none (heldIn l base work m));
           kept = λ x. absurd (y x);
         }
 
@@ -116,7 +117,7 @@ module _ (archive u : ℕ) (b : List ℕ) (l : List Rec) (base : ℕ) (work : Li
         record {
           answers = rw y (yes archive u b l base work m (k .grown) h f e z (j .accepts y));
           grown = j .kept y .grown;
-          counts = j .kept y .indexed .counts;
+          counts = j .kept y .indexed .counts ∙ vectorOn-none (heldIn l base work′ used);
           kept = λ x. j .kept y;
         }
 
@@ -129,6 +130,9 @@ row-starts log row archive u base n work long s q = rw (held-none (recordsOf log
 pub row-gives : (log row : List ℕ) (archive u base n number : ℕ) (work : List ℕ) (used : ℕ) (held : List ℕ) → tried n number (logBytes (heldIn (recordsOf log) base work used)) ≡ tryAll archive u log row → Grown (recordsOf log) base work used
     → held ≡ vectorOf (heldIn (recordsOf log) base work used) → JudgedRow log base archive u row n number work used held
 row-gives log row archive u base n number work used held q g c = record { answers = q; grown = g; counts = c }
+
+pub kept-counts : (l : List Rec) (base : ℕ) (work : List ℕ) (used : ℕ) (held places seens : List ℕ) → Kept l base work used held places seens → held ≡ vectorOf (heldIn l base work used)
+kept-counts l base work used held places seens k = k .indexed .counts ∙ vectorOn-none (heldIn l base work used)
 
 pub one-kept : {l : List Rec} {base archive u m number used : ℕ} {b work work′ held places seens : List ℕ} → JudgedOne l base archive u b work m number work′ used held places seens → number ≡ 0 → Kept l base work′ used held places seens
 one-kept j z = j .kept z

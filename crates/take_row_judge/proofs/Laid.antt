@@ -13,7 +13,7 @@ use lib.ListN.{getD, length, take, drop, set}
 use lib.Seq.{take-take}
 use Rattle.model.specs.Bytes.{part, putAt, sameBytes}
 use Rattle.model.specs.Record.{Rec, unit, num, seenVector, wellFormed}
-use Rattle.model.specs.Log.{insert, recordsOf, logBytes}
+use Rattle.model.specs.Log.{noCounts, insert, recordsOf, logBytes}
 use Rattle.model.specs.Block.{countIn, recordAt, recordsFrom, blockRecords}
 use Rattle.model.specs.Outcome.{refused, taken, takeOne, takeAll}
 use Rattle.byte_slice.proofs.Numbers.{lt-or-ge, bool-cases}
@@ -29,6 +29,7 @@ use Rattle.log_check.specs.declared.Layout.the-variants.{Log}
 use Rattle.log_check.specs.Places.{offsetOf, laidAt}
 use Rattle.log_insert.specs.Where.{insertTo}
 use Rattle.take_beside.specs.Judging.{Counted, Step, step, heldBy, newBy, newStep, takeBy, after}
+use Rattle.take_judge.proofs.OneByOne.{one-none, after-none}
 use Rattle.take_judge.proofs.Beside.{counted, beside-refused, beside-taken}
 use Rattle.take_row_store.specs.Grown.{newAt, heldIn, Grown}
 use Rattle.take_row_store.proofs.Runs.{insert-alike, held-alike, held-long, held-sound, grown-alike}
@@ -43,17 +44,17 @@ same-at work rec q t e = rw (part-is work (80 * q) 80) at e
 abbrev Same : Step → List ℕ → List ℕ → List ℕ → Type 0
 Same o held places seens = (o .held ≡ held) × (o .places ≡ places) × (o .seens ≡ seens)
 
-module _ (at : ℕ → Rec) (r : Rec) (p : ℕ) (held : List ℕ) (used : ℕ) (places seens : List ℕ) where
-  new-same : (o : Step) → o ≡ newStep r p held used places seens → o .used ≡ used → Same o held places seens
+module _ (under : List ℕ) (at : ℕ → Rec) (r : Rec) (p : ℕ) (held : List ℕ) (used : ℕ) (places seens : List ℕ) where
+  new-same : (o : Step) → o ≡ newStep under r p held used places seens → o .used ≡ used → Same o held places seens
   unfolding newStep
   new-same o e q =
       ⊎-elim
-      (λ (z : eqb (newBy held used places seens r) 0 ≡ true).
+      (λ (z : eqb (newBy under held used places seens r) 0 ≡ true).
       let f : o .used ≡ used + 1 = ap (λ (x : Step). x .used) e ∙ rw z in absurd (omega arith))
-      (λ (z : eqb (newBy held used places seens r) 0 ≡ false). rw (e, z) (refl, refl, refl))
-      (bool-cases (eqb (newBy held used places seens r) 0))
+      (λ (z : eqb (newBy under held used places seens r) 0 ≡ false). rw (e, z) (refl, refl, refl))
+      (bool-cases (eqb (newBy under held used places seens r) 0))
 
-  stays : (o : Step) → o ≡ takeBy at r p held used places seens → o .used ≡ used → Same o held places seens
+  stays : (o : Step) → o ≡ takeBy under at r p held used places seens → o .used ≡ used → Same o held places seens
   unfolding takeBy
   stays o e q =
       ⊎-elim
@@ -68,11 +69,11 @@ module _ (at : ℕ → Rec) (r : Rec) (p : ℕ) (held : List ℕ) (used : ℕ) (
 -- ---- what is known of what is held
 
 module _ (l : List Rec) (base : ℕ) (work : List ℕ) (used : ℕ) (held places seens : List ℕ) (k : Kept l base work used held places seens) where
-  pub kept-placed : Placed held places
-  kept-placed = indexed-placed (laidAt Log work) used (heldIn l base work used) held places seens (k .indexed)
+  pub kept-placed : Placed noCounts held places
+  kept-placed = indexed-placed noCounts (laidAt Log work) used (heldIn l base work used) held places seens (k .indexed)
 
-  pub kept-counted : Counted held used
-  kept-counted = counted (laidAt Log work) used (heldIn l base work used) held places seens (k .indexed) used (held-long l base work used (k .grown))
+  pub kept-counted : Counted noCounts held used
+  kept-counted = counted noCounts (laidAt Log work) used (heldIn l base work used) held places seens (k .indexed) used (held-long l base work used (k .grown))
 
   pub kept-few : used ≤ 512
   kept-few = k .grown .few
@@ -88,8 +89,8 @@ module _ (l : List Rec) (base : ℕ) (work : List ℕ) (used : ℕ) (held places
     unfolding laidAt offsetOf
     here = rw w (rw n at (part-put work (80 * used) r (omega (arith, kept-few))))
 
-    indexed : Indexed (laidAt Log work′) used (heldIn l base work used) held places seens
-    indexed = indexed-where (laidAt Log work) used (heldIn l base work used) held places seens (k .indexed) (laidAt Log work′) used (omega arith) (omega (arith, kept-few)) below
+    indexed : Indexed noCounts (laidAt Log work′) used (heldIn l base work used) held places seens
+    indexed = indexed-where noCounts (laidAt Log work) used (heldIn l base work used) held places seens (k .indexed) (laidAt Log work′) used (omega arith) (omega (arith, kept-few)) below
 
     held-same : heldIn l base work used ≡ heldIn l base work′ used
     held-same = held-alike l base work work′ used below
@@ -103,9 +104,9 @@ module _ (l : List Rec) (base : ℕ) (work : List ℕ) (used : ℕ) (held places
         let f : base + (used - base) ≡ used = omega arith in
         rw (e, f, here, held-same)
 
-    module _ (o : Step) (e : o ≡ takeBy (laidAt Log work′) r used held used places seens) where
+    module _ (o : Step) (e : o ≡ takeBy noCounts (laidAt Log work′) r used held used places seens) where
       pub laid-refused : (o .number ≡ 0 → ⊥) → takeOne (heldIn l base work used) r ≡ refused (o .number)
-      laid-refused z = beside-refused (laidAt Log work′) used (heldIn l base work used) held places seens indexed used (held-long l base work used (k .grown)) r used (omega arith) (omega (arith, kept-few)) here o e z
+      laid-refused z = sym (one-none (heldIn l base work used) r) ∙ beside-refused noCounts (laidAt Log work′) used (heldIn l base work used) held places seens indexed used (held-long l base work used (k .grown)) r used (omega arith) (omega (arith, kept-few)) here o e z
 
       -- what is held after a record that passed
       pub record Passed : Type 0 where
@@ -118,19 +119,25 @@ module _ (l : List Rec) (base : ℕ) (work : List ℕ) (used : ℕ) (held places
         long-is = held-long l base work used (k .grown)
 
         takes : takeOne (heldIn l base work used) r ≡ taken (after (heldIn l base work used) r)
-        takes = beside-taken (laidAt Log work′) used (heldIn l base work used) held places seens indexed used long-is r used (omega arith) (omega (arith, kept-few)) here o e z .takes
+        takes =
+            rw (one-none (heldIn l base work used) r, after-none (heldIn l base work used) r)
+            at (beside-taken noCounts (laidAt Log work′) used (heldIn l base work used) held places seens indexed used long-is r used (omega arith) (omega (arith, kept-few)) here o e z .takes)
 
-        has-all : Indexed (laidAt Log work′) (suc used) (after (heldIn l base work used) r) (o .held) (o .places) (o .seens)
-        has-all = beside-taken (laidAt Log work′) used (heldIn l base work used) held places seens indexed used long-is r used (omega arith) (omega (arith, kept-few)) here o e z .indexed
+        has-all : Indexed noCounts (laidAt Log work′) (suc used) (after (heldIn l base work used) r) (o .held) (o .places) (o .seens)
+        has-all =
+            rw (after-none (heldIn l base work used) r)
+            at (beside-taken noCounts (laidAt Log work′) used (heldIn l base work used) held places seens indexed used long-is r used (omega arith) (omega (arith, kept-few)) here o e z .indexed)
 
         counts : o .used ≡ length (after (heldIn l base work used) r)
-        counts = beside-taken (laidAt Log work′) used (heldIn l base work used) held places seens indexed used long-is r used (omega arith) (omega (arith, kept-few)) here o e z .counts
+        counts =
+            rw (after-none (heldIn l base work used) r)
+            at (beside-taken noCounts (laidAt Log work′) used (heldIn l base work used) held places seens indexed used long-is r used (omega arith) (omega (arith, kept-few)) here o e z .counts)
 
         -- a record that was held
         once : after (heldIn l base work used) r ≡ heldIn l base work used → Passed
         once x =
             let u : o .used ≡ used = counts ∙ ap length x ∙ sym long-is in
-            let s = stays (laidAt Log work′) r used held used places seens o e u in
+            let s = stays noCounts (laidAt Log work′) r used held used places seens o e u in
             let i : Kept l base work′ used held places seens = record { grown = grown-alike l base work used (k .grown) work′ below; indexed = rw (← held-same) indexed } in
             record {
               takes = takes ∙ ap taken (x ∙ held-same ∙ ap (heldIn l base work′) (sym u));
@@ -173,7 +180,7 @@ module _ (l : List Rec) (base : ℕ) (work : List ℕ) (used : ℕ) (held places
                 takes = takes ∙ ap taken (sym h);
                 kept = record {
                   grown = rw used-is more;
-                  indexed = rw h (subst (λ (t : ℕ). Indexed (laidAt Log work′) t (after (heldIn l base work used) r) (o .held) (o .places) (o .seens)) (sym (used-is ∙ add-one used)) has-all);
+                  indexed = rw h (subst (λ (t : ℕ). Indexed noCounts (laidAt Log work′) t (after (heldIn l base work used) r) (o .held) (o .places) (o .seens)) (sym (used-is ∙ add-one used)) has-all);
                 };
                 grows = omega (arith, used-is);
               }

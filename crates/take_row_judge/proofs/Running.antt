@@ -10,6 +10,7 @@ use lib.ListN.{length, take, drop}
 use lib.Seq.{take-take}
 use Rattle.model.specs.Bytes.{putAt}
 use Rattle.model.specs.Record.{Rec}
+use Rattle.model.specs.Log.{noCounts}
 use Rattle.model.specs.Block.{countIn, recordAt, recordsFrom, blockRecords}
 use Rattle.model.specs.Outcome.{refused, taken, takeOne, takeAll}
 use Rattle.byte_slice.proofs.Parts.{part-is, part-length}
@@ -36,11 +37,11 @@ unfolding blockRecords
 running-starts l base block n work m held places seens e k = record { kept = k; rest = rw (sub-zero n, e); front = refl; grows = omega arith }
 
 module _ (l : List Rec) (base : ℕ) (block : List ℕ) (n j : ℕ) (work₀ : List ℕ) (m : ℕ) (work : List ℕ) (used : ℕ) (held places seens : List ℕ) (g : Running l base block n j work₀ m work used held places seens) where
-  pub running-placed : Placed held places
-  running-placed = kept-placed l base work used held places seens (g .kept)
+  pub running-placed : (under : List ℕ) → under ≡ noCounts → Placed under held places
+  running-placed under v = rw v (kept-placed l base work used held places seens (g .kept))
 
-  pub running-counted : Counted held used
-  running-counted = kept-counted l base work used held places seens (g .kept)
+  pub running-counted : (under : List ℕ) → under ≡ noCounts → Counted under held used
+  running-counted under v = rw v (kept-counted l base work used held places seens (g .kept))
 
   pub running-few : used ≤ 512
   running-few = kept-few l base work used held places seens (g .kept)
@@ -53,14 +54,14 @@ module _ (l : List Rec) (base : ℕ) (block : List ℕ) (n j : ℕ) (work₀ : L
       record { refuses = λ z. absurd (z refl); accepts = λ z. sym r ∙ takeAll-nil (heldIn l base work used); kept = λ z. g .kept; front = g .front }
 
   module _ (h : j < n) (few : n ≤ 6) (long : length work ≡ 41440) (size : length block ≡ 512) (work′ : List ℕ) (w : work′ ≡ putAt work (80 * used) (take (28 + 80 * j + 80 - (28 + 80 * j)) (drop (28 + 80 * j) block)))
-      (number : ℕ) (held′ : List ℕ) (used′ : ℕ) (places′ seens′ : List ℕ)
-      (e : step number held′ used′ places′ seens′ ≡ takeBy (laidAt Log work′) (take (28 + 80 * j + 80 - (28 + 80 * j)) (drop (28 + 80 * j) block)) used held used places seens) where
+      (under : List ℕ) (v : under ≡ noCounts) (number : ℕ) (held′ : List ℕ) (used′ : ℕ) (places′ seens′ : List ℕ)
+      (e : step number held′ used′ places′ seens′ ≡ takeBy under (laidAt Log work′) (take (28 + 80 * j + 80 - (28 + 80 * j)) (drop (28 + 80 * j) block)) used held used places seens) where
     o : Step
     o = step number held′ used′ places′ seens′
 
-    judged : o ≡ takeBy (laidAt Log work′) (recordAt block j) used held used places seens
+    judged : o ≡ takeBy noCounts (laidAt Log work′) (recordAt block j) used held used places seens
     unfolding recordAt o
-    judged = rw (part-is block (28 + 80 * j) 80) at e
+    judged = rw (part-is block (28 + 80 * j) 80, v) at e
 
     laid : work′ ≡ putAt work (80 * used) (recordAt block j)
     unfolding recordAt

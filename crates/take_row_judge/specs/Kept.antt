@@ -5,7 +5,7 @@ use mathlib.Core.Path.{_≡_}
 use mathlib.Core.List.{List, []}
 use lib.ListN.{take}
 use Rattle.model.specs.Record.{Rec}
-use Rattle.model.specs.Log.{vectorOf, recordsOf, logBytes}
+use Rattle.model.specs.Log.{vectorOf, noCounts, recordsOf, logBytes}
 use Rattle.model.specs.Block.{blockRecords}
 use Rattle.model.specs.Outcome.{outcome, refused, taken, takeAll, takeOf}
 use Rattle.log_closure.specs.Tables.{Indexed}
@@ -17,7 +17,7 @@ use Rattle.row_model.specs.Row.{tried, tryAll}
 -- the records of l and those laid behind them are held: work has each at its place, and the tables have them all
 pub record Kept (l : List Rec) (base : ℕ) (work : List ℕ) (used : ℕ) (held places seens : List ℕ) : Type 0 where
   pub grown : Grown l base work used
-  pub indexed : Indexed (laidAt Log work) used (heldIn l base work used) held places seens
+  pub indexed : Indexed noCounts (laidAt Log work) used (heldIn l base work used) held places seens
 
 -- what judging the records of a block gives, where work and m stand for before: the number of the refusal, or 0 with all records held
 pub record JudgedInto (l : List Rec) (base : ℕ) (block work : List ℕ) (m number : ℕ) (work′ : List ℕ) (used : ℕ) (held places seens : List ℕ) : Type 0 where

@@ -3,16 +3,17 @@
 ghost use mathlib.Core.Path.{_≡_};
 ghost use mathlib.Core.Bool.{true};
 ghost use Prim.Native.Nat.{_+_, _≤_, _<_};
-ghost use lib.ListN.{length};
+ghost use lib.ListN.{length, getD};
 ghost use Rattle.model.specs.Lengths.{recordSize, blockSize, logSize, fileSize, logPlaces};
 ghost use Rattle.model.specs.Bytes.{sameBytes};
+ghost use Rattle.model.specs.Record.{unit, num, wellFormed};
 ghost use Rattle.model.specs.Log.{recordsOf, soundLog};
 ghost use Rattle.model.specs.Block.{countIn};
 ghost use Rattle.model.specs.File.{blocksIn};
 ghost use Rattle.log_closure.specs.Tables.{placesSize, seensSize, Placed};
 ghost use Rattle.log_check.specs.declared.Layout.the-variants.{Log};
 ghost use Rattle.log_check.specs.Places.{laidAt};
-ghost use Rattle.take_beside.specs.Judging.{Counted, step, takeBy};
+ghost use Rattle.take_beside.specs.Judging.{Counted, step, heldBy, takeBy};
 ghost use Rattle.take_row_store.specs.Grown.{workSize};
 ghost use Rattle.take_row_judge.specs.Kept.{Kept, JudgedInto, JudgedOne, JudgedRow};
 use byte_slice::put;
@@ -39,8 +40,27 @@ fn same_at(rec: &[u8], q: usize, work: &[u8]) -> bool
     byte_slice::same(&work[at..at + 80], rec)
 }
 
+// 10 of a well-formed record whose identity is held with other bytes, or 0. One that the base vector `under` counts is passed over.
+fn held_fault(under: Vector, rec: &[u8], held: Vector, work: &[u8], places: &[u16]) -> u8
+    requires { ⌜ (length (now rec) ≡ recordSize) × (wellFormed (now rec) ≡ true) × (num (now rec) ≤ getD (held .counts) (unit (now rec)) 0) × (length (now work) ≡ workSize) × (length (now places) ≡ placesSize) × Placed (under .counts) (held .counts) (now places) ⌝ }
+    ensures { λ r. ⌜ r ≡ heldBy (under .counts) (laidAt Log (now (work .entry))) (now (places .entry)) (now (rec .entry)) ⌝ }
+{
+    let u = record::unit_of(rec) as usize;
+    let c = record::number_of(rec);
+    let f = under.counts[u];
+    if c <= f {
+        return 0;
+    }
+    let q = log_closure::position(places, u, c - f);
+    if !same_at(rec, q, work) {
+        return 10;
+    }
+    0
+}
+
 // One record of a block, which stands at the place used: 7, then 10 if its identity is held, else 8, 9, 11.
 fn take_at(
+    under: Vector,
     rec: &[u8],
     held: Vector,
     used: usize,
@@ -48,8 +68,8 @@ fn take_at(
     places: &mut [u16],
     seens: &mut [u16],
 ) -> Judged
-    requires { ⌜ (length (now rec) ≡ recordSize) × (used ≤ logPlaces) × (length (now work) ≡ workSize) × (length (now places) ≡ placesSize) × (length (now seens) ≡ seensSize) × Placed (held .counts) (now places) × Counted (held .counts) used ⌝ }
-    ensures { λ r. ⌜ step (r .number) (r .held .counts) (r .used) (now (places .exit)) (now (seens .exit)) ≡ takeBy (laidAt Log (now (work .entry))) (now (rec .entry)) used (held .counts) used (now (places .entry)) (now (seens .entry)) ⌝ }
+    requires { ⌜ (length (now rec) ≡ recordSize) × (used ≤ logPlaces) × (length (now work) ≡ workSize) × (length (now places) ≡ placesSize) × (length (now seens) ≡ seensSize) × Placed (under .counts) (held .counts) (now places) × Counted (under .counts) (held .counts) used ⌝ }
+    ensures { λ r. ⌜ step (r .number) (r .held .counts) (r .used) (now (places .exit)) (now (seens .exit)) ≡ takeBy (under .counts) (laidAt Log (now (work .entry))) (now (rec .entry)) used (held .counts) used (now (places .entry)) (now (seens .entry)) ⌝ }
 {
     if !record::well_formed(rec) {
         return Judged {
@@ -61,21 +81,10 @@ fn take_at(
     let u = record::unit_of(rec) as usize;
     let c = record::number_of(rec);
     if held.counts[u] < c {
-        return take_new(rec, used, held, used, places, seens);
+        return take_new(under, rec, used, held, used, places, seens);
     }
-    let q = log_closure::position(places, u, c);
-    if same_at(rec, q, work) {
-        return Judged {
-            number: 0,
-            held,
-            used,
-        };
-    }
-    Judged {
-        number: 10,
-        held,
-        used,
-    }
+    let number = held_fault(under, rec, held, work, places);
+    Judged { number, held, used }
 }
 
 // The n records of a block, one after another: the number of the first that is refused, or 0. Each new one is laid behind those held.
@@ -98,8 +107,9 @@ fn judge_into(
     let mut j: usize = 0;
     while j < n {
         let at = 28 + 80 * j;
+        let under = vector::zero_vector();
         put(work, 80 * used, &b[at..at + 80]);
-        let t = take_at(&b[at..at + 80], held, used, work, places, seens);
+        let t = take_at(under, &b[at..at + 80], held, used, work, places, seens);
         if t.number != 0 {
             return t;
         }

@@ -12,7 +12,7 @@ use lib.Dec.{ltb, leb}
 use lib.ListN.{length, getD, take, drop}
 use borrow.Author.Tests.{lt-leb, le-leb, ltb-true, leb-true, not-true, not-false}
 use Rattle.model.specs.Record.{Rec, unit, num}
-use Rattle.model.specs.Log.{rank, insert, count, vectorOf, logBytes}
+use Rattle.model.specs.Log.{rank, insert, count, vectorOf, noCounts, logBytes}
 use Rattle.model.specs.Block.{recordAt, recordsFrom}
 use Rattle.model.specs.Outcome.{Took, refused, taken, takeOne, takeAll}
 use Rattle.byte_slice.proofs.Numbers.{and-true, lt-or-ge}
@@ -27,6 +27,7 @@ use Rattle.log_laws.proofs.Tests.{vectorOf-getD}
 use Rattle.log_check.specs.declared.Layout.the-variants.{Log}
 use Rattle.log_check.specs.Places.{offsetOf, laidAt}
 use Rattle.take_beside.specs.Judging.{after, afterTo}
+use Rattle.take_judge.proofs.OneByOne.{one-none, after-none}
 use Rattle.take_judge.proofs.Beside.{after-taken}
 use Rattle.log_insert.specs.Where.{Rising, insertTo}
 use Rattle.take_store.specs.New.{Units, isNew, newFrom}
@@ -119,7 +120,7 @@ first-taken l r rs m e = go (takeOne l r) refl
     go : (o : Took) → takeOne l r ≡ o → (takeOne l r ≡ taken (after l r)) × (takeAll (after l r) rs ≡ taken m)
     go (refused n) q = refused-taken (sym (takeAll-stops l r rs n q) ∙ e)
     go (taken k) q =
-        let a = after-taken l r k q in
+        let a = (sym (after-none l r) ∙ after-taken noCounts l r k (one-none l r ∙ q)) in
         (q ∙ ap taken (sym a), ap (λ (x : List Rec). takeAll x rs) a ∙ sym (takeAll-goes l r rs k q) ∙ e)
 
 module _ (l : List Rec) (b : List ℕ) (n : ℕ) (t : takeAll l (recordsFrom b 0 n) ≡ taken (afterTo l (recordAt b) n)) where

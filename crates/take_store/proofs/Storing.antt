@@ -11,16 +11,16 @@ use lib.ListN.{length, getD, set, take, drop}
 use lib.Seq.{ext-getD}
 use borrow.Author.Tests.{ltb-true, ltb-false, not-true, not-false}
 use Rattle.model.specs.Record.{Rec, unit, num, wellFormed}
-use Rattle.model.specs.Log.{insert, count, vectorOf, recordsOf, soundLog, logBytes}
+use Rattle.model.specs.Log.{insert, count, vectorOf, noCounts, recordsOf, soundLog, logBytes}
 use Rattle.model.specs.Block.{recordAt, recordsFrom}
 use Rattle.model.specs.Outcome.{taken, takeOne, takeAll}
 use Rattle.byte_slice.proofs.Parts.{part-is, part-whole}
 use Rattle.log_laws.specs.Members.{Has}
 use Rattle.log_laws.proofs.Formed.{well-unit}
-use Rattle.log_laws.proofs.Counts.{count-nil, formed, number-held}
+use Rattle.log_laws.proofs.Counts.{count-nil, no-counts, formed, number-held}
 use Rattle.log_laws.proofs.Insert.{length-insert, count-insert, insert-sound}
 use Rattle.log_laws.proofs.Take.{New, one-from}
-use Rattle.log_laws.proofs.Tests.{vectorOf-length, vectorOf-getD}
+use Rattle.log_laws.proofs.Tests.{vectorOn-none, vectorOf-length, vectorOf-getD}
 use Rattle.encoding_laws.proofs.Logs.{log-sound}
 use Rattle.encoding_laws.proofs.Calls.{sound-back}
 use Rattle.log_admit.proofs.Counts.{count-few, vector-cons}
@@ -31,6 +31,9 @@ use Rattle.log_insert.specs.Where.{Rising, insertTo}
 use Rattle.take_store.specs.Stored.{Stored}
 use Rattle.take_store.specs.New.{isNew}
 use Rattle.take_store.proofs.News.{each-taken}
+
+vector-more : (r : Rec) (l : List Rec) → unit r < 8 → vectorOf (r ∷ l) ≡ set (vectorOf l) (unit r) (getD (vectorOf l) (unit r) 0 + 1)
+vector-more r l h = rw (vectorOn-none (r ∷ l), vectorOn-none l) at (vector-cons noCounts r l h)
 
 vector-insert : (r : Rec) (l : List Rec) → vectorOf (insert r l) ≡ vectorOf (r ∷ l)
 vector-insert r l =
@@ -73,7 +76,7 @@ module _ (log : List ℕ) (used : ℕ) (held : List ℕ) (g : Stored (recordsOf 
     held-is = rw (g .counts) (vectorOf-getD l (unit r) unit-formed)
 
     own-next : New l r (after l r) → num r ≡ suc (count (unit r) l)
-    own-next x = x .joins .next ∙ rw (count-nil (unit r)) (omega arith)
+    own-next x = omega (arith, x .joins .next, count-nil (unit r), no-counts (unit r))
 
     module _ (b : Bool) (e : b ≡ isNew held r) where
       -- a held record is not stored again
@@ -119,7 +122,7 @@ module _ (log : List ℕ) (used : ℕ) (held : List ℕ) (g : Stored (recordsOf 
                 sound = insert-sound l r (g .sound) (new .joins);
                 few = omega (arith, length-insert r l, new .room);
                 used-is = omega (arith, length-insert r l, g .used-is);
-                counts = q ∙ rw (g .counts, a) (sym (vector-cons r l unit-formed) ∙ sym (vector-insert r l));
+                counts = q ∙ rw (g .counts, a) (sym (vector-more r l unit-formed) ∙ sym (vector-insert r l));
               }
 
 -- ---- one record after another

@@ -14,13 +14,13 @@ use borrow.Author.Tests.{le-ltb, lt-ltb}
 use Rattle.byte_slice.proofs.Numbers.{cond-cases}
 use Rattle.model.specs.Numbers.{fullLog, malformed}
 use Rattle.model.specs.Record.{Rec, identity, unit, num, selfOf, objectOf, folderOf, labelOf}
-use Rattle.model.specs.Log.{count}
+use Rattle.model.specs.Log.{count, noCounts}
 use Rattle.model.specs.Replay.{Entry, Tree, Verdict, fits, aside, isPresent, entryOf, unseen, judgeMake, judgeStore, judgeRemove, judgeRename, judgeMove, judgeSettle, judgePlace, folderStands, judge, newEntry, stored, renamed, moved, removed, changed, hasEntries, holderOf, step, emptyTree, replayFrom, replay}
 use Rattle.model.specs.Outcome.{stamped, wishFits, hasStroke, reasonOf, actNumber}
 use Rattle.log_laws.specs.Members.{Has as Member}
 use Rattle.log_laws.specs.Sound.{SoundAfter, Sound}
 use Rattle.log_laws.proofs.Formed.{well-unit, well-own}
-use Rattle.log_laws.proofs.Counts.{formed, unit-of, number-held, numbers, count-own}
+use Rattle.log_laws.proofs.Counts.{formed, unit-of, number-held, numbers, count-own, no-counts}
 use Rattle.log_laws.proofs.Act.{stamped-seen, act-zero}
 use Rattle.tree_laws.specs.Replayed.{Has, Distinct, selves}
 use Rattle.tree_laws.proofs.Verdicts.{Under, OneOf, Reason, reason-range, judged, under-map, under-cond, under-free, under-then, under-stands, under-place, make-reasons, settle-reasons}
@@ -155,7 +155,7 @@ self-no-root l h k i z =
     omega (arith, well-own s (formed [] l s h j))
 
 -- in a sound log no two records have one identity
-distinct-after : (pre l : List Rec) → SoundAfter pre l → Distinct (selves l)
+distinct-after : (pre l : List Rec) → SoundAfter noCounts pre l → Distinct (selves l)
 unfolding selves selfOf identity
 distinct-after pre [] h = tt
 distinct-after pre (r ∷ l) h = (
@@ -166,7 +166,7 @@ distinct-after pre (r ∷ l) h = (
       let u : unit s ≡ unit r = omega arith in
       let c : count (unit s) (r ∷ pre) < num s = numbers (r ∷ pre) l s (h .1) j .0 in
       let d : count (unit r) (r ∷ pre) < num s = rw u at c in
-      omega (arith, count-own r pre, h .0 .next),
+      omega (arith, count-own r pre, h .0 .next, no-counts (unit r)),
   distinct-after (r ∷ pre) l (h .1),
 )
 

@@ -9,7 +9,7 @@ use mathlib.Core.List.{List, [], _∷_, _++_}
 use native.Mathlib.Omega.{arith}
 use lib.ListN.{getD, length, set}
 use Rattle.model.specs.Record.{Rec, root, unit, num, op, seen, selfOf, objectOf, labelOf, usesLabel, wellFormed}
-use Rattle.model.specs.Log.{soundAfter}
+use Rattle.model.specs.Log.{noCounts, soundAfter}
 use Rattle.model.specs.Replay.{Entry, Aside, Tree, Verdict, fits, aside, isPresent, labelKey, entryOf, unseen, isBelow, judge, standsAside, holderOf, isDisputed, renamed, step, emptyTree, replayFrom, replay}
 use Rattle.model.specs.Table.{tableBytes}
 use Rattle.model.specs.Outcome.{stamped, wishFits, hasStroke, actNumber, taken, takeAll}
@@ -80,7 +80,7 @@ unfolding replay emptyTree makers
 entries-are-makes-that-fitted l = makers-replay emptyTree l
 
 -- of a sound log's records none stands aside twice, none makes two entries, and none does both
-pub no-record-twice : (l : List Rec) → soundAfter [] l ≡ true
+pub no-record-twice : (l : List Rec) → soundAfter noCounts [] l ≡ true
     → Distinct (whos (replay l .asides))
     × Distinct (makers (replay l .entries))
     × ((k : ℕ) → Has k (whos (replay l .asides)) → Has k (makers (replay l .entries)) → ⊥)
@@ -96,22 +96,22 @@ named-of l h =
       none-root = λ e i z. Acting.self-no-root l h (e .made) (Identities.makers-of l (e .made) (Labels.has-made (replay l .entries) e i)) z;
     }
 
-named : (l : List Rec) → soundAfter [] l ≡ true → Labels.Named (replay l .entries)
+named : (l : List Rec) → soundAfter noCounts [] l ≡ true → Labels.Named (replay l .entries)
 named l s = named-of l (sound-means l s)
 
 -- two present entries of one folder and label, in capitals or small letters, are one
-pub one-holder-of-a-label : (l : List Rec) → soundAfter [] l ≡ true → (e x : Entry) → Has e (replay l .entries) → Has x (replay l .entries)
+pub one-holder-of-a-label : (l : List Rec) → soundAfter noCounts [] l ≡ true → (e x : Entry) → Has e (replay l .entries) → Has x (replay l .entries)
     → isPresent e ≡ true → isPresent x ≡ true → x .inside ≡ e .inside → labelKey (x .label) ≡ labelKey (e .label) → e ≡ x
 unfolding replay emptyTree
 one-holder-of-a-label l s = Labels.one-label (replay l .entries) (Labels.apart-replay emptyTree l tt) (named l s)
 
 -- so a look-up by folder and label finds it
-pub holder-is-found : (l : List Rec) → soundAfter [] l ≡ true → (e : Entry) → Has e (replay l .entries) → isPresent e ≡ true → holderOf root (e .inside) (e .label) (replay l .entries) ≡ some e
+pub holder-is-found : (l : List Rec) → soundAfter noCounts [] l ≡ true → (e : Entry) → Has e (replay l .entries) → isPresent e ≡ true → holderOf root (e .inside) (e .label) (replay l .entries) ≡ some e
 unfolding replay emptyTree
 holder-is-found l s = Labels.the-holder (replay l .entries) (Labels.apart-replay emptyTree l tt) (named l s)
 
 -- a rename that has seen the last place record fits if it changes nothing but capitals and small letters
-pub own-label-fits : (l : List Rec) → soundAfter [] l ≡ true → (r : Rec) (e : Entry) → op r ≡ 5 → entryOf (objectOf r) (replay l .entries) ≡ some e → unseen r (e .placing) ≡ false
+pub own-label-fits : (l : List Rec) → soundAfter noCounts [] l ≡ true → (r : Rec) (e : Entry) → op r ≡ 5 → entryOf (objectOf r) (replay l .entries) ≡ some e → unseen r (e .placing) ≡ false
     → labelKey (labelOf r) ≡ labelKey (e .label) → judge r (replay l) ≡ fits
 unfolding replay emptyTree
 own-label-fits l s r = Labels.own-label r (replay l) (Labels.apart-replay emptyTree l tt) (named l s)
@@ -128,7 +128,7 @@ label-as-written = label-written
 
 -- ---- the way to the root
 
-pub rooted : (l : List Rec) → soundAfter [] l ≡ true → Rooted (replay l .entries)
+pub rooted : (l : List Rec) → soundAfter noCounts [] l ≡ true → Rooted (replay l .entries)
 unfolding replay emptyTree makers
 rooted l s =
     let h = sound-means l s in
@@ -137,7 +137,7 @@ rooted l s =
     (λ k i. absurd i)
 
 -- each entry reaches the root in fewer steps than there are entries, the root included
-pub every-entry-reaches : (l : List Rec) → soundAfter [] l ≡ true → Reaches (replay l .entries)
+pub every-entry-reaches : (l : List Rec) → soundAfter noCounts [] l ≡ true → Reaches (replay l .entries)
 every-entry-reaches l s = Roots.rooted-reaches (replay l .entries) (rooted l s)
 
 -- a record that is new keeps this of any tree that has it, not of the empty one alone
@@ -183,12 +183,12 @@ unfolding replay
 dates-decide-nothing l m d = dates-replay l m emptyTree emptyTree d refl
 
 -- and the tables of such logs differ only in the bytes of dates
-pub tables-differ-only-in-dates : (l m : List Rec) → soundAfter [] l ≡ true → soundAfter [] m ≡ true → length l ≤ 512 → length m ≤ 512 → SameButDates l m
+pub tables-differ-only-in-dates : (l m : List Rec) → soundAfter noCounts [] l ≡ true → soundAfter noCounts [] m ≡ true → length l ≤ 512 → length m ≤ 512 → SameButDates l m
     → hideDates (tableBytes (replay l)) ≡ hideDates (tableBytes (replay m))
 unfolding replay emptyTree
 tables-differ-only-in-dates l m s t p q d = hidden l s p ∙ ap tableBytes (dates-decide-nothing l m d) ∙ sym (hidden m t q)
   where
-    hidden : (l : List Rec) → soundAfter [] l ≡ true → length l ≤ 512 → hideDates (tableBytes (replay l)) ≡ tableBytes (undatedTree (replay l))
+    hidden : (l : List Rec) → soundAfter noCounts [] l ≡ true → length l ≤ 512 → hideDates (tableBytes (replay l)) ≡ tableBytes (undatedTree (replay l))
     hidden l s p =
         table-hidden (replay l)
         (filled-replay emptyTree l (λ r i. well-length r (formed [] l r (sound-means l s) i)) tt)
@@ -199,7 +199,7 @@ pub blocks-end-to-end : (l rs qs m : List Rec) → takeAll l rs ≡ taken m → 
 blocks-end-to-end = takeAll-append
 
 -- two logs that took in the same records, in whatever order and blocks, are the same, and so show the same
-pub arrival-decides-nothing : (b c rs qs m p : List Rec) → soundAfter [] b ≡ true → soundAfter [] c ≡ true → takeAll b rs ≡ taken m → takeAll c qs ≡ taken p
+pub arrival-decides-nothing : (b c rs qs m p : List Rec) → soundAfter noCounts [] b ≡ true → soundAfter noCounts [] c ≡ true → takeAll b rs ≡ taken m → takeAll c qs ≡ taken p
     → ((s : Rec) → (Member s b ⊎ Member s rs) ↔ (Member s c ⊎ Member s qs)) → m ≡ p
 arrival-decides-nothing b c rs qs m p x y e f h =
     let v = all-from rs b m (sound-means b x) e in
@@ -214,7 +214,7 @@ arrival-decides-nothing b c rs qs m p x y e f h =
 
 -- a record that stands aside is open until a settle naming it fits, and settled from then on
 pub open-until-settled : (before : List Rec) (r : Rec) (after : List Rec) (n k : ℕ)
-    → soundAfter [] (before ++ (r ∷ after)) ≡ true
+    → soundAfter noCounts [] (before ++ (r ∷ after)) ≡ true
     → judge r (replay before) ≡ aside n k
     → openOf (selfOf r) (replay (before ++ (r ∷ after)) .asides) ≡ not (settledIn (selfOf r) (step (replay before) r) after)
 open-until-settled before r after n k s = Settling.open-until-settled before r after n k (Acting.sound-distinct (before ++ (r ∷ after)) (sound-means (before ++ (r ∷ after)) s))
@@ -258,5 +258,5 @@ pub stroke-of-a-label : (u : ℕ) (l : List Rec) (w : List ℕ) → length w ≡
 stroke-of-a-label = Strokes.stroke-of-a-label
 
 -- its refusal is never 17
-pub never-17 : (u : ℕ) (l : List Rec) (w : List ℕ) → length w ≡ 80 → soundAfter [] l ≡ true → actNumber u l w ≡ 17 → ⊥
+pub never-17 : (u : ℕ) (l : List Rec) (w : List ℕ) → length w ≡ 80 → soundAfter noCounts [] l ≡ true → actNumber u l w ≡ 17 → ⊥
 never-17 u l w n s = Acting.act-answers-never-17 u l w n (sound-means l s)

@@ -10,7 +10,7 @@ use lib.Dec.{eqb}
 use lib.ListN.{getD, length, replicate, length-replicate, replicate-append-replicate}
 use Rattle.model.specs.Bytes.{padded}
 use Rattle.model.specs.Record.{Rec, root, identity, unit, num, seen, identityAt, selfOf, objectOf, folderOf, wellFormed}
-use Rattle.model.specs.Log.{rank, count, recordsOf, soundLog}
+use Rattle.model.specs.Log.{rank, count, noCounts, recordsOf, soundLog}
 use Rattle.model.specs.Replay.{emptyTree, replayFrom, replay}
 use Rattle.model.specs.Table.{entryRows, asideRows}
 use Rattle.byte_slice.proofs.Numbers.{eq-or-ne}
@@ -68,7 +68,7 @@ has-listed at i zero j h g = absurd (omega arith)
 has-listed at i (suc m) j h g =
     ⊎-elim (λ (q : j ≡ i). inl (ap at q)) (λ (q : j ≡ i → ⊥). inr (has-listed at (suc i) m j (omega arith) (omega arith))) (eq-or-ne j i)
 
-rank-rises : (at : ℕ → Rec) (i m : ℕ) (pre : List Rec) → SoundAfter pre (listed at i m) → (p q : ℕ) → i ≤ p → p < q → q < i + m → rank (at p) < rank (at q)
+rank-rises : (at : ℕ → Rec) (i m : ℕ) (pre : List Rec) → SoundAfter noCounts pre (listed at i m) → (p q : ℕ) → i ≤ p → p < q → q < i + m → rank (at p) < rank (at q)
 unfolding listed
 rank-rises at i zero pre s p q h g l = absurd (omega arith)
 rank-rises at i (suc m) pre s p q h g l =

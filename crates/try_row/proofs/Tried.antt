@@ -9,7 +9,7 @@ use lib.ListN.{length, replicate}
 use borrow.Author.Tests.{eq-eqb, ne-eqb, eqb-true}
 use Rattle.model.specs.Bytes.{word, two, padded, putAt}
 use Rattle.model.specs.Vector.{vectorBytes}
-use Rattle.model.specs.Log.{vectorOf, recordsOf, soundLog}
+use Rattle.model.specs.Log.{vectorOf, noCounts, recordsOf, soundLog}
 use Rattle.model.specs.Replay.{replay}
 use Rattle.model.specs.Table.{tableBytes}
 use Rattle.row_model.specs.Row.{Tried, tried, rowFits, tryAll, Trial, trial, reported, orUntried, trialLent, tryOf}
@@ -76,7 +76,7 @@ module _ (log copy : List ℕ) (is : copy ≡ log) where
   pub copy-used : (used : ℕ) → used ≡ length (recordsOf log) → used ≡ length (recordsOf copy)
   copy-used used u = rw is u
 
-  pub copy-indexed : (used : ℕ) (held places seens : List ℕ) → Indexed (laidAt Log log) used (recordsOf log) held places seens → Indexed (laidAt Log copy) used (recordsOf copy) held places seens
+  pub copy-indexed : (used : ℕ) (held places seens : List ℕ) → Indexed noCounts (laidAt Log log) used (recordsOf log) held places seens → Indexed noCounts (laidAt Log copy) used (recordsOf copy) held places seens
   copy-indexed used held places seens i = rw is i
 
   pub copy-tried : (archive u : ℕ) (row : List ℕ) (t : Tried) → t ≡ tryAll archive u copy row → t ≡ tryAll archive u log row

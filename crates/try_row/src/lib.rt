@@ -4,7 +4,7 @@ ghost use mathlib.Core.Bool.{true};
 ghost use Prim.Native.Nat.{_≤_};
 ghost use lib.ListN.{length, replicate};
 ghost use Rattle.model.specs.Lengths.{logSize, fileSize, treeSize};
-ghost use Rattle.model.specs.Log.{vectorOf, recordsOf, soundLog};
+ghost use Rattle.model.specs.Log.{vectorOf, noCounts, recordsOf, soundLog};
 ghost use Rattle.model.specs.Bytes.{word};
 ghost use Rattle.model.specs.Replay.{replay};
 ghost use Rattle.model.specs.Table.{tableBytes};
@@ -53,7 +53,7 @@ fn open_trial(
 ) -> Opened
     requires { ⌜ (length (now places) ≡ placesSize) × (length (now seens) ≡ seensSize) ⌝ }
     ensures outright { λ r. ⌜ opened (r .number) (r .held .counts) (r .used) ≡ openOf unit (now (log .entry)) (trialLent (now (copy .entry)) (now (tree .entry)) (now (report .entry))) (rowFits (length (now (row .entry)))) ⌝ }
-    ensures holds { λ r. ⌜ (r .number ≡ 0 → Indexed (laidAt Log (now (log .entry))) (r .used) (recordsOf (now (log .entry))) (r .held .counts) (now (places .exit)) (now (seens .exit))) ⌝ }
+    ensures holds { λ r. ⌜ (r .number ≡ 0 → Indexed noCounts (laidAt Log (now (log .entry))) (r .used) (recordsOf (now (log .entry))) (r .held .counts) (now (places .exit)) (now (seens .exit))) ⌝ }
 {
     let lent = lent_fits(copy, tree, report);
     open_into(log, unit, lent, row_fits(row.len()), places, seens)
@@ -90,7 +90,7 @@ fn take_by(
     places: &mut [u16],
     seens: &mut [u16],
 ) -> RowJudged
-    requires { ⌜ (length (now row) ≤ fileSize) × (unit ≤ 7) × (length (now copy) ≡ logSize) × (soundLog (now copy) ≡ true) × (used ≡ length (recordsOf (now copy))) × (length (now tree) ≡ treeSize) × (length (now places) ≡ placesSize) × (length (now seens) ≡ seensSize) × Indexed (laidAt Log (now copy)) used (recordsOf (now copy)) (held .counts) (now places) (now seens) ⌝ }
+    requires { ⌜ (length (now row) ≤ fileSize) × (unit ≤ 7) × (length (now copy) ≡ logSize) × (soundLog (now copy) ≡ true) × (used ≡ length (recordsOf (now copy))) × (length (now tree) ≡ treeSize) × (length (now places) ≡ placesSize) × (length (now seens) ≡ seensSize) × Indexed noCounts (laidAt Log (now copy)) used (recordsOf (now copy)) (held .counts) (now places) (now seens) ⌝ }
     ensures took { λ r. ⌜ tried (r .taken) (r .stopped) (now (copy .exit)) ≡ tryAll archive unit (now (copy .entry)) (now (row .entry)) ⌝ }
     ensures counted { λ r. ⌜ (r .used ≡ length (recordsOf (now (copy .exit)))) × (r .held .counts ≡ vectorOf (recordsOf (now (copy .exit)))) ⌝ }
 {
@@ -120,7 +120,7 @@ fn take_copy(
     places: &mut [u16],
     seens: &mut [u16],
 ) -> RowJudged
-    requires { ⌜ (length (now row) ≤ fileSize) × (unit ≤ 7) × (length (now log) ≡ logSize) × (soundLog (now log) ≡ true) × (used ≡ length (recordsOf (now log))) × (length (now copy) ≡ logSize) × (length (now tree) ≡ treeSize) × (length (now places) ≡ placesSize) × (length (now seens) ≡ seensSize) × Indexed (laidAt Log (now log)) used (recordsOf (now log)) (held .counts) (now places) (now seens) ⌝ }
+    requires { ⌜ (length (now row) ≤ fileSize) × (unit ≤ 7) × (length (now log) ≡ logSize) × (soundLog (now log) ≡ true) × (used ≡ length (recordsOf (now log))) × (length (now copy) ≡ logSize) × (length (now tree) ≡ treeSize) × (length (now places) ≡ placesSize) × (length (now seens) ≡ seensSize) × Indexed noCounts (laidAt Log (now log)) used (recordsOf (now log)) (held .counts) (now places) (now seens) ⌝ }
     ensures took { λ r. ⌜ tried (r .taken) (r .stopped) (now (copy .exit)) ≡ tryAll archive unit (now (log .entry)) (now (row .entry)) ⌝ }
     ensures counted { λ r. ⌜ (r .used ≡ length (recordsOf (now (copy .exit)))) × (r .held .counts ≡ vectorOf (recordsOf (now (copy .exit)))) ⌝ }
 {

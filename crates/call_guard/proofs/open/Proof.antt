@@ -12,6 +12,9 @@ refused-requires c κs = search needs
 returns : tie.Need-returns
 returns c = search (early-refused)
 
+zero-vector-requires : tie.Need-zero-vector-requires
+zero-vector-requires c κs = search needs
+
 check-requires : tie.Need-check-requires
 check-requires c κs = search (passed-long)
 
@@ -22,4 +25,4 @@ returns-2 : tie.Need-returns-2
 returns-2 c = search (judged-opened)
 
 pub open-spec : {M : Type 1} → statement M
-open-spec = tie.close (tie.spec early-number-requires refused-requires returns check-requires judged-requires returns-2)
+open-spec = tie.close (tie.spec early-number-requires refused-requires returns zero-vector-requires check-requires judged-requires returns-2)

@@ -12,6 +12,9 @@ refused-requires c κs = search needs
 returns : tie.Need-returns
 returns c = (search (early-refused), (search (early-unfilled), λ z. search (early-opens-none)))
 
+zero-vector-requires : tie.Need-zero-vector-requires
+zero-vector-requires c κs = search needs
+
 check-into-requires : tie.Need-check-into-requires
 check-into-requires c κs = (search (passed-long), search needs, search needs)
 
@@ -34,6 +37,7 @@ open-into-spec =
     early-number-requires
     refused-requires
     returns
+    zero-vector-requires
     check-into-requires
     judged-requires
     same-length

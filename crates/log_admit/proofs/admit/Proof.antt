@@ -1,4 +1,4 @@
-use Rattle.log_admit.proofs.Faults.{admit-refuses, unit-admitted, count-spare, number-least, number-most, admit-notes}
+use Rattle.log_admit.proofs.Faults.{admit-refuses, unit-admitted, number-above, number-behind, number-least, number-most, admit-notes}
 use borrow.Author.Needs.{needs}
 use Rattle.log_admit.proofs.admit.Statement.{statement}
 use Rattle.log_admit.proofs.admit.Tie as tie
@@ -30,14 +30,23 @@ cast-u c = search needs
 number-of-requires : tie.Need-number-of-requires
 number-of-requires c κs = search needs
 
+mul-f : tie.Need-mul-f
+mul-f c = search needs
+
+element-copy-out-f : tie.Need-element-copy-out-f
+element-copy-out-f c = search (unit-admitted)
+
+counted-requires : tie.Need-counted-requires
+counted-requires c κs = (search (unit-admitted), search (number-above))
+
+sub-note : tie.Need-sub-note
+sub-note c = search (number-behind)
+
 note-requires : tie.Need-note-requires
 note-requires c κs = (search (unit-admitted), search (number-least), search (number-most), search needs, search needs, search needs)
 
-bump-requires : tie.Need-bump-requires
-bump-requires c κs = (search (unit-admitted), search (count-spare))
-
-add-t23 : tie.Need-add-t23
-add-t23 c = search needs
+add-t31 : tie.Need-add-t31
+add-t31 c = search needs
 
 same-length-3 : tie.Need-same-length-3
 same-length-3 c = search needs
@@ -61,9 +70,12 @@ admit-spec =
     unit-of-requires
     cast-u
     number-of-requires
+    mul-f
+    element-copy-out-f
+    counted-requires
+    sub-note
     note-requires
-    bump-requires
-    add-t23
+    add-t31
     same-length-3
     same-length-4
     returns-2)

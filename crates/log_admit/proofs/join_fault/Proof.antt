@@ -1,4 +1,4 @@
-use Rattle.log_admit.proofs.Faults.{placed-within, unit-small, count-fits, join-number, join-above, join-quick, join-open, join-none}
+use Rattle.log_admit.proofs.Faults.{placed-within, unit-small, join-number, join-above, join-quick, join-open, join-none}
 use borrow.Author.Needs.{needs}
 use Rattle.log_admit.proofs.join_fault.Statement.{statement}
 use Rattle.log_admit.proofs.join_fault.Tie as tie
@@ -14,14 +14,14 @@ cast-u c = search needs
 number-of-requires : tie.Need-number-of-requires
 number-of-requires c κs = search needs
 
-mul-if1 : tie.Need-mul-if1
-mul-if1 c = search needs
+mul-is-next : tie.Need-mul-is-next
+mul-is-next c = search needs
 
-element-copy-out-if1 : tie.Need-element-copy-out-if1
-element-copy-out-if1 c = search (unit-small)
+element-copy-out-is-next : tie.Need-element-copy-out-is-next
+element-copy-out-is-next c = search (unit-small)
 
-add-if1 : tie.Need-add-if1
-add-if1 c = search (count-fits)
+is-next-requires : tie.Need-is-next-requires
+is-next-requires c κs = search needs
 
 returns : tie.Need-returns
 returns c = search ways
@@ -54,9 +54,9 @@ join-fault-spec =
     unit-of-requires
     cast-u
     number-of-requires
-    mul-if1
-    element-copy-out-if1
-    add-if1
+    mul-is-next
+    element-copy-out-is-next
+    is-next-requires
     returns
     covers-requires
     returns-2

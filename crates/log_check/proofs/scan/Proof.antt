@@ -11,23 +11,23 @@ use Rattle.log_check.proofs.scan.Statement.{statement}
 use Rattle.log_check.proofs.scan.Tie as tie
 
 abbrev Inv-loop : tie.InvT-loop
-Inv-loop bytes layout n places₀ seens₀ none b₀ i₀ places seens b i =
+Inv-loop base bytes layout n places₀ seens₀ none b₀ i₀ places seens b i =
     (i ≤ n)
     × (none .counts ≡ replicate 8 0)
     × (length places ≡ 4096)
     × (length seens ≡ 4144)
-    × (firstFault (laidAt layout bytes) i (n - i) ≡ firstFault (laidAt layout bytes) 0 n)
-    × (scanFrom (laidAt layout bytes) i (n - i) (b .held .counts) (b .floor) places seens ≡ scanOf (laidAt layout bytes) n places₀ seens₀)
-    × Passed (laidAt layout bytes) i (b .held .counts) (b .floor) places seens
+    × (firstFault (base .counts) (laidAt layout bytes) i (n - i) ≡ firstFault (base .counts) (laidAt layout bytes) 0 n)
+    × (scanFrom (base .counts) (laidAt layout bytes) i (n - i) (b .held .counts) (b .floor) places seens ≡ scanOf (base .counts) (laidAt layout bytes) n places₀ seens₀)
+    × Passed (base .counts) (laidAt layout bytes) i (b .held .counts) (b .floor) places seens
 
 abbrev μ-loop : tie.MeasureT-loop
-μ-loop bytes layout n places₀ seens₀ none b₀ i₀ places seens b i = n - i
+μ-loop base bytes layout n places₀ seens₀ none b₀ i₀ places seens b i = n - i
 
 zero-vector-requires : tie.Need-zero-vector-requires Inv-loop μ-loop
 zero-vector-requires c κs = search needs
 
 loop-holds : tie.Need-loop-holds Inv-loop μ-loop
-loop-holds c = (omega arith, search needs, search needs, search needs, rw sub-zero, search (left-none), search (passed-none))
+loop-holds c = (omega arith, search needs, search needs, search needs, rw sub-zero, search (left-none), search (passed-none, needs))
 
 offset-requires : tie.Need-offset-requires Inv-loop μ-loop
 offset-requires c κs = search needs
@@ -63,7 +63,9 @@ loop-less : tie.Need-loop-less Inv-loop μ-loop
 loop-less c = search needs
 
 loop-again : tie.Need-loop-again Inv-loop μ-loop
-loop-again c = (omega arith, search needs, search needs, search needs, search (scan-first), search (scan-more), search (scan-passed))
+loop-again c =
+    let passed = c .before .before .before .before .before .before .before .before .before .before .before .before .before .loop .inv .6 in
+    (omega arith, search needs, search needs, search needs, search (scan-first), search (scan-more), search (scan-passed, passed))
 
 same-length-3 : tie.Need-same-length-3 Inv-loop μ-loop
 same-length-3 c = search needs

@@ -10,10 +10,10 @@ use Rattle.log_closure.proofs.all_covered.Statement.{statement}
 use Rattle.log_closure.proofs.all_covered.Tie as tie
 
 abbrev Inv-loop : tie.InvT-loop
-Inv-loop places seens s u₀ u = (u ≤ 8) × (allTo u (unitClosed places seens (s .counts)) ≡ true)
+Inv-loop base places seens s u₀ u = (u ≤ 8) × (allTo u (unitClosed (base .counts) places seens (s .counts)) ≡ true)
 
 abbrev μ-loop : tie.MeasureT-loop
-μ-loop places seens s u₀ u = 8 - u
+μ-loop base places seens s u₀ u = 8 - u
 
 loop-holds : tie.Need-loop-holds Inv-loop μ-loop
 unfolding allTo

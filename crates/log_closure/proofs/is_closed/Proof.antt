@@ -14,16 +14,16 @@ use Rattle.log_closure.proofs.is_closed.Lts as lts
 use Rattle.log_closure.proofs.position.Reads as position-reads
 
 abbrev Inv-loop : tie.InvT-loop
-Inv-loop places seens s closed₀ u c p v₀ closed v = (v ≤ 8) × (closed ≡ closed₀) × (p < 518) × (coversTo (s .counts) (rowAt seens p) v ≡ true)
+Inv-loop places seens base s closed₀ u c f p v₀ closed v = (v ≤ 8) × (closed ≡ closed₀) × (p < 518) × (coversTo (s .counts) (rowAt seens p) v ≡ true)
 
 abbrev μ-loop : tie.MeasureT-loop
-μ-loop places seens s closed₀ u c p v₀ closed v = 8 - v
+μ-loop places seens base s closed₀ u c f p v₀ closed v = 8 - v
 
 abbrev Inv-units : tie.InvT-units
-Inv-units places seens s closed₀ u₀ closed u = (u ≤ 8) × (closed ≡ true) × (allTo u (unitClosed places seens (s .counts)) ≡ true)
+Inv-units places seens base s closed₀ u₀ closed u = (u ≤ 8) × (closed ≡ true) × (allTo u (unitClosed (base .counts) places seens (s .counts)) ≡ true)
 
 abbrev μ-units : tie.MeasureT-units
-μ-units places seens s closed₀ u₀ closed u = 8 - u
+μ-units places seens base s closed₀ u₀ closed u = 8 - u
 
 units-holds : tie.Need-units-holds Inv-loop μ-loop Inv-units μ-units
 unfolding allTo
@@ -35,6 +35,12 @@ mul-c c = search needs
 element-copy-out-c : tie.Need-element-copy-out-c Inv-loop μ-loop Inv-units μ-units
 element-copy-out-c c = search needs
 
+mul-f : tie.Need-mul-f Inv-loop μ-loop Inv-units μ-units
+mul-f c = search needs
+
+element-copy-out-f : tie.Need-element-copy-out-f Inv-loop μ-loop Inv-units μ-units
+element-copy-out-f c = search needs
+
 add-u : tie.Need-add-u Inv-loop μ-loop Inv-units μ-units
 add-u c = search needs
 
@@ -43,6 +49,9 @@ units-less c = search needs
 
 units-again : tie.Need-units-again Inv-loop μ-loop Inv-units μ-units
 units-again c = (omega arith, search needs, search (none-counted))
+
+sub-position : tie.Need-sub-position Inv-loop μ-loop Inv-units μ-units
+sub-position c = search needs
 
 position-requires : tie.Need-position-requires Inv-loop μ-loop Inv-units μ-units
 position-requires c κs = (search needs, search needs, omega arith, search (few-seen))
@@ -104,9 +113,12 @@ is-closed-spec =
     units-holds
     mul-c
     element-copy-out-c
+    mul-f
+    element-copy-out-f
     add-u
     units-less
     units-again
+    sub-position
     position-requires
     loop-holds
     mul-if2

@@ -10,8 +10,17 @@ mul-c c = search needs
 element-copy-out-c : tie.Need-element-copy-out-c
 element-copy-out-c c = search needs
 
+mul-f : tie.Need-mul-f
+mul-f c = search needs
+
+element-copy-out-f : tie.Need-element-copy-out-f
+element-copy-out-f c = search needs
+
 returns : tie.Need-returns
 returns c = search (unit-none)
+
+sub-position : tie.Need-sub-position
+sub-position c = search needs
 
 position-requires : tie.Need-position-requires
 position-requires c κs = (search needs, search needs, omega arith, search (few-seen))
@@ -31,7 +40,10 @@ unit-covered-spec =
     (tie.spec
     mul-c
     element-copy-out-c
+    mul-f
+    element-copy-out-f
     returns
+    sub-position
     position-requires
     row-at-requires
     covers-requires

@@ -9,11 +9,14 @@ records-counted-requires c κs = search needs
 at-most-512-requires : tie.Need-at-most-512-requires
 at-most-512-requires c κs = search needs
 
+zero-vector-requires : tie.Need-zero-vector-requires
+zero-vector-requires c κs = search needs
+
 scan-requires : tie.Need-scan-requires
 scan-requires c κs = (search needs, search (file-laid), search needs, search needs)
 
-cast-t16 : tie.Need-cast-t16
-cast-t16 c = search (small-place)
+cast-place : tie.Need-cast-place
+cast-place c = search (small-place)
 
 same-length : tie.Need-same-length
 same-length c = search needs
@@ -48,8 +51,9 @@ records-fault-spec =
     (tie.spec
     records-counted-requires
     at-most-512-requires
+    zero-vector-requires
     scan-requires
-    cast-t16
+    cast-place
     same-length
     same-length-2
     returns

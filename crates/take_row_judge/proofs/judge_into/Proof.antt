@@ -54,6 +54,9 @@ part-take-at-start c = search needs
 part-take-at-end : tie.Need-part-take-at-end Inv-loop μ-loop
 part-take-at-end c = search needs
 
+zero-vector-requires : tie.Need-zero-vector-requires Inv-loop μ-loop
+zero-vector-requires c κs = search needs
+
 take-at-requires : tie.Need-take-at-requires Inv-loop μ-loop
 take-at-requires c κs = (search needs, search needs, search needs, search needs, search needs, search (running-placed), search (running-counted))
 
@@ -79,11 +82,12 @@ loop-again : tie.Need-loop-again Inv-loop μ-loop
 loop-again c =
     let take = c .before .before .before .before .before .before .before in
     let put = take .before .before .before .before .before .before .before in
-    let inside = put .before .before .before in
+    let zero = put .before .before .before in
+    let inside = zero .before in
     let at = inside .before in
     let inv = at .loop .inv in
     let pre = at .before .before .before .before .before .before .pre in
-    let g = running-next _ _ _ _ _ _ _ _ _ _ _ _ (inv .5) (inside .loop-test .taken) (pre .2) (inv .1) (pre .0) _ (put .put .ensures) _ _ _ _ _ (take .take-at .ensures) (c .before .if1 .left) in
+    let g = running-next _ _ _ _ _ _ _ _ _ _ _ _ (inv .5) (inside .loop-test .taken) (pre .2) (inv .1) (pre .0) _ (put .put .ensures) _ (zero .zero-vector .ensures) _ _ _ _ _ (take .take-at .ensures) (c .before .if1 .left) in
     (omega arith, search needs, search needs, search needs, running-few _ _ _ _ _ _ _ _ _ _ _ _ g, g)
 
 same-length-4 : tie.Need-same-length-4 Inv-loop μ-loop
@@ -107,6 +111,7 @@ judge-into-spec =
     loop-holds
     mul-at
     add-at
+    zero-vector-requires
     mul-put
     add-put
     sub-put

@@ -7,7 +7,7 @@ use Rattle.row_model.specs.Row.{tryFrom, tryAll}
 use Rattle.row_laws.proofs.Turns.{block-is, block-inside, turns-start, turns-end, turn-stops, turn-goes}
 use Rattle.take_row_store.specs.Grown.{heldIn}
 use Rattle.take_row_judge.specs.Kept.{Kept}
-use Rattle.take_row_judge.proofs.Judged.{row-starts, row-gives, one-kept}
+use Rattle.take_row_judge.proofs.Judged.{row-starts, kept-counts, row-gives, one-kept}
 use borrow.Author.Needs.{needs}
 use native.Mathlib.Omega.{arith}
 use Rattle.take_row_judge.proofs.judge_row.Statement.{statement}
@@ -89,7 +89,7 @@ same-length-6 : tie.Need-same-length-6 Inv-loop μ-loop
 same-length-6 c = search needs
 
 returns-2 : tie.Need-returns-2 Inv-loop μ-loop
-returns-2 c = search (row-gives, turns-end)
+returns-2 c = search (row-gives, turns-end, kept-counts)
 
 pub judge-row-spec : {M : Type 1} → statement M
 judge-row-spec =
