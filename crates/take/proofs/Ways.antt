@@ -80,6 +80,11 @@ pub block-passed : (log b : List ℕ) (n k : ℕ) (base : List ℕ) → base ≡
 unfolding blockRecords
 block-passed log b n k base y j q h = rw (← q) at (gives-taken base y (recordsOf log) b n k j h)
 
+-- behind no record, as the tables have it
+pub base-indexed : (base : List ℕ) → base ≡ noCounts → (log : List ℕ) (used : ℕ) (held places seens : List ℕ) → Indexed noCounts (laidAt Log log) used (recordsOf log) held places seens
+    → Indexed base (laidAt Log log) used (recordsOf log) held places seens
+base-indexed base y log used held places seens i = rw y i
+
 -- a sound log is stored
 pub log-stored : (log : List ℕ) (used : ℕ) (held places seens : List ℕ) → length log ≡ 40960 → soundLog log ≡ true → used ≡ length (recordsOf log)
     → Indexed noCounts (laidAt Log log) used (recordsOf log) held places seens → Stored (recordsOf log) log used held

@@ -1,4 +1,4 @@
-use Rattle.take.proofs.Ways.{block-bad, bad-left, judged-left, taken-left, given-long, given-few, block-refused, log-stored, block-passed, block-taken}
+use Rattle.take.proofs.Ways.{block-bad, bad-left, judged-left, taken-left, given-long, given-few, base-indexed, block-refused, log-stored, block-passed, block-taken}
 use borrow.Author.Needs.{needs}
 use Rattle.take.proofs.take_block.Statement.{statement}
 use Rattle.take.proofs.take_block.Tie as tie
@@ -19,7 +19,7 @@ zero-vector-requires : tie.Need-zero-vector-requires
 zero-vector-requires c κs = search needs
 
 judge-block-requires : tie.Need-judge-block-requires
-judge-block-requires c κs = (search (given-long), search needs, search (given-few), search needs, search needs, search needs, search needs, search needs)
+judge-block-requires c κs = (search (given-long), search needs, search (given-few), search needs, search needs, search needs, search needs, search (base-indexed))
 
 same-length : tie.Need-same-length
 same-length c = search needs
