@@ -36,45 +36,35 @@ is-settle : (o : ℕ) → o ≤ 6 → leb o 2 ≡ false → eqb o 3 ≡ false �
 is-settle o h a b c d = eq-eqb o 6 (omega (arith, leb-false o 2 a, eqb-false o 3 b, eqb-false o 4 c, eqb-false o 5 d))
 
 module _ (r : Rec) (t : Tree) (h : op r ≤ 6) where
+  -- a make, store, remove, rename or neither of them
+  by-operation : {A : Type 0} → (leb (op r) 2 ≡ true → A) → (leb (op r) 2 ≡ false → eqb (op r) 3 ≡ true → A)
+      → (leb (op r) 2 ≡ false → eqb (op r) 3 ≡ false → eqb (op r) 4 ≡ true → A)
+      → (leb (op r) 2 ≡ false → eqb (op r) 3 ≡ false → eqb (op r) 4 ≡ false → eqb (op r) 5 ≡ true → A)
+      → (leb (op r) 2 ≡ false → eqb (op r) 3 ≡ false → eqb (op r) 4 ≡ false → eqb (op r) 5 ≡ false → A) → A
+  by-operation f g h k m =
+      ⊎-elim f
+      (λ a. ⊎-elim (g a) (λ b. ⊎-elim (h a b) (λ c. ⊎-elim (k a b c) (m a b c) (bool-cases (eqb (op r) 5))) (bool-cases (eqb (op r) 4))) (bool-cases (eqb (op r) 3)))
+      (bool-cases (leb (op r) 2))
+
   judge-before : judge r t ≡ judgeBefore r t
   unfolding judge judgeBefore
   judge-before =
-      ⊎-elim
-      (λ (a : leb (op r) 2 ≡ true). rw a (make-before r (t .entries)))
-      (λ (a : leb (op r) 2 ≡ false).
-      ⊎-elim
-      (λ (b : eqb (op r) 3 ≡ true). rw (a, b))
-      (λ (b : eqb (op r) 3 ≡ false).
-      ⊎-elim
-      (λ (c : eqb (op r) 4 ≡ true). rw (a, b, c))
-      (λ (c : eqb (op r) 4 ≡ false).
-      ⊎-elim
-      (λ (d : eqb (op r) 5 ≡ true). rw (a, b, c, d))
-      (λ (d : eqb (op r) 5 ≡ false). rw (a, b, c, d, is-settle (op r) h a b c d))
-      (bool-cases (eqb (op r) 5)))
-      (bool-cases (eqb (op r) 4)))
-      (bool-cases (eqb (op r) 3)))
-      (bool-cases (leb (op r) 2))
+      by-operation
+      (λ a. rw a (make-before r (t .entries)))
+      (λ a b. rw (a, b))
+      (λ a b c. rw (a, b, c))
+      (λ a b c d. rw (a, b, c, d))
+      (λ a b c d. rw (a, b, c, d, is-settle (op r) h a b c d))
 
   effect-before : effect r t ≡ effectBefore r t
   unfolding effect effectBefore
   effect-before =
-      ⊎-elim
-      (λ (a : leb (op r) 2 ≡ true). rw a)
-      (λ (a : leb (op r) 2 ≡ false).
-      ⊎-elim
-      (λ (b : eqb (op r) 3 ≡ true). rw (a, b))
-      (λ (b : eqb (op r) 3 ≡ false).
-      ⊎-elim
-      (λ (c : eqb (op r) 4 ≡ true). rw (a, b, c))
-      (λ (c : eqb (op r) 4 ≡ false).
-      ⊎-elim
-      (λ (d : eqb (op r) 5 ≡ true). rw (a, b, c, d))
-      (λ (d : eqb (op r) 5 ≡ false). rw (a, b, c, d, is-settle (op r) h a b c d))
-      (bool-cases (eqb (op r) 5)))
-      (bool-cases (eqb (op r) 4)))
-      (bool-cases (eqb (op r) 3)))
-      (bool-cases (leb (op r) 2))
+      by-operation
+      (λ a. rw a)
+      (λ a b. rw (a, b))
+      (λ a b c. rw (a, b, c))
+      (λ a b c d. rw (a, b, c, d))
+      (λ a b c d. rw (a, b, c, d, is-settle (op r) h a b c d))
 
   apply-before : (v : Verdict) → apply v r t ≡ applyBefore v r t
   unfolding apply applyBefore

@@ -55,6 +55,34 @@ pub const fn value(
     }
 }
 
+// Options that several commands have.
+/// The unit that a new record is of.
+pub const OWN_UNIT: Opt = value(
+    "own-unit",
+    None,
+    "U",
+    "the unit whose only home is this machine",
+);
+/// The date of a new record.
+pub const DATE: Opt = value(
+    "date",
+    None,
+    "DATE",
+    "as 2025-03-03; without it today's, in universal time",
+);
+/// Nothing is written.
+pub const DRY_RUN: Opt = flag(
+    "dry-run",
+    Some('n'),
+    "say what would happen, and write nothing",
+);
+/// The old file is kept.
+pub const BACKUP: Opt = flag(
+    "backup",
+    None,
+    "keep the old file under its name with a ~ behind it",
+);
+
 impl Opt {
     /// The option as a usage line has it.
     pub fn spelled(&self) -> String {

@@ -3,7 +3,9 @@
 use super::meet::tell_dry_run;
 use super::{Command, Session};
 use crate::archive::{Archive, Own};
-use crate::args::{Opt, Read, Usage, as_text, flag, nearest, parsed, value};
+use crate::args::{
+    BACKUP, DATE, DRY_RUN, OWN_UNIT, Opt, Read, Usage, as_text, nearest, parsed, value,
+};
 use crate::failure::{Outcome, Refused, of_library, usage};
 use crate::json::Object;
 use crate::numbers::Case;
@@ -49,12 +51,7 @@ which unit this machine is, and a file of another unit is refused.",
 };
 
 const OPTIONS: &[Opt] = &[
-    value(
-        "own-unit",
-        None,
-        "U",
-        "the unit whose only home is this machine",
-    ),
+    OWN_UNIT,
     value(
         "in",
         None,
@@ -67,22 +64,9 @@ const OPTIONS: &[Opt] = &[
         "MARK",
         "the mark of the trace's data, 32 hexadecimal digits",
     ),
-    value(
-        "date",
-        None,
-        "DATE",
-        "as 2025-03-03; without it today's, in universal time",
-    ),
-    flag(
-        "dry-run",
-        Some('n'),
-        "say what would happen, and write nothing",
-    ),
-    flag(
-        "backup",
-        None,
-        "keep the old file under its name with a ~ behind it",
-    ),
+    DATE,
+    DRY_RUN,
+    BACKUP,
 ];
 
 const OPERATIONS: [&str; 7] = [

@@ -2,7 +2,7 @@
 
 use super::{Command, Session};
 use crate::archive::{Archive, Own};
-use crate::args::{Opt, flag, value};
+use crate::args::{BACKUP, DRY_RUN, Opt, value};
 use crate::change::Change;
 use crate::failure::{Failure, Outcome, Refused, of_library, usage};
 use crate::files;
@@ -16,16 +16,8 @@ use std::path::{Path, PathBuf};
 
 /// Options of `meet`, `pass` and `take`.
 pub const OPTIONS: &[Opt] = &[
-    flag(
-        "dry-run",
-        Some('n'),
-        "say what would happen, and write nothing",
-    ),
-    flag(
-        "backup",
-        None,
-        "keep the old file under its name with a ~ behind it",
-    ),
+    DRY_RUN,
+    BACKUP,
     value(
         "max-blocks",
         None,

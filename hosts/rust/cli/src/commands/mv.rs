@@ -3,7 +3,7 @@
 use super::act::{Operation, Wanted};
 use super::{Command, Session, act};
 use crate::archive::{Archive, Own};
-use crate::args::{as_text, flag, value};
+use crate::args::{BACKUP, DATE, DRY_RUN, OWN_UNIT, as_text};
 use crate::failure::{Outcome, usage};
 use crate::out::Status;
 use crate::places::{Place, Places};
@@ -32,30 +32,7 @@ or below itself (25). The same as sab act FILE --own-unit=U move ENTRY LABEL
 
 An analyser before version 5 does not know moves and refuses a card that has one
 with 7: change all units of the archive over first.",
-    options: &[
-        value(
-            "own-unit",
-            None,
-            "U",
-            "the unit whose only home is this machine",
-        ),
-        value(
-            "date",
-            None,
-            "DATE",
-            "as 2025-03-03; without it today's, in universal time",
-        ),
-        flag(
-            "dry-run",
-            Some('n'),
-            "say what would happen, and write nothing",
-        ),
-        flag(
-            "backup",
-            None,
-            "keep the old file under its name with a ~ behind it",
-        ),
-    ],
+    options: &[OWN_UNIT, DATE, DRY_RUN, BACKUP],
     statuses: "0 moved; 1 a path names no entry; 3 the file cannot be read or written; 4 refused: the move does not fit",
     run,
 };

@@ -1,7 +1,7 @@
 //! `sab settle`: an aside is settled.
 
 use super::{Command, Session, act};
-use crate::args::{flag, value};
+use crate::args::{BACKUP, DATE, DRY_RUN, OWN_UNIT};
 use crate::failure::{Outcome, usage};
 use crate::out::Status;
 use std::path::PathBuf;
@@ -15,30 +15,7 @@ pub const COMMAND: Command = Command {
 Makes a record that settles an aside: someone has looked after it, and the entry
 that it marks is no longer disputed by it. The same as sab act FILE --own-unit=U
 settle RECORD; sab help act says for which files this is.",
-    options: &[
-        value(
-            "own-unit",
-            None,
-            "U",
-            "the unit whose only home is this machine",
-        ),
-        value(
-            "date",
-            None,
-            "DATE",
-            "as 2025-03-03; without it today's, in universal time",
-        ),
-        flag(
-            "dry-run",
-            Some('n'),
-            "say what would happen, and write nothing",
-        ),
-        flag(
-            "backup",
-            None,
-            "keep the old file under its name with a ~ behind it",
-        ),
-    ],
+    options: &[OWN_UNIT, DATE, DRY_RUN, BACKUP],
     statuses: "0 settled; 3 the file cannot be read or written; 4 refused: nothing of this identity stands aside",
     run,
 };

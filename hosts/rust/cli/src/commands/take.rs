@@ -3,7 +3,7 @@
 use super::meet::{tell_change, tell_dry_run, tell_open};
 use super::{Command, Session};
 use crate::archive::{LIMIT, Own};
-use crate::args::flag;
+use crate::args::{BACKUP, DRY_RUN};
 use crate::failure::{Failure, Outcome, Refused, of_library};
 use crate::files;
 use crate::json::Object;
@@ -38,8 +38,8 @@ taken; - is standard input.
 If a record is held with other bytes (10), nothing is written at all: a unit used
 a number twice, and that has to be looked after first.",
     options: &[
-        flag("dry-run", Some('n'), "say what would happen, and write nothing"),
-        flag("backup", None, "keep the old file under its name with a ~ behind it"),
+        DRY_RUN,
+        BACKUP,
     ],
     statuses: "0 all blocks are taken; 1 stopped at a block; 3 a file cannot be read or written; \
                4 refused: the file, a row that is no row of blocks, or a number used twice (10)",
