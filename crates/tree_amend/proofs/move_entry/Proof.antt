@@ -1,5 +1,5 @@
 use Rattle.tree_amend.proofs.Registers.{move-leaves, move-register}
-use Rattle.tree_amend.proofs.Amending.{unchanged, moved-object, moved-folder, move-done, move-nodes, shift-counts, leave-counts, row-end, label-end, works-chains}
+use Rattle.tree_amend.proofs.Amending.{unchanged, moved-object, moved-folder, move-done, move-nodes, shift-counts, leave-counts, row-end, label-end, works-chains, works-wide}
 use Rattle.tree_lookup.proofs.Working.{works-long}
 use Rattle.model.specs.Record.{labelOf}
 use Rattle.model.specs.Bytes.{part}
@@ -23,14 +23,23 @@ same-length-2 c = search needs
 returns : tie.Need-returns
 returns c = (search (unchanged), omega arith, search (move-leaves))
 
+inside-at-requires : tie.Need-inside-at-requires
+inside-at-requires c κs = (search (works-long), omega arith)
+
+folder-of-requires : tie.Need-folder-of-requires
+folder-of-requires c κs = search needs
+
+place-of-requires : tie.Need-place-of-requires
+place-of-requires c κs = search needs
+
+place-of-requires-2 : tie.Need-place-of-requires-2
+place-of-requires-2 c κs = search needs
+
 mul-at : tie.Need-mul-at
 mul-at c = search needs
 
 add-at : tie.Need-add-at
 add-at c = search needs
-
-inside-at-requires : tie.Need-inside-at-requires
-inside-at-requires c κs = (search (works-long), omega arith)
 
 add-shift : tie.Need-add-shift
 add-shift c = search needs
@@ -47,9 +56,6 @@ part-shift-start c = search needs
 part-shift-end : tie.Need-part-shift-end
 part-shift-end c = search (label-end)
 
-folder-of-requires : tie.Need-folder-of-requires
-folder-of-requires c κs = search needs
-
 sub-shift-2 : tie.Need-sub-shift-2
 sub-shift-2 c = search needs
 
@@ -60,7 +66,7 @@ part-shift-end-2 : tie.Need-part-shift-end-2
 part-shift-end-2 c = search needs
 
 shift-requires : tie.Need-shift-requires
-shift-requires c κs = (search (works-chains), search (leave-counts), search (shift-counts), search, search needs, search needs, omega arith)
+shift-requires c κs = (search (works-chains), search (works-wide), omega arith, search (leave-counts), omega arith, search (shift-counts), search, search needs, search needs, omega arith)
 
 add-move-row : tie.Need-add-move-row
 add-move-row c = search needs
@@ -88,12 +94,12 @@ unfolding labelOf part
 returns-2 c =
     let a = c .before .before in
     let d = a .before .before .before .before in
-    let e = d .before .before .before .before .before .before .before .before in
+    let e = d .before .before .before .before .before .before .before .before .before .before in
     let o = e .before .before in
     let s = o .before .before .before .before .before .before .before in (
-      move-done _ _ _ _ (s .pre .1) _ (s .pre .0) _ _ (o .before .object-of .ensures) (o .entry-of .ensures .1) _ _ _ (e .if1 .left) (s .pre .3) (d .before .before .before .before .before .inside-at .ensures) _ (d .before .before .folder-of .ensures) (d .shift .ensures) _ (a .move-row .ensures),
+      move-done _ _ _ _ (s .pre .1) _ (s .pre .0) _ _ (o .before .object-of .ensures) (o .entry-of .ensures .1) _ _ _ (e .if1 .left) (s .pre .3) (d .before .before .before .before .before .before .before .before .before .inside-at .ensures) _ (d .before .before .before .before .before .before .before .before .folder-of .ensures) (s .pre .2) _ (d .before .before .before .before .before .before .before .place-of .ensures .0) (d .before .before .before .before .before .before .before .place-of .ensures .1) _ (d .before .before .before .before .before .before .place-of2 .ensures .0) (d .before .before .before .before .before .before .place-of2 .ensures .1) (d .shift .ensures) _ (a .move-row .ensures),
       search (move-nodes),
-      move-register _ _ _ _ _ _ _ (o .before .object-of .ensures) (o .entry-of .ensures .0) (o .entry-of .ensures .1) (e .if1 .left) _ (d .before .before .before .before .before .inside-at .ensures) _ _ (d .before .before .folder-of .ensures) (d .shift .ensures),
+      move-register _ _ _ _ _ _ _ (o .before .object-of .ensures) (o .entry-of .ensures .0) (o .entry-of .ensures .1) (e .if1 .left) _ (d .before .before .before .before .before .before .before .before .before .inside-at .ensures) _ _ (d .before .before .before .before .before .before .before .before .folder-of .ensures) _ (d .before .before .before .before .before .before .before .place-of .ensures .0) _ (d .before .before .before .before .before .before .place-of2 .ensures .0) (d .shift .ensures),
     )
 
 pub move-entry-spec : {M : Type 1} → statement M
@@ -105,15 +111,17 @@ move-entry-spec =
     same-length
     same-length-2
     returns
+    inside-at-requires
+    folder-of-requires
+    place-of-requires
+    place-of-requires-2
     mul-at
     add-at
-    inside-at-requires
     add-shift
     add-shift-2
     sub-shift
     part-shift-start
     part-shift-end
-    folder-of-requires
     sub-shift-2
     part-shift-start-2
     part-shift-end-2

@@ -1,10 +1,17 @@
-use Rattle.tree_effect.proofs.Effects.{entry-added, made-nodes, enter-chains, enter-nodes, enter-count, next-row-end, own-low, folder-low}
+use Rattle.tree_effect.proofs.Effects.{entry-added, made-nodes, name-chains, name-room, enter-chains, enter-wide, enter-nodes, enter-count, next-row-end, own-low, folder-low}
 use Rattle.model.specs.Record.{labelOf}
 use Rattle.model.specs.Bytes.{part}
 use Rattle.tree_effect.proofs.Registers.{make-register}
+use native.Mathlib.Omega.{arith}
 use borrow.Author.Needs.{needs}
 use Rattle.tree_effect.proofs.add_entry.Statement.{statement}
 use Rattle.tree_effect.proofs.add_entry.Tie as tie
+
+folder-of-requires : tie.Need-folder-of-requires
+folder-of-requires c κs = search needs
+
+place-of-requires : tie.Need-place-of-requires
+place-of-requires c κs = search needs
 
 mul-at : tie.Need-mul-at
 mul-at c = search needs
@@ -30,17 +37,11 @@ fill-row-requires c κs = (search needs, search, search (own-low), search (folde
 self-of-requires : tie.Need-self-of-requires
 self-of-requires c κs = search needs
 
-slot-requires : tie.Need-slot-requires
-slot-requires c κs = search needs
+add-name : tie.Need-add-name
+add-name c = search needs
 
-add-put : tie.Need-add-put
-add-put c = search needs
-
-put-requires : tie.Need-put-requires
-put-requires c κs = search needs
-
-folder-of-requires : tie.Need-folder-of-requires
-folder-of-requires c κs = search needs
+name-requires : tie.Need-name-requires
+name-requires c κs = (search (name-chains), search (name-room), omega arith)
 
 sub-enter : tie.Need-sub-enter
 sub-enter c = search needs
@@ -53,15 +54,7 @@ part-enter-end c = search needs
 
 enter-requires : tie.Need-enter-requires
 enter-requires c κs =
-    let p = c .before .before .before .before .before in
-    let s = p .before .before .before .before .before .before .before .before .before .before .before .before .before in
-    let low = p .before .before .before .slot .ensures .1 in (
-      enter-chains _ _ _ _ (s .pre .1) _ _ low _ (p .put .ensures),
-      enter-count _ _ _ _ (s .pre .1) _ _ low _ (p .put .ensures) (s .pre .2) _,
-      enter-nodes _ _ _ _ (s .pre .1) _ _ low _ (p .put .ensures) (s .pre .3),
-      search needs,
-      search needs,
-    )
+    (search (enter-chains), search (enter-wide), omega arith, search (enter-count), search (enter-nodes), search needs, omega arith)
 
 add-t10 : tie.Need-add-t10
 add-t10 c = search needs
@@ -80,6 +73,8 @@ pub add-entry-spec : {M : Type 1} → statement M
 add-entry-spec =
     tie.close
     (tie.spec
+    folder-of-requires
+    place-of-requires
     mul-at
     add-at
     add-fill-row
@@ -88,10 +83,8 @@ add-entry-spec =
     part-fill-row-end
     fill-row-requires
     self-of-requires
-    slot-requires
-    add-put
-    put-requires
-    folder-of-requires
+    add-name
+    name-requires
     sub-enter
     part-enter-start
     part-enter-end
