@@ -28,11 +28,12 @@ use Rattle.tree_maps.specs.Keys.{registerSize, folderAt, relabelled, left, shif
 use Rattle.tree_maps.proofs.Counts.{children-some, children-few, present-in}
 use Rattle.tree_maps.proofs.Keeping.{keyed-same, keyed-relabelled, keyed-left, keyed-shifted, relabelled-before, relabelled-long, relabelled-nodes, left-before, left-long, left-nodes, shifted-before, shifted-long, shifted-nodes}
 use Rattle.tree_lookup.proofs.Places.{row-lone, change-at, note-at, not-settled}
-use Rattle.tree_lookup.proofs.Working.{blankEntry, blankAside, proper-at, row-none, row-some, works-long, works-row, role-note, role-no-note}
+use Rattle.tree_lookup.proofs.Working.{blankEntry, blankAside, proper-at, row-none, row-some, works-long, works-row, row-low, role-note, role-no-note}
 use Rattle.tree_lookup.proofs.Homes.{place-folder, one-each, housed-at}
 use Rattle.tree_judge.specs.Judged.{Asks}
 use Rattle.tree_judge.proofs.Reasons.{object-range, move-names}
 use Rattle.tree_amend.specs.Effects.{withEntries, withAsides, Takes}
+use Rattle.tree_amend.specs.Registers.{shiftedOn}
 use Rattle.tree_amend.proofs.Changes.{works-part, works-part-aside, works-change, works-settle}
 
 -- ---- an entry that is found, and its row
@@ -79,6 +80,9 @@ module _ (b register : List ℕ) (n m : ℕ) (w : Holds b register n m) (k row :
   here-some : row < n → (getD (entriesFrom b 0 n) row blankEntry .made ≡ k) × (isPresent (getD (entriesFrom b 0 n) row blankEntry) ≡ true)
   here-some h = rw (here-is h) (some-entry k (entriesFrom b 0 n) (entryIn b (4 + 72 * row)) (sym o ∙ row-some b n row h))
 
+  pub row-present : row < n → isPresent (entryIn b (4 + 72 * row)) ≡ true
+  row-present h = some-entry k (entriesFrom b 0 n) (entryIn b (4 + 72 * row)) (sym o ∙ row-some b n row h) .1
+
   here-low : row < n → row < length (entriesFrom b 0 n)
   unfolding treeIn
   here-low h = let rows = w .rows in omega arith
@@ -102,20 +106,6 @@ module _ (b register : List ℕ) (n m : ℕ) (w : Holds b register n m) (k row :
       let z : ys ≡ entryRow 0 (f e) = y ∙ rw (part-is b (4 + 72 * row) 72, s) (c .row e r) in
       let v = works-change b register n m t w row (f e) l h (c .made e) (c .fit e r) home long low key in
       rw (mid-put (4 + 72 * row) 72 b ys (ap (λ (l : List ℕ). length l) z ∙ row-length 0 (f e) (c .fit e r)), z, x) v
-
-  -- the register is asked to let the entry leave its folder
-  pub leave-counts : row < n → (f p : ℕ) → f ≡ entryIn b (4 + 72 * row) .inside → p ≡ rowOf f (treeIn b n m) → p ≤ n → 1 ≤ getD register (8194 + p) 0
-  unfolding treeIn rowOf
-  leave-counts h f p q r low =
-      let es = entriesFrom b 0 n in
-      let e = getD es row blankEntry in
-      let at : e .inside ≡ f = ap (λ (x : Entry). x .inside) (here-is h) ∙ sym q in
-      let i : isIn f e ≡ true = present-in f e (here-some h .1) ∙ eq-eqb (e .inside) f at in
-      let c = children-some f es row blankEntry (here-low h) i in
-      let home : Home f es = rw at at (housed-at es es row blankEntry (here-low h) (w .housed)) in
-      let k : folderAt es p ≡ f = rw r (place-folder es (w .proper) f home) in
-      let d = rw k at (w .keyed .counted p low) in
-      omega arith
 
 module _ (r : Rec) (long : length r ≡ 80) where
   pub stored-writes : Writes (stored r) (λ x. storedRow x r)
@@ -183,7 +173,7 @@ module _ (b register : List ℕ) (n m : ℕ) (w : Holds b register n m) (k role 
         (withAsides (treeIn b n m) (settled (objectOf r) (asidesFrom b 0 m)))
     aside-settled h ys y = rw (← g) (one-settled h ys y)
 
--- ---- store, rename, move and remove
+-- ---- store, rename, remove and move
 
 module _ (b register : List ℕ) (n m : ℕ) (w : Holds b register n m) (r : Rec) (h : Takes (treeIn b n m) r) (k row : ℕ) (p : k ≡ objectOf r) (o : rowIn b n row ≡ entryOf k (entriesFrom b 0 n)) where
   pub unchanged : (f : Entry → Entry) → n ≤ row → Works b register n m (withEntries (treeIn b n m) (changed f (objectOf r) (entriesFrom b 0 n)))
@@ -232,37 +222,6 @@ module _ (b register : List ℕ) (n m : ℕ) (w : Holds b register n m) (r : Rec
     pub rename-nodes : nodesIn 4097 register < 1536 → l ≡ relabelled register f old (labelOf r) row → nodesIn 4097 l ≤ nodesIn 4097 register + 1
     rename-nodes nodes x = omega (arith, ap (λ (y : List ℕ). nodesIn 4097 y) x, relabelled-nodes register f old (labelOf r) row (w .keyed .chains) nodes)
 
-    pub move-done : row < n → nodesIn 4097 register < 1536 → f ≡ entryIn b (4 + 72 * row) .inside → (g : ℕ) → g ≡ folderOf r → Home (folderOf r) (entriesFrom b 0 n)
-        → (s : ℕ) → s ≡ rowOf f (treeIn b n m) → s ≤ n → (v : ℕ) → v ≡ rowOf g (treeIn b n m) → v ≤ n → l ≡ shifted register s f old v g (labelOf r) row
-        → (ys : List ℕ) → ys ≡ movedRow (take (4 + 72 * row + 72 - (4 + 72 * row)) (drop (4 + 72 * row) b)) r
-        → Works
-        (putMid (4 + 72 * row) (4 + 72 * row + 72 - (4 + 72 * row)) b ys)
-        l
-        n
-        m
-        (withEntries (treeIn b n m) (changed (moved r) (objectOf r) (entriesFrom b 0 n)))
-    unfolding moved removed isPresent treeIn rowOf
-    move-done g nodes q to u goes s si sl v vi vl x ys y =
-        let es = entriesFrom b 0 n in
-        let e = getD es row blankEntry in
-        let here : isPresent e ≡ true = here-some b register n m w k row o g .1 in
-        let i : f ≡ e .inside = q ∙ ap (λ (z : Entry). z .inside) (sym (here-is b register n m w k row o g)) in
-        let home : Home f es = rw i (housed-at es es row blankEntry (here-low b register n m w k row o g) (w .housed)) in
-        let few = w .rows-fit in
-        let at : folderAt es s ≡ f = rw si (place-folder es (w .proper) f home) in
-        let to-at : folderAt es v ≡ folderOf r = rw (vi, u) (place-folder es (w .proper) (folderOf r) goes) in
-        let key = keyed-shifted register n es (w .keyed) (w .rows) (one-each es (w .proper) (w .lone)) (omega arith) row (removed e) (moved r e) blankEntry g refl refl s f sl at v (folderOf r) vl to-at old here refl here i refl nodes in
-        rw (← p, x, u)
-        (row-changed b register n m w k row o (moved r) (λ x. movedRow x r) (moved-writes r (h .asks .long)) g
-        (shifted register s f old v (folderOf r) (labelOf r) row)
-        goes
-        (shifted-long register s f old v (folderOf r) (labelOf r) row)
-        (shifted-before register s f old v (folderOf r) (labelOf r) row)
-        key ys y)
-
-    pub move-nodes : nodesIn 4097 register < 1536 → (s v g : ℕ) → l ≡ shifted register s f old v g (labelOf r) row → nodesIn 4097 l ≤ nodesIn 4097 register + 1
-    move-nodes nodes s v g x = omega (arith, ap (λ (y : List ℕ). nodesIn 4097 y) x, shifted-nodes register s f old v g (labelOf r) row (w .keyed .chains) nodes)
-
     pub remove-done : row < n → f ≡ entryIn b (4 + 72 * row) .inside → (s : ℕ) → s ≡ rowOf f (treeIn b n m) → s ≤ n → l ≡ left register s f old row
         → (ys : List ℕ) → ys ≡ set (take (4 + 72 * row + 72 - (4 + 72 * row)) (drop (4 + 72 * row) b)) 0 0
         → Works
@@ -287,6 +246,49 @@ module _ (b register : List ℕ) (n m : ℕ) (w : Holds b register n m) (r : Rec
     pub remove-nodes : (s : ℕ) → l ≡ left register s f old row → nodesIn 4097 l ≤ nodesIn 4097 register + 1
     remove-nodes s x = omega (arith, ap (λ (y : List ℕ). nodesIn 4097 y) x, left-nodes register s f old row (w .keyed .chains))
 
+  module _ (l : List ℕ) (x : l ≡ shiftedOn r (treeIn b n m) register (entryIn b (4 + 72 * row)) row) (nodes : nodesIn 4097 register < 1536) where
+    pub move-done : row < n → Home (folderOf r) (entriesFrom b 0 n)
+        → (ys : List ℕ) → ys ≡ movedRow (take (4 + 72 * row + 72 - (4 + 72 * row)) (drop (4 + 72 * row) b)) r
+        → Works
+        (putMid (4 + 72 * row) (4 + 72 * row + 72 - (4 + 72 * row)) b ys)
+        l
+        n
+        m
+        (withEntries (treeIn b n m) (changed (moved r) (objectOf r) (entriesFrom b 0 n)))
+    unfolding moved removed isPresent treeIn rowOf shiftedOn
+    move-done g goes ys y =
+        let t = treeIn b n m in
+        let es = entriesFrom b 0 n in
+        let e = getD es row blankEntry in
+        let here : isPresent e ≡ true = here-some b register n m w k row o g .1 in
+        let low = here-low b register n m w k row o g in
+        let f = entryIn b (4 + 72 * row) .inside in
+        let old = entryIn b (4 + 72 * row) .label in
+        let i : f ≡ e .inside = ap (λ (z : Entry). z .inside) (sym (here-is b register n m w k row o g)) in
+        let home : Home f es = rw i (housed-at es es row blankEntry low (w .housed)) in
+        let few = w .rows-fit in
+        let s = rowFrom f 0 es in
+        let v = rowFrom (folderOf r) 0 es in
+        let sl : s ≤ n = row-low b register n m t w f in
+        let vl : v ≤ n = row-low b register n m t w (folderOf r) in
+        let at : folderAt es s ≡ f = place-folder es (w .proper) f home in
+        let to-at : folderAt es v ≡ folderOf r = place-folder es (w .proper) (folderOf r) goes in
+        let key = keyed-shifted register n es (w .keyed) (w .rows) (one-each es (w .proper) (w .lone)) (omega arith) row (removed e) (moved r e) blankEntry g refl refl s f sl at v (folderOf r) vl to-at old here refl here i refl nodes in
+        rw (← p, x)
+        (row-changed b register n m w k row o (moved r) (λ z. movedRow z r) (moved-writes r (h .asks .long)) g
+        (shifted register s f old v (folderOf r) (labelOf r) row)
+        goes
+        (shifted-long register s f old v (folderOf r) (labelOf r) row)
+        (shifted-before register s f old v (folderOf r) (labelOf r) row)
+        key ys y)
+
+    pub move-nodes : nodesIn 4097 l ≤ nodesIn 4097 register + 1
+    unfolding shiftedOn
+    move-nodes =
+        let e = entryIn b (4 + 72 * row) in
+        let t = treeIn b n m in
+        omega (arith, ap (λ (y : List ℕ). nodesIn 4097 y) x, shifted-nodes register (rowOf (e .inside) t) (e .inside) (e .label) (rowOf (folderOf r) t) (folderOf r) (labelOf r) row (w .keyed .chains) nodes)
+
 -- ---- rows lie within the table
 
 module _ (b register : List ℕ) (n m : ℕ) (w : Holds b register n m) where
@@ -298,7 +300,23 @@ module _ (b register : List ℕ) (n m : ℕ) (w : Holds b register n m) where
   pub label-end : (row : ℕ) → row < n → 4 + 72 * row + 56 ≤ length b
   label-end row h = omega (arith, row-end row h)
 
-  -- the register is asked to let an entry come to a folder
+  -- the register is asked to let an entry leave its folder
+  pub leave-counts : (row : ℕ) → row < n → isPresent (entryIn b (4 + 72 * row)) ≡ true → (f p : ℕ) → f ≡ entryIn b (4 + 72 * row) .inside → p ≡ rowOf f (treeIn b n m) → p ≤ n
+      → 1 ≤ getD register (8194 + p) 0
+  unfolding treeIn rowOf
+  leave-counts row h here f p q r low =
+      let es = entriesFrom b 0 n in
+      let e = getD es row blankEntry in
+      let rows = w .rows in
+      let is : e ≡ entryIn b (4 + 72 * row) = works-row b register n m (treeIn b n m) w row blankEntry h in
+      let at : e .inside ≡ f = ap (λ (x : Entry). x .inside) is ∙ sym q in
+      let i : isIn f e ≡ true = present-in f e (rw is here) ∙ eq-eqb (e .inside) f at in
+      let c = children-some f es row blankEntry (omega arith) i in
+      let home : Home f es = rw at at (housed-at es es row blankEntry (omega arith) (w .housed)) in
+      let k : folderAt es p ≡ f = rw r (place-folder es (w .proper) f home) in
+      let d = rw k at (w .keyed .counted p low) in
+      omega arith
+
   pub shift-counts : (p : ℕ) → p ≤ n → getD register (8194 + p) 0 ≤ 1024
   unfolding treeIn
   shift-counts p h =

@@ -14,7 +14,7 @@ use Rattle.tree_maps.specs.Keys.{relabelled, left, shifted}
 use Rattle.tree_lookup.specs.Roles.{rowOf, Holds}
 use Rattle.tree_lookup.specs.Lookup.{rowAmong}
 use Rattle.tree_lookup.proofs.Working.{row-none, row-some}
-use Rattle.tree_amend.specs.Registers.{forFound, renamedOn, removedOn, movedOn}
+use Rattle.tree_amend.specs.Registers.{forFound, renamedOn, removedOn, shiftedOn, movedOn}
 use Rattle.tree_amend.proofs.Amending.{row-end}
 
 -- a part of a row lies within the table
@@ -61,8 +61,15 @@ module _ (b : List ℕ) (n m : ℕ) (register : List ℕ) (r : Rec) (k row : ℕ
     unfolding removedOn treeIn
     remove-register s y x = (rw (y, q, label-lent b (4 + 72 * row)) at x) ∙ found-some h _
 
-    pub move-register : (g : ℕ) → g ≡ folderOf r → (s : ℕ) → s ≡ rowOf f (treeIn b n m) → (u : ℕ) → u ≡ rowOf g (treeIn b n m)
-        → l ≡ shifted register s f (take (4 + 72 * row + 56 - (4 + 72 * row + 24)) (drop (4 + 72 * row + 24) b)) u g (labelOf r) row
-        → l ≡ movedOn r (treeIn b n m) register
+  module _ (h : row < n) where
+    pub move-register : (l : List ℕ) → l ≡ shiftedOn r (treeIn b n m) register (entryIn b (4 + 72 * row)) row → l ≡ movedOn r (treeIn b n m) register
     unfolding movedOn treeIn
-    move-register g z s y u v x = (rw (y, v, q, z, label-lent b (4 + 72 * row)) at x) ∙ found-some h _
+    move-register l x = x ∙ found-some h _
+
+-- what `shift_entry` leaves
+pub shift-register : (b : List ℕ) (n m : ℕ) (register : List ℕ) (r : Rec) (row f g s u : ℕ) (l : List ℕ) → f ≡ entryIn b (4 + 72 * row) .inside → g ≡ folderOf r
+    → s ≡ rowOf f (treeIn b n m) → u ≡ rowOf g (treeIn b n m)
+    → l ≡ shifted register s f (take (4 + 72 * row + 56 - (4 + 72 * row + 24)) (drop (4 + 72 * row + 24) b)) u g (labelOf r) row
+    → l ≡ shiftedOn r (treeIn b n m) register (entryIn b (4 + 72 * row)) row
+unfolding shiftedOn
+shift-register b n m register r row f g s u l q z y v x = rw (y, v, q, z, label-lent b (4 + 72 * row)) at x

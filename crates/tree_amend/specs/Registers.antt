@@ -32,10 +32,14 @@ unfoldable pub removedOn : Rec → Tree → List ℕ → List ℕ
 removedOn r t l =
     forFound (λ e row. left l (rowOf (e .inside) t) (e .inside) (e .label) row) l (t .entries) (entryOf (objectOf r) (t .entries))
 
+-- the entry in a row leaves its folder for the one that a move names
+unfoldable pub shiftedOn : Rec → Tree → List ℕ → Entry → ℕ → List ℕ
+shiftedOn r t l e row = shifted l (rowOf (e .inside) t) (e .inside) (e .label) (rowOf (folderOf r) t) (folderOf r) (labelOf r) row
+
 -- a move: its object leaves its folder for another, under another label
 unfoldable pub movedOn : Rec → Tree → List ℕ → List ℕ
 movedOn r t l =
-    forFound (λ e row. shifted l (rowOf (e .inside) t) (e .inside) (e .label) (rowOf (folderOf r) t) (folderOf r) (labelOf r) row) l (t .entries) (entryOf (objectOf r) (t .entries))
+    forFound (λ e row. shiftedOn r t l e row) l (t .entries) (entryOf (objectOf r) (t .entries))
 
 -- a record that fits; a store and a settle leave the register as it is
 unfoldable pub effectOn : Rec → Tree → List ℕ → List ℕ

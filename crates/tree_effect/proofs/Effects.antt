@@ -2,7 +2,7 @@
 -- Assumes nothing.
 use Prim.Native.Nat.{ℕ, _+_, _-_, _*_, _≤_, _<_}
 use native.Mathlib.Omega.{arith}
-use mathlib.Core.Path.{_≡_, ap, _∙_}
+use mathlib.Core.Path.{_≡_, refl, ap, _∙_}
 use mathlib.Core.Logic.{_⊎_, ⊎-elim}
 use mathlib.Core.Bool.{true}
 use mathlib.Core.List.{List, [], _∷_, _++_}
@@ -25,6 +25,7 @@ use Rattle.tree_maps.proofs.Counts.{children-few}
 use Rattle.tree_maps.proofs.Keeping.{keyed-beside, named-long, named-behind, named-labels, entered-nodes}
 use Rattle.tree_lookup.proofs.Working.{works-long}
 use Rattle.tree_amend.specs.Effects.{withEntries, withAsides, Placed, Takes}
+use Rattle.tree_amend.specs.Registers.{madeOn}
 use Rattle.tree_effect.proofs.Additions.{works-make, works-aside}
 
 -- ---- numbers that fit
@@ -93,29 +94,28 @@ module _ (b register : List ℕ) (n m : ℕ) (w : Holds b register n m) (both : 
   made-nodes room p f t row l' x =
       omega (arith, ap (λ (y : List ℕ). nodesIn 4097 y) x, entered-nodes l p f t row enter-chains (enter-nodes room), kept-labels)
 
-module _ (b register : List ℕ) (n m : ℕ) (w : Holds b register n m) (r : Rec) (h : Takes (treeIn b n m) r) (me : ℕ) (q : me ≡ selfOf r) (both : n + m < 1536) where
-  pub entry-added : n < 512 → nodesIn 4097 register < 1536 → (l l' : List ℕ) → l ≡ named register me (n + 1) → (f p : ℕ) → f ≡ folderOf r → p ≡ rowOf f (treeIn b n m)
-      → Home (folderOf r) (entriesFrom b 0 n) → l' ≡ entered l p f (labelOf r) n
+module _ (b register : List ℕ) (n m : ℕ) (w : Holds b register n m) (r : Rec) (h : Takes (treeIn b n m) r) (both : n + m < 1536) where
+  pub entry-added : n < 512 → nodesIn 4097 register < 1536 → Home (folderOf r) (entriesFrom b 0 n) → (l : List ℕ) → l ≡ madeOn r (treeIn b n m) register
       → (ys : List ℕ) → ys ≡ newRow (take (4 + 72 * n + 72 - (4 + 72 * n)) (drop (4 + 72 * n) b)) r
       → Works
       (putMid (4 + 72 * n) (4 + 72 * n + 72 - (4 + 72 * n)) b ys)
-      l'
+      l
       (n + 1)
       m
       (withEntries (treeIn b n m) (entriesFrom b 0 n ++ (newEntry r ∷ [])))
-  unfolding treeIn newEntry
-  entry-added room nodes l l' g f p fo pl home g' ys y =
+  unfolding treeIn newEntry madeOn
+  entry-added room nodes home l g ys y =
       let t = treeIn b n m in
       let long = h .asks .long in
       let bl = works-long b register n m t w in
       let fit = new-proper r long (h .own) in
       let c : length (part b (4 + 72 * n) 72) ≡ 72 = part-length b (4 + 72 * n) 72 (omega arith) in
       let z : ys ≡ entryRow 0 (newEntry r) = y ∙ rw (part-is b (4 + 72 * n) 72) (new-row r long (part b (4 + 72 * n) 72) c) in
-      let pl1 : p ≡ rowOf (folderOf r) t = rw fo at pl in
-      let v = works-make b register n m t w (newEntry r) p room both nodes fit (new-present r (h .asks .known)) (h .fresh) home pl1 in
-      rw (mid-put (4 + 72 * n) 72 b ys (ap (λ (l : List ℕ). length l) z ∙ row-length 0 (newEntry r) fit), z, g', g, fo, q) v
+      let v = works-make b register n m t w (newEntry r) (rowOf (folderOf r) t) room both nodes fit (new-present r (h .asks .known)) (h .fresh) home refl in
+      let x : l ≡ entered (named register (selfOf r) (n + 1)) (rowOf (folderOf r) t) (folderOf r) (labelOf r) n = rw (w .rows) at g in
+      rw (mid-put (4 + 72 * n) 72 b ys (ap (λ (l : List ℕ). length l) z ∙ row-length 0 (newEntry r) fit), z, x) v
 
-  pub aside-added : m < 512 → (reason marked : ℕ) → (marked ≡ 0) ⊎ InRange marked → (l : List ℕ) → l ≡ named register me (513 + m) → (ys : List ℕ) → ys ≡ asideRow (newAside me reason marked)
+  pub aside-added : (me : ℕ) → me ≡ selfOf r → m < 512 → (reason marked : ℕ) → (marked ≡ 0) ⊎ InRange marked → (l : List ℕ) → l ≡ named register me (513 + m) → (ys : List ℕ) → ys ≡ asideRow (newAside me reason marked)
       → Works
       (putMid (36868 + 12 * m) (36868 + 12 * m + 12 - (36868 + 12 * m)) b ys)
       l
@@ -123,7 +123,7 @@ module _ (b register : List ℕ) (n m : ℕ) (w : Holds b register n m) (r : Rec
       (m + 1)
       (withAsides (treeIn b n m) (asidesFrom b 0 m ++ (newAside (selfOf r) reason marked ∷ [])))
   unfolding treeIn newAside
-  aside-added room reason marked fit l g ys y =
+  aside-added me q room reason marked fit l g ys y =
       let t = treeIn b n m in
       let a = newAside (selfOf r) reason marked in
       let z : ys ≡ asideRow a = y ∙ rw q in

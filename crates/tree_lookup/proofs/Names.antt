@@ -180,6 +180,9 @@ module _ (b l : List ℕ) (n m : ℕ) (w : Reads b l n m) (k : ℕ) where
         let r = role-within t entries-few (w .apart) (rowAt 0 l q) (w .named .roles q h (s .node)) in
         rw (← e, entries-length b 0 n, asides-length b 0 m) at r
 
+    pub trace-low : 0 < q → (role : ℕ) → role ≡ rowAt 0 l q → role ≤ 1024
+    trace-low h role e = let f = w .notes-fit in omega (arith, trace-role h role e .most)
+
     pub trace-found : 0 < q → (role x : ℕ) → role ≡ rowAt 0 l q → x ≡ nameOf (treeIn b n m) role → x ≡ k → role ≡ roleOf k (treeIn b n m)
     trace-found h role x e g y =
         let t = treeIn b n m in

@@ -23,7 +23,7 @@ pub fn name_at(table: &[u8], size: Size, role: usize) -> u32
 // The role of an identity, looked for in its chain.
 pub fn role_of(table: &[u8], register: &[u16], size: Size, k: u32) -> usize
     requires { ⌜ Reads (now table) (now register) (size .entries) (size .asides) × InRange k ⌝ }
-    ensures { λ r. ⌜ r ≡ roleOf k (treeIn (now (table .entry)) (size .entries) (size .asides)) ⌝ }
+    ensures { λ r. ⌜ (r ≡ roleOf k (treeIn (now (table .entry)) (size .entries) (size .asides))) × (r ≤ 1024) ⌝ }
 {
     let h = tree_maps::link(k);
     let mut q = hash_chains::first_of(register, 0, h);

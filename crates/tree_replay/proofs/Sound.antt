@@ -26,7 +26,7 @@ use Rattle.record.proofs.Fields.{well-head}
 use Rattle.record.proofs.Claims.{object-named, folder-root-or-named}
 use Rattle.tree_laws.proofs.Steps.{cond-elim}
 use Rattle.tree_table.specs.Rows.{entriesFrom, asidesFrom, treeIn, flagged, workBytes, InRange}
-use Rattle.tree_lookup.specs.Roles.{rowFrom, noteFrom, rowOf, noteOf, behindRows, roleOf, Named, Works, Holds}
+use Rattle.tree_lookup.specs.Roles.{rowFrom, noteFrom, rowOf, noteOf, behindRows, roleOf, Named as Roles, Works, Holds}
 use Rattle.hash_chains.specs.Chains.{nodesIn, firstOf, Chains}
 use Rattle.tree_maps.specs.Keys.{registerSize, childrenOf, Keyed}
 use Rattle.tree_lookup.proofs.Working.{works-holds}
@@ -159,7 +159,7 @@ blank-keyed =
       kept = λ i d h p. absurd (omega arith);
     }
 
-blank-named : Named (replicate registerSize 0) emptyTree
+blank-named : Roles (replicate registerSize 0) emptyTree
 unfolding emptyTree
 blank-named =
     let none = blank-nodes 0 in

@@ -11,6 +11,9 @@ object-of-requires c κs = search needs
 role-of-requires : tie.Need-role-of-requires
 role-of-requires c κs = (search (works-reads), search (object-range))
 
+same-length : tie.Need-same-length
+same-length c = search needs
+
 returns : tie.Need-returns
 returns c = search (nothing-settled)
 
@@ -38,8 +41,8 @@ part-settle-row-end c = search (note-end)
 settle-row-requires : tie.Need-settle-row-requires
 settle-row-requires c κs = search needs
 
-same-length : tie.Need-same-length
-same-length c = search needs
+same-length-2 : tie.Need-same-length-2
+same-length-2 c = search needs
 
 returns-2 : tie.Need-returns-2
 returns-2 c = search (aside-settled)
@@ -50,6 +53,7 @@ settle-spec =
     (tie.spec
     object-of-requires
     role-of-requires
+    same-length
     returns
     sub-at
     mul-at
@@ -59,5 +63,5 @@ settle-spec =
     part-settle-row-start
     part-settle-row-end
     settle-row-requires
-    same-length
+    same-length-2
     returns-2)

@@ -1,5 +1,5 @@
 use Rattle.tree_table.specs.Rows.{treeIn}
-use Rattle.tree_lookup.proofs.Names.{Tracing, trace-starts, trace-role, trace-found, trace-goes, trace-ends}
+use Rattle.tree_lookup.proofs.Names.{Tracing, trace-starts, trace-role, trace-low, trace-found, trace-goes, trace-ends}
 use native.Mathlib.Omega.{arith}
 use borrow.Author.Needs.{needs}
 use Rattle.tree_lookup.proofs.role_of.Statement.{statement}
@@ -27,7 +27,7 @@ name-at-requires : tie.Need-name-at-requires Inv-loop μ-loop
 name-at-requires c κs = (search, search, search, search (trace-role))
 
 returns : tie.Need-returns Inv-loop μ-loop
-returns c = search (trace-found)
+returns c = (search (trace-found), search (trace-low))
 
 node-behind-requires : tie.Need-node-behind-requires Inv-loop μ-loop
 node-behind-requires c κs = search needs
@@ -39,7 +39,7 @@ loop-again : tie.Need-loop-again Inv-loop μ-loop
 loop-again c = search (trace-goes)
 
 returns-2 : tie.Need-returns-2 Inv-loop μ-loop
-returns-2 c = search (trace-ends)
+returns-2 c = (search (trace-ends), omega arith)
 
 pub role-of-spec : {M : Type 1} → statement M
 role-of-spec =
