@@ -1,7 +1,7 @@
 // What a record changes of an entry or an aside that stands in a table of rows, and in the register beside it.
 ghost use mathlib.Core.Path.{_≡_};
 ghost use mathlib.Core.Bool.{true};
-ghost use Prim.Native.Nat.{_+_, _≤_, _<_};
+ghost use Prim.Native.Nat.{_+_, _*_, _≤_, _<_};
 ghost use lib.ListN.{length, getD, set};
 ghost use Rattle.model.specs.Record.{objectOf, folderOf};
 ghost use Rattle.model.specs.Replay.{isPresent, stored, renamed, moved, removed, changed, settled};
