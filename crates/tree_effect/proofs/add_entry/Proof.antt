@@ -28,8 +28,8 @@ part-fill-row-end c = search (next-row-end)
 fill-row-requires : tie.Need-fill-row-requires
 fill-row-requires c κs = (search needs, search, search (own-low), search (folder-low))
 
-add-t10 : tie.Need-add-t10
-add-t10 c = search needs
+add-t11 : tie.Need-add-t11
+add-t11 c = search needs
 
 same-length : tie.Need-same-length
 same-length c = search needs
@@ -41,4 +41,4 @@ returns : tie.Need-returns
 returns c = (search (entry-added), omega arith, search)
 
 pub add-entry-spec : {M : Type 1} → statement M
-add-entry-spec = tie.close (tie.spec enter-entry-requires mul-at add-at add-fill-row sub-fill-row part-fill-row-start part-fill-row-end fill-row-requires add-t10 same-length same-length-2 returns)
+add-entry-spec = tie.close (tie.spec enter-entry-requires mul-at add-at add-fill-row sub-fill-row part-fill-row-start part-fill-row-end fill-row-requires add-t11 same-length same-length-2 returns)

@@ -35,8 +35,8 @@ add-name c = search needs
 name-requires : tie.Need-name-requires
 name-requires c κs = (search (name-chains), search (name-room), omega arith)
 
-add-t10 : tie.Need-add-t10
-add-t10 c = search needs
+add-t9 : tie.Need-add-t9
+add-t9 c = search needs
 
 same-length : tie.Need-same-length
 same-length c = search needs
@@ -61,7 +61,7 @@ stand-aside-spec =
     fill-aside-requires
     add-name
     name-requires
-    add-t10
+    add-t9
     same-length
     same-length-2
     returns)
