@@ -76,10 +76,9 @@ pub step-more : (t : Tree) (r : Rec) → length (step t r .entries) + length (st
 step-more t r =
     let es = t .entries in
     let l = t .asides in
-    let P : Tree → Type 0 = λ u. length (u .entries) + length (u .asides) ≤ suc (length es + length l) in
-    step-elim P t r
+    step-elim (λ (u : Tree). length (u .entries) + length (u .asides) ≤ suc (length es + length l)) t r
     (λ _.
-    effect-elim P r t (λ _. omega (arith, length-append es (newEntry r ∷ []))) (λ _. omega (arith, length-changed (stored r) (objectOf r) es))
+    effect-elim (λ (u : Tree). length (u .entries) + length (u .asides) ≤ suc (length es + length l)) r t (λ _. omega (arith, length-append es (newEntry r ∷ []))) (λ _. omega (arith, length-changed (stored r) (objectOf r) es))
     (λ _. omega (arith, length-changed removed (objectOf r) es)) (λ _. omega (arith, length-changed (renamed r) (objectOf r) es))
     (λ _. omega (arith, length-settled (objectOf r) l)) (λ _. omega (arith, length-changed (moved r) (objectOf r) es)))
     (λ n k _. omega (arith, length-append l (record { who = selfOf r; reason = n; marked = k; isOpen = true } ∷ [])))
