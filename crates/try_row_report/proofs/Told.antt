@@ -138,7 +138,7 @@ at-has (x ∷ l) e (inr h) = let (i, a, q) = at-has l e h in (suc i, omega arith
 
 -- every entry has a slot
 abbrev AllSlots : List Entry → Type 0
-AllSlots l = (i : ℕ) → i < length l → HasSlot (getD l i none .made)
+AllSlots l = (i : ℕ) (d : Entry) → i < length l → HasSlot (getD l i d .made)
 
 module _ (t : Tree) (few : length (presentOnes (t .entries)) ≤ 512) (a : AllProper (presentOnes (t .entries))) (c : AllSlots (presentOnes (t .entries))) (b : List ℕ) (is : b ≡ tableBytes t) (long : length b ≡ 43012) where
   abbrev es : List Entry
@@ -174,7 +174,7 @@ module _ (t : Tree) (few : length (presentOnes (t .entries)) ≤ 512) (a : AllPr
         rw (← n, ← g, row, flag-of (flagOf (t .asides) (getD es i none)) (getD es i none)) (flag-true (isDisputed (getD es i none .made) (t .asides)))
 
     range : HasSlot (madeIn b i)
-    range = rw made-is (c i h)
+    range = rw made-is (c i none h)
 
   pub table-shown : Shown b
   table-shown = record { long = long; few = omega (arith, count); range = λ i h. range i (omega (arith, count)) }
@@ -268,7 +268,7 @@ module _ (t t′ : Tree) (few : length (presentOnes (t .entries)) ≤ 512) (few�
   new-is i h =
       let m = made-is t′ few′ a′ c′ b′ is′ long′ i h in
       let d = disputed-is t′ few′ a′ c′ b′ is′ long′ i h in
-      rw (d, m, flag-exact t few a c b is long (getD (presentOnes (t′ .entries)) i none .made) (c′ i h))
+      rw (d, m, flag-exact t few a c b is long (getD (presentOnes (t′ .entries)) i none .made) (c′ i none h))
 
   listed-is : (n : ℕ) → n ≤ length es′ → listed b′ before n ≡ madeBytes (newlyDisputed t t′ (take n es′))
   unfolding listed newlyDisputed madeBytes
@@ -316,11 +316,11 @@ log-table-long log s =
 -- ---- the entries of a log have slots
 
 log-slots : (log : List ℕ) → soundLog log ≡ true → AllSlots (presentOnes (replay (recordsOf log) .entries))
-log-slots log s i h =
+log-slots log s i d h =
     let l : List Rec = recordsOf log in
     record {
-      low = proper-at (presentOnes (replay l .entries)) i none h (sound-rows l (sound-records log s) (sound-few log)) .range .low;
-      high = sound-small l (sound-records log s) (sound-few log) i none h;
+      low = proper-at (presentOnes (replay l .entries)) i d h (sound-rows l (sound-records log s) (sound-few log)) .range .low;
+      high = sound-small l (sound-records log s) (sound-few log) i d h;
     }
 
 -- ---- the report of a trial
