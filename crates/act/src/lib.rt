@@ -16,6 +16,7 @@ use call_guard::open;
 use model::LOG_PLACES;
 use model::RECORD_BYTES;
 use model::TREE_BYTES;
+use tree_maps::REGISTER;
 use vector::Vector;
 
 // The reason under which a record would stand aside behind the records of a sound log, or 0.
@@ -24,7 +25,7 @@ pub fn reason(log: &[u8], used: usize, rec: &[u8]) -> u8
     ensures { λ r. ⌜ r ≡ reasonOf (judgeOf (now (rec .entry)) (replayOf (recordsOf (now (log .entry))))) ⌝ }
 {
     let mut table = [0u8; TREE_BYTES];
-    let mut register = [0u16; 9729];
+    let mut register = [0u16; REGISTER];
     let size = tree_replay::replay_log(log, used, &mut table, &mut register);
     let j = tree_judge::judge(rec, &table, &register, size);
     j.reason

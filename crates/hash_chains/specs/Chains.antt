@@ -1,7 +1,6 @@
--- The register that is kept beside a table of rows, and the chains of rows in it.
---   0-4,095 roles and 4,096-8,191 numbers of entries in a folder, both by the slot of an identity; 8,192-8,703 the first node of
---   each chain; 8,704-9,215 the node behind each node; 9,216-9,727 the row of each node; 9,728 how many nodes there are.
---   Nodes count from 1 on; 0 is none.
+-- Chains of rows in a part of a register, 4,097 numbers from a place on.
+--   0-1,023 the first node of each chain; 1,024-2,559 the node behind each node; 2,560-4,095 the row of each node; 4,096 how many
+--   nodes there are. Nodes count from 1 on; 0 is none.
 -- Assumes nothing.
 use Prim.Native.Nat.{ℕ, zero, suc, _+_, _≤_, _<_}
 use mathlib.Core.Path.{_≡_}
@@ -12,44 +11,53 @@ use lib.Dec.{eqb}
 use lib.ListN.{getD, length, set}
 
 -- how many nodes there are
-unfoldable pub nodesIn : List ℕ → ℕ
-nodesIn l = getD l 9728 0
+unfoldable pub nodesIn : ℕ → List ℕ → ℕ
+nodesIn from l = getD l (from + 4096) 0
 
 -- the first node of the chain h
-unfoldable pub firstOf : List ℕ → ℕ → ℕ
-firstOf l h = getD l (8192 + h) 0
+unfoldable pub firstOf : ℕ → List ℕ → ℕ → ℕ
+firstOf from l h = getD l (from + h) 0
 
 -- the node behind the node q
-unfoldable pub behind : List ℕ → ℕ → ℕ
-behind l q = getD l (8703 + q) 0
+unfoldable pub behind : ℕ → List ℕ → ℕ → ℕ
+behind from l q = getD l (from + 1023 + q) 0
 
 -- the row of the node q
-unfoldable pub rowAt : List ℕ → ℕ → ℕ
-rowAt l q = getD l (9215 + q) 0
+unfoldable pub rowAt : ℕ → List ℕ → ℕ → ℕ
+rowAt from l q = getD l (from + 2559 + q) 0
 
 -- a node more for a row, first in the chain h
-unfoldable pub pushed : List ℕ → ℕ → ℕ → List ℕ
-pushed l h row =
-    set (set (set (set l (9216 + nodesIn l) row) (8704 + nodesIn l) (firstOf l h)) (8192 + h) (nodesIn l + 1)) 9728 (nodesIn l + 1)
+unfoldable pub pushed : ℕ → List ℕ → ℕ → ℕ → List ℕ
+pushed from l h row =
+    set
+    (set
+    (set (set l (from + 2560 + nodesIn from l) row) (from + 1024 + nodesIn from l) (firstOf from l h))
+    (from + h)
+    (nodesIn from l + 1))
+    (from + 4096)
+    (nodesIn from l + 1)
 
 -- the chain h without its first node, if that is one of the row
-unfoldable pub popped : List ℕ → ℕ → ℕ → List ℕ
-popped l h row =
-    cond (not (eqb (firstOf l h) 0) && eqb (rowAt l (firstOf l h)) row) (set l (8192 + h) (behind l (firstOf l h))) l
+unfoldable pub popped : ℕ → List ℕ → ℕ → ℕ → List ℕ
+popped from l h row =
+    cond
+    (not (eqb (firstOf from l h) 0) && eqb (rowAt from l (firstOf from l h)) row)
+    (set l (from + h) (behind from l (firstOf from l h)))
+    l
 
 -- chains that end: behind a node stands an older one
-pub record Chains (l : List ℕ) : Type 0 where
-  pub long : length l ≡ 9729
-  pub few : nodesIn l ≤ 512
-  pub firsts : (h : ℕ) → h < 512 → firstOf l h ≤ nodesIn l
-  pub falls : (q : ℕ) → 1 ≤ q → q ≤ nodesIn l → behind l q < q
+pub record Chains (from : ℕ) (l : List ℕ) : Type 0 where
+  pub long : from + 4097 ≤ length l
+  pub few : nodesIn from l ≤ 1536
+  pub firsts : (h : ℕ) → h < 1024 → firstOf from l h ≤ nodesIn from l
+  pub falls : (q : ℕ) → 1 ≤ q → q ≤ nodesIn from l → behind from l q < q
 
 -- a node of the row r comes within so many steps from the node q on
-abbrev pub Reach : List ℕ → ℕ → ℕ → ℕ → Type 0
-Reach l zero q r = ⊥
-Reach l (suc s) q r = (1 ≤ q) × ((rowAt l q ≡ r) ⊎ Reach l s (behind l q) r)
+abbrev pub Reach : ℕ → List ℕ → ℕ → ℕ → ℕ → Type 0
+Reach from l zero q r = ⊥
+Reach from l (suc s) q r = (1 ≤ q) × ((rowAt from l q ≡ r) ⊎ Reach from l s (behind from l q) r)
 
 -- a node of the row r comes from the node q on
-pub record Found (l : List ℕ) (q r : ℕ) : Type 0 where
+pub record Found (from : ℕ) (l : List ℕ) (q r : ℕ) : Type 0 where
   pub steps : ℕ
-  pub there : Reach l steps q r
+  pub there : Reach from l steps q r

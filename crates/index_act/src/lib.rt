@@ -16,6 +16,7 @@ ghost use Rattle.index_model.specs.Acting.{removedIn, renamedIn, movedIn, chang
 ghost use Rattle.index_model.specs.Kept.{indexFits, ifLent};
 ghost use Rattle.index_act.specs.Inside.{Inside};
 use model::TREE_BYTES;
+use tree_maps::REGISTER;
 use tree_table::Size;
 
 // The entry in a row, if it is one of n, is taken out of the index.
@@ -124,7 +125,7 @@ pub fn judge_and_change(log: &[u8], used: usize, rec: &[u8], index: &mut [u8]) -
     ensures index { λ _. ⌜ now (index .exit) ≡ ifLent (now (index .entry)) (stepIn (judgeOf (now (rec .entry)) (replayOf (recordsOf (now (log .entry))))) (now (rec .entry)) (replayOf (recordsOf (now (log .entry)))) (now (index .entry))) ⌝ }
 {
     let mut table = [0u8; TREE_BYTES];
-    let mut register = [0u16; 9729];
+    let mut register = [0u16; REGISTER];
     let size = tree_replay::replay_log(log, used, &mut table, &mut register);
     let j = tree_judge::judge(rec, &table, &register, size);
     let n = j.reason;

@@ -19,7 +19,7 @@ use Rattle.log_laws.proofs.Tests.{sound-means}
 use Rattle.encoding_laws.proofs.Reading.{file-records, checked-right}
 use Rattle.tree_laws.proofs.Steps.{cond-elim}
 use Rattle.listing_laws.proofs.Lines.{head-line-length, seen-line-length, refused-line-length, tree-lines-length}
-use Rattle.listing_laws.proofs.Rows.{sound-rows, rows-within, entries-counted, asides-counted, row-lines}
+use Rattle.listing_laws.proofs.Rows.{sound-rows, sound-small, rows-within, entries-counted, asides-counted, row-lines}
 
 -- of a sound log at most 512 rows are shown, an entry in 148 bytes at most
 module _ (l : List Rec) (sound : Sound l) (few : length l ≤ 512) where
@@ -30,7 +30,7 @@ module _ (l : List Rec) (sound : Sound l) (few : length l ≤ 512) where
   tree-lines-fit =
       let t : Tree = replay l in
       let n = rows-fit in
-      let lines = row-lines t (omega arith) (sound-rows l sound few) in
+      let lines = row-lines t (omega arith) (sound-rows l sound few) (sound-small l sound few) in
       omega (arith, tree-lines-length (tableBytes t) (length (presentOnes (t .entries))) (length (t .asides)) (entries-counted t) (asides-counted t) lines)
 
   pub log-lines-fit : (archive u n : ℕ) (v : List ℕ) → length v ≡ 8 → length (headLine archive u n ++ (seenLine v ++ treeLines (tableBytes (replay l)))) ≤ 75923

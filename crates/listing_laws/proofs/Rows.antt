@@ -1,6 +1,6 @@
 -- The rows of the table that shows a sound log: how many there are, and what identities stand in them.
 -- Assumes nothing.
-use Prim.Native.Nat.{ℕ, suc, _+_, _-_, _*_, _≤_, _<_}
+use Prim.Native.Nat.{ℕ, zero, suc, _+_, _-_, _*_, _≤_, _<_}
 use native.Mathlib.Omega.{arith}
 use mathlib.Core.Path.{_≡_, refl, ap, _∙_}
 use mathlib.Core.Logic.{inl, inr}
@@ -25,7 +25,6 @@ use Rattle.tree_table.proofs.Rows.{rows-length}
 use Rattle.tree_table.proofs.Writes.{rows-part}
 use Rattle.tree_table.proofs.Fields.{new-proper, stored-proper, renamed-proper, moved-proper, removed-proper}
 use Rattle.tree_laws.proofs.Steps.{cond-elim, step-elim, effect-elim}
-use Rattle.tree_lookup.proofs.Working.{proper-at}
 use Rattle.tree_replay.proofs.Sound.{count-few}
 use Rattle.listing_laws.proofs.Lines.{entry-line-length}
 
@@ -80,6 +79,87 @@ sound-range l s few r i =
 pub sound-rows : (l : List Rec) → Sound l → length l ≤ 512 → AllProper (presentOnes (replay l .entries))
 unfolding replay emptyTree
 sound-rows l s few = proper-present (replayFrom emptyTree l .entries) (proper-replay emptyTree l (sound-range l s few) tt)
+
+-- ---- no entry of a log has a number above 512
+
+abbrev AllSmall : List Entry → Type 0
+AllSmall [] = Unit {0}
+AllSmall (e ∷ l) = (e .made < 4104) × AllSmall l
+
+small-changed : (g : Entry → Entry) → ((e : Entry) → g e .made ≡ e .made) → (k : ℕ) (es : List Entry) → AllSmall es → AllSmall (changed g k es)
+unfolding changed
+small-changed g h k [] a = tt
+small-changed g h k (e ∷ es) a =
+    cond-elim AllSmall (eqb (e .made) k && isPresent e) (g e ∷ es) (e ∷ changed g k es)
+    (λ _. (rw (h e) (a .0), a .1))
+    (λ _. (a .0, small-changed g h k es (a .1)))
+
+small-behind : (es : List Entry) (e : Entry) → AllSmall es → e .made < 4104 → AllSmall (es ++ (e ∷ []))
+small-behind [] e a p = (p, tt)
+small-behind (x ∷ es) e a p = (a .0, small-behind es e (a .1) p)
+
+small-present : (es : List Entry) → AllSmall es → AllSmall (presentOnes es)
+unfolding presentOnes
+small-present [] a = tt
+small-present (e ∷ es) a =
+    cond-elim AllSmall (isPresent e) (e ∷ presentOnes es) (presentOnes es) (λ _. (a .0, small-present es (a .1))) (λ _. small-present es (a .1))
+
+made-new : (r : Rec) → newEntry r .made ≡ selfOf r
+unfolding newEntry
+made-new r = refl
+
+made-stored : (r : Rec) (e : Entry) → stored r e .made ≡ e .made
+unfolding stored
+made-stored r e = refl
+
+made-removed : (e : Entry) → removed e .made ≡ e .made
+unfolding removed
+made-removed e = refl
+
+made-renamed : (r : Rec) (e : Entry) → renamed r e .made ≡ e .made
+unfolding renamed
+made-renamed r e = refl
+
+made-moved : (r : Rec) (e : Entry) → moved r e .made ≡ e .made
+unfolding moved
+made-moved r e = refl
+
+small-step : (t : Tree) (r : Rec) → selfOf r < 4104 → AllSmall (t .entries) → AllSmall (step t r .entries)
+small-step t r k a =
+    let P : Tree → Type 0 = λ (x : Tree). AllSmall (x .entries) in
+    step-elim P t r
+    (λ _. effect-elim P r t
+    (λ _. small-behind (t .entries) (newEntry r) a (rw (made-new r) k))
+    (λ _. small-changed (stored r) (made-stored r) (objectOf r) (t .entries) a)
+    (λ _. small-changed removed made-removed (objectOf r) (t .entries) a)
+    (λ _. small-changed (renamed r) (made-renamed r) (objectOf r) (t .entries) a)
+    (λ _. a)
+    (λ _. small-changed (moved r) (made-moved r) (objectOf r) (t .entries) a))
+    (λ x y _. a)
+
+small-replay : (t : Tree) (l : List Rec) → ((r : Rec) → Has r l → selfOf r < 4104) → AllSmall (t .entries) → AllSmall (replayFrom t l .entries)
+unfolding replayFrom
+small-replay t [] h a = a
+small-replay t (r ∷ l) h a = small-replay (step t r) l (λ s i. h s (inr i)) (small-step t r (h r (inl refl)) a)
+
+small-at : (l : List Entry) (i : ℕ) (d : Entry) → i < length l → AllSmall l → getD l i d .made < 4104
+small-at [] i d h p = absurd (omega arith)
+small-at (e ∷ l) zero d h p = p .0
+small-at (e ∷ l) (suc i) d h p = small-at l i d (omega arith) (p .1)
+
+sound-self : (l : List Rec) → Sound l → length l ≤ 512 → (r : Rec) → Has r l → selfOf r < 4104
+unfolding selfOf identity
+sound-self l s few r i =
+    let w = formed [] l r s i in
+    let a = unit-of [] l r s i in
+    let b = well-head r w .number in
+    let c = number-held l r s i in
+    let d = count-few (unit r) l in
+    omega arith
+
+pub sound-small : (l : List Rec) → Sound l → length l ≤ 512 → (i : ℕ) (d : Entry) → i < length (presentOnes (replay l .entries)) → getD (presentOnes (replay l .entries)) i d .made < 4104
+unfolding replay emptyTree
+sound-small l s few i d h = small-at (presentOnes (replayFrom emptyTree l .entries)) i d h (small-present (replayFrom emptyTree l .entries) (small-replay emptyTree l (sound-self l s few) tt))
 
 -- ---- a record leaves an entry or an aside, not both
 
@@ -164,13 +244,14 @@ module _ (t : Tree) (i : ℕ) (h : i < length (presentOnes (t .entries))) (few :
       ∙ part-front rows zeros (72 * i) 72 (omega arith)
       ∙ rows-part s es i e h a
 
-row-line : (d : ℕ) (e : Entry) → InRange (e .made) → length (entryLine (entryRow d e)) ≤ 148
+row-line : (d : ℕ) (e : Entry) → e .made < 4104 → length (entryLine (entryRow d e)) ≤ 148
 unfolding entryRow identityBytes word
-row-line d e k = let b = k .high in entry-line-length (entryRow d e) (omega arith) (omega arith) (omega arith)
+row-line d e k = entry-line-length (entryRow d e) (omega arith) (omega arith) (omega arith)
 
-pub row-lines : (t : Tree) → length (presentOnes (t .entries)) ≤ 512 → AllProper (presentOnes (t .entries)) → (i : ℕ) → i < length (presentOnes (t .entries))
+pub row-lines : (t : Tree) → length (presentOnes (t .entries)) ≤ 512 → AllProper (presentOnes (t .entries))
+    → ((i : ℕ) (d : Entry) → i < length (presentOnes (t .entries)) → getD (presentOnes (t .entries)) i d .made < 4104) → (i : ℕ) → i < length (presentOnes (t .entries))
     → length (entryLine (part (tableBytes t) (4 + 72 * i) 72)) ≤ 148
-row-lines t few a i h =
+row-lines t few a small i h =
     let none : Entry = record { made = 0; kind = 0; inside = 0; label = []; contents = 0; date = []; mark = []; placing = 0 } in
     let e : Entry = getD (presentOnes (t .entries)) i none in
-    rw (row-at t i h few a none) (row-line (flagOf (t .asides) e) e (proper-at (presentOnes (t .entries)) i none h a .range))
+    rw (row-at t i h few a none) (row-line (flagOf (t .asides) e) e (small i none h))

@@ -7,14 +7,16 @@ ghost use Rattle.model.specs.Log.{recordsOf, soundLog};
 ghost use Rattle.model.specs.Replay.{emptyTree, replay};
 ghost use Rattle.model.specs.Table.{tableBytes};
 ghost use Rattle.model.specs.Outcome.{outcome, showOf};
+ghost use Rattle.tree_maps.specs.Keys.{registerSize};
 ghost use Rattle.tree_replay.specs.Registers.{replayOn};
 use call_answer::Answer;
 use model::TREE_BYTES;
+use tree_maps::REGISTER;
 
 // The tree of the n records of a sound log is laid in a table of zeros, by a register of zeros.
 fn fill_tree(log: &[u8], n: usize, tree: &mut [u8], register: &mut [u16])
-    requires { ⌜ (length (now log) ≡ logSize) × (soundLog (now log) ≡ true) × (n ≡ length (recordsOf (now log))) × (now tree ≡ replicate treeSize 0) × (now register ≡ replicate 9729 0) ⌝ }
-    ensures { λ _. ⌜ (now (tree .exit) ≡ tableBytes (replay (recordsOf (now (log .entry))))) × (now (register .exit) ≡ replayOn emptyTree (replicate 9729 0) (recordsOf (now (log .entry)))) ⌝ }
+    requires { ⌜ (length (now log) ≡ logSize) × (soundLog (now log) ≡ true) × (n ≡ length (recordsOf (now log))) × (now tree ≡ replicate treeSize 0) × (now register ≡ replicate registerSize 0) ⌝ }
+    ensures { λ _. ⌜ (now (tree .exit) ≡ tableBytes (replay (recordsOf (now (log .entry))))) × (now (register .exit) ≡ replayOn emptyTree (replicate registerSize 0) (recordsOf (now (log .entry)))) ⌝ }
 {
     let size = tree_replay::replay_log(log, n, tree, register);
     tree_finish::finish(tree, register, size);
@@ -26,7 +28,7 @@ pub fn lay_tree(log: &[u8], n: usize, tree: &mut [u8])
     ensures { λ _. ⌜ now (tree .exit) ≡ tableBytes (replay (recordsOf (now (log .entry)))) ⌝ }
 {
     byte_slice::clear(tree);
-    let mut register = [0u16; 9729];
+    let mut register = [0u16; REGISTER];
     fill_tree(log, n, tree, &mut register);
 }
 

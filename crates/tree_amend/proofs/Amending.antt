@@ -22,16 +22,18 @@ use Rattle.byte_slice.proofs.PutAt.{mid-put}
 use Rattle.tree_table.specs.Rows.{entryIn, entriesFrom, asidesFrom, treeIn, rowIn, storedRow, renamedRow, movedRow, InRange, Proper}
 use Rattle.tree_table.proofs.Rows.{row-length, aside-row-length}
 use Rattle.tree_table.proofs.Fields.{settledOne, store-entry, rename-entry, move-entry, remove-entry, settle-aside, stored-proper, renamed-proper, moved-proper, removed-proper}
-use Rattle.tree_lookup.specs.Roles.{rowFrom, noteOf, Works, Holds}
+use Rattle.tree_lookup.specs.Roles.{rowFrom, rowOf, noteOf, roleOf, Home, Works, Holds}
 use Rattle.hash_chains.specs.Chains.{nodesIn, Chains}
-use Rattle.tree_maps.specs.Keys.{slotOf, relabelled, left, shifted, Keyed}
+use Rattle.tree_maps.specs.Keys.{registerSize, folderAt, relabelled, left, shifted, Keyed}
 use Rattle.tree_maps.proofs.Counts.{children-some, children-few, present-in}
-use Rattle.tree_maps.proofs.Keeping.{keyed-same, keyed-relabelled, keyed-left, keyed-shifted, relabelled-role, relabelled-long, relabelled-nodes, left-role, left-long, left-nodes, shifted-role, shifted-long, shifted-nodes}
+use Rattle.tree_maps.proofs.Keeping.{keyed-same, keyed-relabelled, keyed-left, keyed-shifted, relabelled-before, relabelled-long, relabelled-nodes, left-before, left-long, left-nodes, shifted-before, shifted-long, shifted-nodes}
 use Rattle.tree_lookup.proofs.Places.{row-lone, change-at, note-at, not-settled}
-use Rattle.tree_lookup.proofs.Working.{blankEntry, blankAside, proper-at, row-none, row-some, works-long, works-row, role-note, role-no-note}
+use Rattle.tree_lookup.proofs.Working.{blankEntry, blankAside, proper-at, row-none, row-some, works-long, works-row, row-low, role-note, role-no-note}
+use Rattle.tree_lookup.proofs.Homes.{place-folder, one-each, housed-at}
 use Rattle.tree_judge.specs.Judged.{Asks}
 use Rattle.tree_judge.proofs.Reasons.{object-range, move-names}
 use Rattle.tree_amend.specs.Effects.{withEntries, withAsides, Takes}
+use Rattle.tree_amend.specs.Registers.{shiftedOn}
 use Rattle.tree_amend.proofs.Changes.{works-part, works-part-aside, works-change, works-settle}
 
 -- ---- an entry that is found, and its row
@@ -78,17 +80,20 @@ module _ (b register : List ℕ) (n m : ℕ) (w : Holds b register n m) (k row :
   here-some : row < n → (getD (entriesFrom b 0 n) row blankEntry .made ≡ k) × (isPresent (getD (entriesFrom b 0 n) row blankEntry) ≡ true)
   here-some h = rw (here-is h) (some-entry k (entriesFrom b 0 n) (entryIn b (4 + 72 * row)) (sym o ∙ row-some b n row h))
 
+  pub row-present : row < n → isPresent (entryIn b (4 + 72 * row)) ≡ true
+  row-present h = some-entry k (entriesFrom b 0 n) (entryIn b (4 + 72 * row)) (sym o ∙ row-some b n row h) .1
+
   here-low : row < n → row < length (entriesFrom b 0 n)
   unfolding treeIn
   here-low h = let rows = w .rows in omega arith
 
   pub row-changed : (f : Entry → Entry) (g : List ℕ → List ℕ) → Writes f g → row < n → (l : List ℕ)
-      → length l ≡ length register → ((s : ℕ) → s < 4096 → getD l s 0 ≡ getD register s 0)
+      → Home (f (getD (entriesFrom b 0 n) row blankEntry) .inside) (entriesFrom b 0 n) → length l ≡ length register → ((s : ℕ) → s < 4097 → getD l s 0 ≡ getD register s 0)
       → Keyed l n (set (entriesFrom b 0 n) row (f (getD (entriesFrom b 0 n) row blankEntry))) → (ys : List ℕ)
       → ys ≡ g (take (4 + 72 * row + 72 - (4 + 72 * row)) (drop (4 + 72 * row) b))
       → Works (putMid (4 + 72 * row) (4 + 72 * row + 72 - (4 + 72 * row)) b ys) l n m (withEntries (treeIn b n m) (changed f k (entriesFrom b 0 n)))
   unfolding treeIn
-  row-changed f g c h l long low key ys y =
+  row-changed f g c h l home long low key ys y =
       let t = treeIn b n m in
       let es = entriesFrom b 0 n in
       let e = getD es row blankEntry in
@@ -99,19 +104,8 @@ module _ (b register : List ℕ) (n m : ℕ) (w : Holds b register n m) (k row :
       let r = proper-at es row blankEntry (here-low h) (w .proper) in
       let s : part b (4 + 72 * row) 72 ≡ entryRow 0 e = works-part b register n m t w row h in
       let z : ys ≡ entryRow 0 (f e) = y ∙ rw (part-is b (4 + 72 * row) 72, s) (c .row e r) in
-      let v = works-change b register n m t w row (f e) l h (c .made e) (c .fit e r) long low key in
+      let v = works-change b register n m t w row (f e) l h (c .made e) (c .fit e r) home long low key in
       rw (mid-put (4 + 72 * row) 72 b ys (ap (λ (l : List ℕ). length l) z ∙ row-length 0 (f e) (c .fit e r)), z, x) v
-
-  -- the register is asked to let the entry leave its folder
-  pub leave-counts : row < n → (f : ℕ) → f ≡ entryIn b (4 + 72 * row) .inside → InRange f → 1 ≤ getD register (4096 + slotOf f) 0
-  unfolding treeIn
-  leave-counts h f q r =
-      let es = entriesFrom b 0 n in
-      let e = getD es row blankEntry in
-      let at : e .inside ≡ f = ap (λ (x : Entry). x .inside) (here-is h) ∙ sym q in
-      let i : isIn f e ≡ true = present-in f e (here-some h .1) ∙ eq-eqb (e .inside) f at in
-      let c = children-some f es row blankEntry (here-low h) i in
-      omega (arith, w .keyed .counted f r)
 
 module _ (r : Rec) (long : length r ≡ 80) where
   pub stored-writes : Writes (stored r) (λ x. storedRow x r)
@@ -132,15 +126,15 @@ removed-writes = record { row = λ e p. remove-entry 0 e; made = λ e. refl; fit
 
 -- ---- a settle
 
-module _ (b register : List ℕ) (n m : ℕ) (w : Holds b register n m) (k : ℕ) (u : InRange k) (role : ℕ) (e : role ≡ getD register (slotOf k) 0) where
+module _ (b register : List ℕ) (n m : ℕ) (w : Holds b register n m) (k role : ℕ) (e : role ≡ roleOf k (treeIn b n m)) where
   none-settled : role ≤ 512 → Works b register n m (withAsides (treeIn b n m) (settled k (asidesFrom b 0 m)))
   unfolding withAsides treeIn noteOf
-  none-settled h = rw (not-settled k 0 (asidesFrom b 0 m) (role-no-note b register n m (treeIn b n m) w k u role e h)) w
+  none-settled h = rw (not-settled k 0 (asidesFrom b 0 m) (role-no-note b register n m (treeIn b n m) w k role e h)) w
 
   pub note-inside : 512 < role → role - 513 < m
   unfolding treeIn noteOf
   note-inside h =
-      let a = note-at k 0 (asidesFrom b 0 m) (role - 513) blankAside (role-note b register n m (treeIn b n m) w k u role e h) in
+      let a = note-at k 0 (asidesFrom b 0 m) (role - 513) blankAside (role-note b register n m (treeIn b n m) w k role e h) in
       let notes = w .notes in
       omega (arith, a .inside)
 
@@ -158,7 +152,7 @@ module _ (b register : List ℕ) (n m : ℕ) (w : Holds b register n m) (k : ℕ
       let l = asidesFrom b 0 m in
       let i = role - 513 in
       let x = settledOne (getD l i blankAside) in
-      let a = note-at k 0 l i blankAside (role-note b register n m t w k u role e h) in
+      let a = note-at k 0 l i blankAside (role-note b register n m t w k role e h) in
       let a1 : settled k l ≡ set l i x = rw sub-zero at (a .settles) in
       let s : part b (36868 + 12 * i) 12 ≡ asideRow (getD l i blankAside) = works-part-aside b register n m t w i (note-inside h) in
       let z : ys ≡ asideRow x = y ∙ rw (part-is b (36868 + 12 * i) 12, s) (settle-aside (getD l i blankAside)) in
@@ -179,7 +173,7 @@ module _ (b register : List ℕ) (n m : ℕ) (w : Holds b register n m) (k : ℕ
         (withAsides (treeIn b n m) (settled (objectOf r) (asidesFrom b 0 m)))
     aside-settled h ys y = rw (← g) (one-settled h ys y)
 
--- ---- store, rename, move and remove
+-- ---- store, rename, remove and move
 
 module _ (b register : List ℕ) (n m : ℕ) (w : Holds b register n m) (r : Rec) (h : Takes (treeIn b n m) r) (k row : ℕ) (p : k ≡ objectOf r) (o : rowIn b n row ≡ entryOf k (entriesFrom b 0 n)) where
   pub unchanged : (f : Entry → Entry) → n ≤ row → Works b register n m (withEntries (treeIn b n m) (changed f (objectOf r) (entriesFrom b 0 n)))
@@ -196,11 +190,12 @@ module _ (b register : List ℕ) (n m : ℕ) (w : Holds b register n m) (r : Rec
   store-done g ys y =
       let es = entriesFrom b 0 n in
       let e = getD es row blankEntry in
-      let key = keyed-same register n es (w .keyed) row (stored r e) blankEntry (here-low b register n m w k row o g) g refl refl refl in
-      rw (← p) (row-changed b register n m w k row o (stored r) (λ x. storedRow x r) (stored-writes r (h .asks .long)) g register refl (λ s _. refl) key ys y)
+      let key = keyed-same register n es (w .keyed) row (stored r e) blankEntry (here-low b register n m w k row o g) g refl refl refl refl in
+      let home = housed-at es es row blankEntry (here-low b register n m w k row o g) (w .housed) in
+      rw (← p) (row-changed b register n m w k row o (stored r) (λ x. storedRow x r) (stored-writes r (h .asks .long)) g register home refl (λ s _. refl) key ys y)
 
   module _ (f : ℕ) (old l : List ℕ) where
-    pub rename-done : row < n → nodesIn register < 512 → f ≡ entryIn b (4 + 72 * row) .inside → l ≡ relabelled register f old (labelOf r) row
+    pub rename-done : row < n → nodesIn 4097 register < 1536 → f ≡ entryIn b (4 + 72 * row) .inside → l ≡ relabelled register f old (labelOf r) row
         → (ys : List ℕ) → ys ≡ renamedRow (take (4 + 72 * row + 72 - (4 + 72 * row)) (drop (4 + 72 * row) b)) r
         → Works
         (putMid (4 + 72 * row) (4 + 72 * row + 72 - (4 + 72 * row)) b ys)
@@ -214,43 +209,20 @@ module _ (b register : List ℕ) (n m : ℕ) (w : Holds b register n m) (r : Rec
         let e = getD es row blankEntry in
         let i : f ≡ e .inside = q ∙ ap (λ (z : Entry). z .inside) (sym (here-is b register n m w k row o g)) in
         let x1 : l ≡ relabelled register (e .inside) old (labelOf r) row = rw i at x in
-        let key = keyed-relabelled register n es (w .keyed) row (renamed r e) blankEntry old (here-low b register n m w k row o g) g refl refl nodes in
+        let key = keyed-relabelled register n es (w .keyed) row (renamed r e) blankEntry old (here-low b register n m w k row o g) g refl refl refl nodes in
+        let home = housed-at es es row blankEntry (here-low b register n m w k row o g) (w .housed) in
         rw (← p, x1)
         (row-changed b register n m w k row o (renamed r) (λ x. renamedRow x r) (renamed-writes r (h .asks .long)) g
         (relabelled register (e .inside) old (labelOf r) row)
-        (relabelled-long register (e .inside) (labelOf r) row old)
-        (relabelled-role register (e .inside) (labelOf r) row old)
+        home
+        (relabelled-long register (e .inside) old (labelOf r) row)
+        (relabelled-before register (e .inside) old (labelOf r) row)
         key ys y)
 
-    pub rename-nodes : nodesIn register < 512 → l ≡ relabelled register f old (labelOf r) row → nodesIn l ≤ nodesIn register + 1
-    rename-nodes nodes x = omega (arith, ap nodesIn x, relabelled-nodes register f (labelOf r) row old (w .keyed .chains) nodes)
+    pub rename-nodes : nodesIn 4097 register < 1536 → l ≡ relabelled register f old (labelOf r) row → nodesIn 4097 l ≤ nodesIn 4097 register + 1
+    rename-nodes nodes x = omega (arith, ap (λ (y : List ℕ). nodesIn 4097 y) x, relabelled-nodes register f old (labelOf r) row (w .keyed .chains) nodes)
 
-    pub move-done : row < n → nodesIn register < 512 → f ≡ entryIn b (4 + 72 * row) .inside → (g : ℕ) → g ≡ folderOf r → l ≡ shifted register f old g (labelOf r) row
-        → (ys : List ℕ) → ys ≡ movedRow (take (4 + 72 * row + 72 - (4 + 72 * row)) (drop (4 + 72 * row) b)) r
-        → Works
-        (putMid (4 + 72 * row) (4 + 72 * row + 72 - (4 + 72 * row)) b ys)
-        l
-        n
-        m
-        (withEntries (treeIn b n m) (changed (moved r) (objectOf r) (entriesFrom b 0 n)))
-    unfolding moved removed isPresent treeIn
-    move-done g nodes q to u x ys y =
-        let es = entriesFrom b 0 n in
-        let e = getD es row blankEntry in
-        let here : isPresent e ≡ true = here-some b register n m w k row o g .1 in
-        let i : f ≡ e .inside = q ∙ ap (λ (z : Entry). z .inside) (sym (here-is b register n m w k row o g)) in
-        let key = keyed-shifted register n es (w .keyed) row (removed e) (moved r e) blankEntry f old (here-low b register n m w k row o g) g here refl here i nodes in
-        rw (← p, x, u)
-        (row-changed b register n m w k row o (moved r) (λ x. movedRow x r) (moved-writes r (h .asks .long)) g
-        (shifted register f old (folderOf r) (labelOf r) row)
-        (shifted-long register f old (folderOf r) (labelOf r) row)
-        (shifted-role register f old (folderOf r) (labelOf r) row)
-        key ys y)
-
-    pub move-nodes : nodesIn register < 512 → (g : ℕ) → l ≡ shifted register f old g (labelOf r) row → nodesIn l ≤ nodesIn register + 1
-    move-nodes nodes g x = omega (arith, ap nodesIn x, shifted-nodes register f old g (labelOf r) row (w .keyed .chains) nodes)
-
-    pub remove-done : row < n → f ≡ entryIn b (4 + 72 * row) .inside → l ≡ left register f old row
+    pub remove-done : row < n → f ≡ entryIn b (4 + 72 * row) .inside → (s : ℕ) → s ≡ rowOf f (treeIn b n m) → s ≤ n → l ≡ left register s f old row
         → (ys : List ℕ) → ys ≡ set (take (4 + 72 * row + 72 - (4 + 72 * row)) (drop (4 + 72 * row) b)) 0 0
         → Works
         (putMid (4 + 72 * row) (4 + 72 * row + 72 - (4 + 72 * row)) b ys)
@@ -258,17 +230,64 @@ module _ (b register : List ℕ) (n m : ℕ) (w : Holds b register n m) (r : Rec
         n
         m
         (withEntries (treeIn b n m) (changed removed (objectOf r) (entriesFrom b 0 n)))
-    unfolding removed isPresent treeIn
-    remove-done g q x ys y =
+    unfolding removed isPresent treeIn rowOf
+    remove-done g q s si sl x ys y =
         let es = entriesFrom b 0 n in
         let e = getD es row blankEntry in
         let i : f ≡ e .inside = q ∙ ap (λ (z : Entry). z .inside) (sym (here-is b register n m w k row o g)) in
-        let key = keyed-left register n es (w .keyed) row (removed e) blankEntry f old (here-low b register n m w k row o g) (here-some b register n m w k row o g .1) refl i in
+        let low = here-low b register n m w k row o g in
+        let home = housed-at es es row blankEntry low (w .housed) in
+        let few = w .rows-fit in
+        let at : folderAt es s ≡ f = rw si (place-folder es (w .proper) f (rw i home)) in
+        let key = keyed-left register n es (w .keyed) (w .rows) (one-each es (w .proper) (w .lone)) row (removed e) blankEntry low refl s f sl (omega arith) at old (here-some b register n m w k row o g .1) refl i in
         rw (← p, x)
-        (row-changed b register n m w k row o removed (λ x. set x 0 0) removed-writes g (left register f old row) (left-long register f old row) (left-role register f old row) key ys y)
+        (row-changed b register n m w k row o removed (λ x. set x 0 0) removed-writes g (left register s f old row) home (left-long register s f old row) (left-before register s f old row) key ys y)
 
-    pub remove-nodes : l ≡ left register f old row → nodesIn l ≤ nodesIn register + 1
-    remove-nodes x = omega (arith, ap nodesIn x, left-nodes register f old row (w .keyed .chains))
+    pub remove-nodes : (s : ℕ) → l ≡ left register s f old row → nodesIn 4097 l ≤ nodesIn 4097 register + 1
+    remove-nodes s x = omega (arith, ap (λ (y : List ℕ). nodesIn 4097 y) x, left-nodes register s f old row (w .keyed .chains))
+
+  module _ (l : List ℕ) (x : l ≡ shiftedOn r (treeIn b n m) register (entryIn b (4 + 72 * row)) row) (nodes : nodesIn 4097 register < 1536) where
+    pub move-done : row < n → Home (folderOf r) (entriesFrom b 0 n)
+        → (ys : List ℕ) → ys ≡ movedRow (take (4 + 72 * row + 72 - (4 + 72 * row)) (drop (4 + 72 * row) b)) r
+        → Works
+        (putMid (4 + 72 * row) (4 + 72 * row + 72 - (4 + 72 * row)) b ys)
+        l
+        n
+        m
+        (withEntries (treeIn b n m) (changed (moved r) (objectOf r) (entriesFrom b 0 n)))
+    unfolding moved removed isPresent treeIn rowOf shiftedOn
+    move-done g goes ys y =
+        let t = treeIn b n m in
+        let es = entriesFrom b 0 n in
+        let e = getD es row blankEntry in
+        let here : isPresent e ≡ true = here-some b register n m w k row o g .1 in
+        let low = here-low b register n m w k row o g in
+        let f = entryIn b (4 + 72 * row) .inside in
+        let old = entryIn b (4 + 72 * row) .label in
+        let i : f ≡ e .inside = ap (λ (z : Entry). z .inside) (sym (here-is b register n m w k row o g)) in
+        let home : Home f es = rw i (housed-at es es row blankEntry low (w .housed)) in
+        let few = w .rows-fit in
+        let s = rowFrom f 0 es in
+        let v = rowFrom (folderOf r) 0 es in
+        let sl : s ≤ n = row-low b register n m t w f in
+        let vl : v ≤ n = row-low b register n m t w (folderOf r) in
+        let at : folderAt es s ≡ f = place-folder es (w .proper) f home in
+        let to-at : folderAt es v ≡ folderOf r = place-folder es (w .proper) (folderOf r) goes in
+        let key = keyed-shifted register n es (w .keyed) (w .rows) (one-each es (w .proper) (w .lone)) (omega arith) row (removed e) (moved r e) blankEntry g refl refl s f sl at v (folderOf r) vl to-at old here refl here i refl nodes in
+        rw (← p, x)
+        (row-changed b register n m w k row o (moved r) (λ z. movedRow z r) (moved-writes r (h .asks .long)) g
+        (shifted register s f old v (folderOf r) (labelOf r) row)
+        goes
+        (shifted-long register s f old v (folderOf r) (labelOf r) row)
+        (shifted-before register s f old v (folderOf r) (labelOf r) row)
+        key ys y)
+
+    pub move-nodes : nodesIn 4097 l ≤ nodesIn 4097 register + 1
+    unfolding shiftedOn
+    move-nodes =
+        let e = entryIn b (4 + 72 * row) in
+        let t = treeIn b n m in
+        omega (arith, ap (λ (y : List ℕ). nodesIn 4097 y) x, shifted-nodes register (rowOf (e .inside) t) (e .inside) (e .label) (rowOf (folderOf r) t) (folderOf r) (labelOf r) row (w .keyed .chains) nodes)
 
 -- ---- rows lie within the table
 
@@ -281,20 +300,40 @@ module _ (b register : List ℕ) (n m : ℕ) (w : Holds b register n m) where
   pub label-end : (row : ℕ) → row < n → 4 + 72 * row + 56 ≤ length b
   label-end row h = omega (arith, row-end row h)
 
-  -- the register is asked to let an entry come to a folder
-  pub shift-counts : n < 512 → (g : ℕ) → InRange g → getD register (4096 + slotOf g) 0 < 512
-  unfolding treeIn
-  shift-counts h g u =
+  -- the register is asked to let an entry leave its folder
+  pub leave-counts : (row : ℕ) → row < n → isPresent (entryIn b (4 + 72 * row)) ≡ true → (f p : ℕ) → f ≡ entryIn b (4 + 72 * row) .inside → p ≡ rowOf f (treeIn b n m) → p ≤ n
+      → 1 ≤ getD register (8194 + p) 0
+  unfolding treeIn rowOf
+  leave-counts row h here f p q r low =
+      let es = entriesFrom b 0 n in
+      let e = getD es row blankEntry in
       let rows = w .rows in
-      omega (arith, w .keyed .counted g u, children-few g (entriesFrom b 0 n))
+      let is : e ≡ entryIn b (4 + 72 * row) = works-row b register n m (treeIn b n m) w row blankEntry h in
+      let at : e .inside ≡ f = ap (λ (x : Entry). x .inside) is ∙ sym q in
+      let i : isIn f e ≡ true = present-in f e (rw is here) ∙ eq-eqb (e .inside) f at in
+      let c = children-some f es row blankEntry (omega arith) i in
+      let home : Home f es = rw at at (housed-at es es row blankEntry (omega arith) (w .housed)) in
+      let k : folderAt es p ≡ f = rw r (place-folder es (w .proper) f home) in
+      let d = rw k at (w .keyed .counted p low) in
+      omega arith
 
-  pub works-chains : Chains register
+  pub shift-counts : (p : ℕ) → p ≤ n → getD register (8194 + p) 0 ≤ 1024
+  unfolding treeIn
+  shift-counts p h =
+      let rows = w .rows in
+      let fit = w .rows-fit in
+      omega (arith, w .keyed .counted p h, children-few (folderAt (entriesFrom b 0 n) p) (entriesFrom b 0 n))
+
+  pub works-chains : Chains 4097 register
   works-chains = w .keyed .chains
 
-  pub note-end : (k : ℕ) → InRange k → (role : ℕ) → role ≡ getD register (slotOf k) 0 → 512 < role → 36868 + 12 * (role - 513) + 12 ≤ length b
-  note-end k u role e h =
+  pub works-wide : length register ≡ registerSize
+  works-wide = w .keyed .wide
+
+  pub note-end : (k role : ℕ) → role ≡ roleOf k (treeIn b n m) → 512 < role → 36868 + 12 * (role - 513) + 12 ≤ length b
+  note-end k role e h =
       let f = w .notes-fit in
-      omega (arith, works-long b register n m (treeIn b n m) w, note-inside b register n m w k u role e h)
+      omega (arith, works-long b register n m (treeIn b n m) w, note-inside b register n m w k role e h)
 
 -- ---- what a move names
 

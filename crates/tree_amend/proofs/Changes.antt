@@ -1,6 +1,6 @@
 -- A working table after one change: a row changed, an aside settled.
 -- Assumes nothing.
-use Prim.Native.Nat.{ℕ, zero, suc, _+_, _*_, _<_}
+use Prim.Native.Nat.{ℕ, zero, suc, _+_, _-_, _*_, _<_}
 use native.Mathlib.Omega.{arith}
 use mathlib.Core.Path.{_≡_, refl, _∙_}
 use mathlib.Core.List.{List, [], _∷_}
@@ -11,11 +11,13 @@ use Rattle.model.specs.Table.{entryRow, asideRow}
 use Rattle.tree_table.specs.Rows.{workBytes, Proper, AllProper}
 use Rattle.tree_table.proofs.Writes.{set-entry, part-entry, set-aside, part-aside}
 use Rattle.tree_table.proofs.Fields.{settledOne}
-use Rattle.tree_lookup.specs.Roles.{rowFrom, noteFrom, rowOf, noteOf, roleOf, MarksFit, Works}
-use Rattle.tree_maps.specs.Keys.{slotOf, Keyed}
-use Rattle.tree_maps.proofs.Counts.{slot-low}
+use Rattle.tree_lookup.specs.Roles.{rowFrom, noteFrom, rowOf, noteOf, roleOf, nameOf, MarksFit, Home, Works}
+use Rattle.tree_maps.specs.Keys.{Keyed}
+use Rattle.tree_maps.proofs.Counts.{made-set}
 use Rattle.tree_lookup.proofs.Places.{row-set, note-set, lone-set}
 use Rattle.tree_lookup.proofs.Working.{blankEntry, blankAside}
+use Rattle.tree_lookup.proofs.Names.{named-kept, named-same, who-set}
+use Rattle.tree_lookup.proofs.Homes.{housed-map, housed-set}
 use Rattle.tree_amend.specs.Effects.{withEntries, withAsides}
 
 -- ---- proper entries, and marks that fit
@@ -50,10 +52,10 @@ module _ (b register : List ℕ) (n m : ℕ) (t : Tree) (w : Works b register n 
 
   -- row i holds another entry of the same identity, and the register goes with it
   pub works-change : (i : ℕ) (e : Entry) (l : List ℕ) → i < n → e .made ≡ getD (t .entries) i blankEntry .made → Proper e
-      → length l ≡ length register → ((s : ℕ) → s < 4096 → getD l s 0 ≡ getD register s 0) → Keyed l n (set (t .entries) i e)
+      → Home (e .inside) (t .entries) → length l ≡ length register → ((s : ℕ) → s < 4097 → getD l s 0 ≡ getD register s 0) → Keyed l n (set (t .entries) i e)
       → Works (putAt b (4 + 72 * i) (entryRow 0 e)) l n m (withEntries t (set (t .entries) i e))
-  unfolding withEntries workBytes isDisputed rowOf noteOf roleOf
-  works-change i e l h q p long low key =
+  unfolding withEntries workBytes isDisputed rowOf noteOf roleOf nameOf
+  works-change i e l h q p home long low key =
       let es = t .entries in
       let as′ = t .asides in
       let rows = w .rows in
@@ -69,8 +71,10 @@ module _ (b register : List ℕ) (n m : ℕ) (t : Tree) (w : Works b register n 
         lone = lone-set es i e blankEntry q (w .lone);
         marks = w .marks;
         apart = λ k. rw (same k) (w .apart k);
-        wide = long ∙ w .wide;
-        right = λ k u. low (slotOf k) (slot-low k u) ∙ rw (same k) (w .right k u);
+        housed = housed-map es (set es i e) (set es i e) (λ k y. rw (same k) y) (housed-set es es i e home (w .housed));
+        named =
+            named-same l t (withEntries t (set es i e)) (named-kept register l t (w .named) long low) (length-set es i e) refl (λ k. rw (same k))
+            (λ r. rw (made-set es i e blankEntry q (r - 1)));
         keyed = key;
       }
 
@@ -82,7 +86,7 @@ module _ (b register : List ℕ) (n m : ℕ) (t : Tree) (w : Works b register n 
       n
       m
       (withAsides t (set (t .asides) i (settledOne (getD (t .asides) i blankAside))))
-  unfolding withAsides workBytes rowOf noteOf roleOf
+  unfolding withAsides workBytes rowOf noteOf roleOf nameOf
   works-settle i h =
       let es = t .entries in
       let l = t .asides in
@@ -101,7 +105,9 @@ module _ (b register : List ℕ) (n m : ℕ) (t : Tree) (w : Works b register n 
         lone = w .lone;
         marks = marks-set l i blankAside (w .marks);
         apart = λ k. rw (same k) (w .apart k);
-        wide = w .wide;
-        right = λ k u. rw (same k) (w .right k u);
+        housed = w .housed;
+        named =
+            named-same register t (withAsides t (set l i a)) (w .named) refl (length-set l i a) (λ k. rw (same k))
+            (λ r. rw (who-set l i a blankAside refl (r - 513)));
         keyed = w .keyed;
       }

@@ -11,10 +11,10 @@ use Rattle.model.specs.Record.{Rec, objectOf, folderOf, labelOf}
 use Rattle.model.specs.Replay.{Entry, entryOf}
 use Rattle.tree_table.specs.Rows.{entryIn, entriesFrom, treeIn, rowIn}
 use Rattle.tree_maps.specs.Keys.{relabelled, left, shifted}
-use Rattle.tree_lookup.specs.Roles.{Holds}
+use Rattle.tree_lookup.specs.Roles.{rowOf, Holds}
 use Rattle.tree_lookup.specs.Lookup.{rowAmong}
 use Rattle.tree_lookup.proofs.Working.{row-none, row-some}
-use Rattle.tree_amend.specs.Registers.{forFound, renamedOn, removedOn, movedOn}
+use Rattle.tree_amend.specs.Registers.{forFound, renamedOn, removedOn, shiftedOn, movedOn}
 use Rattle.tree_amend.proofs.Amending.{row-end}
 
 -- a part of a row lies within the table
@@ -56,12 +56,20 @@ module _ (b : List ℕ) (n m : ℕ) (register : List ℕ) (r : Rec) (k row : ℕ
     unfolding renamedOn treeIn
     rename-register x = (rw (q, label-lent b (4 + 72 * row)) at x) ∙ found-some h _
 
-    pub remove-register : l ≡ left register f (take (4 + 72 * row + 56 - (4 + 72 * row + 24)) (drop (4 + 72 * row + 24) b)) row
+    pub remove-register : (s : ℕ) → s ≡ rowOf f (treeIn b n m) → l ≡ left register s f (take (4 + 72 * row + 56 - (4 + 72 * row + 24)) (drop (4 + 72 * row + 24) b)) row
         → l ≡ removedOn r (treeIn b n m) register
     unfolding removedOn treeIn
-    remove-register x = (rw (q, label-lent b (4 + 72 * row)) at x) ∙ found-some h _
+    remove-register s y x = (rw (y, q, label-lent b (4 + 72 * row)) at x) ∙ found-some h _
 
-    pub move-register : (g : ℕ) → g ≡ folderOf r → l ≡ shifted register f (take (4 + 72 * row + 56 - (4 + 72 * row + 24)) (drop (4 + 72 * row + 24) b)) g (labelOf r) row
-        → l ≡ movedOn r (treeIn b n m) register
+  module _ (h : row < n) where
+    pub move-register : (l : List ℕ) → l ≡ shiftedOn r (treeIn b n m) register (entryIn b (4 + 72 * row)) row → l ≡ movedOn r (treeIn b n m) register
     unfolding movedOn treeIn
-    move-register g z x = (rw (q, z, label-lent b (4 + 72 * row)) at x) ∙ found-some h _
+    move-register l x = x ∙ found-some h _
+
+-- what `shift_entry` leaves
+pub shift-register : (b : List ℕ) (n m : ℕ) (register : List ℕ) (r : Rec) (row f g s u : ℕ) (l : List ℕ) → f ≡ entryIn b (4 + 72 * row) .inside → g ≡ folderOf r
+    → s ≡ rowOf f (treeIn b n m) → u ≡ rowOf g (treeIn b n m)
+    → l ≡ shifted register s f (take (4 + 72 * row + 56 - (4 + 72 * row + 24)) (drop (4 + 72 * row + 24) b)) u g (labelOf r) row
+    → l ≡ shiftedOn r (treeIn b n m) register (entryIn b (4 + 72 * row)) row
+unfolding shiftedOn
+shift-register b n m register r row f g s u l q z y v x = rw (y, v, q, z, label-lent b (4 + 72 * row)) at x

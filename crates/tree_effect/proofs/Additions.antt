@@ -1,26 +1,27 @@
 -- A working table after a row more: a new entry, a new aside.
 -- Assumes nothing.
-use Prim.Native.Nat.{ℕ, _+_, _*_, _≤_, _<_}
+use Prim.Native.Nat.{ℕ, _+_, _-_, _*_, _≤_, _<_}
 use native.Mathlib.Omega.{arith}
 use mathlib.Core.Path.{_≡_, refl, sym, _∙_}
 use mathlib.Core.Logic.{_⊎_, inl, inr, ⊎-elim}
 use mathlib.Core.Bool.{true}
 use mathlib.Core.List.{List, [], _∷_, _++_}
-use lib.ListN.{getD, set, length-append, length-set}
-use lib.Seq.{getD-set-same, getD-set-other}
+use lib.ListN.{length, length-append}
 use Rattle.model.specs.Bytes.{putAt}
 use Rattle.model.specs.Replay.{Entry, Aside, Tree, isPresent, isDisputed}
 use Rattle.model.specs.Table.{entryRow, asideRow}
 use Rattle.byte_slice.proofs.Numbers.{eq-or-ne}
 use Rattle.tree_table.specs.Rows.{flagged, workBytes, InRange, Proper, AllProper}
 use Rattle.tree_table.proofs.Writes.{add-entry, add-aside}
-use Rattle.tree_lookup.specs.Roles.{rowFrom, noteFrom, rowOf, noteOf, behindRows, roleOf, MarksFit, Works}
+use Rattle.tree_lookup.specs.Roles.{rowFrom, noteFrom, rowOf, noteOf, behindRows, roleOf, nameOf, HasRole, MarksFit, Home, Works}
 use Rattle.hash_chains.specs.Chains.{nodesIn}
-use Rattle.tree_maps.specs.Keys.{slotOf, entered}
-use Rattle.tree_maps.proofs.Counts.{slot-one, slot-low}
-use Rattle.tree_maps.proofs.Keeping.{keyed-role, keyed-made, role-nodes, entered-role, entered-long}
+use Rattle.tree_maps.specs.Keys.{folderAt, named, entered}
+use Rattle.tree_maps.proofs.Counts.{made-more, made-new}
+use Rattle.tree_maps.proofs.Keeping.{keyed-beside, keyed-made, named-long, named-behind, named-labels, entered-before, entered-long}
 use Rattle.tree_lookup.proofs.Places.{row-absent, row-more, row-new, note-more, note-new, lone-more}
 use Rattle.tree_lookup.proofs.Working.{behind-cases}
+use Rattle.tree_lookup.proofs.Names.{row-few, role-within, name-row, name-note, who-more, who-new, named-kept, named-more}
+use Rattle.tree_lookup.proofs.Homes.{place-folder, one-each, new-empty, home-other, housed-new}
 use Rattle.tree_amend.specs.Effects.{withEntries, withAsides}
 
 -- ---- proper entries, and marks that fit
@@ -50,60 +51,67 @@ module _ (k : ℕ) (t : Tree) (fresh : roleOf k t ≡ 0) where
 -- ---- the rows
 
 module _ (b register : List ℕ) (n m : ℕ) (t : Tree) (w : Works b register n m t) where
-  module _ (k : ℕ) (own : InRange k) (fresh : roleOf k t ≡ 0) (v : ℕ) where
-    slots : (j : ℕ) → InRange j → ((j ≡ k) × (getD (set register (slotOf k) v) (slotOf j) 0 ≡ v)) ⊎ ((j ≡ k → ⊥) × (getD (set register (slotOf k) v) (slotOf j) 0 ≡ roleOf j t))
-    slots j u =
-        let low = slot-low k own in
-        let wide = w .wide in
-        ⊎-elim (λ (q : j ≡ k). inl (q, rw q (getD-set-same register (slotOf k) v 0 (omega arith))))
-        (λ (q : j ≡ k → ⊥).
-        inr (q, getD-set-other register (slotOf k) (slotOf j) v 0 (λ (z : slotOf j ≡ slotOf k). q (slot-one j k u own z)) ∙ w .right j u))
-        (eq-or-ne j k)
-
   -- a row for a new entry
-  pub works-make : (e : Entry) → n < 512 → nodesIn register < 512 → Proper e → isPresent e ≡ true → roleOf (e .made) t ≡ 0
-      → Works (putAt b (4 + 72 * n) (entryRow 0 e)) (entered (set register (slotOf (e .made)) (n + 1)) (e .inside) (e .label) n) (n + 1) m (withEntries t (t .entries ++ (e ∷ [])))
+  pub works-make : (e : Entry) (p : ℕ) → n < 512 → n + m < 1536 → nodesIn 4097 register < 1536 → Proper e → isPresent e ≡ true → roleOf (e .made) t ≡ 0
+      → Home (e .inside) (t .entries) → p ≡ rowOf (e .inside) t
+      → Works (putAt b (4 + 72 * n) (entryRow 0 e)) (entered (named register (e .made) (n + 1)) p (e .inside) (e .label) n) (n + 1) m (withEntries t (t .entries ++ (e ∷ [])))
   unfolding withEntries workBytes isDisputed rowOf noteOf roleOf behindRows
-  works-make e h room p here fresh =
+  works-make e p h both room fit here fresh home place =
       let es = t .entries in
       let l = t .asides in
       let k = e .made in
       let rows = w .rows in
+      let notes = w .notes in
       let nr : rowFrom k 0 es ≡ 0 = fresh-row k t fresh in
       let nn : noteFrom k 0 l ≡ 0 = fresh-note k t fresh in
-      let low = slot-low k (p .range) in
-      let l1 = set register (slotOf k) (n + 1) in
+      let low = fit .range .low in
+      let c = w .named .chains in
+      let r0 : nodesIn 0 register < 1536 = omega (arith, w .named .count) in
+      let l1 = named register k (n + 1) in
+      let l2 = entered l1 p (e .inside) (e .label) n in
+      let u = withEntries t (es ++ (e ∷ [])) in
+      let more : length (es ++ (e ∷ [])) ≡ n + 1 = length-append es (e ∷ []) ∙ rw rows refl in
       let b1 : b ≡ flagged [] es l = w .bytes in
+      let key = keyed-beside register n es (w .keyed) l1 (named-long register k (n + 1)) (named-behind register k (n + 1) c r0) in
+      let nodes : nodesIn 4097 l1 < 1536 = rw (named-labels register k (n + 1) c r0 (w .keyed .chains)) room in
+      let within : p ≤ n = rw place (omega (arith, row-few (e .inside) t)) in
+      let at : folderAt es p ≡ e .inside = rw place (place-folder es (w .proper) (e .inside) home) in
+      let new : roleOf k u ≡ n + 1 = rw (row-new k 0 es e nr refl, nn) (omega arith) in
+      let is : nameOf u (n + 1) ≡ k = name-row u (n + 1) (omega arith) ∙ (let z : n + 1 - 1 ≡ length es = omega arith in rw z (made-new es e)) in
+      let others : (j : ℕ) → (j ≡ k → ⊥) → roleOf j u ≡ roleOf j t = λ j q. rw (row-more j 0 es e (λ (z : k ≡ j). q (sym z))) in
+      let names : (r : ℕ) → HasRole t r → nameOf u r ≡ nameOf t r =
+      λ r q.
+      ⊎-elim
+      (λ (z : r ≤ length es). name-row u r (omega arith) ∙ made-more es e (r - 1) (omega (arith, q .0)) ∙ sym (name-row t r (omega arith)))
+      (λ (z : 512 < r). name-note u r z ∙ sym (name-note t r z))
+      (role-within t (omega arith) (w .apart) r q .within) in
       record {
-        bytes = rw (b1, ← rows) (add-entry [] es l (w .proper) (omega arith) e (omega arith) p);
-        rows = length-append es (e ∷ []) ∙ rw rows refl;
+        bytes = rw (b1, ← rows) (add-entry [] es l (w .proper) (omega arith) e (omega arith) fit);
+        rows = more;
         notes = w .notes;
         rows-fit = omega arith;
         notes-fit = w .notes-fit;
-        proper = proper-more es e p (w .proper);
+        proper = proper-more es e fit (w .proper);
         lone = lone-more es e (row-absent k 0 es nr) (w .lone);
         marks = w .marks;
         apart = λ j.
             ⊎-elim (λ (q : j ≡ k). inr (rw q nn))
             (λ (q : j ≡ k → ⊥). rw (row-more j 0 es e (λ (z : k ≡ j). q (sym z))) (w .apart j))
             (eq-or-ne j k);
-        wide = entered-long l1 (e .inside) (e .label) n ∙ length-set register (slotOf k) (n + 1) ∙ w .wide;
-        right = λ j u.
-            entered-role l1 (e .inside) (e .label) n (slotOf j) (slot-low j u)
-            ∙ ⊎-elim
-            (λ (q : (j ≡ k) × (getD (set register (slotOf k) (n + 1)) (slotOf j) 0 ≡ n + 1)).
-            q .1 ∙ rw (q .0, row-new k 0 es e nr refl, nn) (omega arith))
-            (λ (q : (j ≡ k → ⊥) × (getD (set register (slotOf k) (n + 1)) (slotOf j) 0 ≡ roleOf j t)).
-            q .1 ∙ rw (row-more j 0 es e (λ (z : k ≡ j). q .0 (sym z))))
-            (slots k (p .range) fresh (n + 1) j u);
-        keyed = keyed-made l1 n es (keyed-role register n es (w .keyed) (slotOf k) (n + 1) low) rows e here (rw (role-nodes register (slotOf k) (n + 1) low) room);
+        housed = housed-new es e nr home (w .housed);
+        named =
+            named-kept l1 l2 u (named-more register t u k (n + 1) (w .named) r0 fresh new (omega arith) is others names (omega arith))
+            (entered-long l1 p (e .inside) (e .label) n)
+            (entered-before l1 p (e .inside) (e .label) n);
+        keyed =
+            keyed-made l1 n es key rows e p (one-each es (w .proper) (w .lone)) (omega arith) within at (new-empty k es low nr (w .housed)) (home-other k (e .inside) es low nr home) here nodes;
       }
 
   -- a row for a new aside
-  pub works-aside : (a : Aside) → m < 512 → InRange (a .who) → roleOf (a .who) t ≡ 0 → (a .marked ≡ 0) ⊎ InRange (a .marked)
-      → Works (putAt b (36868 + 12 * m) (asideRow a)) (set register (slotOf (a .who)) (513 + m)) n (m + 1) (withAsides t (t .asides ++ (a ∷ [])))
+  pub works-aside : (a : Aside) → m < 512 → n + m < 1536 → InRange (a .who) → roleOf (a .who) t ≡ 0 → (a .marked ≡ 0) ⊎ InRange (a .marked)
+      → Works (putAt b (36868 + 12 * m) (asideRow a)) (named register (a .who) (513 + m)) n (m + 1) (withAsides t (t .asides ++ (a ∷ [])))
   unfolding withAsides workBytes rowOf noteOf roleOf behindRows
-  works-aside a h own fresh mark =
+  works-aside a h both own fresh mark =
       let es = t .entries in
       let l = t .asides in
       let k = a .who in
@@ -113,10 +121,23 @@ module _ (b register : List ℕ) (n m : ℕ) (t : Tree) (w : Works b register n 
       let nn : noteFrom k 0 l ≡ 0 = fresh-note k t fresh in
       let b1 : b ≡ flagged [] es l = w .bytes in
       let fit = w .rows-fit in
+      let c = w .named .chains in
+      let r0 : nodesIn 0 register < 1536 = omega (arith, w .named .count) in
+      let l1 = named register k (513 + m) in
+      let u = withAsides t (l ++ (a ∷ [])) in
+      let more : length (l ++ (a ∷ [])) ≡ m + 1 = length-append l (a ∷ []) ∙ rw notes refl in
+      let new : roleOf k u ≡ 513 + m = rw (nr, note-new k 0 l a nn refl) (omega arith) in
+      let is : nameOf u (513 + m) ≡ k = name-note u (513 + m) (omega arith) ∙ (let z : 513 + m - 513 ≡ length l = omega arith in rw z (who-new l a)) in
+      let others : (j : ℕ) → (j ≡ k → ⊥) → roleOf j u ≡ roleOf j t = λ j q. rw (note-more j 0 l a (λ (z : k ≡ j). q (sym z))) in
+      let names : (r : ℕ) → HasRole t r → nameOf u r ≡ nameOf t r =
+      λ r q.
+      ⊎-elim (λ (z : r ≤ length es). name-row u r (omega arith) ∙ sym (name-row t r (omega arith)))
+      (λ (z : 512 < r). name-note u r z ∙ who-more l a (r - 513) (omega (arith, role-within t (omega arith) (w .apart) r q .most)) ∙ sym (name-note t r z))
+      (role-within t (omega arith) (w .apart) r q .within) in
       record {
         bytes = rw (b1, ← notes) (add-aside [] es l (w .proper) (omega arith) a);
         rows = w .rows;
-        notes = length-append l (a ∷ []) ∙ rw notes refl;
+        notes = more;
         rows-fit = fit;
         notes-fit = omega arith;
         proper = w .proper;
@@ -126,13 +147,7 @@ module _ (b register : List ℕ) (n m : ℕ) (t : Tree) (w : Works b register n 
             ⊎-elim (λ (q : j ≡ k). inl (rw q nr))
             (λ (q : j ≡ k → ⊥). rw (note-more j 0 l a (λ (z : k ≡ j). q (sym z))) (w .apart j))
             (eq-or-ne j k);
-        wide = length-set register (slotOf k) (513 + m) ∙ w .wide;
-        right = λ j u.
-            ⊎-elim
-            (λ (q : (j ≡ k) × (getD (set register (slotOf k) (513 + m)) (slotOf j) 0 ≡ 513 + m)).
-            q .1 ∙ rw (q .0, nr, note-new k 0 l a nn refl) (omega arith))
-            (λ (q : (j ≡ k → ⊥) × (getD (set register (slotOf k) (513 + m)) (slotOf j) 0 ≡ roleOf j t)).
-            q .1 ∙ rw (note-more j 0 l a (λ (z : k ≡ j). q .0 (sym z))))
-            (slots k own fresh (513 + m) j u);
-        keyed = keyed-role register n es (w .keyed) (slotOf k) (513 + m) (slot-low k own);
+        housed = w .housed;
+        named = named-more register t u k (513 + m) (w .named) r0 fresh new (omega arith) is others names (omega arith);
+        keyed = keyed-beside register n es (w .keyed) l1 (named-long register k (513 + m)) (named-behind register k (513 + m) c r0);
       }

@@ -2,29 +2,30 @@
 -- Assumes nothing.
 use Prim.Native.Nat.{ℕ, _+_, _-_, _*_, _≤_, _<_}
 use native.Mathlib.Omega.{arith}
-use mathlib.Core.Path.{_≡_, ap, _∙_}
+use mathlib.Core.Path.{_≡_, refl, ap, _∙_}
 use mathlib.Core.Logic.{_⊎_, ⊎-elim}
 use mathlib.Core.Bool.{true}
 use mathlib.Core.List.{List, [], _∷_, _++_}
-use lib.ListN.{getD, length, set, take, drop}
+use lib.ListN.{getD, length, take, drop}
 use borrow.Author.Tests.{ne-eqb, le-leb}
 use borrow.Rule.Slice.PartMut.{putMid}
 use Rattle.model.specs.Bytes.{part}
 use Rattle.model.specs.Record.{Rec, op, selfOf, objectOf, folderOf, labelOf, usesFolder}
-use Rattle.model.specs.Replay.{Tree, isPresent, changed, settled, newEntry, stored, renamed, moved, removed, effect}
+use Rattle.model.specs.Replay.{Entry, Tree, isPresent, changed, settled, newEntry, stored, renamed, moved, removed, effect}
 use Rattle.model.specs.Table.{entryRow, asideRow}
 use Rattle.byte_slice.proofs.Parts.{part-is, part-length}
 use Rattle.byte_slice.proofs.PutAt.{mid-put}
 use Rattle.tree_table.specs.Rows.{entriesFrom, asidesFrom, treeIn, newAside, newRow, InRange}
 use Rattle.tree_table.proofs.Rows.{row-length, aside-row-length}
 use Rattle.tree_table.proofs.Fields.{new-row, new-proper}
-use Rattle.tree_lookup.specs.Roles.{Works, Holds}
+use Rattle.tree_lookup.specs.Roles.{rowOf, Home, Works, Holds}
 use Rattle.hash_chains.specs.Chains.{nodesIn, Chains}
-use Rattle.tree_maps.specs.Keys.{slotOf, entered, Keyed}
+use Rattle.tree_maps.specs.Keys.{registerSize, folderAt, named, entered, Keyed}
 use Rattle.tree_maps.proofs.Counts.{children-few}
-use Rattle.tree_maps.proofs.Keeping.{keyed-role, role-nodes, entered-nodes}
+use Rattle.tree_maps.proofs.Keeping.{keyed-beside, named-long, named-behind, named-labels, entered-nodes}
 use Rattle.tree_lookup.proofs.Working.{works-long}
-use Rattle.tree_amend.specs.Effects.{withEntries, withAsides, Takes}
+use Rattle.tree_amend.specs.Effects.{withEntries, withAsides, Placed, Takes}
+use Rattle.tree_amend.specs.Registers.{madeOn}
 use Rattle.tree_effect.proofs.Additions.{works-make, works-aside}
 
 -- ---- numbers that fit
@@ -49,52 +50,72 @@ new-present : (r : Rec) → 1 ≤ op r → isPresent (newEntry r) ≡ true
 unfolding isPresent newEntry
 new-present r h = rw (ne-eqb (op r) 0 (λ z. omega arith))
 
--- a role is written, and the register is asked to enter an entry
-module _ (b register : List ℕ) (n m : ℕ) (w : Holds b register n m) (s v : ℕ) (low : s < 4096) (l : List ℕ) (g : l ≡ set register s v) where
+-- the chains of identities have room
+module _ (b register : List ℕ) (n m : ℕ) (w : Holds b register n m) where
+  pub name-chains : Chains 0 register
+  name-chains = w .named .chains
+
+  pub name-room : n + m < 1536 → nodesIn 0 register < 1536
+  unfolding treeIn
+  name-room room = omega (arith, w .named .count, w .rows, w .notes)
+
+-- an identity gets a role, and the register is asked to enter an entry
+module _ (b register : List ℕ) (n m : ℕ) (w : Holds b register n m) (both : n + m < 1536) (k v : ℕ) (l : List ℕ) (g : l ≡ named register k v) where
   role-keyed : Keyed l n (entriesFrom b 0 n)
   unfolding treeIn
-  role-keyed = rw g (keyed-role register n (entriesFrom b 0 n) (w .keyed) s v low)
+  role-keyed =
+      rw g
+      (keyed-beside register n (entriesFrom b 0 n) (w .keyed) (named register k v) (named-long register k v)
+      (named-behind register k v (w .named .chains) (name-room b register n m w both)))
 
-  pub enter-chains : Chains l
+  pub enter-chains : Chains 4097 l
   enter-chains = role-keyed .chains
 
-  pub enter-nodes : nodesIn register < 512 → nodesIn l < 512
-  enter-nodes room = rw (g, role-nodes register s v low) room
+  pub enter-wide : length l ≡ registerSize
+  enter-wide = role-keyed .wide
 
-  pub enter-count : n < 512 → (f : ℕ) → InRange f → getD l (4096 + slotOf f) 0 < 512
+  kept-labels : nodesIn 4097 l ≡ nodesIn 4097 register
+  kept-labels = rw g (named-labels register k v (w .named .chains) (name-room b register n m w both) (w .keyed .chains))
+
+  pub enter-nodes : nodesIn 4097 register < 1536 → nodesIn 4097 l < 1536
+  enter-nodes room = rw kept-labels room
+
+  pub enter-count : (p : ℕ) → p ≤ n → getD l (8194 + p) 0 ≤ 1024
   unfolding treeIn
-  enter-count room f u =
+  enter-count p h =
       let rows = w .rows in
-      omega (arith, role-keyed .counted f u, children-few f (entriesFrom b 0 n))
+      let fit = w .rows-fit in
+      omega (arith, role-keyed .counted p h, children-few (folderAt (entriesFrom b 0 n) p) (entriesFrom b 0 n))
 
-  pub role-kept : nodesIn l ≤ nodesIn register + 1
-  role-kept = omega (arith, ap nodesIn g, role-nodes register s v low)
+  pub role-kept : nodesIn 4097 l ≤ nodesIn 4097 register + 1
+  role-kept = omega (arith, kept-labels)
 
-  pub made-nodes : nodesIn register < 512 → (f : ℕ) (t : List ℕ) (row : ℕ) (l' : List ℕ) → l' ≡ entered l f t row → nodesIn l' ≤ nodesIn register + 1
-  made-nodes room f t row l' x =
-      omega (arith, ap nodesIn x, entered-nodes l f t row enter-chains (enter-nodes room), ap nodesIn g, role-nodes register s v low)
+  pub made-nodes : nodesIn 4097 register < 1536 → (p f : ℕ) (t : List ℕ) (row : ℕ) (l' : List ℕ) → l' ≡ entered l p f t row → nodesIn 4097 l' ≤ nodesIn 4097 register + 1
+  made-nodes room p f t row l' x =
+      omega (arith, ap (λ (y : List ℕ). nodesIn 4097 y) x, entered-nodes l p f t row enter-chains (enter-nodes room), kept-labels)
 
-module _ (b register : List ℕ) (n m : ℕ) (w : Holds b register n m) (r : Rec) (h : Takes (treeIn b n m) r) (me s : ℕ) (q : me ≡ selfOf r) (p : s ≡ slotOf me) where
-  pub entry-added : n < 512 → nodesIn register < 512 → (l l' : List ℕ) → l ≡ set register s (n + 1) → (f : ℕ) → f ≡ folderOf r → l' ≡ entered l f (labelOf r) n
+module _ (b register : List ℕ) (n m : ℕ) (w : Holds b register n m) (r : Rec) (h : Takes (treeIn b n m) r) (both : n + m < 1536) where
+  pub entry-added : n < 512 → nodesIn 4097 register < 1536 → Home (folderOf r) (entriesFrom b 0 n) → (l : List ℕ) → l ≡ madeOn r (treeIn b n m) register
       → (ys : List ℕ) → ys ≡ newRow (take (4 + 72 * n + 72 - (4 + 72 * n)) (drop (4 + 72 * n) b)) r
       → Works
       (putMid (4 + 72 * n) (4 + 72 * n + 72 - (4 + 72 * n)) b ys)
-      l'
+      l
       (n + 1)
       m
       (withEntries (treeIn b n m) (entriesFrom b 0 n ++ (newEntry r ∷ [])))
-  unfolding treeIn newEntry
-  entry-added room nodes l l' g f fo g' ys y =
+  unfolding treeIn newEntry madeOn
+  entry-added room nodes home l g ys y =
       let t = treeIn b n m in
       let long = h .asks .long in
       let bl = works-long b register n m t w in
       let fit = new-proper r long (h .own) in
       let c : length (part b (4 + 72 * n) 72) ≡ 72 = part-length b (4 + 72 * n) 72 (omega arith) in
       let z : ys ≡ entryRow 0 (newEntry r) = y ∙ rw (part-is b (4 + 72 * n) 72) (new-row r long (part b (4 + 72 * n) 72) c) in
-      let v = works-make b register n m t w (newEntry r) room nodes fit (new-present r (h .asks .known)) (h .fresh) in
-      rw (mid-put (4 + 72 * n) 72 b ys (ap (λ (l : List ℕ). length l) z ∙ row-length 0 (newEntry r) fit), z, g', g, fo, p, q) v
+      let v = works-make b register n m t w (newEntry r) (rowOf (folderOf r) t) room both nodes fit (new-present r (h .asks .known)) (h .fresh) home refl in
+      let x : l ≡ entered (named register (selfOf r) (n + 1)) (rowOf (folderOf r) t) (folderOf r) (labelOf r) n = rw (w .rows) at g in
+      rw (mid-put (4 + 72 * n) 72 b ys (ap (λ (l : List ℕ). length l) z ∙ row-length 0 (newEntry r) fit), z, x) v
 
-  pub aside-added : m < 512 → (reason marked : ℕ) → (marked ≡ 0) ⊎ InRange marked → (l : List ℕ) → l ≡ set register s (513 + m) → (ys : List ℕ) → ys ≡ asideRow (newAside me reason marked)
+  pub aside-added : (me : ℕ) → me ≡ selfOf r → m < 512 → (reason marked : ℕ) → (marked ≡ 0) ⊎ InRange marked → (l : List ℕ) → l ≡ named register me (513 + m) → (ys : List ℕ) → ys ≡ asideRow (newAside me reason marked)
       → Works
       (putMid (36868 + 12 * m) (36868 + 12 * m + 12 - (36868 + 12 * m)) b ys)
       l
@@ -102,12 +123,23 @@ module _ (b register : List ℕ) (n m : ℕ) (w : Holds b register n m) (r : Rec
       (m + 1)
       (withAsides (treeIn b n m) (asidesFrom b 0 m ++ (newAside (selfOf r) reason marked ∷ [])))
   unfolding treeIn newAside
-  aside-added room reason marked fit l g ys y =
+  aside-added me q room reason marked fit l g ys y =
       let t = treeIn b n m in
       let a = newAside (selfOf r) reason marked in
       let z : ys ≡ asideRow a = y ∙ rw q in
-      let v = works-aside b register n m t w a room (h .own) (h .fresh) fit in
-      rw (mid-put (36868 + 12 * m) 12 b ys (ap (λ (l : List ℕ). length l) z ∙ aside-row-length a), z, g, p, q) v
+      let v = works-aside b register n m t w a room both (h .own) (h .fresh) fit in
+      rw (mid-put (36868 + 12 * m) 12 b ys (ap (λ (l : List ℕ). length l) z ∙ aside-row-length a), z, g, q) v
+
+-- ---- the folder of a make and of a move
+
+module _ (r : Rec) (es : List Entry) (p : Placed r es) where
+  pub make-home : getD r 1 0 ≤ 2 → Home (folderOf r) es
+  unfolding op usesFolder
+  make-home h = p .home (rw (le-leb (getD r 1 0) 2 h))
+
+  pub move-home : getD r 1 0 ≡ 7 → Home (folderOf r) es
+  unfolding op usesFolder
+  move-home h = p .home (rw h)
 
 -- ---- rows lie within the table
 

@@ -3,23 +3,23 @@
 use Prim.Native.Nat.{ℕ, _+_, _≤_, _<_}
 use mathlib.Core.Path.{_≡_}
 use mathlib.Core.List.{List}
-use lib.ListN.{getD, set}
+use lib.ListN.{getD}
 use borrow.Author.Tests.{le-leb}
 use Rattle.model.specs.Record.{Rec, op, selfOf, folderOf, labelOf}
 use Rattle.model.specs.Replay.{Tree}
 use Rattle.tree_table.specs.Rows.{treeIn}
-use Rattle.tree_lookup.specs.Roles.{Holds}
-use Rattle.tree_maps.specs.Keys.{slotOf, entered}
+use Rattle.tree_lookup.specs.Roles.{rowOf, Holds}
+use Rattle.tree_maps.specs.Keys.{named, entered}
 use Rattle.tree_amend.specs.Registers.{madeOn, renamedOn, removedOn, movedOn, effectOn, asideOn}
 
-module _ (b register : List ℕ) (n m : ℕ) (w : Holds b register n m) (r : Rec) (me s : ℕ) (q : me ≡ selfOf r) (p : s ≡ slotOf me) (l : List ℕ) where
-  pub make-register : l ≡ set register s (n + 1) → (f : ℕ) → f ≡ folderOf r → (l' : List ℕ) → l' ≡ entered l f (labelOf r) n → l' ≡ madeOn r (treeIn b n m) register
+module _ (b register : List ℕ) (n m : ℕ) (w : Holds b register n m) (r : Rec) (me : ℕ) (q : me ≡ selfOf r) (l : List ℕ) where
+  pub make-register : l ≡ named register me (n + 1) → (f p : ℕ) → f ≡ folderOf r → p ≡ rowOf f (treeIn b n m) → (l' : List ℕ) → l' ≡ entered l p f (labelOf r) n → l' ≡ madeOn r (treeIn b n m) register
   unfolding madeOn
-  make-register g f e l' x = rw (w .rows, ← q, ← p, ← g, ← e) x
+  make-register g f p e s l' x = rw (w .rows, ← q, ← g, ← e, ← s) x
 
-  pub aside-register : l ≡ set register s (513 + m) → l ≡ asideOn r (treeIn b n m) register
+  pub aside-register : l ≡ named register me (513 + m) → l ≡ asideOn r (treeIn b n m) register
   unfolding asideOn
-  aside-register g = rw (w .notes, ← q, ← p) g
+  aside-register g = rw (w .notes, ← q) g
 
 -- ---- any operation
 

@@ -3,31 +3,35 @@ ghost use mathlib.Core.Path.{_≡_};
 ghost use mathlib.Core.Logic.{_⊎_};
 ghost use mathlib.Core.List.{_++_, _∷_, []};
 ghost use Prim.Native.Nat.{_+_, _≤_, _<_};
-ghost use lib.ListN.{getD};
-ghost use Rattle.model.specs.Record.{selfOf};
+ghost use lib.ListN.{length, getD};
+ghost use Rattle.model.specs.Record.{selfOf, folderOf};
 ghost use Rattle.model.specs.Replay.{newEntry, effect as effectOf};
 ghost use Rattle.tree_table.specs.Rows.{entriesFrom, asidesFrom, treeIn, newAside, InRange};
 ghost use Rattle.hash_chains.specs.Chains.{nodesIn};
-ghost use Rattle.tree_lookup.specs.Roles.{Works, Holds};
-ghost use Rattle.tree_amend.specs.Effects.{withEntries, withAsides, Takes};
+ghost use Rattle.tree_lookup.specs.Roles.{Home, Works, Holds};
+ghost use Rattle.tree_amend.specs.Effects.{withEntries, withAsides, Placed, Takes};
 ghost use Rattle.tree_amend.specs.Registers.{madeOn, effectOn, asideOn};
 use tree_table::Size;
 
+// The register of a make: the role of the new entry, its folder's count and its label.
+fn enter_entry(rec: &[u8], table: &[u8], register: &mut [u16], size: Size)
+    requires { ⌜ (length (now rec) ≡ 80) × Holds (now table) (now register) (size .entries) (size .asides) × (size .entries + size .asides < 1536) × (nodesIn 4097 (now register) < 1536) ⌝ }
+    ensures { λ _. ⌜ (nodesIn 4097 (now (register .exit)) ≤ nodesIn 4097 (now (register .entry)) + 1) × (now (register .exit) ≡ madeOn (now (rec .entry)) (treeIn (now (table .entry)) (size .entries) (size .asides)) (now (register .entry))) ⌝ }
+{
+    let f = tree_table::folder_of(rec);
+    let place = tree_lookup::place_of(table, register, size, f);
+    tree_maps::name(register, tree_table::self_of(rec), size.entries + 1);
+    tree_maps::enter(register, place, f, &rec[32..64], size.entries);
+}
+
 // A make: a row for the new entry, its role, its folder's count and its label.
 pub fn add_entry(rec: &[u8], table: &mut [u8], register: &mut [u16], size: Size) -> Size
-    requires { ⌜ Takes (treeIn (now table) (size .entries) (size .asides)) (now rec) × Holds (now table) (now register) (size .entries) (size .asides) × (size .entries < 512) × (nodesIn (now register) < 512) × (getD (now rec) 1 0 ≤ 2) ⌝ }
-    ensures { λ r. ⌜ Works (now (table .exit)) (now (register .exit)) (r .entries) (r .asides) (withEntries (treeIn (now (table .entry)) (size .entries) (size .asides)) (entriesFrom (now (table .entry)) 0 (size .entries) ++ (newEntry (now (rec .entry)) ∷ []))) × (nodesIn (now (register .exit)) ≤ nodesIn (now (register .entry)) + 1) × (now (register .exit) ≡ madeOn (now (rec .entry)) (treeIn (now (table .entry)) (size .entries) (size .asides)) (now (register .entry))) ⌝ }
+    requires { ⌜ Takes (treeIn (now table) (size .entries) (size .asides)) (now rec) × Holds (now table) (now register) (size .entries) (size .asides) × Home (folderOf (now rec)) (entriesFrom (now table) 0 (size .entries)) × (size .entries < 512) × (size .entries + size .asides < 1536) × (nodesIn 4097 (now register) < 1536) × (getD (now rec) 1 0 ≤ 2) ⌝ }
+    ensures { λ r. ⌜ Works (now (table .exit)) (now (register .exit)) (r .entries) (r .asides) (withEntries (treeIn (now (table .entry)) (size .entries) (size .asides)) (entriesFrom (now (table .entry)) 0 (size .entries) ++ (newEntry (now (rec .entry)) ∷ []))) × (nodesIn 4097 (now (register .exit)) ≤ nodesIn 4097 (now (register .entry)) + 1) × (now (register .exit) ≡ madeOn (now (rec .entry)) (treeIn (now (table .entry)) (size .entries) (size .asides)) (now (register .entry))) ⌝ }
 {
+    enter_entry(rec, table, register, size);
     let at = 4 + 72 * size.entries;
     tree_table::fill_row(&mut table[at..at + 72], rec);
-    let s = tree_maps::slot(tree_table::self_of(rec));
-    hash_chains::put(register, s, size.entries + 1);
-    tree_maps::enter(
-        register,
-        tree_table::folder_of(rec),
-        &rec[32..64],
-        size.entries,
-    );
     Size {
         entries: size.entries + 1,
         asides: size.asides,
@@ -43,14 +47,13 @@ pub fn stand_aside(
     register: &mut [u16],
     size: Size,
 ) -> Size
-    requires { ⌜ Takes (treeIn (now table) (size .entries) (size .asides)) (now rec) × Holds (now table) (now register) (size .entries) (size .asides) × (size .asides < 512) × ((marked ≡ 0) ⊎ InRange marked) ⌝ }
-    ensures { λ r. ⌜ Works (now (table .exit)) (now (register .exit)) (r .entries) (r .asides) (withAsides (treeIn (now (table .entry)) (size .entries) (size .asides)) (asidesFrom (now (table .entry)) 0 (size .asides) ++ (newAside (selfOf (now (rec .entry))) reason marked ∷ []))) × (nodesIn (now (register .exit)) ≤ nodesIn (now (register .entry)) + 1) × (now (register .exit) ≡ asideOn (now (rec .entry)) (treeIn (now (table .entry)) (size .entries) (size .asides)) (now (register .entry))) ⌝ }
+    requires { ⌜ Takes (treeIn (now table) (size .entries) (size .asides)) (now rec) × Holds (now table) (now register) (size .entries) (size .asides) × (size .asides < 512) × (size .entries + size .asides < 1536) × ((marked ≡ 0) ⊎ InRange marked) ⌝ }
+    ensures { λ r. ⌜ Works (now (table .exit)) (now (register .exit)) (r .entries) (r .asides) (withAsides (treeIn (now (table .entry)) (size .entries) (size .asides)) (asidesFrom (now (table .entry)) 0 (size .asides) ++ (newAside (selfOf (now (rec .entry))) reason marked ∷ []))) × (nodesIn 4097 (now (register .exit)) ≤ nodesIn 4097 (now (register .entry)) + 1) × (now (register .exit) ≡ asideOn (now (rec .entry)) (treeIn (now (table .entry)) (size .entries) (size .asides)) (now (register .entry))) ⌝ }
 {
     let who = tree_table::self_of(rec);
     let at = 36868 + 12 * size.asides;
     tree_table::fill_aside(&mut table[at..at + 12], who, reason, marked);
-    let s = tree_maps::slot(who);
-    hash_chains::put(register, s, 513 + size.asides);
+    tree_maps::name(register, who, 513 + size.asides);
     Size {
         entries: size.entries,
         asides: size.asides + 1,
@@ -59,8 +62,8 @@ pub fn stand_aside(
 
 // A record that fits does what its operation says.
 pub fn effect(rec: &[u8], table: &mut [u8], register: &mut [u16], size: Size) -> Size
-    requires { ⌜ Takes (treeIn (now table) (size .entries) (size .asides)) (now rec) × Holds (now table) (now register) (size .entries) (size .asides) × (size .entries < 512) × (nodesIn (now register) < 512) ⌝ }
-    ensures { λ r. ⌜ Works (now (table .exit)) (now (register .exit)) (r .entries) (r .asides) (effectOf (now (rec .entry)) (treeIn (now (table .entry)) (size .entries) (size .asides))) × (nodesIn (now (register .exit)) ≤ nodesIn (now (register .entry)) + 1) × (now (register .exit) ≡ effectOn (now (rec .entry)) (treeIn (now (table .entry)) (size .entries) (size .asides)) (now (register .entry))) ⌝ }
+    requires { ⌜ Takes (treeIn (now table) (size .entries) (size .asides)) (now rec) × Holds (now table) (now register) (size .entries) (size .asides) × Placed (now rec) (entriesFrom (now table) 0 (size .entries)) × (size .entries < 512) × (size .entries + size .asides < 1536) × (nodesIn 4097 (now register) < 1536) ⌝ }
+    ensures { λ r. ⌜ Works (now (table .exit)) (now (register .exit)) (r .entries) (r .asides) (effectOf (now (rec .entry)) (treeIn (now (table .entry)) (size .entries) (size .asides))) × (nodesIn 4097 (now (register .exit)) ≤ nodesIn 4097 (now (register .entry)) + 1) × (now (register .exit) ≡ effectOn (now (rec .entry)) (treeIn (now (table .entry)) (size .entries) (size .asides)) (now (register .entry))) ⌝ }
 {
     let op = rec[1];
     if op <= 2 {

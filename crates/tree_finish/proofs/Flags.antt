@@ -23,8 +23,7 @@ use Rattle.tree_table.specs.Rows.{asideIn, entriesFrom, asidesFrom, treeIn, fla
 use Rattle.tree_table.proofs.Rows.{row-length, rows-length, tree-back}
 use Rattle.tree_table.proofs.Writes.{rows-written, part-entry, flagged-long}
 use Rattle.tree_table.proofs.Fields.{put-field}
-use Rattle.tree_lookup.specs.Roles.{rowFrom, rowOf, Absent, Lone, MarksFit, Works, Holds}
-use Rattle.tree_maps.specs.Keys.{slotOf}
+use Rattle.tree_lookup.specs.Roles.{rowFrom, rowOf, roleOf, Absent, Lone, MarksFit, Works, Holds, Reads}
 use Rattle.tree_lookup.proofs.Places.{row-absent, row-at, absent-at}
 use Rattle.tree_lookup.proofs.Working.{blankEntry, blankAside, proper-at, asides-at, role-row, role-no-row}
 use Rattle.tree_finish.specs.Finishing.{Marked}
@@ -134,6 +133,9 @@ module _ (b register : List ℕ) (n m i : ℕ) (k : Marked (take i (asidesFrom b
       ap (λ (y : List ℕ). length y) (k .bytes)
       ∙ flagged-long (take i (asidesFrom b 0 m)) (entriesFrom b 0 n) (asidesFrom b 0 m) (k .works .proper) (omega arith) (omega arith)
 
+  pub flag-reads : Reads b register n m
+  flag-reads = record { long = table-long; rows-fit = k .works .rows-fit; notes-fit = k .works .notes-fit; apart = k .works .apart; named = k .works .named }
+
   pub state-inside : 36868 + 12 * i + 5 < length b
   state-inside =
       let nf = k .works .notes-fit in
@@ -181,11 +183,11 @@ module _ (b register : List ℕ) (n m i : ℕ) (k : Marked (take i (asidesFrom b
         (λ (y : InRange (getD (asidesFrom b 0 m) i blankAside .marked)). rw a at y)
         (marks-at (asidesFrom b 0 m) i blankAside (omega arith) (k .works .marks))
 
-    module _ (z : x ≡ 0 → ⊥) (role : ℕ) (r : role ≡ getD register (slotOf x) 0) where
+    module _ (z : x ≡ 0 → ⊥) (role : ℕ) (r : role ≡ roleOf x (treeIn b n m)) where
       no-row : (role ≡ 0) ⊎ (n < role) → Marked (take (i + 1) (asidesFrom b 0 m)) b register n m (treeIn b n m)
       unfolding treeIn rowOf
       no-row g =
-          absent-rows (row-absent x 0 (entriesFrom b 0 n) (role-no-row (workBytes (treeIn b n m)) register n m (treeIn b n m) (k .works) x (mark-range z) role r g))
+          absent-rows (row-absent x 0 (entriesFrom b 0 n) (role-no-row (workBytes (treeIn b n m)) register n m (treeIn b n m) (k .works) x role r g))
 
       pub flag-no-role : role ≡ 0 → Marked (take (i + 1) (asidesFrom b 0 m)) b register n m (treeIn b n m)
       flag-no-role g = no-row (inl g)
@@ -212,7 +214,7 @@ module _ (b register : List ℕ) (n m i : ℕ) (k : Marked (take i (asidesFrom b
           let w = k .works in
           let rows = w .rows in
           let fit = w .rows-fit in
-          let c : rowFrom x 0 es ≡ suc j = role-row (workBytes (treeIn b n m)) register n m (treeIn b n m) w x (mark-range z) role r (omega arith) f ∙ omega arith in
+          let c : rowFrom x 0 es ≡ suc j = role-row (workBytes (treeIn b n m)) register n m (treeIn b n m) w x role r (omega arith) f ∙ omega arith in
           let at = row-at x 0 es j blankEntry c in
           let d : getD es j blankEntry .made ≡ x = rw sub-zero at (at .is) in
           let v : ys ≡ entryRow 1 (getD es j blankEntry) =

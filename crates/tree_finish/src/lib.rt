@@ -30,7 +30,7 @@ pub fn flag_one(table: &mut [u8], register: &[u16], size: Size, i: usize)
     if k == 0 {
         return;
     }
-    let role = tree_lookup::role_of(register, k);
+    let role = tree_lookup::role_of(table, register, size, k);
     if role == 0 {
         return;
     }

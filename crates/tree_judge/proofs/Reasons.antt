@@ -1,8 +1,9 @@
 -- Each way out of a judgement: the tests on the way, and the reason and mark that they lead to.
 -- Assumes nothing.
 use Prim.Native.Nat.{ℕ, _+_, _-_, _*_, _≤_, _<_}
+use native.Mathlib.Numerals.{add-one}
 use native.Mathlib.Omega.{arith}
-use mathlib.Core.Path.{_≡_, refl, sym, _∙_}
+use mathlib.Core.Path.{_≡_, refl, sym, ap, _∙_}
 use mathlib.Core.Logic.{_⊎_, ⊎-elim}
 use mathlib.Core.Bool.{Bool, true, false, cond, not, _&&_, _||_}
 use mathlib.Core.Option.{Option, none, some}
@@ -13,11 +14,11 @@ use borrow.Author.Tests.{eq-eqb, ne-eqb, lt-ltb, le-ltb, le-leb, lt-leb, ltb-tru
 use Rattle.model.specs.Record.{Rec, op, objectOf, folderOf, labelOf, usesFolder}
 use Rattle.model.specs.Replay.{Entry, Verdict, fits, aside, entryOf, holderOf, hasEntries, standsAside, unseen, freeLabel, andThen, isFolder, folderStands, isBelow, judgePlace, judgeMake, judgeStore, judgeRemove, judgeRename, judgeMove, judgeSettle, judge}
 use Rattle.tree_table.specs.Rows.{entryIn, entriesFrom, asidesFrom, rowIn, treeIn, InRange}
-use Rattle.tree_lookup.specs.Roles.{noteOf, Holds}
-use Rattle.tree_maps.specs.Keys.{slotOf}
+use Rattle.tree_lookup.specs.Roles.{noteOf, roleOf, Holds}
+use Rattle.tree_maps.specs.Keys.{childrenOf, folderAt}
 use Rattle.tree_lookup.proofs.Places.{stands, stands-not}
-use Rattle.tree_maps.proofs.Counts.{has-children}
-use Rattle.tree_lookup.proofs.Working.{works-range, row-none, row-some, role-note, role-no-note}
+use Rattle.tree_maps.proofs.Counts.{has-children, folder-row}
+use Rattle.tree_lookup.proofs.Working.{blankEntry, works-row, row-none, row-some, role-note, role-no-note}
 use Rattle.model.specs.Outcome.{reasonOf}
 use Rattle.byte_slice.proofs.Numbers.{bool-cases}
 use Rattle.tree_judge.specs.Judged.{verdictOf, fullBy, Asks}
@@ -126,13 +127,16 @@ module _ (r : Rec) (b : List ℕ) (n row : ℕ) where
   unfolding verdictOf judgeRemove
   remove-absent es h = rw (row-none b n row h)
 
-  module _ (l : List ℕ) (m : ℕ) (w : Holds b l n m) (h : row < n) (k : ℕ) (s : k ≡ entryIn b (4 + 72 * row) .made) (t : Bool) (g : t ≡ fullBy l (entryIn b (4 + 72 * row))) where
+  module _ (l : List ℕ) (m : ℕ) (w : Holds b l n m) (h : row < n) (k : ℕ) (s : k ≡ entryIn b (4 + 72 * row) .made) (t : Bool) (g : t ≡ fullBy l row (entryIn b (4 + 72 * row))) where
     full-means : t ≡ (eqb (entryIn b (4 + 72 * row) .kind) 1 && hasEntries (entryIn b (4 + 72 * row) .made) (entriesFrom b 0 n))
     unfolding fullBy treeIn
     full-means =
+        let es = entriesFrom b 0 n in
         let e = entryIn b (4 + 72 * row) .made in
-        let c = w .keyed .counted e (works-range b l n m (treeIn b n m) w row h) in
-        rw (has-children e (entriesFrom b 0 n), ← c) g
+        let at : folderAt es (row + 1) ≡ e =
+        rw (add-one row) (folder-row es row blankEntry (omega (arith, w .rows)) ∙ ap (λ (x : Entry). x .made) (works-row b l n m (treeIn b n m) w row blankEntry h)) in
+        let c : getD l (8194 + (row + 1)) 0 ≡ childrenOf e es = rw at at (w .keyed .counted (row + 1) (omega arith)) in
+        rw (has-children e es, ← c) g
 
     pub remove-full : t ≡ true → verdictOf 16 k ≡ judgeRemove r (entriesFrom b 0 n) (rowIn b n row)
     unfolding verdictOf judgeRemove
@@ -197,14 +201,14 @@ module _ (r : Rec) (b : List ℕ) (n row : ℕ) (es : List Entry) where
         unfolding judgePlace
         move-label v d a = a ∙ rw (← placed, ← p, ← e, ← i, d)
 
-module _ (e : Entry) (l : List ℕ) where
-  pub full-no : (x : ℕ) → x ≡ e .kind → (x ≡ 1 → ⊥) → false ≡ fullBy l e
+module _ (e : Entry) (l : List ℕ) (row : ℕ) where
+  pub full-no : (x : ℕ) → x ≡ e .kind → (x ≡ 1 → ⊥) → false ≡ fullBy l row e
   unfolding fullBy
   full-no x p q = rw (ne-eqb (e .kind) 1 (λ (z : e .kind ≡ 1). q (p ∙ z)))
 
-  pub full-if : (x k c : ℕ) → x ≡ e .kind → x ≡ 1 → k ≡ e .made → c ≡ getD l (4096 + slotOf k) 0 → not (eqb c 0) ≡ fullBy l e
+  pub full-if : (x c : ℕ) → x ≡ e .kind → x ≡ 1 → c ≡ getD l (8194 + (row + 1)) 0 → not (eqb c 0) ≡ fullBy l row e
   unfolding fullBy
-  full-if x k c p q s u = rw (eq-eqb (e .kind) 1 (sym p ∙ q), ← s, u)
+  full-if x c p q u = rw (eq-eqb (e .kind) 1 (sym p ∙ q), u)
 
 module _ (e : Entry) (r : Rec) (x : ℕ) (t : Bool) (p : x ≡ e .contents) (u : t ≡ unseen r x) where
   pub contents-unseen : t ≡ true → true ≡ (unseen r (e .contents) || unseen r (e .placing))
@@ -224,16 +228,16 @@ module _ (role x : ℕ) (e : role ≡ x) where
   unfolding verdictOf
   settle-not h = rw (le-ltb 512 x (rw e at h))
 
-stands-role : (b register : List ℕ) (n m : ℕ) → Holds b register n m → (k : ℕ) → InRange k → standsAside k (asidesFrom b 0 m) ≡ ltb 512 (getD register (slotOf k) 0)
+stands-role : (b register : List ℕ) (n m : ℕ) → Holds b register n m → (k : ℕ) → standsAside k (asidesFrom b 0 m) ≡ ltb 512 (roleOf k (treeIn b n m))
 unfolding noteOf treeIn
-stands-role b register n m w k u = go (ltb 512 role) refl
+stands-role b register n m w k = go (ltb 512 role) refl
   where
     role : ℕ
-    role = getD register (slotOf k) 0
+    role = roleOf k (treeIn b n m)
 
     go : (t : Bool) → ltb 512 role ≡ t → standsAside k (asidesFrom b 0 m) ≡ t
-    go true e = stands k 0 (asidesFrom b 0 m) (role - 513) (role-note b register n m (treeIn b n m) w k u role refl (ltb-true 512 role e))
-    go false e = stands-not k 0 (asidesFrom b 0 m) (role-no-note b register n m (treeIn b n m) w k u role refl (ltb-false 512 role e))
+    go true e = stands k 0 (asidesFrom b 0 m) (role - 513) (role-note b register n m (treeIn b n m) w k role refl (ltb-true 512 role e))
+    go false e = stands-not k 0 (asidesFrom b 0 m) (role-no-note b register n m (treeIn b n m) w k role refl (ltb-false 512 role e))
 
 -- ---- any operation
 
@@ -263,10 +267,10 @@ module _ (r : Rec) (b : List ℕ) (n m : ℕ) (v : Verdict) where
     unfolding judge op treeIn
     judged-move h e = rw (h, ← p, ← o) e
 
-  pub judged-settle : (register : List ℕ) (k : ℕ) → Holds b register n m → InRange k → k ≡ objectOf r → getD r 1 0 ≡ 6
-      → v ≡ cond (ltb 512 (getD register (slotOf k) 0)) fits (aside 18 0) → v ≡ judge r (treeIn b n m)
+  pub judged-settle : (register : List ℕ) (k : ℕ) → Holds b register n m → k ≡ objectOf r → getD r 1 0 ≡ 6
+      → v ≡ cond (ltb 512 (roleOf k (treeIn b n m))) fits (aside 18 0) → v ≡ judge r (treeIn b n m)
   unfolding judge op treeIn judgeSettle
-  judged-settle register k w u p h e = rw (h, ← p, stands-role b register n m w k u) e
+  judged-settle register k w p h e = rw (h, ← p, stands-role b register n m w k) e
 
 -- a record of none of the operations before is a move
 pub is-move : (r : Rec) → Asks r → 2 < getD r 1 0 → (getD r 1 0 ≡ 3 → ⊥) → (getD r 1 0 ≡ 4 → ⊥) → (getD r 1 0 ≡ 5 → ⊥) → (getD r 1 0 ≡ 6 → ⊥) → getD r 1 0 ≡ 7

@@ -10,7 +10,6 @@ use lib.ListN.{getD, length}
 use Rattle.model.specs.Record.{Rec, op, objectOf, folderOf, usesFolder}
 use Rattle.model.specs.Replay.{Entry, Verdict, fits, aside}
 use Rattle.tree_table.specs.Rows.{InRange}
-use Rattle.tree_maps.specs.Keys.{slotOf}
 
 -- a reason and the entry that it marks, as a verdict: 0 and 0 fits, and no other two numbers do
 unfoldable pub verdictOf : ℕ → ℕ → Verdict
@@ -21,9 +20,9 @@ unfoldable pub markedOf : Verdict → ℕ
 markedOf fits = 0
 markedOf (aside n k) = k
 
--- the entry is a folder that has entries, by the number that a register has for it
-unfoldable pub fullBy : List ℕ → Entry → Bool
-fullBy l e = eqb (e .kind) 1 && not (eqb (getD l (4096 + slotOf (e .made)) 0) 0)
+-- the entry in a row is a folder that has entries, by the number that a register has for the row
+unfoldable pub fullBy : List ℕ → ℕ → Entry → Bool
+fullBy l row e = eqb (e .kind) 1 && not (eqb (getD l (8194 + (row + 1)) 0) 0)
 
 -- a record of 80 bytes of a known operation that names identities in range: a make or a move the root or a folder, all but a make an object
 pub record Asks (r : Rec) : Type 0 where

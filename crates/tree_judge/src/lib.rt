@@ -8,8 +8,8 @@ ghost use lib.ListN.{length, getD};
 ghost use Rattle.model.specs.Record.{labelOf};
 ghost use Rattle.model.specs.Replay.{fits, aside, unseen, holderOf, freeLabel, folderStands, judgeMake, judgeStore, judgeRemove, judgeRename, judgeMove, judge as judgeOf};
 ghost use Rattle.tree_table.specs.Rows.{entryIn, entriesFrom, rowIn, treeIn, InRange};
-ghost use Rattle.tree_lookup.specs.Roles.{Holds};
-ghost use Rattle.tree_maps.specs.Keys.{slotOf};
+ghost use Rattle.tree_lookup.specs.Roles.{roleOf, Holds};
+ghost use Rattle.tree_maps.specs.Keys.{registerSize};
 ghost use Rattle.tree_judge.specs.Judged.{verdictOf, fullBy, Asks};
 use tree_table::Size;
 
@@ -120,13 +120,13 @@ pub fn judge_store(rec: &[u8], table: &[u8], n: usize, row: usize) -> Judged
 
 // The entry in a row is a folder that has entries, by the register.
 pub fn is_full(table: &[u8], register: &[u16], row: usize) -> bool
-    requires { ⌜ (length (now table) ≡ 43012) × (length (now register) ≡ 9729) × (row < 512) × InRange (entryIn (now table) (4 + 72 * row) .made) ⌝ }
-    ensures { λ r. ⌜ r ≡ fullBy (now (register .entry)) (entryIn (now (table .entry)) (4 + 72 * row)) ⌝ }
+    requires { ⌜ (length (now table) ≡ 43012) × (length (now register) ≡ registerSize) × (row < 512) ⌝ }
+    ensures { λ r. ⌜ r ≡ fullBy (now (register .entry)) row (entryIn (now (table .entry)) (4 + 72 * row)) ⌝ }
 {
     if tree_table::kind_at(table, row) != 1 {
         return false;
     }
-    tree_maps::children(register, tree_table::made_at(table, row)) != 0
+    tree_maps::children(register, row + 1) != 0
 }
 
 // The last contents or place record of the entry in a row is unseen.
@@ -229,11 +229,11 @@ pub fn judge_move(rec: &[u8], table: &[u8], register: &[u16], size: Size, row: u
 }
 
 // A settle of the record k: 18 if it does not stand aside.
-pub fn judge_settle(register: &[u16], k: u32) -> Judged
-    requires { ⌜ InRange k × (length (now register) ≡ 9729) ⌝ }
-    ensures { λ r. ⌜ verdictOf (r .reason) (r .marked) ≡ cond (ltb 512 (getD (now (register .entry)) (slotOf k) 0)) fits (aside 18 0) ⌝ }
+pub fn judge_settle(table: &[u8], register: &[u16], size: Size, k: u32) -> Judged
+    requires { ⌜ InRange k × Holds (now table) (now register) (size .entries) (size .asides) ⌝ }
+    ensures { λ r. ⌜ verdictOf (r .reason) (r .marked) ≡ cond (ltb 512 (roleOf k (treeIn (now (table .entry)) (size .entries) (size .asides)))) fits (aside 18 0) ⌝ }
 {
-    if 512 < tree_lookup::role_of(register, k) {
+    if 512 < tree_lookup::role_of(table, register, size, k) {
         return Judged {
             reason: 0,
             marked: 0,
@@ -260,7 +260,7 @@ pub fn judge(rec: &[u8], table: &[u8], register: &[u16], size: Size) -> Judged
         3 => judge_store(rec, table, size.entries, row),
         4 => judge_remove(rec, table, register, size, row),
         5 => judge_rename(rec, table, register, size, row),
-        6 => judge_settle(register, k),
+        6 => judge_settle(table, register, size, k),
         _ => judge_move(rec, table, register, size, row),
     }
 }

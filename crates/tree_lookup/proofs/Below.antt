@@ -14,17 +14,17 @@ use borrow.Author.Tests.{eq-eqb, ne-eqb, not-true, not-false}
 use Rattle.model.specs.Replay.{Entry, isPresent, entryOf, comesTo, isBelow}
 use Rattle.byte_slice.proofs.Numbers.{not-both}
 use Rattle.tree_table.specs.Rows.{entryIn, entriesFrom, treeIn, rowIn, InRange, AllProper}
-use Rattle.tree_maps.specs.Keys.{hasSlot}
-use Rattle.tree_maps.proofs.Counts.{slot-range, range-slot}
+use Rattle.tree_maps.specs.Keys.{isIdentity}
+use Rattle.tree_maps.proofs.Counts.{identity-range, range-identity}
 use Rattle.tree_lookup.specs.Roles.{Holds}
 use Rattle.tree_lookup.proofs.Working.{entries-length, row-none, row-some}
 
--- an identity without a slot is no entry
-no-slot : (f : ℕ) (l : List Entry) → AllProper l → hasSlot f ≡ false → entryOf f l ≡ none
+-- what is no identity is no entry
+no-identity : (f : ℕ) (l : List Entry) → AllProper l → isIdentity f ≡ false → entryOf f l ≡ none
 unfolding entryOf
-no-slot f [] p h = refl
-no-slot f (e ∷ l) p h =
-    rw (ne-eqb (e .made) f (λ (z : e .made ≡ f). not-both (hasSlot f) (rw z at (range-slot (e .made) (p .0 .range))) h)) (no-slot f l (p .1) h)
+no-identity f [] p h = refl
+no-identity f (e ∷ l) p h =
+    rw (ne-eqb (e .made) f (λ (z : e .made ≡ f). not-both (isIdentity f) (rw z at (range-identity (e .made) (p .0 .range))) h)) (no-identity f l (p .1) h)
 
 pub below-starts : (b : List ℕ) (n k f : ℕ) → comesTo (n + 1) k f (entriesFrom b 0 n) ≡ isBelow k f (entriesFrom b 0 n)
 unfolding isBelow
@@ -44,9 +44,9 @@ module _ (b : List ℕ) (n k f at steps : ℕ) (inv : comesTo steps k at (entrie
   below-here h e = rw (eq-eqb at k e) at (more h)
 
   module _ (h : 0 < steps) (other : at ≡ k → ⊥) where
-    pub below-root : (register : List ℕ) (m : ℕ) → Holds b register n m → (s : Bool) → s ≡ hasSlot at → not s ≡ true → false ≡ isBelow k f (entriesFrom b 0 n)
+    pub below-root : (register : List ℕ) (m : ℕ) → Holds b register n m → (s : Bool) → s ≡ isIdentity at → not s ≡ true → false ≡ isBelow k f (entriesFrom b 0 n)
     unfolding comesTo treeIn
-    below-root register m w s e g = rw (ne-eqb at k other, no-slot at (entriesFrom b 0 n) (w .proper) (sym e ∙ not-true s g)) at (more h)
+    below-root register m w s e g = rw (ne-eqb at k other, no-identity at (entriesFrom b 0 n) (w .proper) (sym e ∙ not-true s g)) at (more h)
 
     module _ (row : ℕ) (o : rowIn b n row ≡ entryOf at (entriesFrom b 0 n)) where
       pub below-absent : n ≤ row → false ≡ isBelow k f (entriesFrom b 0 n)
@@ -57,5 +57,5 @@ module _ (b : List ℕ) (n k f at steps : ℕ) (inv : comesTo steps k at (entrie
       unfolding comesTo
       below-goes g up e = rw e (rw (ne-eqb at k other, ← o, row-some b n row g) at (more h))
 
-pub slot-in : (k : ℕ) (s : Bool) → s ≡ hasSlot k → not s ≡ false → InRange k
-slot-in k s e g = slot-range k (sym e ∙ not-false s g)
+pub identity-in : (k : ℕ) (s : Bool) → s ≡ isIdentity k → not s ≡ false → InRange k
+identity-in k s e g = identity-range k (sym e ∙ not-false s g)

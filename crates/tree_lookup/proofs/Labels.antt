@@ -93,14 +93,14 @@ module _ (b : List ℕ) (n k f : ℕ) (t : List ℕ) where
 
 -- best holds the label or is behind all rows, and every earlier row that holds it comes from the node q on
 pub record Seeking (b l : List ℕ) (n k f : ℕ) (t : List ℕ) (best q : ℕ) : Type 0 where
-  pub node : q ≤ nodesIn l
+  pub node : q ≤ nodesIn 4097 l
   pub within : best ≤ n
   pub holds : best < n → holdsAt b k f t best ≡ true
-  pub ahead : (i : ℕ) → i < best → holdsAt b k f t i ≡ true → Found l q i
+  pub ahead : (i : ℕ) → i < best → holdsAt b k f t i ≡ true → Found 4097 l q i
 
 module _ (b l : List ℕ) (n m : ℕ) (w : Holds b l n m) (k f : ℕ) (t : List ℕ) where
   -- what a holder has in common with the label that is sought
-  held : (i : ℕ) → i < n → holdsAt b k f t i ≡ true → Found l (firstOf l (hashOf f t)) i
+  held : (i : ℕ) → i < n → holdsAt b k f t i ≡ true → Found 4097 l (firstOf 4097 l (hashOf f t)) i
   unfolding holdsAt isHolder isIn treeIn chainOf
   held i h e =
       let x = entryIn b (4 + 72 * i) in
@@ -112,22 +112,22 @@ module _ (b l : List ℕ) (n m : ℕ) (w : Holds b l n m) (k f : ℕ) (t : List 
       let c : chainOf (getD (entriesFrom b 0 n) i blankEntry) ≡ hashOf f t = rw (at, eqb-true (x .inside) f s) (hash-key f (x .label) t (same-key (x .label) t q)) in
       rw c at y
 
-  pub seek-starts : (h q : ℕ) → h ≡ hashOf f t → q ≡ firstOf l h → q ≤ nodesIn l → Seeking b l n k f t n q
+  pub seek-starts : (h q : ℕ) → h ≡ hashOf f t → q ≡ firstOf 4097 l h → q ≤ nodesIn 4097 l → Seeking b l n k f t n q
   seek-starts h q e g y =
       record { node = y; within = omega arith; holds = λ z. absurd (omega arith); ahead = λ i z x. rw (g, e) (held i z x) }
 
   module _ (best q : ℕ) (s : Seeking b l n k f t best q) where
-    pub seek-row : 0 < q → (row : ℕ) → row ≡ rowAt l q → row < 512
+    pub seek-row : 0 < q → (row : ℕ) → row ≡ rowAt 4097 l q → row < 512
     seek-row h row e = let a = w .rows-fit in omega (arith, w .keyed .rows q h (s .node))
 
-    pub seek-goes : 0 < q → (row best' q' : ℕ) → row ≡ rowAt l q → best' ≡ earlierOf b k f t row best → q' ≡ behind l q → q' < q → Seeking b l n k f t best' q'
+    pub seek-goes : 0 < q → (row best' q' : ℕ) → row ≡ rowAt 4097 l q → best' ≡ earlierOf b k f t row best → q' ≡ behind 4097 l q → q' < q → Seeking b l n k f t best' q'
     unfolding earlierOf
     seek-goes h row best' q' r e g low =
         let a = s .node in
         let c = s .within in
         let d = w .keyed .rows q h a in
-        let next : (i : ℕ) → i < best → holdsAt b k f t i ≡ true → (row ≡ i → ⊥) → Found l q' i =
-        λ i z y other. ⊎-elim (λ (x : rowAt l q ≡ i). absurd (other (r ∙ x))) (λ (x : Found l (behind l q) i). rw g x) (found-next l q i (s .ahead i z y)) in
+        let next : (i : ℕ) → i < best → holdsAt b k f t i ≡ true → (row ≡ i → ⊥) → Found 4097 l q' i =
+        λ i z y other. ⊎-elim (λ (x : rowAt 4097 l q ≡ i). absurd (other (r ∙ x))) (λ (x : Found 4097 l (behind 4097 l q) i). rw g x) (found-next 4097 l q i (s .ahead i z y)) in
         ⊎-elim
         (λ (z : row < best).
         ⊎-elim
@@ -161,4 +161,4 @@ module _ (b l : List ℕ) (n m : ℕ) (w : Holds b l n m) (k f : ℕ) (t : List 
     pub seek-ends : q ≤ 0 → rowIn b n best ≡ holderOf k f t (entriesFrom b 0 n)
     seek-ends h =
         let z : q ≡ 0 = omega arith in
-        first-holder b n k f t best (s .within) (λ i g. test-false (holdsAt b k f t i) (λ (y : holdsAt b k f t i ≡ true). found-none l i (rw z at (s .ahead i g y)))) (s .holds)
+        first-holder b n k f t best (s .within) (λ i g. test-false (holdsAt b k f t i) (λ (y : holdsAt b k f t i ≡ true). found-none 4097 l i (rw z at (s .ahead i g y)))) (s .holds)

@@ -1,4 +1,6 @@
 pub mod Places
 pub mod Working
+pub mod Names
+pub mod Homes
 pub mod Labels
 pub mod Below

@@ -15,9 +15,8 @@ use Rattle.tree_table.specs.Rows.{entryIn, asideIn, entriesFrom, asidesFrom, tr
 use Rattle.tree_table.proofs.Rows.{tree-back}
 use Rattle.tree_table.proofs.Writes.{flagged-long}
 use Rattle.byte_slice.proofs.Numbers.{lt-or-ge}
-use Rattle.tree_lookup.specs.Roles.{rowFrom, rowOf, noteOf, behindRows, roleOf, Works, Holds}
+use Rattle.tree_lookup.specs.Roles.{rowFrom, rowOf, noteOf, behindRows, roleOf, Works, Holds, Reads}
 use Rattle.tree_lookup.specs.Lookup.{rowAmong}
-use Rattle.tree_maps.specs.Keys.{slotOf}
 use Rattle.tree_lookup.proofs.Places.{row-at, row-lone, no-entry, entry-at, ifPresent}
 
 -- an entry of no table, for places behind the rows
@@ -34,6 +33,11 @@ pub entries-length : (b : List ℕ) (i n : ℕ) → length (entriesFrom b i n) �
 unfolding entriesFrom
 entries-length b i zero = refl
 entries-length b i (suc n) = ap suc (entries-length b (suc i) n)
+
+pub asides-length : (b : List ℕ) (i n : ℕ) → length (asidesFrom b i n) ≡ n
+unfolding asidesFrom
+asides-length b i zero = refl
+asides-length b i (suc n) = ap suc (asides-length b (suc i) n)
 
 pub entries-at : (b : List ℕ) (i n j : ℕ) (d : Entry) → j < n → getD (entriesFrom b i n) j d ≡ entryIn b (4 + 72 * (i + j))
 unfolding entriesFrom
@@ -109,10 +113,10 @@ row-low b register n m t w k = go (rowFrom k 0 (t .entries)) refl
         let p = w .rows in
         omega (arith, a .inside)
 
-module _ (b register : List ℕ) (n m : ℕ) (t : Tree) (w : Works b register n m t) (k : ℕ) (u : InRange k) (role : ℕ) (e : role ≡ getD register (slotOf k) 0) where
+module _ (b register : List ℕ) (n m : ℕ) (t : Tree) (w : Works b register n m t) (k role : ℕ) (e : role ≡ roleOf k t) where
   role-is : role ≡ rowOf k t + behindRows (noteOf k t)
   unfolding roleOf
-  role-is = e ∙ w .right k u
+  role-is = e
 
   pub role-row : 0 < role → role ≤ n → rowOf k t ≡ role
   role-row h g =
@@ -151,6 +155,18 @@ module _ (b register : List ℕ) (n m : ℕ) (t : Tree) (w : Works b register n 
       (λ (y : (1 ≤ noteOf k t) × (behindRows (noteOf k t) ≡ 512 + noteOf k t)). absurd (omega (arith, y .1)))
       (behind-cases (noteOf k t))
 
+-- ---- a table in which roles are looked up
+
+pub works-reads : (b register : List ℕ) (n m : ℕ) → Holds b register n m → Reads b register n m
+works-reads b register n m w =
+    record {
+      long = works-long b register n m (treeIn b n m) w;
+      rows-fit = w .rows-fit;
+      notes-fit = w .notes-fit;
+      apart = w .apart;
+      named = w .named;
+    }
+
 -- ---- a row and what it shows
 
 pub row-none : (b : List ℕ) (n i : ℕ) → n ≤ i → rowIn b n i ≡ none
@@ -182,12 +198,12 @@ row-among b register n m w i o h e =
 pub row-within : (role n : ℕ) → role ≤ n → role - 1 ≤ n
 row-within role n h = omega arith
 
-module _ (b register : List ℕ) (n m : ℕ) (w : Holds b register n m) (k : ℕ) (u : InRange k) (role : ℕ) (e : role ≡ getD register (slotOf k) 0) where
+module _ (b register : List ℕ) (n m : ℕ) (w : Holds b register n m) (k role : ℕ) (e : role ≡ roleOf k (treeIn b n m)) where
   nowhere : (role ≡ 0) ⊎ (n < role) → rowIn b n n ≡ entryOf k (entriesFrom b 0 n)
   unfolding rowOf treeIn
   nowhere h =
       row-none b n n (omega arith)
-      ∙ sym (no-entry k (entriesFrom b 0 n) (role-no-row b register n m (treeIn b n m) w k u role e h))
+      ∙ sym (no-entry k (entriesFrom b 0 n) (role-no-row b register n m (treeIn b n m) w k role e h))
 
   pub entry-no-role : role ≡ 0 → rowIn b n n ≡ entryOf k (entriesFrom b 0 n)
   entry-no-role h = nowhere (inl h)
@@ -200,7 +216,7 @@ module _ (b register : List ℕ) (n m : ℕ) (w : Holds b register n m) (k : ℕ
   found h g =
       let j = role - 1 in
       let p : role ≡ suc j = omega arith in
-      let r : rowFrom k 0 (entriesFrom b 0 n) ≡ suc j = role-row b register n m (treeIn b n m) w k u role e (omega arith) g ∙ p in
+      let r : rowFrom k 0 (entriesFrom b 0 n) ≡ suc j = role-row b register n m (treeIn b n m) w k role e (omega arith) g ∙ p in
       entry-at k (entriesFrom b 0 n) j blankEntry (w .lone) r
       ∙ ap (λ (x : Entry). ifPresent x) (rw (zero-add j) at (entries-at b 0 n j blankEntry (omega arith)))
 

@@ -1,21 +1,55 @@
-// Looking up in a table of rows: an entry by its identity, the holder of a label in a folder.
+// Looking up in a table of rows: the role of an identity, an entry by its identity, the holder of a label in a folder.
 ghost use mathlib.Core.Path.{_≡_};
-ghost use Prim.Native.Nat.{_+_, _*_, _<_};
-ghost use lib.ListN.{length, getD};
+ghost use Prim.Native.Nat.{_+_, _*_, _≤_, _<_};
+ghost use lib.ListN.{length};
 ghost use Rattle.model.specs.Replay.{entryOf, isIn, holderOf, isBelow};
-ghost use Rattle.tree_table.specs.Rows.{entryIn, entriesFrom, rowIn, InRange};
-ghost use Rattle.tree_maps.specs.Keys.{slotOf};
-ghost use Rattle.tree_lookup.specs.Roles.{holdsAt, earlierOf, Holds};
+ghost use Rattle.tree_table.specs.Rows.{entryIn, entriesFrom, rowIn, treeIn, InRange};
+ghost use Rattle.tree_lookup.specs.Roles.{rowOf, roleOf, nameOf, Role, holdsAt, earlierOf, Holds, Reads};
 ghost use Rattle.tree_lookup.specs.Lookup.{rowAmong};
+use tree_maps::LABELS;
 use tree_table::Size;
 
-// The role of an identity.
-pub fn role_of(register: &[u16], k: u32) -> usize
-    requires { ⌜ InRange k × (length (now register) ≡ 9729) ⌝ }
-    ensures { λ r. ⌜ (r ≡ getD (now (register .entry)) (slotOf k) 0) × (r < 65536) ⌝ }
+// The identity that has a role.
+pub fn name_at(table: &[u8], size: Size, role: usize) -> u32
+    requires { ⌜ (length (now table) ≡ 43012) × (size .entries ≤ 512) × (size .asides ≤ 512) × Role (size .entries) (size .asides) role ⌝ }
+    ensures { λ r. ⌜ r ≡ nameOf (treeIn (now (table .entry)) (size .entries) (size .asides)) role ⌝ }
 {
-    let at = tree_maps::slot(k);
-    hash_chains::number_at(register, at)
+    if role <= size.entries {
+        return tree_table::made_at(table, role - 1);
+    }
+    tree_table::identity_at(table, 36868 + 12 * (role - 513))
+}
+
+// The role of an identity, looked for in its chain.
+pub fn role_of(table: &[u8], register: &[u16], size: Size, k: u32) -> usize
+    requires { ⌜ Reads (now table) (now register) (size .entries) (size .asides) × InRange k ⌝ }
+    ensures { λ r. ⌜ (r ≡ roleOf k (treeIn (now (table .entry)) (size .entries) (size .asides))) × (r ≤ 1024) ⌝ }
+{
+    let h = tree_maps::link(k);
+    let mut q = hash_chains::first_of(register, 0, h);
+    while 0 < q {
+        let role = hash_chains::row_at(register, 0, q);
+        if name_at(table, size, role) == k {
+            return role;
+        }
+        q = hash_chains::node_behind(register, 0, q);
+    }
+    0
+}
+
+// The place of the folder f, one above its row; 0 for the root, and for what has no row.
+pub fn place_of(table: &[u8], register: &[u16], size: Size, f: u32) -> usize
+    requires { ⌜ Holds (now table) (now register) (size .entries) (size .asides) ⌝ }
+    ensures { λ r. ⌜ (r ≡ rowOf f (treeIn (now (table .entry)) (size .entries) (size .asides))) × (r ≤ size .entries) ⌝ }
+{
+    if !tree_maps::is_identity(f) {
+        return 0;
+    }
+    let role = role_of(table, register, size, f);
+    if size.entries < role {
+        return 0;
+    }
+    role
 }
 
 // The row of the entry k, or the number of rows if it is absent.
@@ -23,7 +57,7 @@ pub fn entry_of(table: &[u8], register: &[u16], size: Size, k: u32) -> usize
     requires { ⌜ Holds (now table) (now register) (size .entries) (size .asides) × InRange k ⌝ }
     ensures { λ r. ⌜ (r ≡ rowAmong (entriesFrom (now (table .entry)) 0 (size .entries)) (entryOf k (entriesFrom (now (table .entry)) 0 (size .entries)))) × (rowIn (now (table .entry)) (size .entries) r ≡ entryOf k (entriesFrom (now (table .entry)) 0 (size .entries))) ⌝ }
 {
-    let role = role_of(register, k);
+    let role = role_of(table, register, size, k);
     if role == 0 {
         return size.entries;
     }
@@ -83,11 +117,11 @@ pub fn holder(table: &[u8], register: &[u16], size: Size, k: u32, f: u32, label:
 {
     let h = tree_maps::hash(f, label);
     let mut best = size.entries;
-    let mut q = hash_chains::first_of(register, h);
+    let mut q = hash_chains::first_of(register, LABELS, h);
     while 0 < q {
-        let row = hash_chains::row_at(register, q);
+        let row = hash_chains::row_at(register, LABELS, q);
         best = earlier(table, row, best, k, f, label);
-        q = hash_chains::node_behind(register, q);
+        q = hash_chains::node_behind(register, LABELS, q);
     }
     best
 }
@@ -104,7 +138,7 @@ pub fn is_below(table: &[u8], register: &[u16], size: Size, k: u32, f: u32) -> b
         if at == k {
             return true;
         }
-        if !tree_maps::has_slot(at) {
+        if !tree_maps::is_identity(at) {
             return false;
         }
         let row = entry_of(table, register, size, at);

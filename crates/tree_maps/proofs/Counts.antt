@@ -1,6 +1,6 @@
--- Slots of identities, and the numbers of entries in folders.
+-- Places of folders, and the numbers of entries in them.
 -- Assumes nothing.
-use Prim.Native.Nat.{ℕ, zero, suc, _+_, _-_, _*_, _/_, _%_, _≤_, _<_}
+use Prim.Native.Nat.{ℕ, zero, suc, _+_, _-_, _*_, _%_, _≤_, _<_}
 use native.Mathlib.Omega.{arith}
 use mathlib.Core.Path.{_≡_, refl, sym, ap, _∙_}
 use mathlib.Core.Logic.{_⊎_, inl, inr, ⊎-elim}
@@ -9,124 +9,123 @@ use mathlib.Core.List.{List, [], _∷_, _++_}
 use lib.Dec.{leb, ltb, eqb}
 use lib.ListN.{getD, length, set, length-set}
 use lib.Seq.{getD-set-same, getD-set-other}
-use borrow.Author.Tests.{eq-eqb, ne-eqb, le-leb, lt-leb, lt-ltb, leb-true, ltb-true, not-true, not-false}
+use borrow.Author.Tests.{eq-eqb, ne-eqb, le-leb, lt-leb, lt-ltb, leb-true, ltb-true}
 use Rattle.model.specs.Replay.{Entry, isPresent, isIn, hasEntries}
-use Rattle.byte_slice.proofs.Numbers.{eq-or-ne, lt-or-ge, bool-cases, and-true}
+use Rattle.byte_slice.proofs.Numbers.{eq-or-ne, bool-cases, and-true}
 use Rattle.tree_table.specs.Rows.{InRange}
-use Rattle.tree_maps.specs.Keys.{slotOf, mixed, hashOf, childrenOf, hasSlot, withCount, countedUp, countedDown}
+use Rattle.tree_maps.specs.Keys.{registerSize, isIdentity, linkOf, hashOf, childrenOf, madeAt, folderAt, OneEach, countedUp, countedDown}
 
--- ---- slots
+-- ---- identities
 
-slot-unit : (j k : ℕ) → InRange j → InRange k → slotOf j ≡ slotOf k → (j % 8 < k % 8) → ⊥
-unfolding slotOf
-slot-unit j k a b e h =
-    let p = a .low in
-    let q = a .high in
-    let r = b .low in
-    let s = b .high in
-    omega arith
+pub identity-range : (k : ℕ) → isIdentity k ≡ true → InRange k
+unfolding isIdentity
+identity-range k e =
+    let (a, b) = and-true (leb 8 k) (ltb k 524288) e in
+    record { low = leb-true 8 k a; high = ltb-true k 524288 b }
 
-same-parts : (j k : ℕ) → j % 8 ≡ k % 8 → j / 8 ≡ k / 8 → j ≡ k
-same-parts j k p q =
-    let a : j ≡ 8 * (j / 8) + j % 8 = omega arith in
-    let b : k ≡ 8 * (k / 8) + k % 8 = omega arith in
-    a ∙ rw (p, q) (sym b)
+pub range-identity : (k : ℕ) → InRange k → isIdentity k ≡ true
+unfolding isIdentity
+range-identity k r = rw (le-leb 8 k (r .low), lt-ltb k 524288 (r .high))
 
-pub slot-one : (j k : ℕ) → InRange j → InRange k → slotOf j ≡ slotOf k → j ≡ k
-unfolding slotOf
-slot-one j k a b e =
-    let p = a .low in
-    let q = a .high in
-    let r = b .low in
-    let s = b .high in
-    ⊎-elim (λ (h : j % 8 < k % 8). absurd (slot-unit j k a b e h))
-    (λ (h : k % 8 ≤ j % 8).
-    ⊎-elim (λ (g : k % 8 < j % 8). absurd (slot-unit k j b a (sym e) g)) (λ (g : j % 8 ≤ k % 8). same-parts j k (omega arith) (omega arith)) (lt-or-ge (k % 8) (j % 8)))
-    (lt-or-ge (j % 8) (k % 8))
+pub below-identity : (k : ℕ) → k < 8 → false ≡ isIdentity k
+unfolding isIdentity
+below-identity k h = rw (lt-leb 8 k h)
 
-pub slot-low : (k : ℕ) → InRange k → slotOf k < 4096
-unfolding slotOf
-slot-low k a =
-    let p = a .low in
-    let q = a .high in
-    omega arith
+pub identity-test : (k : ℕ) → 8 ≤ k → ltb k 524288 ≡ isIdentity k
+unfolding isIdentity
+identity-test k h = rw (le-leb 8 k h)
 
-pub slot-range : (k : ℕ) → hasSlot k ≡ true → InRange k
-unfolding hasSlot
-slot-range k e =
-    let (a, b) = and-true (leb 8 k) (ltb k 4104) e in
-    record { low = leb-true 8 k a; high = ltb-true k 4104 b }
-
-pub range-slot : (k : ℕ) → InRange k → hasSlot k ≡ true
-unfolding hasSlot
-range-slot k r = rw (le-leb 8 k (r .low), lt-ltb k 4104 (r .high))
-
-remainder-low : (x : ℕ) → x % 509 < 512
+remainder-low : (x : ℕ) → x % 1021 < 1024
 remainder-low x = omega arith
 
-pub hash-low : (f : ℕ) (t : List ℕ) → hashOf f t < 512
-unfolding hashOf mixed
+pub link-low : (k : ℕ) → linkOf k < 1024
+unfolding linkOf
+link-low k = remainder-low k
+
+pub hash-low : (f : ℕ) (t : List ℕ) → hashOf f t < 1024
+unfolding hashOf
 hash-low f t = remainder-low _
 
 -- ---- another number of entries
 
-module _ (l : List ℕ) (k v : ℕ) where
-  count-cases : (withCount l k v ≡ l) ⊎ (InRange k × (withCount l k v ≡ set l (4096 + slotOf k) v))
-  unfolding withCount
-  count-cases = ⊎-elim (λ (e : hasSlot k ≡ true). inr (slot-range k e, rw e)) (λ (e : hasSlot k ≡ false). inl (rw e)) (bool-cases (hasSlot k))
-
-  count-here : InRange k → withCount l k v ≡ set l (4096 + slotOf k) v
-  unfolding withCount
-  count-here r = rw (range-slot k r)
-
-  pub count-long : length (withCount l k v) ≡ length l
-  count-long =
-      ⊎-elim (λ (z : withCount l k v ≡ l). rw z)
-      (λ (z : InRange k × (withCount l k v ≡ set l (4096 + slotOf k) v)). rw (z .1) (length-set l (4096 + slotOf k) v))
-      count-cases
-
-  pub count-low : (i : ℕ) → i < 4096 → getD (withCount l k v) i 0 ≡ getD l i 0
-  count-low i h =
-      ⊎-elim (λ (z : withCount l k v ≡ l). rw z)
-      (λ (z : InRange k × (withCount l k v ≡ set l (4096 + slotOf k) v)).
-      rw (z .1) (getD-set-other l (4096 + slotOf k) i v 0 (λ e. omega arith)))
-      count-cases
-
-  pub count-high : (i : ℕ) → 8192 ≤ i → getD (withCount l k v) i 0 ≡ getD l i 0
-  count-high i h =
-      ⊎-elim (λ (z : withCount l k v ≡ l). rw z)
-      (λ (z : InRange k × (withCount l k v ≡ set l (4096 + slotOf k) v)).
-      rw (z .1) (getD-set-other l (4096 + slotOf k) i v 0 (λ e. omega (arith, slot-low k (z .0)))))
-      count-cases
-
-  pub count-same : length l ≡ 9729 → InRange k → getD (withCount l k v) (4096 + slotOf k) 0 ≡ v
-  count-same long r = rw (count-here r) (getD-set-same l (4096 + slotOf k) v 0 (omega (arith, slot-low k r)))
-
-  pub count-apart : (j : ℕ) → InRange j → (j ≡ k → ⊥) → getD (withCount l k v) (4096 + slotOf j) 0 ≡ getD l (4096 + slotOf j) 0
-  count-apart j r h =
-      ⊎-elim (λ (z : withCount l k v ≡ l). rw z)
-      (λ (z : InRange k × (withCount l k v ≡ set l (4096 + slotOf k) v)).
-      rw (z .1) (getD-set-other l (4096 + slotOf k) (4096 + slotOf j) v 0 (λ e. h (slot-one j k r (z .0) (omega arith)))))
-      count-cases
+pub count-before : (l : List ℕ) (p v i : ℕ) → i < 8194 → getD (set l (8194 + p) v) i 0 ≡ getD l i 0
+count-before l p v i h = getD-set-other l (8194 + p) i v 0 (λ e. omega arith)
 
 abbrev pub one : Bool → ℕ
 one true = 1
 one false = 0
 
-module _ (l : List ℕ) (f k : ℕ) (long : length l ≡ 9729) (r : InRange k) where
-  pub up-at : getD (countedUp l f) (4096 + slotOf k) 0 ≡ getD l (4096 + slotOf k) 0 + one (eqb f k)
+module _ (l : List ℕ) (p q : ℕ) (long : length l ≡ registerSize) (low : p ≤ 1024) where
+  pub up-at : getD (countedUp l p) (8194 + q) 0 ≡ getD l (8194 + q) 0 + one (eqb p q)
   unfolding countedUp
   up-at =
-      ⊎-elim (λ (z : f ≡ k). rw (z, eq-eqb k k refl) (count-same l k (getD l (4096 + slotOf k) 0 + 1) long r))
-      (λ (z : f ≡ k → ⊥). rw (ne-eqb f k z) (count-apart l f (getD l (4096 + slotOf f) 0 + 1) k r (λ (y : k ≡ f). z (sym y)) ∙ omega arith))
-      (eq-or-ne f k)
+      ⊎-elim (λ (z : p ≡ q). rw (← z, eq-eqb p p refl) (getD-set-same l (8194 + p) (getD l (8194 + p) 0 + 1) 0 (omega arith)))
+      (λ (z : p ≡ q → ⊥). rw (ne-eqb p q z) (getD-set-other l (8194 + p) (8194 + q) (getD l (8194 + p) 0 + 1) 0 (λ e. z (omega arith)) ∙ omega arith))
+      (eq-or-ne p q)
 
-  pub down-at : getD (countedDown l f) (4096 + slotOf k) 0 ≡ getD l (4096 + slotOf k) 0 - one (eqb f k)
+  pub down-at : getD (countedDown l p) (8194 + q) 0 ≡ getD l (8194 + q) 0 - one (eqb p q)
   unfolding countedDown
   down-at =
-      ⊎-elim (λ (z : f ≡ k). rw (z, eq-eqb k k refl) (count-same l k (getD l (4096 + slotOf k) 0 - 1) long r))
-      (λ (z : f ≡ k → ⊥). rw (ne-eqb f k z) (count-apart l f (getD l (4096 + slotOf f) 0 - 1) k r (λ (y : k ≡ f). z (sym y)) ∙ omega arith))
-      (eq-or-ne f k)
+      ⊎-elim (λ (z : p ≡ q). rw (← z, eq-eqb p p refl) (getD-set-same l (8194 + p) (getD l (8194 + p) 0 - 1) 0 (omega arith)))
+      (λ (z : p ≡ q → ⊥). rw (ne-eqb p q z) (getD-set-other l (8194 + p) (8194 + q) (getD l (8194 + p) 0 - 1) 0 (λ e. z (omega arith)) ∙ omega arith))
+      (eq-or-ne p q)
+
+-- ---- places of folders
+
+pub made-set : (l : List Entry) (i : ℕ) (e d : Entry) → e .made ≡ getD l i d .made → (j : ℕ) → madeAt (set l i e) j ≡ madeAt l j
+unfolding madeAt
+made-set [] i e d h j = refl
+made-set (x ∷ l) zero e d h zero = h
+made-set (x ∷ l) zero e d h (suc j) = refl
+made-set (x ∷ l) (suc i) e d h zero = refl
+made-set (x ∷ l) (suc i) e d h (suc j) = made-set l i e d h j
+
+pub made-more : (l : List Entry) (e : Entry) (j : ℕ) → j < length l → madeAt (l ++ (e ∷ [])) j ≡ madeAt l j
+unfolding madeAt
+made-more [] e j h = absurd (omega arith)
+made-more (x ∷ l) e zero h = refl
+made-more (x ∷ l) e (suc j) h = made-more l e j (omega arith)
+
+pub made-new : (l : List Entry) (e : Entry) → madeAt (l ++ (e ∷ [])) (length l) ≡ e .made
+unfolding madeAt
+made-new [] e = refl
+made-new (x ∷ l) e = made-new l e
+
+pub made-row : (l : List Entry) (i : ℕ) (d : Entry) → i < length l → madeAt l i ≡ getD l i d .made
+unfolding madeAt
+made-row [] i d h = absurd (omega arith)
+made-row (x ∷ l) zero d h = refl
+made-row (x ∷ l) (suc i) d h = made-row l i d (omega arith)
+
+pub folder-set : (l : List Entry) (i : ℕ) (e d : Entry) → e .made ≡ getD l i d .made → (p : ℕ) → folderAt (set l i e) p ≡ folderAt l p
+unfolding folderAt
+folder-set l i e d h zero = refl
+folder-set l i e d h (suc j) = made-set l i e d h j
+
+pub folder-more : (l : List Entry) (e : Entry) (p : ℕ) → p ≤ length l → folderAt (l ++ (e ∷ [])) p ≡ folderAt l p
+unfolding folderAt
+folder-more l e zero h = refl
+folder-more l e (suc j) h = made-more l e j (omega arith)
+
+pub folder-new : (l : List Entry) (e : Entry) → folderAt (l ++ (e ∷ [])) (suc (length l)) ≡ e .made
+unfolding folderAt
+folder-new l e = made-new l e
+
+pub folder-row : (l : List Entry) (i : ℕ) (d : Entry) → i < length l → folderAt l (suc i) ≡ getD l i d .made
+unfolding folderAt
+folder-row l i d h = made-row l i d h
+
+pub one-each-set : (l : List Entry) (i : ℕ) (e d : Entry) → e .made ≡ getD l i d .made → OneEach l → OneEach (set l i e)
+one-each-set l i e d h u p q a b z =
+    let n = length-set l i e in
+    u p q (omega arith) (omega arith) (rw (folder-set l i e d h p, folder-set l i e d h q) at z)
+
+-- a folder is at one place only
+pub same-place : (es : List Entry) → OneEach es → (p q f : ℕ) → p ≤ length es → q ≤ length es → folderAt es p ≡ f → one (eqb p q) ≡ one (eqb f (folderAt es q))
+same-place es u p q f a b e =
+    ⊎-elim (λ (z : p ≡ q). rw (← z, e, eq-eqb p p refl, eq-eqb f f refl))
+    (λ (z : p ≡ q → ⊥). rw (ne-eqb p q z, ne-eqb f (folderAt es q) (λ (y : f ≡ folderAt es q). z (u p q a b (e ∙ y)))))
+    (eq-or-ne p q)
 
 -- ---- how many entries a folder has
 
@@ -181,40 +180,3 @@ absent-in k e h = rw h
 pub same-in : (k : ℕ) (e o : Entry) → isPresent e ≡ isPresent o → e .inside ≡ o .inside → isIn k e ≡ isIn k o
 unfolding isIn
 same-in k e o p q = rw (p, q)
-
--- ---- what the functions are asked, over plain values
-
-pub slot-low-none : (k : ℕ) → k < 8 → false ≡ hasSlot k
-unfolding hasSlot
-slot-low-none k h = rw (lt-leb 8 k h)
-
-pub slot-test : (k : ℕ) → 8 ≤ k → ltb k 4104 ≡ hasSlot k
-unfolding hasSlot
-slot-test k h = rw (le-leb 8 k h)
-
-module _ (l : List ℕ) (k : ℕ) (s : Bool) (e : s ≡ hasSlot k) where
-  pub up-none : not s ≡ true → l ≡ countedUp l k
-  unfolding countedUp withCount
-  up-none h = rw (← e, not-true s h)
-
-  pub down-none : not s ≡ true → l ≡ countedDown l k
-  unfolding countedDown withCount
-  down-none h = rw (← e, not-true s h)
-
-  pub slot-some : not s ≡ false → InRange k
-  slot-some h = slot-range k (sym e ∙ not-false s h)
-
-  module _ (h : not s ≡ false) (c : ℕ) (q : c ≡ getD l (4096 + slotOf k) 0) where
-    pub up-fits : (InRange k → getD l (4096 + slotOf k) 0 < 512) → c + 1 < 65536
-    up-fits u = omega (arith, u (slot-some h))
-
-    pub down-fits : (InRange k → 1 ≤ getD l (4096 + slotOf k) 0) → 1 ≤ c
-    down-fits u = omega (arith, u (slot-some h))
-
-    pub up-put : (m : List ℕ) (at : ℕ) → at ≡ slotOf k → m ≡ set l (4096 + at) (c + 1) → m ≡ countedUp l k
-    unfolding countedUp
-    up-put m at p g = g ∙ rw (p, q) (sym (count-here l k (getD l (4096 + slotOf k) 0 + 1) (slot-some h)))
-
-    pub down-put : (m : List ℕ) (at : ℕ) → at ≡ slotOf k → m ≡ set l (4096 + at) (c - 1) → m ≡ countedDown l k
-    unfolding countedDown
-    down-put m at p g = g ∙ rw (p, q) (sym (count-here l k (getD l (4096 + slotOf k) 0 - 1) (slot-some h)))

@@ -20,7 +20,7 @@ use Rattle.log_check.specs.Places.{offsetOf, laidAt, Laid}
 use Rattle.log_check.specs.InOrder.{listed}
 use Rattle.log_check.proofs.Lists.{listed-more}
 use Rattle.tree_replay.specs.Playable.{Playable}
-use Rattle.tree_replay.proofs.Stepping.{step-grows, step-role}
+use Rattle.tree_replay.proofs.Stepping.{step-grows, step-more, step-role}
 
 -- one record more
 pub replay-next : (t : Tree) (at : ℕ → Rec) (i : ℕ) → replayFrom t (listed at 0 (i + 1)) ≡ step (replayFrom t (listed at 0 i)) (at i)
@@ -44,6 +44,11 @@ pub replay-asides : (t : Tree) (at : ℕ → Rec) (i : ℕ) → length (replayFr
 replay-asides t at zero = rw (replay-none t at) (omega arith)
 replay-asides t at (suc i) =
     rw (replay-suc t at i) (omega (arith, replay-asides t at i, step-grows (replayFrom t (listed at 0 i)) (at i) .1))
+
+replay-both : (t : Tree) (at : ℕ → Rec) (i : ℕ)
+    → length (replayFrom t (listed at 0 i) .entries) + length (replayFrom t (listed at 0 i) .asides) ≤ length (t .entries) + length (t .asides) + i
+replay-both t at zero = rw (replay-none t at) (omega arith)
+replay-both t at (suc i) = rw (replay-suc t at i) (omega (arith, replay-both t at i, step-more (replayFrom t (listed at 0 i)) (at i)))
 
 -- a record that is still to come has no role yet
 pub replay-fresh : (t : Tree) (at : ℕ → Rec) (n : ℕ) → Playable t at n → (i j : ℕ) → i ≤ j → j < n → roleOf (selfOf (at j)) (replayFrom t (listed at 0 i)) ≡ 0
@@ -71,6 +76,14 @@ module _ (k : Layout) (bytes b₀ register₀ : List ℕ) (n₀ m₀ n : ℕ) (p
       let c = w .notes in
       let d = w₀ .notes in
       omega (arith, replay-asides (treeIn b₀ n₀ m₀) (laidAt k bytes) i)
+
+  pub turn-both : i < n → n₀ + m₀ + n ≤ 1536 → x + y < 1536
+  turn-both h g =
+      let c = w .rows in
+      let d = w₀ .rows in
+      let e = w .notes in
+      let f = w₀ .notes in
+      omega (arith, replay-both (treeIn b₀ n₀ m₀) (laidAt k bytes) i)
 
   pub turn-holds : Holds b register x y
   turn-holds = works-holds b register x y (replayFrom (treeIn b₀ n₀ m₀) (listed (laidAt k bytes) 0 i)) w

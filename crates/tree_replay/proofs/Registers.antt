@@ -11,6 +11,7 @@ use Rattle.model.specs.Record.{Rec}
 use Rattle.model.specs.Log.{recordsOf}
 use Rattle.model.specs.Replay.{Tree, fits, aside, emptyTree, judge, step, replayFrom}
 use Rattle.tree_table.specs.Rows.{treeIn}
+use Rattle.tree_maps.specs.Keys.{registerSize}
 use Rattle.tree_lookup.specs.Roles.{Works}
 use Rattle.tree_lookup.proofs.Working.{works-tree}
 use Rattle.tree_judge.specs.Judged.{verdictOf}
@@ -66,6 +67,6 @@ module _ (k : Layout) (bytes b₀ register₀ : List ℕ) (n₀ m₀ : ℕ) (b r
 
 -- ---- the records of a log
 
-pub log-on : (log : List ℕ) (n : ℕ) → n ≡ length (recordsOf log) → (table register l : List ℕ) → register ≡ replicate 9729 0
-    → l ≡ replayOn (treeIn table 0 0) register (listed (laidAt Log log) 0 n) → l ≡ replayOn emptyTree (replicate 9729 0) (recordsOf log)
+pub log-on : (log : List ℕ) (n : ℕ) → n ≡ length (recordsOf log) → (table register l : List ℕ) → register ≡ replicate registerSize 0
+    → l ≡ replayOn (treeIn table 0 0) register (listed (laidAt Log log) 0 n) → l ≡ replayOn emptyTree (replicate registerSize 0) (recordsOf log)
 log-on log n c table register l e x = rw (empty-rows table, listed-records log n c, e) at x

@@ -26,9 +26,9 @@ use Rattle.record.proofs.Fields.{well-head}
 use Rattle.record.proofs.Claims.{object-named, folder-root-or-named}
 use Rattle.tree_laws.proofs.Steps.{cond-elim}
 use Rattle.tree_table.specs.Rows.{entriesFrom, asidesFrom, treeIn, flagged, workBytes, InRange}
-use Rattle.tree_lookup.specs.Roles.{rowFrom, noteFrom, rowOf, noteOf, behindRows, roleOf, Works, Holds}
-use Rattle.hash_chains.specs.Chains.{nodesIn, firstOf}
-use Rattle.tree_maps.specs.Keys.{slotOf, childrenOf, Keyed}
+use Rattle.tree_lookup.specs.Roles.{rowFrom, noteFrom, rowOf, noteOf, behindRows, roleOf, Named as Roles, Works, Holds}
+use Rattle.hash_chains.specs.Chains.{nodesIn, firstOf, Chains}
+use Rattle.tree_maps.specs.Keys.{registerSize, childrenOf, Keyed}
 use Rattle.tree_lookup.proofs.Working.{works-holds}
 use Rattle.tree_judge.specs.Judged.{Asks}
 use Rattle.log_check.specs.declared.Layout.the-variants.{Log}
@@ -131,28 +131,46 @@ zeros-at zero i = refl
 zeros-at (suc n) zero = refl
 zeros-at (suc n) (suc i) = zeros-at n i
 
-blank-nodes : nodesIn (replicate 9729 0) ≡ 0
+blank-nodes : (from : ℕ) → nodesIn from (replicate registerSize 0) ≡ 0
 unfolding nodesIn
-blank-nodes = zeros-at 9729 9728
+blank-nodes from = zeros-at registerSize (from + 4096)
 
-blank-keyed : Keyed (replicate 9729 0) 0 []
-unfolding firstOf childrenOf
-blank-keyed =
-    let none = blank-nodes in
+blank-chains : (from : ℕ) → from + 4097 ≤ registerSize → Chains from (replicate registerSize 0)
+unfolding firstOf
+blank-chains from h =
+    let none = blank-nodes from in
     record {
-      chains =
-          record {
-            long = length-replicate {A = ℕ} 9729 0;
-            few = omega arith;
-            firsts = λ h g. omega (arith, zeros-at 9729 (8192 + h));
-            falls = λ q h g. absurd (omega arith);
-          };
+      long = rw (length-replicate {A = ℕ} registerSize 0) h;
+      few = omega arith;
+      firsts = λ i g. omega (arith, zeros-at registerSize (from + i));
+      falls = λ q i g. absurd (omega arith);
+    }
+
+blank-keyed : Keyed (replicate registerSize 0) 0 []
+unfolding childrenOf
+blank-keyed =
+    let none = blank-nodes 4097 in
+    record {
+      wide = length-replicate {A = ℕ} registerSize 0;
+      chains = blank-chains 4097 (omega arith);
       rows = λ q h g. absurd (omega arith);
-      counted = λ k r. zeros-at 9729 (4096 + slotOf k);
+      counted = λ p h. zeros-at registerSize (8194 + p);
+      spare = λ p h g. zeros-at registerSize (8194 + p);
       kept = λ i d h p. absurd (omega arith);
     }
 
-start-works : (b register : List ℕ) → b ≡ replicate 43012 0 → register ≡ replicate 9729 0 → Works b register 0 0 emptyTree
+blank-named : Roles (replicate registerSize 0) emptyTree
+unfolding emptyTree
+blank-named =
+    let none = blank-nodes 0 in
+    record {
+      chains = blank-chains 0 (omega arith);
+      count = none;
+      roles = λ q h g. absurd (omega arith);
+      found = λ k u h. absurd (h (empty-role k));
+    }
+
+start-works : (b register : List ℕ) → b ≡ replicate 43012 0 → register ≡ replicate registerSize 0 → Works b register 0 0 emptyTree
 unfolding workBytes flagged emptyTree entryRows asideRows rowOf noteOf rowFrom noteFrom
 start-works b register e f =
     record {
@@ -165,8 +183,8 @@ start-works b register e f =
       lone = tt;
       marks = tt;
       apart = λ k. inl refl;
-      wide = ap (λ (x : List ℕ). length x) f ∙ length-replicate {A = ℕ} 9729 0;
-      right = λ k u. ap (λ (x : List ℕ). getD x (slotOf k) 0) f ∙ zeros-at 9729 (slotOf k) ∙ sym (empty-role k);
+      housed = tt;
+      named = rw f blank-named;
       keyed = rw f blank-keyed;
     }
 
@@ -176,12 +194,12 @@ pub empty-rows : (b : List ℕ) → treeIn b 0 0 ≡ emptyTree
 unfolding treeIn emptyTree entriesFrom asidesFrom
 empty-rows b = refl
 
-pub start-holds : (b register : List ℕ) → b ≡ replicate 43012 0 → register ≡ replicate 9729 0 → Holds b register 0 0
+pub start-holds : (b register : List ℕ) → b ≡ replicate 43012 0 → register ≡ replicate registerSize 0 → Holds b register 0 0
 start-holds b register e f = works-holds b register 0 0 emptyTree (start-works b register e f)
 
-pub start-nodes : (register : List ℕ) (n : ℕ) → register ≡ replicate 9729 0 → n ≤ 512 → nodesIn register + n ≤ 512
+pub start-nodes : (register : List ℕ) (n : ℕ) → register ≡ replicate registerSize 0 → n ≤ 512 → nodesIn 4097 register + n ≤ 1536
 start-nodes register n f h =
-    let z : nodesIn register ≡ 0 = ap nodesIn f ∙ blank-nodes in
+    let z : nodesIn 4097 register ≡ 0 = rw f (blank-nodes 4097) in
     omega arith
 
 module _ (b : List ℕ) (n : ℕ) (c : n ≡ length (recordsOf b)) where
@@ -190,6 +208,9 @@ module _ (b : List ℕ) (n : ℕ) (c : n ≡ length (recordsOf b)) where
 
   pub log-room : 0 + n ≤ 512
   log-room = omega (arith, sound-few b)
+
+  pub log-both : 0 + 0 + n ≤ 1536
+  log-both = omega (arith, sound-few b)
 
   pub log-playable : (table : List ℕ) → soundLog b ≡ true → Playable (treeIn table 0 0) (laidAt Log b) n
   log-playable table s =

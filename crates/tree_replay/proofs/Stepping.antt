@@ -1,6 +1,6 @@
 -- What one record changes of lengths and roles, and the table after it.
 -- Assumes nothing.
-use Prim.Native.Nat.{ℕ, suc, _≤_}
+use Prim.Native.Nat.{ℕ, suc, _+_, _≤_}
 use native.Mathlib.Omega.{arith}
 use mathlib.Core.Path.{_≡_, refl, ap}
 use mathlib.Core.Logic.{_⊎_}
@@ -12,12 +12,12 @@ use borrow.Author.Tests.{ne-eqb}
 use Rattle.model.specs.Record.{Rec, selfOf, objectOf}
 use Rattle.model.specs.Replay.{Entry, Aside, Tree, fits, aside, isPresent, changed, settled, newEntry, stored, renamed, moved, removed, judge, effect, apply, step}
 use Rattle.tree_laws.proofs.Steps.{cond-elim, effect-elim, step-elim}
-use Rattle.tree_table.specs.Rows.{treeIn, asidesFrom, newAside, InRange}
+use Rattle.tree_table.specs.Rows.{treeIn, entriesFrom, asidesFrom, newAside, InRange}
 use Rattle.tree_lookup.specs.Roles.{rowFrom, noteFrom, rowOf, noteOf, roleOf, Works, Holds}
 use Rattle.tree_lookup.proofs.Places.{row-more, note-more}
 use Rattle.tree_judge.specs.Judged.{verdictOf}
-use Rattle.tree_amend.specs.Effects.{withAsides}
-use Rattle.tree_replay.proofs.Fitting.{judged-fits}
+use Rattle.tree_amend.specs.Effects.{withAsides, Placed}
+use Rattle.tree_replay.proofs.Fitting.{judged-fits, fits-placed}
 use Rattle.tree_replay.proofs.Marks.{marked-fits}
 
 -- ---- changes keep places and lengths
@@ -71,6 +71,18 @@ step-grows t r =
     (λ _. (omega (arith, length-changed (moved r) (objectOf r) es), omega arith)))
     (λ n k _. (omega arith, omega (arith, length-append l (record { who = selfOf r; reason = n; marked = k; isOpen = true } ∷ []))))
 
+-- of entries and asides together it makes at most one
+pub step-more : (t : Tree) (r : Rec) → length (step t r .entries) + length (step t r .asides) ≤ suc (length (t .entries) + length (t .asides))
+step-more t r =
+    let es = t .entries in
+    let l = t .asides in
+    step-elim (λ (u : Tree). length (u .entries) + length (u .asides) ≤ suc (length es + length l)) t r
+    (λ _.
+    effect-elim (λ (u : Tree). length (u .entries) + length (u .asides) ≤ suc (length es + length l)) r t (λ _. omega (arith, length-append es (newEntry r ∷ []))) (λ _. omega (arith, length-changed (stored r) (objectOf r) es))
+    (λ _. omega (arith, length-changed removed (objectOf r) es)) (λ _. omega (arith, length-changed (renamed r) (objectOf r) es))
+    (λ _. omega (arith, length-settled (objectOf r) l)) (λ _. omega (arith, length-changed (moved r) (objectOf r) es)))
+    (λ n k _. omega (arith, length-append l (record { who = selfOf r; reason = n; marked = k; isOpen = true } ∷ [])))
+
 same-role : (k : ℕ) (t u : Tree) → rowOf k u ≡ rowOf k t → noteOf k u ≡ noteOf k t → roleOf k u ≡ roleOf k t
 unfolding roleOf
 same-role k t u p q = rw (p, q)
@@ -95,6 +107,10 @@ step-role k t r h =
 module _ (b register : List ℕ) (n m : ℕ) (r : Rec) (x k : ℕ) (e : verdictOf x k ≡ judge r (treeIn b n m)) where
   pub mark-fits : Holds b register n m → (x ≡ 0 → ⊥) → (k ≡ 0) ⊎ InRange k
   mark-fits w h = marked-fits r (treeIn b n m) x k (w .proper) e h
+
+  pub step-placed : x ≡ 0 → Placed r (entriesFrom b 0 n)
+  unfolding treeIn
+  step-placed h = fits-placed r (treeIn b n m) (judged-fits r (treeIn b n m) x k e h)
 
   module _ (b' register' : List ℕ) (n' m' : ℕ) where
     pub step-acts : x ≡ 0 → Works b' register' n' m' (effect r (treeIn b n m)) → Works b' register' n' m' (step (treeIn b n m) r)

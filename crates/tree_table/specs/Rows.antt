@@ -61,10 +61,10 @@ flagged s es l = (0 ∷ 0 ∷ 0 ∷ 0 ∷ []) ++ (padded 36864 (entryRows s es) 
 unfoldable pub workBytes : Tree → List ℕ
 workBytes t = flagged [] (t .entries) (t .asides)
 
--- an identity of unit 0 to 7 and number 1 to 512
+-- an identity of unit 0 to 7 and number 1 to 65,535
 pub record InRange (k : ℕ) : Type 0 where
   pub low : 8 ≤ k
-  pub high : k < 4104
+  pub high : k < 524288
 
 -- an entry that a row holds: its identity in range, its fields of their lengths
 pub record Proper (e : Entry) : Type 0 where

@@ -16,9 +16,8 @@ use Rattle.model.specs.Table.{identityBytes}
 use Rattle.byte_slice.proofs.Parts.{part-replicate, drop-replicate, take-replicate}
 use Rattle.byte_slice.proofs.PutAt.{mid-put, put-more, length-padded, put-padded, padded-nil}
 use Rattle.vector.proofs.InBytes.{vectorBytes-length}
-use Rattle.tree_table.specs.Rows.{InRange, entryIn}
-use Rattle.tree_maps.specs.Keys.{slotOf}
-use Rattle.try_row_report.specs.Listed.{disputedIn, madeIn, Shown, notedOne, noted, isNewIn, listedCount, listed}
+use Rattle.tree_table.specs.Rows.{entryIn}
+use Rattle.try_row_report.specs.Listed.{HasSlot, slotOf, disputedIn, madeIn, Shown, notedOne, noted, isNewIn, listedCount, listed}
 
 -- ---- one row
 
@@ -26,7 +25,7 @@ pub row-made : (b : List ℕ) (i k : ℕ) → k ≡ entryIn b (4 + 72 * i) .made
 unfolding madeIn
 row-made b i k e = e
 
-pub made-range : (b : List ℕ) (i k : ℕ) → Shown b → i < word b 0 → k ≡ entryIn b (4 + 72 * i) .made → InRange k
+pub made-range : (b : List ℕ) (i k : ℕ) → Shown b → i < word b 0 → k ≡ entryIn b (4 + 72 * i) .made → HasSlot k
 unfolding madeIn
 made-range b i k s h e = rw e (s .range i h)
 

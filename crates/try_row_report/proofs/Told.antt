@@ -1,6 +1,6 @@
 -- The report says of two trees exactly the entries that become disputed.
 -- Assumes nothing.
-use Prim.Native.Nat.{ℕ, zero, suc, _+_, _*_, _≤_, _<_}
+use Prim.Native.Nat.{ℕ, zero, suc, _+_, _-_, _*_, _/_, _%_, _≤_, _<_}
 use native.Mathlib.Omega.{arith}
 use mathlib.Core.Path.{_≡_, refl, sym, ap, _∙_, subst}
 use mathlib.Core.Logic.{_⊎_, inl, inr, ⊎-elim}
@@ -22,14 +22,48 @@ use Rattle.byte_slice.proofs.PutAt.{length-padded}
 use Rattle.encoding_laws.proofs.Logs.{sound-records, sound-few}
 use Rattle.row_laws.specs.Disputes.{HasEntry, DisputedIn}
 use Rattle.row_laws.proofs.Disputes.{disputed-has, has-disputed}
-use Rattle.tree_table.specs.Rows.{InRange, AllProper, flagOf, entryIn}
+use Rattle.tree_table.specs.Rows.{AllProper, flagOf, entryIn}
 use Rattle.tree_table.proofs.Rows.{entry-behind, row-back, rows-length, aside-rows-length}
-use Rattle.tree_maps.specs.Keys.{slotOf}
-use Rattle.tree_maps.proofs.Counts.{slot-one, slot-low}
 use Rattle.tree_lookup.proofs.Working.{proper-at}
-use Rattle.listing_laws.proofs.Rows.{sound-rows, rows-within, entries-counted, row-at}
-use Rattle.try_row_report.specs.Listed.{disputedIn, madeIn, Shown, notedOne, noted, isNewIn, listedCount, listed}
+use Rattle.listing_laws.proofs.Rows.{sound-rows, sound-small, rows-within, entries-counted, row-at}
+use Rattle.try_row_report.specs.Listed.{HasSlot, slotOf, disputedIn, madeIn, Shown, notedOne, noted, isNewIn, listedCount, listed}
 use Rattle.try_row_report.proofs.Listing.{length-noted}
+
+-- ---- slots
+
+slot-unit : (j k : ℕ) → HasSlot j → HasSlot k → slotOf j ≡ slotOf k → (j % 8 < k % 8) → ⊥
+unfolding slotOf
+slot-unit j k a b e h =
+    let p = a .low in
+    let q = a .high in
+    let r = b .low in
+    let s = b .high in
+    omega arith
+
+same-parts : (j k : ℕ) → j % 8 ≡ k % 8 → j / 8 ≡ k / 8 → j ≡ k
+same-parts j k p q =
+    let a : j ≡ 8 * (j / 8) + j % 8 = omega arith in
+    let b : k ≡ 8 * (k / 8) + k % 8 = omega arith in
+    a ∙ rw (p, q) (sym b)
+
+slot-one : (j k : ℕ) → HasSlot j → HasSlot k → slotOf j ≡ slotOf k → j ≡ k
+unfolding slotOf
+slot-one j k a b e =
+    let p = a .low in
+    let q = a .high in
+    let r = b .low in
+    let s = b .high in
+    ⊎-elim (λ (h : j % 8 < k % 8). absurd (slot-unit j k a b e h))
+    (λ (h : k % 8 ≤ j % 8).
+    ⊎-elim (λ (g : k % 8 < j % 8). absurd (slot-unit k j b a (sym e) g)) (λ (g : j % 8 ≤ k % 8). same-parts j k (omega arith) (omega arith)) (lt-or-ge (k % 8) (j % 8)))
+    (lt-or-ge (j % 8) (k % 8))
+
+slot-low : (k : ℕ) → HasSlot k → slotOf k < 4096
+unfolding slotOf
+slot-low k a =
+    let p = a .low in
+    let q = a .high in
+    omega arith
 
 -- ---- the flags
 
@@ -102,7 +136,11 @@ at-has [] e h = absurd h
 at-has (x ∷ l) e (inl q) = (0, omega arith, sym q)
 at-has (x ∷ l) e (inr h) = let (i, a, q) = at-has l e h in (suc i, omega arith, q)
 
-module _ (t : Tree) (few : length (presentOnes (t .entries)) ≤ 512) (a : AllProper (presentOnes (t .entries))) (b : List ℕ) (is : b ≡ tableBytes t) (long : length b ≡ 43012) where
+-- every entry has a slot
+abbrev AllSlots : List Entry → Type 0
+AllSlots l = (i : ℕ) (d : Entry) → i < length l → HasSlot (getD l i d .made)
+
+module _ (t : Tree) (few : length (presentOnes (t .entries)) ≤ 512) (a : AllProper (presentOnes (t .entries))) (c : AllSlots (presentOnes (t .entries))) (b : List ℕ) (is : b ≡ tableBytes t) (long : length b ≡ 43012) where
   abbrev es : List Entry
   es = presentOnes (t .entries)
 
@@ -135,15 +173,15 @@ module _ (t : Tree) (few : length (presentOnes (t .entries)) ≤ 512) (a : AllPr
         let g : getD (part b (4 + 72 * i) 72) 1 0 ≡ getD b (4 + 72 * i + 1) 0 = getD-part b (4 + 72 * i) 72 1 (omega arith) in
         rw (← n, ← g, row, flag-of (flagOf (t .asides) (getD es i none)) (getD es i none)) (flag-true (isDisputed (getD es i none .made) (t .asides)))
 
-    range : InRange (madeIn b i)
-    range = rw made-is (proper-at es i none h a .range)
+    range : HasSlot (madeIn b i)
+    range = rw made-is (c i none h)
 
   pub table-shown : Shown b
   table-shown = record { long = long; few = omega (arith, count); range = λ i h. range i (omega (arith, count)) }
 
   -- ---- the flags of a tree
 
-  module _ (k : ℕ) (r : InRange k) where
+  module _ (k : ℕ) (r : HasSlot k) where
     abbrev flags : List ℕ
     flags = noted b (replicate 4096 0) (word b 0)
 
@@ -211,6 +249,7 @@ one-more : (t t′ : Tree) (l : List Entry) (n : ℕ) → n < length l → newly
 one-more t t′ l n h = rw (take-suc l n none h) (newly-append t t′ (take n l) (getD l n none ∷ []))
 
 module _ (t t′ : Tree) (few : length (presentOnes (t .entries)) ≤ 512) (few′ : length (presentOnes (t′ .entries)) ≤ 512) (a : AllProper (presentOnes (t .entries))) (a′ : AllProper (presentOnes (t′ .entries)))
+    (c : AllSlots (presentOnes (t .entries))) (c′ : AllSlots (presentOnes (t′ .entries)))
     (b b′ : List ℕ) (is : b ≡ tableBytes t) (is′ : b′ ≡ tableBytes t′) (long : length b ≡ 43012) (long′ : length b′ ≡ 43012) where
   abbrev before : List ℕ
   before = noted b (replicate 4096 0) (word b 0)
@@ -222,15 +261,14 @@ module _ (t t′ : Tree) (few : length (presentOnes (t .entries)) ≤ 512) (few�
   counted′ = rw is′ (entries-counted t′)
 
   made-of : (i : ℕ) → i < length es′ → madeIn b′ i ≡ getD es′ i none .made
-  made-of i h = made-is t′ few′ a′ b′ is′ long′ i h
+  made-of i h = made-is t′ few′ a′ c′ b′ is′ long′ i h
 
   new-is : (i : ℕ) → i < length es′ → isNewIn b′ before i ≡ (isDisputed (getD es′ i none .made) (t′ .asides) && not (hasDisputed (getD es′ i none .made) t))
   unfolding isNewIn
   new-is i h =
-      let m = made-is t′ few′ a′ b′ is′ long′ i h in
-      let d = disputed-is t′ few′ a′ b′ is′ long′ i h in
-      let r : InRange (getD (presentOnes (t′ .entries)) i none .made) = proper-at (presentOnes (t′ .entries)) i none h a′ .range in
-      rw (d, m, flag-exact t few a b is long (getD (presentOnes (t′ .entries)) i none .made) r)
+      let m = made-is t′ few′ a′ c′ b′ is′ long′ i h in
+      let d = disputed-is t′ few′ a′ c′ b′ is′ long′ i h in
+      rw (d, m, flag-exact t few a c b is long (getD (presentOnes (t′ .entries)) i none .made) (c′ i none h))
 
   listed-is : (n : ℕ) → n ≤ length es′ → listed b′ before n ≡ madeBytes (newlyDisputed t t′ (take n es′))
   unfolding listed newlyDisputed madeBytes
@@ -275,6 +313,16 @@ log-table-long log s =
     table-long (replay (recordsOf log)) (omega (arith, rows-within (recordsOf log), sound-few log)) (sound-rows (recordsOf log) (sound-records log s) (sound-few log))
     (omega (arith, rows-within (recordsOf log), sound-few log))
 
+-- ---- the entries of a log have slots
+
+log-slots : (log : List ℕ) → soundLog log ≡ true → AllSlots (presentOnes (replay (recordsOf log) .entries))
+log-slots log s i d h =
+    let l : List Rec = recordsOf log in
+    record {
+      low = proper-at (presentOnes (replay l .entries)) i d h (sound-rows l (sound-records log s) (sound-few log)) .range .low;
+      high = sound-small l (sound-records log s) (sound-few log) i d h;
+    }
+
 -- ---- the report of a trial
 
 module _ (log copy : List ℕ) (sound : soundLog log ≡ true) (sound′ : soundLog copy ≡ true) where
@@ -291,11 +339,11 @@ module _ (log copy : List ℕ) (sound : soundLog log ≡ true) (sound′ : sound
   told k n v f r p q e =
       let t : Tree = replay (recordsOf log) in
       let t′ : Tree = replay (recordsOf copy) in
-      let l = list-is t t′ (fits log) (fits copy) (proper log sound) (proper copy sound′) (tableBytes t) (tableBytes t′) refl refl (log-table-long log sound) (log-table-long copy sound′) in
-      let c = count-is t t′ (fits log) (fits copy) (proper log sound) (proper copy sound′) (tableBytes t) (tableBytes t′) refl refl (log-table-long log sound) (log-table-long copy sound′) in
+      let l = list-is t t′ (fits log) (fits copy) (proper log sound) (proper copy sound′) (log-slots log sound) (log-slots copy sound′) (tableBytes t) (tableBytes t′) refl refl (log-table-long log sound) (log-table-long copy sound′) in
+      let c = count-is t t′ (fits log) (fits copy) (proper log sound) (proper copy sound′) (log-slots log sound) (log-slots copy sound′) (tableBytes t) (tableBytes t′) refl refl (log-table-long log sound) (log-table-long copy sound′) in
       e ∙ rw (p, l, c, q)
 
 pub tree-shown : (log b : List ℕ) → soundLog log ≡ true → b ≡ tableBytes (replay (recordsOf log)) → Shown b
 tree-shown log b s e =
-    table-shown (replay (recordsOf log)) (omega (arith, rows-within (recordsOf log), sound-few log)) (sound-rows (recordsOf log) (sound-records log s) (sound-few log)) b e
+    table-shown (replay (recordsOf log)) (omega (arith, rows-within (recordsOf log), sound-few log)) (sound-rows (recordsOf log) (sound-records log s) (sound-few log)) (log-slots log s) b e
     (ap (λ (x : List ℕ). length x) e ∙ log-table-long log s)

@@ -10,8 +10,7 @@ ghost use Rattle.row_model.specs.Row.{reportSize};
 ghost use Rattle.model.specs.Bytes.{word, two, padded, putAt};
 ghost use Rattle.model.specs.Vector.{vectorBytes};
 ghost use Rattle.model.specs.Table.{identityBytes};
-ghost use Rattle.tree_maps.specs.Keys.{slotOf};
-ghost use Rattle.try_row_report.specs.Listed.{flagsSize, disputedIn, madeIn, Shown, notedOne, noted, isNewIn, listedCount, listed};
+ghost use Rattle.try_row_report.specs.Listed.{flagsSize, HasSlot, slotOf, disputedIn, madeIn, Shown, notedOne, noted, isNewIn, listedCount, listed};
 use row_model::REPORT_BYTES;
 use vector::Vector;
 
@@ -41,12 +40,20 @@ fn is_disputed(tree: &[u8], i: usize) -> bool
     tree[5 + 72 * i] == 1
 }
 
+// The slot of an identity.
+fn slot(k: u32) -> usize
+    requires { ⌜ HasSlot k ⌝ }
+    ensures { λ r. ⌜ (r ≡ slotOf k) × (r < 4096) ⌝ }
+{
+    512 * ((k % 8) as usize) + ((k / 8) as usize - 1)
+}
+
 // The slot of the entry in row i.
 fn slot_at(tree: &[u8], i: usize) -> usize
     requires { ⌜ Shown (now tree) × (i < word (now tree) 0) ⌝ }
     ensures { λ r. ⌜ (r ≡ slotOf (madeIn (now (tree .entry)) i)) × (r < 4096) ⌝ }
 {
-    tree_maps::slot(tree_table::made_at(tree, i))
+    slot(tree_table::made_at(tree, i))
 }
 
 // The entry in row i is noted, if it is disputed.

@@ -21,7 +21,7 @@ same-length-2 c = search needs
 returns-2 : tie.Need-returns-2
 returns-2 c =
     let e = c .before .before .before in
-    pop-other _ _ _ _ _ (c .before .row-at .ensures) (c .if2 .taken) (e .before .first-of .ensures .0) (e .if1 .left)
+    pop-other _ _ _ _ _ _ (c .before .row-at .ensures) (c .if2 .taken) (e .before .first-of .ensures .0) (e .if1 .left)
 
 node-behind-requires : tie.Need-node-behind-requires
 node-behind-requires c κs = search needs

@@ -12,14 +12,11 @@ first-of-requires c κs = search needs
 add-put : tie.Need-add-put
 add-put c = search needs
 
-put-requires : tie.Need-put-requires
-put-requires c κs = search needs
-
 add-put-2 : tie.Need-add-put-2
 add-put-2 c = search needs
 
-put-requires-2 : tie.Need-put-requires-2
-put-requires-2 c κs = search needs
+put-requires : tie.Need-put-requires
+put-requires c κs = search needs
 
 add-put-3 : tie.Need-add-put-3
 add-put-3 c = search needs
@@ -27,11 +24,23 @@ add-put-3 c = search needs
 add-put-4 : tie.Need-add-put-4
 add-put-4 c = search needs
 
-put-requires-3 : tie.Need-put-requires-3
-put-requires-3 c κs = search needs
+put-requires-2 : tie.Need-put-requires-2
+put-requires-2 c κs = search needs
 
 add-put-5 : tie.Need-add-put-5
 add-put-5 c = search needs
+
+add-put-6 : tie.Need-add-put-6
+add-put-6 c = search needs
+
+put-requires-3 : tie.Need-put-requires-3
+put-requires-3 c κs = search needs
+
+add-put-7 : tie.Need-add-put-7
+add-put-7 c = search needs
+
+add-put-8 : tie.Need-add-put-8
+add-put-8 c = search needs
 
 put-requires-4 : tie.Need-put-requires-4
 put-requires-4 c κs = search needs
@@ -50,13 +59,16 @@ push-spec =
     node-count-requires
     first-of-requires
     add-put
-    put-requires
     add-put-2
-    put-requires-2
+    put-requires
     add-put-3
     add-put-4
-    put-requires-3
+    put-requires-2
     add-put-5
+    add-put-6
+    put-requires-3
+    add-put-7
+    add-put-8
     put-requires-4
     same-length
     returns)

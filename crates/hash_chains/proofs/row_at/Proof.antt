@@ -6,6 +6,9 @@ use Rattle.hash_chains.proofs.row_at.Tie as tie
 add-number-at : tie.Need-add-number-at
 add-number-at c = search needs
 
+add-number-at-2 : tie.Need-add-number-at-2
+add-number-at-2 c = search needs
+
 number-at-requires : tie.Need-number-at-requires
 number-at-requires c κs = search needs
 
@@ -14,4 +17,4 @@ unfolding rowAt
 returns c = cc
 
 pub row-at-spec : {M : Type 1} → statement M
-row-at-spec = tie.close (tie.spec add-number-at number-at-requires returns)
+row-at-spec = tie.close (tie.spec add-number-at add-number-at-2 number-at-requires returns)

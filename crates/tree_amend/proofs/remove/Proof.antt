@@ -1,6 +1,6 @@
 use Rattle.tree_amend.proofs.Registers.{remove-leaves, remove-register}
 use Rattle.tree_judge.proofs.Reasons.{object-range}
-use Rattle.tree_amend.proofs.Amending.{unchanged, remove-done, remove-nodes, leave-counts, row-end, label-end, works-chains}
+use Rattle.tree_amend.proofs.Amending.{unchanged, remove-done, remove-nodes, leave-counts, row-present, row-end, label-end, works-chains, works-wide}
 use Rattle.tree_lookup.proofs.Working.{works-long}
 use native.Mathlib.Omega.{arith}
 use borrow.Author.Needs.{needs}
@@ -22,14 +22,17 @@ same-length-2 c = search needs
 returns : tie.Need-returns
 returns c = (search (unchanged), omega arith, search (remove-leaves))
 
+inside-at-requires : tie.Need-inside-at-requires
+inside-at-requires c κs = (search (works-long), omega arith)
+
+place-of-requires : tie.Need-place-of-requires
+place-of-requires c κs = search needs
+
 mul-at : tie.Need-mul-at
 mul-at c = search needs
 
 add-at : tie.Need-add-at
 add-at c = search needs
-
-inside-at-requires : tie.Need-inside-at-requires
-inside-at-requires c κs = (search (works-long), omega arith)
 
 add-leave : tie.Need-add-leave
 add-leave c = search needs
@@ -47,7 +50,7 @@ part-leave-end : tie.Need-part-leave-end
 part-leave-end c = search (label-end)
 
 leave-requires : tie.Need-leave-requires
-leave-requires c κs = (search (works-chains), search (leave-counts), search needs)
+leave-requires c κs = (search (works-chains), search (works-wide), omega arith, search (leave-counts, row-present), search needs)
 
 add-remove-row : tie.Need-add-remove-row
 add-remove-row c = search needs
@@ -74,12 +77,12 @@ returns-2 : tie.Need-returns-2
 returns-2 c =
     let a = c .before .before in
     let d = a .before .before .before .before in
-    let e = d .before .before .before .before .before .before in
+    let e = d .before .before .before .before .before .before .before .before .before in
     let o = e .before .before in
     let s = o .before .before .before .before .before .before .before in (
-      remove-done _ _ _ _ (s .pre .1) _ (s .pre .0) _ _ (o .before .object-of .ensures) (o .entry-of .ensures .1) _ _ _ (e .if1 .left) (d .before .before .before .inside-at .ensures) (d .leave .ensures) _ (a .remove-row .ensures),
+      remove-done _ _ _ _ (s .pre .1) _ (s .pre .0) _ _ (o .before .object-of .ensures) (o .entry-of .ensures .1) _ _ _ (e .if1 .left) (d .before .before .before .before .before .before .before .inside-at .ensures) _ (d .before .before .before .before .place-of .ensures .0) (d .before .before .before .before .place-of .ensures .1) (d .leave .ensures) _ (a .remove-row .ensures),
       search (remove-nodes),
-      remove-register _ _ _ _ _ _ _ (o .before .object-of .ensures) (o .entry-of .ensures .0) (o .entry-of .ensures .1) (e .if1 .left) _ (d .before .before .before .inside-at .ensures) _ (d .leave .ensures),
+      remove-register _ _ _ _ _ _ _ (o .before .object-of .ensures) (o .entry-of .ensures .0) (o .entry-of .ensures .1) (e .if1 .left) _ (d .before .before .before .before .before .before .before .inside-at .ensures) _ _ (d .before .before .before .before .place-of .ensures .0) (d .leave .ensures),
     )
 
 pub remove-spec : {M : Type 1} → statement M
@@ -91,9 +94,10 @@ remove-spec =
     same-length
     same-length-2
     returns
+    inside-at-requires
+    place-of-requires
     mul-at
     add-at
-    inside-at-requires
     add-leave
     add-leave-2
     sub-leave

@@ -1,3 +1,4 @@
+use Rattle.tree_lookup.proofs.Working.{works-reads}
 use Rattle.tree_judge.proofs.Reasons.{object-range}
 use Rattle.tree_amend.proofs.Amending.{nothing-settled, aside-settled, note-end}
 use borrow.Author.Needs.{needs}
@@ -8,10 +9,13 @@ object-of-requires : tie.Need-object-of-requires
 object-of-requires c κs = search needs
 
 role-of-requires : tie.Need-role-of-requires
-role-of-requires c κs = (search (object-range), search)
+role-of-requires c κs = (search (works-reads), search (object-range))
+
+same-length : tie.Need-same-length
+same-length c = search needs
 
 returns : tie.Need-returns
-returns c = search (nothing-settled, object-range)
+returns c = search (nothing-settled)
 
 sub-at : tie.Need-sub-at
 sub-at c = search needs
@@ -32,16 +36,16 @@ part-settle-row-start : tie.Need-part-settle-row-start
 part-settle-row-start c = search needs
 
 part-settle-row-end : tie.Need-part-settle-row-end
-part-settle-row-end c = search (note-end, object-range)
+part-settle-row-end c = search (note-end)
 
 settle-row-requires : tie.Need-settle-row-requires
 settle-row-requires c κs = search needs
 
-same-length : tie.Need-same-length
-same-length c = search needs
+same-length-2 : tie.Need-same-length-2
+same-length-2 c = search needs
 
 returns-2 : tie.Need-returns-2
-returns-2 c = search (aside-settled, object-range)
+returns-2 c = search (aside-settled)
 
 pub settle-spec : {M : Type 1} → statement M
 settle-spec =
@@ -49,6 +53,7 @@ settle-spec =
     (tie.spec
     object-of-requires
     role-of-requires
+    same-length
     returns
     sub-at
     mul-at
@@ -58,5 +63,5 @@ settle-spec =
     part-settle-row-start
     part-settle-row-end
     settle-row-requires
-    same-length
+    same-length-2
     returns-2)

@@ -1,10 +1,11 @@
-use Rattle.tree_effect.proofs.Effects.{entry-added, made-nodes, enter-chains, enter-nodes, enter-count, next-row-end, own-low, folder-low}
-use Rattle.model.specs.Record.{labelOf}
-use Rattle.model.specs.Bytes.{part}
-use Rattle.tree_effect.proofs.Registers.{make-register}
+use Rattle.tree_effect.proofs.Effects.{entry-added, next-row-end, own-low, folder-low}
+use native.Mathlib.Omega.{arith}
 use borrow.Author.Needs.{needs}
 use Rattle.tree_effect.proofs.add_entry.Statement.{statement}
 use Rattle.tree_effect.proofs.add_entry.Tie as tie
+
+enter-entry-requires : tie.Need-enter-entry-requires
+enter-entry-requires c κs = (search, search, search, search)
 
 mul-at : tie.Need-mul-at
 mul-at c = search needs
@@ -27,44 +28,8 @@ part-fill-row-end c = search (next-row-end)
 fill-row-requires : tie.Need-fill-row-requires
 fill-row-requires c κs = (search needs, search, search (own-low), search (folder-low))
 
-self-of-requires : tie.Need-self-of-requires
-self-of-requires c κs = search needs
-
-slot-requires : tie.Need-slot-requires
-slot-requires c κs = search needs
-
-add-put : tie.Need-add-put
-add-put c = search needs
-
-put-requires : tie.Need-put-requires
-put-requires c κs = search needs
-
-folder-of-requires : tie.Need-folder-of-requires
-folder-of-requires c κs = search needs
-
-sub-enter : tie.Need-sub-enter
-sub-enter c = search needs
-
-part-enter-start : tie.Need-part-enter-start
-part-enter-start c = search needs
-
-part-enter-end : tie.Need-part-enter-end
-part-enter-end c = search needs
-
-enter-requires : tie.Need-enter-requires
-enter-requires c κs =
-    let p = c .before .before .before .before .before in
-    let s = p .before .before .before .before .before .before .before .before .before .before .before .before .before in
-    let low = p .before .before .before .slot .ensures .1 in (
-      enter-chains _ _ _ _ (s .pre .1) _ _ low _ (p .put .ensures),
-      enter-count _ _ _ _ (s .pre .1) _ _ low _ (p .put .ensures) (s .pre .2) _,
-      enter-nodes _ _ _ _ (s .pre .1) _ _ low _ (p .put .ensures) (s .pre .3),
-      search needs,
-      search needs,
-    )
-
-add-t10 : tie.Need-add-t10
-add-t10 c = search needs
+add-t11 : tie.Need-add-t11
+add-t11 c = search needs
 
 same-length : tie.Need-same-length
 same-length c = search needs
@@ -73,30 +38,7 @@ same-length-2 : tie.Need-same-length-2
 same-length-2 c = search needs
 
 returns : tie.Need-returns
-unfolding labelOf part
-returns c = (search (entry-added), search (made-nodes), search (make-register))
+returns c = (search (entry-added), omega arith, search)
 
 pub add-entry-spec : {M : Type 1} → statement M
-add-entry-spec =
-    tie.close
-    (tie.spec
-    mul-at
-    add-at
-    add-fill-row
-    sub-fill-row
-    part-fill-row-start
-    part-fill-row-end
-    fill-row-requires
-    self-of-requires
-    slot-requires
-    add-put
-    put-requires
-    folder-of-requires
-    sub-enter
-    part-enter-start
-    part-enter-end
-    enter-requires
-    add-t10
-    same-length
-    same-length-2
-    returns)
+add-entry-spec = tie.close (tie.spec enter-entry-requires mul-at add-at add-fill-row sub-fill-row part-fill-row-start part-fill-row-end fill-row-requires add-t11 same-length same-length-2 returns)

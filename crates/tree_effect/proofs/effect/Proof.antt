@@ -1,5 +1,5 @@
 use native.Mathlib.Omega.{arith}
-use Rattle.tree_effect.proofs.Effects.{effect-make, effect-store, effect-remove, effect-rename, effect-settle, effect-move, is-move}
+use Rattle.tree_effect.proofs.Effects.{make-home, move-home, effect-make, effect-store, effect-remove, effect-rename, effect-settle, effect-move, is-move}
 use borrow.Author.Needs.{needs}
 use Rattle.tree_effect.proofs.effect.Statement.{statement}
 use Rattle.tree_effect.proofs.effect.Tie as tie
@@ -9,7 +9,7 @@ shared-slice-read-op : tie.Need-shared-slice-read-op
 shared-slice-read-op c = search needs
 
 add-entry-requires : tie.Need-add-entry-requires
-add-entry-requires c κs = search needs
+add-entry-requires c κs = (search, search, search (make-home), search, search, search, search)
 
 same-length : tie.Need-same-length
 same-length c = search needs
@@ -33,7 +33,7 @@ settle-requires : tie.Need-settle-requires
 settle-requires c κs = search needs
 
 move-entry-requires : tie.Need-move-entry-requires
-move-entry-requires c κs = (search, search, search, search, search (is-move))
+move-entry-requires c κs = (search, search, search (move-home, is-move), search, search (is-move))
 
 same-length-3 : tie.Need-same-length-3
 same-length-3 c = search needs

@@ -1,5 +1,6 @@
-use Rattle.tree_effect.proofs.Effects.{aside-added, role-kept, next-note-end, who-low, marked-low}
+use Rattle.tree_effect.proofs.Effects.{aside-added, name-chains, name-room, role-kept, next-note-end, who-low, marked-low}
 use Rattle.tree_effect.proofs.Registers.{aside-register}
+use native.Mathlib.Omega.{arith}
 use borrow.Author.Needs.{needs}
 use Rattle.tree_effect.proofs.stand_aside.Statement.{statement}
 use Rattle.tree_effect.proofs.stand_aside.Tie as tie
@@ -28,17 +29,14 @@ part-fill-aside-end c = search (next-note-end)
 fill-aside-requires : tie.Need-fill-aside-requires
 fill-aside-requires c κs = (search needs, search (who-low), search (marked-low))
 
-slot-requires : tie.Need-slot-requires
-slot-requires c κs = search needs
+add-name : tie.Need-add-name
+add-name c = search needs
 
-add-put : tie.Need-add-put
-add-put c = search needs
+name-requires : tie.Need-name-requires
+name-requires c κs = (search (name-chains), search (name-room), omega arith)
 
-put-requires : tie.Need-put-requires
-put-requires c κs = search needs
-
-add-t10 : tie.Need-add-t10
-add-t10 c = search needs
+add-t9 : tie.Need-add-t9
+add-t9 c = search needs
 
 same-length : tie.Need-same-length
 same-length c = search needs
@@ -61,10 +59,9 @@ stand-aside-spec =
     part-fill-aside-start
     part-fill-aside-end
     fill-aside-requires
-    slot-requires
-    add-put
-    put-requires
-    add-t10
+    add-name
+    name-requires
+    add-t9
     same-length
     same-length-2
     returns)

@@ -1,4 +1,4 @@
-use Rattle.tree_finish.proofs.Flags.{state-inside, mark-inside, flag-closed, flag-none, mark-range, flag-no-role, flag-aside, flag-end, flag-done}
+use Rattle.tree_finish.proofs.Flags.{flag-reads, state-inside, mark-inside, flag-closed, flag-none, mark-range, flag-no-role, flag-aside, flag-end, flag-done}
 use borrow.Author.Needs.{needs}
 use Rattle.tree_finish.proofs.flag_one.Statement.{statement}
 use Rattle.tree_finish.proofs.flag_one.Tie as tie
@@ -31,7 +31,7 @@ returns-2 : tie.Need-returns-2
 returns-2 c = search (flag-none)
 
 role-of-requires : tie.Need-role-of-requires
-role-of-requires c κs = (search (mark-range), search)
+role-of-requires c κs = (search (flag-reads), search (mark-range))
 
 same-length-2 : tie.Need-same-length-2
 same-length-2 c = search needs

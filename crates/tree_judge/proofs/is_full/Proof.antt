@@ -9,8 +9,8 @@ kind-at-requires c κs = search needs
 returns : tie.Need-returns
 returns c = search (full-no)
 
-made-at-requires : tie.Need-made-at-requires
-made-at-requires c κs = search needs
+add-children : tie.Need-add-children
+add-children c = search needs
 
 children-requires : tie.Need-children-requires
 children-requires c κs = search needs
@@ -20,4 +20,4 @@ returns-2 c = search (full-if)
 
 pub is-full-spec : {M : Type 1} → statement M
 is-full-spec =
-    tie.close (tie.spec kind-at-requires returns made-at-requires children-requires returns-2)
+    tie.close (tie.spec kind-at-requires returns add-children children-requires returns-2)

@@ -1,5 +1,5 @@
 use native.Mathlib.Omega.{arith}
-use Rattle.tree_lookup.proofs.Working.{works-long, works-range}
+use Rattle.tree_lookup.proofs.Working.{works-long}
 use Rattle.tree_judge.proofs.Reasons.{remove-absent, remove-full, remove-unseen, remove-fits}
 use Rattle.tree_judge.proofs.judge_remove.Statement.{statement}
 use Rattle.tree_judge.proofs.judge_remove.Tie as tie
@@ -11,7 +11,7 @@ made-at-requires : tie.Need-made-at-requires
 made-at-requires c κs = (search (works-long), omega arith)
 
 is-full-requires : tie.Need-is-full-requires
-is-full-requires c κs = (search (works-long), search, omega arith, search (works-range))
+is-full-requires c κs = (search (works-long), search, omega arith)
 
 returns-2 : tie.Need-returns-2
 returns-2 c = search (remove-full)

@@ -1,10 +1,11 @@
+use Rattle.tree_lookup.proofs.Working.{works-reads}
 use Rattle.tree_judge.proofs.Reasons.{settle-stands, settle-not}
 use borrow.Author.Needs.{needs}
 use Rattle.tree_judge.proofs.judge_settle.Statement.{statement}
 use Rattle.tree_judge.proofs.judge_settle.Tie as tie
 
 role-of-requires : tie.Need-role-of-requires
-role-of-requires c κs = search needs
+role-of-requires c κs = (search (works-reads), search)
 
 returns : tie.Need-returns
 returns c = search (settle-stands)

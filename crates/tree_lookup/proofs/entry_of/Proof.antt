@@ -1,11 +1,11 @@
-use Rattle.tree_lookup.proofs.Working.{entry-no-role, entry-aside, entry-removed, entry-found, works-long, row-among, row-within}
+use Rattle.tree_lookup.proofs.Working.{entry-no-role, entry-aside, entry-removed, entry-found, works-long, works-reads, row-among, row-within}
 use native.Mathlib.Omega.{arith}
 use borrow.Author.Needs.{needs}
 use Rattle.tree_lookup.proofs.entry_of.Statement.{statement}
 use Rattle.tree_lookup.proofs.entry_of.Tie as tie
 
 role-of-requires : tie.Need-role-of-requires
-role-of-requires c κs = search needs
+role-of-requires c κs = (search (works-reads), search)
 
 returns : tie.Need-returns
 returns c = (search (needs, row-among, entry-no-role), search (entry-no-role))

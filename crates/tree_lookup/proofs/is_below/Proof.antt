@@ -2,7 +2,7 @@ use mathlib.Core.Path.{_≡_}
 use Rattle.model.specs.Replay.{comesTo, isBelow}
 use Rattle.tree_table.specs.Rows.{entriesFrom}
 use Rattle.tree_lookup.proofs.Working.{works-long}
-use Rattle.tree_lookup.proofs.Below.{below-starts, below-ends, below-here, below-root, below-absent, below-goes, slot-in}
+use Rattle.tree_lookup.proofs.Below.{below-starts, below-ends, below-here, below-root, below-absent, below-goes, identity-in}
 use native.Mathlib.Omega.{arith}
 use borrow.Author.Needs.{needs}
 use Rattle.tree_lookup.proofs.is_below.Statement.{statement}
@@ -23,14 +23,14 @@ loop-holds c = search (below-starts)
 returns : tie.Need-returns Inv-loop μ-loop
 returns c = search (below-here)
 
-has-slot-requires : tie.Need-has-slot-requires Inv-loop μ-loop
-has-slot-requires c κs = search needs
+is-identity-requires : tie.Need-is-identity-requires Inv-loop μ-loop
+is-identity-requires c κs = search needs
 
 returns-2 : tie.Need-returns-2 Inv-loop μ-loop
 returns-2 c = search (below-root)
 
 entry-of-requires : tie.Need-entry-of-requires Inv-loop μ-loop
-entry-of-requires c κs = (search, slot-in _ _ (c .before .has-slot .ensures) (c .if2 .left))
+entry-of-requires c κs = (search, identity-in _ _ (c .before .is-identity .ensures) (c .if2 .left))
 
 returns-3 : tie.Need-returns-3 Inv-loop μ-loop
 returns-3 c = search (below-absent)
@@ -59,7 +59,7 @@ is-below-spec =
     add-steps
     loop-holds
     returns
-    has-slot-requires
+    is-identity-requires
     returns-2
     entry-of-requires
     returns-3

@@ -1,4 +1,4 @@
-use Rattle.tree_maps.proofs.Keeping.{up-chains, up-room}
+use Rattle.tree_maps.proofs.Keeping.{counted-chains, counted-room}
 use Rattle.tree_maps.specs.Keys.{entered}
 use native.Mathlib.Omega.{arith}
 use borrow.Author.Needs.{needs}
@@ -12,7 +12,7 @@ count-up-requires : tie.Need-count-up-requires
 count-up-requires c κs = search needs
 
 push-requires : tie.Need-push-requires
-push-requires c κs = (search (up-chains), search (up-room), omega arith, search needs)
+push-requires c κs = (search (counted-chains), search (counted-room), omega arith, search needs)
 
 same-length : tie.Need-same-length
 same-length c = search needs

@@ -1,5 +1,6 @@
 use Rattle.tree_maps.proofs.Keeping.{pop-long, pop-count}
 use Rattle.tree_maps.specs.Keys.{left}
+use native.Mathlib.Omega.{arith}
 use borrow.Author.Needs.{needs}
 use Rattle.tree_maps.proofs.leave.Statement.{statement}
 use Rattle.tree_maps.proofs.leave.Tie as tie
@@ -11,7 +12,7 @@ pop-requires : tie.Need-pop-requires
 pop-requires c κs = search needs
 
 count-down-requires : tie.Need-count-down-requires
-count-down-requires c κs = (search (pop-long), search (pop-count))
+count-down-requires c κs = (search needs, search (pop-long), search (pop-count))
 
 same-length : tie.Need-same-length
 same-length c = search needs
@@ -21,5 +22,4 @@ unfolding left
 returns c = cc
 
 pub leave-spec : {M : Type 1} → statement M
-leave-spec =
-    tie.close (tie.spec hash-requires pop-requires count-down-requires same-length returns)
+leave-spec = tie.close (tie.spec hash-requires pop-requires count-down-requires same-length returns)

@@ -25,6 +25,4 @@ unfolding relabelled
 returns c = cc
 
 pub relabel-spec : {M : Type 1} → statement M
-relabel-spec =
-    tie.close
-    (tie.spec hash-requires hash-requires-2 pop-requires push-requires same-length returns)
+relabel-spec = tie.close (tie.spec hash-requires hash-requires-2 pop-requires push-requires same-length returns)

@@ -1,4 +1,4 @@
-use Rattle.tree_maps.proofs.Keeping.{leave-chains, leave-room, leave-count}
+use Rattle.tree_maps.proofs.Keeping.{leave-chains, leave-long, leave-count, leave-room}
 use Rattle.tree_maps.specs.Keys.{shifted}
 use native.Mathlib.Omega.{arith}
 use borrow.Author.Needs.{needs}
@@ -9,7 +9,7 @@ leave-requires : tie.Need-leave-requires
 leave-requires c κs = search needs
 
 enter-requires : tie.Need-enter-requires
-enter-requires c κs = (search (leave-chains), search (leave-count), search (leave-room), search needs, search needs)
+enter-requires c κs = (search (leave-chains), search (leave-long), search needs, search (leave-count), search (leave-room), search needs, search needs)
 
 same-length : tie.Need-same-length
 same-length c = search needs

@@ -1,4 +1,4 @@
-use Rattle.tree_replay.proofs.Playing.{turn-entries, turn-asides, turn-holds, turn-takes, turn-goes, turn-inside, play-ends, play-starts}
+use Rattle.tree_replay.proofs.Playing.{turn-entries, turn-asides, turn-both, turn-holds, turn-takes, turn-goes, turn-inside, play-ends, play-starts}
 use Prim.Native.Nat.{_+_, _≤_, _-_}
 use mathlib.Core.Path.{_≡_, refl}
 use lib.ListN.{length}
@@ -16,7 +16,7 @@ use Rattle.tree_replay.proofs.replay.Statement.{statement}
 use Rattle.tree_replay.proofs.replay.Tie as tie
 
 abbrev Inv-loop : tie.InvT-loop
-Inv-loop bytes layout n table₀ register₀ size₀ i₀ table register size i = (i ≤ n) × (length table ≡ length table₀) × (length register ≡ length register₀) × (nodesIn register ≤ nodesIn register₀ + i) × Works table register (size .entries) (size .asides) (replayFrom (treeIn table₀ (size₀ .entries) (size₀ .asides)) (listed (laidAt layout bytes) 0 i)) × (register ≡ replayOn (treeIn table₀ (size₀ .entries) (size₀ .asides)) register₀ (listed (laidAt layout bytes) 0 i))
+Inv-loop bytes layout n table₀ register₀ size₀ i₀ table register size i = (i ≤ n) × (length table ≡ length table₀) × (length register ≡ length register₀) × (nodesIn 4097 register ≤ nodesIn 4097 register₀ + i) × Works table register (size .entries) (size .asides) (replayFrom (treeIn table₀ (size₀ .entries) (size₀ .asides)) (listed (laidAt layout bytes) 0 i)) × (register ≡ replayOn (treeIn table₀ (size₀ .entries) (size₀ .asides)) register₀ (listed (laidAt layout bytes) 0 i))
 
 abbrev μ-loop : tie.MeasureT-loop
 μ-loop bytes layout n table₀ register₀ size₀ i₀ table register size i = n - i
@@ -40,7 +40,7 @@ part-step-end : tie.Need-part-step-end Inv-loop μ-loop
 part-step-end c = search (turn-inside)
 
 step-requires : tie.Need-step-requires Inv-loop μ-loop
-step-requires c κs = (search (turn-takes), search (turn-holds), search (turn-entries), search (turn-asides), omega arith)
+step-requires c κs = (search (turn-takes), search (turn-holds), search (turn-entries), search (turn-asides), search (turn-both), omega arith)
 
 add-i : tie.Need-add-i Inv-loop μ-loop
 add-i c = search needs

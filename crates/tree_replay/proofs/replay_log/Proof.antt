@@ -1,12 +1,12 @@
 use Rattle.log_check.proofs.Sound.{log-laid}
-use Rattle.tree_replay.proofs.Sound.{start-holds, start-nodes, few-records, log-room, log-playable, log-replayed}
+use Rattle.tree_replay.proofs.Sound.{start-holds, start-nodes, few-records, log-room, log-both, log-playable, log-replayed}
 use Rattle.tree_replay.proofs.Registers.{log-on}
 use borrow.Author.Needs.{needs}
 use Rattle.tree_replay.proofs.replay_log.Statement.{statement}
 use Rattle.tree_replay.proofs.replay_log.Tie as tie
 
 replay-requires : tie.Need-replay-requires
-replay-requires c κs = (search (log-laid), search (log-playable), search (start-holds), search (log-room), search (log-room), search (start-nodes, few-records))
+replay-requires c κs = (search (log-laid), search (log-playable), search (start-holds), search (log-room), search (log-room), search (log-both), search (start-nodes, few-records))
 
 same-length : tie.Need-same-length
 same-length c = search needs

@@ -1,5 +1,5 @@
 use native.Mathlib.Omega.{arith}
-use Rattle.tree_replay.proofs.Stepping.{step-acts, step-stands, mark-fits}
+use Rattle.tree_replay.proofs.Stepping.{step-placed, step-acts, step-stands, mark-fits}
 use Rattle.tree_replay.proofs.Registers.{acts-on, stands-on}
 use borrow.Author.Needs.{needs}
 use Rattle.tree_replay.proofs.step.Statement.{statement}
@@ -9,7 +9,7 @@ judge-requires : tie.Need-judge-requires
 judge-requires c κs = search needs
 
 effect-requires : tie.Need-effect-requires
-effect-requires c κs = search needs
+effect-requires c κs = (search, search, search (step-placed), search, search, search)
 
 same-length : tie.Need-same-length
 same-length c = search needs
@@ -21,7 +21,7 @@ returns : tie.Need-returns
 returns c = (search (step-acts), omega arith, search (acts-on))
 
 stand-aside-requires : tie.Need-stand-aside-requires
-stand-aside-requires c κs = (search, search, search, search (mark-fits))
+stand-aside-requires c κs = (search, search, search, search, search (mark-fits))
 
 same-length-3 : tie.Need-same-length-3
 same-length-3 c = search needs

@@ -1,9 +1,9 @@
-use Rattle.tree_maps.specs.Keys.{slotOf}
+use Rattle.try_row_report.specs.Listed.{slotOf}
 use mathlib.Core.Path.{refl}
 use native.Mathlib.Omega.{arith}
 use borrow.Author.Needs.{needs}
-use Rattle.tree_maps.proofs.slot.Statement.{statement}
-use Rattle.tree_maps.proofs.slot.Tie as tie
+use Rattle.try_row_report.proofs.slot.Statement.{statement}
+use Rattle.try_row_report.proofs.slot.Tie as tie
 
 cast-result : tie.Need-cast-result
 cast-result c = search needs

@@ -1,0 +1,17 @@
+use Rattle.tree_maps.proofs.Labels.{weigh-low}
+use native.Mathlib.Omega.{arith}
+use borrow.Author.Needs.{needs}
+use Rattle.tree_maps.proofs.weigh.Statement.{statement}
+use Rattle.tree_maps.proofs.weigh.Tie as tie
+
+wide32-requires : tie.Need-wide32-requires
+wide32-requires c κs = search needs
+
+mul-result : tie.Need-mul-result
+mul-result c = omega (arith, weigh-low _ _ _ (c .wide32 .ensures .0) (c .before .pre))
+
+returns : tie.Need-returns
+returns c = (cc, omega (arith, weigh-low _ _ _ (c .wide32 .ensures .0) (c .before .pre)))
+
+pub weigh-spec : {M : Type 1} → statement M
+weigh-spec = tie.close (tie.spec wide32-requires mul-result returns)
