@@ -330,11 +330,6 @@ module _ (b register : List ℕ) (n m : ℕ) (w : Holds b register n m) where
   pub works-wide : length register ≡ registerSize
   works-wide = w .keyed .wide
 
-  pub note-end : (k role : ℕ) → role ≡ roleOf k (treeIn b n m) → 512 < role → 36868 + 12 * (role - 513) + 12 ≤ length b
-  note-end k role e h =
-      let f = w .notes-fit in
-      omega (arith, works-long b register n m (treeIn b n m) w, note-inside b register n m w k role e h)
-
 -- ---- what a move names
 
 pub moved-object : (r : Rec) (k : ℕ) → Asks r → getD r 1 0 ≡ 7 → k ≡ objectOf r → InRange k

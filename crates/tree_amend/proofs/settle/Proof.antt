@@ -1,6 +1,7 @@
-use Rattle.tree_lookup.proofs.Working.{works-reads}
+use Rattle.tree_lookup.proofs.Working.{works-long, works-reads}
 use Rattle.tree_judge.proofs.Reasons.{object-range}
-use Rattle.tree_amend.proofs.Amending.{nothing-settled, aside-settled, note-end}
+use Rattle.tree_amend.proofs.Amending.{nothing-settled, aside-settled}
+use native.Mathlib.Omega.{arith}
 use borrow.Author.Needs.{needs}
 use Rattle.tree_amend.proofs.settle.Statement.{statement}
 use Rattle.tree_amend.proofs.settle.Tie as tie
@@ -36,7 +37,7 @@ part-settle-row-start : tie.Need-part-settle-row-start
 part-settle-row-start c = search needs
 
 part-settle-row-end : tie.Need-part-settle-row-end
-part-settle-row-end c = search (note-end)
+part-settle-row-end c = omega (arith, works-long _ _ _ _ _ (c .before .before .before .before .before .before .before .pre .1))
 
 settle-row-requires : tie.Need-settle-row-requires
 settle-row-requires c κs = search needs
