@@ -24,8 +24,8 @@ static uint8_t log_bytes[SAB_LOG_BYTES], full[SAB_LOG_BYTES], shorter[SAB_LOG_BY
     head[SAB_HEAD_BYTES], asked[SAB_VECTOR_BYTES], held[SAB_VECTOR_BYTES],
     lacks[SAB_LACKS_BYTES], wish[SAB_RECORD_BYTES], row[SAB_FILE_BYTES],
     copy[SAB_LOG_BYTES], report[SAB_REPORT_BYTES], index_bytes[SAB_INDEX_BYTES],
-    range[SAB_RANGE_BYTES];
-static size_t file_length, row_length, index_length;
+    range[SAB_RANGE_BYTES], base[SAB_BASE_BYTES], work[SAB_WORK_BYTES];
+static size_t file_length, row_length, index_length, work_length;
 static uint32_t result;
 
 static void run_compare(void)
@@ -35,58 +35,67 @@ static void run_compare(void)
 
 static void run_vector(void)
 {
-    result = sab_vector(log_bytes, sizeof log_bytes, held, sizeof held);
+    result = sab_vector(log_bytes, sizeof log_bytes, base, sizeof base, held, sizeof held);
 }
 
 static void run_start(void)
 {
-    result = sab_start(log_bytes, sizeof log_bytes, index_bytes, index_length, ARCHIVE, 0);
+    result = sab_start(log_bytes, sizeof log_bytes, base, sizeof base, index_bytes, index_length,
+                       ARCHIVE, 0);
 }
 
 static void run_act(void)
 {
-    result = sab_act(shorter, sizeof shorter, index_bytes, index_length, ARCHIVE, 0, wish,
-                     sizeof wish);
+    result = sab_act(shorter, sizeof shorter, base, sizeof base, index_bytes, index_length,
+                     ARCHIVE, 0, wish, sizeof wish, work, sizeof work);
 }
 
 static void run_hand_out(void)
 {
-    result = sab_hand_out(log_bytes, sizeof log_bytes, ARCHIVE, 0, asked, sizeof asked, block,
-                          sizeof block);
+    result = sab_hand_out(log_bytes, sizeof log_bytes, base, sizeof base, ARCHIVE, 0, asked,
+                          sizeof asked, block, sizeof block);
 }
 
 static void run_take(void)
 {
-    result = sab_take(shorter, sizeof shorter, index_bytes, index_length, ARCHIVE, 0, block,
-                      sizeof block);
+    result = sab_take(shorter, sizeof shorter, base, sizeof base, index_bytes, index_length,
+                      ARCHIVE, 0, block, sizeof block, work, work_length);
 }
 
 static void run_hand_out_row(void)
 {
-    result = sab_hand_out_row(log_bytes, sizeof log_bytes, ARCHIVE, 0, asked, sizeof asked, row,
-                              sizeof row);
+    result = sab_hand_out_row(log_bytes, sizeof log_bytes, base, sizeof base, ARCHIVE, 0, asked,
+                              sizeof asked, row, sizeof row);
 }
 
 static void run_take_row(void)
 {
-    result = sab_take_row(log_bytes, sizeof log_bytes, index_bytes, index_length, ARCHIVE, 0, row,
-                          row_length);
+    result = sab_take_row(log_bytes, sizeof log_bytes, base, sizeof base, index_bytes,
+                          index_length, ARCHIVE, 0, row, row_length, work, work_length);
 }
 
 static void run_try(void)
 {
-    result = sab_try(log_bytes, sizeof log_bytes, ARCHIVE, 0, row, row_length, copy, sizeof copy,
-                     tree, sizeof tree, report, sizeof report);
+    result = sab_try(log_bytes, sizeof log_bytes, base, sizeof base, ARCHIVE, 0, row, row_length,
+                     copy, sizeof copy, tree, sizeof tree, report, sizeof report);
+}
+
+static void run_fold(void)
+{
+    result = sab_fold(log_bytes, sizeof log_bytes, base, sizeof base, ARCHIVE, 0, 255, work,
+                      sizeof work);
 }
 
 static void run_write_file(void)
 {
-    result = sab_write_file(log_bytes, sizeof log_bytes, ARCHIVE, 0, out_file, sizeof out_file);
+    result = sab_write_file(log_bytes, sizeof log_bytes, base, sizeof base, ARCHIVE, 0, out_file,
+                            sizeof out_file);
 }
 
 static void run_read_file(void)
 {
-    result = sab_read_file(log_bytes, sizeof log_bytes, file, file_length, head, sizeof head);
+    result = sab_read_file(log_bytes, sizeof log_bytes, base, sizeof base, file, file_length,
+                           head, sizeof head);
 }
 
 static void run_merge(void)
@@ -97,12 +106,13 @@ static void run_merge(void)
 
 static void run_show(void)
 {
-    result = sab_show(log_bytes, sizeof log_bytes, tree, sizeof tree);
+    result = sab_show(log_bytes, sizeof log_bytes, base, sizeof base, tree, sizeof tree);
 }
 
 static void run_index(void)
 {
-    result = sab_index(log_bytes, sizeof log_bytes, index_bytes, sizeof index_bytes);
+    result = sab_index(log_bytes, sizeof log_bytes, base, sizeof base, index_bytes,
+                       sizeof index_bytes, work, sizeof work);
 }
 
 /* The folder and the label of the row in the middle. */
@@ -157,6 +167,7 @@ static const struct entry ENTRIES[] = {
     {"sab_take_row", run_take_row, 0},
     {"sab_take_row, with an index", run_take_row, 1},
     {"sab_try", run_try, 0},
+    {"sab_fold", run_fold, 0},
     {"sab_index", run_index, 0},
     {"sab_find", run_find, 0},
     {"sab_list", run_list, 0},
@@ -212,25 +223,32 @@ static size_t least(size_t a, size_t b)
 static void prepare(const struct entry *call, size_t records)
 {
     uint32_t r;
+    memset(base, 0, sizeof base);
+    base[0] = 255;
     first(log_bytes, records);
     run_vector();
     memset(asked, 0, sizeof asked);
-    r = sab_write_file(log_bytes, sizeof log_bytes, ARCHIVE, 0, file, sizeof file);
+    r = sab_write_file(log_bytes, sizeof log_bytes, base, sizeof base, ARCHIVE, 0, file,
+                       sizeof file);
     file_length = SAB_BLOCK_BYTES * SAB_COUNT(r);
     if (call->run == run_take) {
         first(shorter, least(records, FULL - 6));
-        sab_vector(shorter, sizeof shorter, asked, sizeof asked);
-        r = sab_hand_out(full, sizeof full, ARCHIVE, 0, asked, sizeof asked, block, sizeof block);
+        sab_vector(shorter, sizeof shorter, base, sizeof base, asked, sizeof asked);
+        r = sab_hand_out(full, sizeof full, base, sizeof base, ARCHIVE, 0, asked, sizeof asked,
+                         block, sizeof block);
     } else if (call->run == run_take_row || call->run == run_try) {
-        sab_vector(log_bytes, sizeof log_bytes, asked, sizeof asked);
-        r = sab_hand_out_row(full, sizeof full, ARCHIVE, 0, asked, sizeof asked, row, sizeof row);
+        sab_vector(log_bytes, sizeof log_bytes, base, sizeof base, asked, sizeof asked);
+        r = sab_hand_out_row(full, sizeof full, base, sizeof base, ARCHIVE, 0, asked,
+                             sizeof asked, row, sizeof row);
         row_length = SAB_BLOCK_BYTES * SAB_COUNT(r);
     } else if (call->run == run_act) {
         first(shorter, least(records, FULL - 1));
     }
     index_length = call->indexed ? sizeof index_bytes : 0;
+    work_length = call->indexed ? sizeof work : 0;
     if (call->run == run_act || call->run == run_take)
-        sab_index(shorter, sizeof shorter, index_bytes, sizeof index_bytes);
+        sab_index(shorter, sizeof shorter, base, sizeof base, index_bytes, sizeof index_bytes,
+                  work, sizeof work);
     else
         run_index();
     if (SAB_NUMBER(r) != SAB_OK)

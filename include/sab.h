@@ -7,7 +7,8 @@
  * pass blocks of 512 bytes. The tree of folders and traces is computed from the
  * records alone, so units that hold the same records show the same tree. A
  * record that does not fit the tree stands aside, with a reason, at every unit
- * alike.
+ * alike. Records that every unit has heard of can be folded: they leave the log,
+ * and what they come to lies in the unit's base, 43,032 bytes beside the log.
  *
  * The functions are proved: every call returns, stays within the lent buffers
  * and does what is said here. docs/FORMAT.md describes records, blocks, files
@@ -23,14 +24,15 @@
  * - A buffer that a call writes overlaps no other of that call. The call does not
  *   notice if it does.
  * - Storage and links. The library keeps nothing between calls: no heap, no
- *   static data. The log is what the last call left in the lent bytes. STORAGE,
- *   below, says how to keep it.
+ *   static data. A unit's state is its log and its base, as the last call left
+ *   the lent bytes. STORAGE, below, says how to keep them.
  * - One unit number for one analyser. A number is not a name tag that can be
  *   passed on, and a laptop that reads a unit's card does not act under that
  *   unit's number: it takes a number of its own, or only reads.
- * - Starting only a new unit. sab_start empties a log without asking. If a
- *   unit that has made records is started, it must get its own records back, by
- *   sab_read_file or sab_take, before it acts.
+ * - Starting only a new unit. sab_start empties a log and a base without asking.
+ *   If a unit that has made records is started, it must get its own records back,
+ *   by sab_read_file or sab_take, before it acts. Where others have folded them
+ *   it cannot take them back (27): see FOLDING.
  *
  * If one of the last two is broken, a number is used twice: two different
  * records have one identity. No call notices that by itself. A vector counts
@@ -50,10 +52,11 @@
  *   against a person who wants to deceive.
  * - The archive number is compared by sab_take and sab_merge and nowhere else.
  *   The log does not hold it.
- * - A log holds 512 records and does not get smaller. A full one refuses new
- *   records (11). A block is taken wholly or not at all, so takes may stop at 507
- *   records or more: two units with 300 of their own stop at 510 each, and each
- *   lacks some of the other's for good.
+ * - A log holds 512 records that are not folded. A full one refuses new records
+ *   (11), until sab_fold has freed places. A block is taken wholly or not at all,
+ *   so takes may stop at 507 records or more: two units with 300 of their own
+ *   stop at 510 each. Fold before logs fill: a full log cannot take the records
+ *   that would tell it what others have heard, and may stay full for good.
  * - A record that fitted when it was made may stand aside after a meeting, and
  *   the other way round. Show the tree again after every accepted take.
  * - Libraries before 4.0.0 tell capitals from small letters in labels. They pass
@@ -62,6 +65,8 @@
  * - Libraries before 5.0.0 do not know the operation 7, move. They refuse a
  *   block or a file with a move, as malformed (7): change all units of an archive
  *   over before the first one moves an entry.
+ * - Libraries before 6.0.0 have no base. They meet units that fold, as long as
+ *   they lack nothing that is folded there; their own logs stay as they are.
  * - Dates are shown and order nothing.
  *
  * Calls may run at the same time on different buffers. Bytes need no alignment.
@@ -81,22 +86,31 @@
  *                     below have a place; only sab_read_file, sab_listing and
  *                     sab_merge give another than 0. For the other numbers it
  *                     says nothing
- *     SAB_COUNT(r)    what a successful call counted: the blocks written
- *                     (sab_write_file, sab_merge, sab_hand_out_row), the records
- *                     read (sab_read_file) or held (sab_vector), the rows of a
- *                     folder (sab_list), the answer of sab_compare; of
- *                     sab_take_row two numbers; of sab_find the number of the
- *                     entry, whose unit is the place; of a refused sab_merge,
- *                     which file is at fault; else 0
+ *     SAB_COUNT(r)    what a successful call counted, in 16 bits: the blocks
+ *                     written (sab_write_file, sab_merge, sab_hand_out_row), the
+ *                     records read (sab_read_file), in the log (sab_vector) or
+ *                     folded (sab_fold, up to 512), the rows of a folder
+ *                     (sab_list), the answer of sab_compare; of sab_take_row two
+ *                     numbers; of sab_find the number of the entry, whose unit
+ *                     is the place; of a refused sab_merge, which file is at
+ *                     fault; else 0
  *
- * A refused call leaves every byte of every lent buffer as it was.
- * (sab_listing, whose output tells of the refusal, says what it leaves.)
+ * A refused call leaves every byte of every lent buffer as it was, but for work
+ * memory. (sab_listing, whose output tells of the refusal, says what it leaves.)
  *
  * Each function checks in the order in which its numbers stand, and returns the
  * first that holds. A buffer that has not the stated length is refused with 1,
  * or with 2 if it is a block, a row or a file given for reading; its bytes are neither
  * read nor written, so with a wrong length, also 0, the pointer may be anything.
- * Only an index may have 0 bytes where a call keeps one: see THE INDEX.
+ * Only an index, and of a take the work memory, may have 0 bytes: see THE INDEX.
+ *
+ * A unit's log is never lent without its base, and both are of one moment: a base
+ * beside a log of another moment is mostly refused with 19, but not always. The
+ * log lent to sab_merge or sab_listing is work space, and has none.
+ *
+ * Work memory, SAB_WORK_BYTES, is lent to the calls that need a tree to answer.
+ * Its bytes mean nothing before the call and nothing after it. It may be the same
+ * for all calls, one after the other.
  *
  *
  * RANK
@@ -115,18 +129,21 @@
  *
  *     uint8_t asked[SAB_VECTOR_BYTES], block[SAB_BLOCK_BYTES];
  *     uint32_t r;
- *     r = sab_vector(my_log, SAB_LOG_BYTES, asked, SAB_VECTOR_BYTES);
+ *     r = sab_vector(my_log, SAB_LOG_BYTES, my_base, SAB_BASE_BYTES,
+ *                    asked, SAB_VECTOR_BYTES);
  *     lower(asked);                       each count above 0, by one: careful
  *     do {
  *         ...send asked to you...
- *         r = sab_hand_out(your_log, SAB_LOG_BYTES, archive, you,
- *                          asked, SAB_VECTOR_BYTES, block, SAB_BLOCK_BYTES);
+ *         r = sab_hand_out(your_log, SAB_LOG_BYTES, your_base, SAB_BASE_BYTES,
+ *                          archive, you, asked, SAB_VECTOR_BYTES,
+ *                          block, SAB_BLOCK_BYTES);
  *         ...send block to me; it may arrive damaged or not at all...
- *         r = sab_take(my_log, SAB_LOG_BYTES, my_index, SAB_INDEX_BYTES,
- *                      archive, me, block, SAB_BLOCK_BYTES);
+ *         r = sab_take(my_log, SAB_LOG_BYTES, my_base, SAB_BASE_BYTES,
+ *                      my_index, SAB_INDEX_BYTES, archive, me,
+ *                      block, SAB_BLOCK_BYTES, work, SAB_WORK_BYTES);
  *         if (SAB_NUMBER(r) != SAB_OK) nothing was taken: ask again or end
  *         advance(asked, block);          by the records that came
- *         ...store my_log...
+ *         ...store my_log and my_base...
  *     } while (block[9] != 0);
  *
  * Byte 9 of a block is its count of records; 0 says that nothing is lacking.
@@ -145,6 +162,11 @@
  * compiles, with both. A vector of zeros in place of the lowered one compares
  * all that both hold, in at most 86 blocks.
  *
+ * A unit that has folded records also sends its base vector, bytes 8 to 23 of its
+ * base, before it is asked. A count below it is raised to it, if I hold as many:
+ * what is folded at one of the two cannot be compared, and a take passes it over.
+ * If I hold fewer, the hand-out is refused with 27.
+ *
  * What a take's number means for the meeting:
  *
  *     2 3 4     damaged on its way: ask again, with the same vector
@@ -154,15 +176,71 @@
  *               a person has found out whose (docs/FIELD-CARD.md)
  *     8 9       of a block that I asked for so: as 10, or as 5. Of another, that
  *               came late or from elsewhere: ask again
- *     11        my log is full: I cannot take more; you may still ask me
- *     19 21 1   my log, or my program, is at fault
+ *     11        my log is full: I cannot take more until I have folded; you may
+ *               still ask me
+ *     26        a unit that is not in my list: fold with a list that has it
+ *     27        of a take: the record had not seen what is folded here, and never
+ *               comes in; its unit was not in my list when I folded, or has lost
+ *               its log. Of a hand-out: I lack what you have folded: ask a unit
+ *               that has not
+ *     19 21 1   my log or base, or my program, is at fault
+ *
+ *
+ * FOLDING
+ *
+ * A log has 512 places. sab_fold frees those of the records that every unit of
+ * the archive is known to have heard of. The base keeps what they come to: their
+ * tree, those of them that stand aside, and how many of each unit they were, the
+ * base vector. The tree shown, the vector, the index and all later answers are as
+ * they would be without, but for these:
+ *
+ * - The limit of 512 counts records that are not folded.
+ * - A hand-out to a vector that lacks folded records is refused (27).
+ * - A file in the form SAB1 cannot be written (29).
+ * - A folded record that comes again is passed over, whatever its bytes: that its
+ *   number was used twice is not noticed here any more.
+ * - A new record that has not seen all that is folded is refused (27).
+ *
+ * Units that differ in base or list compare by vector and by the tree shown, no
+ * longer by the bytes of their logs.
+ *
+ * Who folds lists the units of the archive, in one byte: bit u for unit u. A list
+ * has the own unit and every unit with a record, folded or not (26). After
+ * sab_start and sab_read_file all eight are listed. What a listed unit has heard
+ * is told by its last record in the log: what that has seen, with the record
+ * itself counted; of a unit that has none there, nothing above the base. So a
+ * listed unit that has never made a record, or none since the last fold, holds
+ * all folding back. A list without such a unit is at your risk: if it makes a
+ * record later, that is refused here, with 26, and once it is listed, with 27,
+ * unless it has seen all that is folded.
+ *
+ * Two premises, for who wants meetings that never end with 26 or 27: every list
+ * names each unit that ever makes a record, and no unit that folds is started
+ * again. A unit that never makes a record, or that was started again and never
+ * folds, may be left behind the base of another; it then takes from a unit that
+ * has not folded so far.
+ *
+ * List and base lie in one lent buffer, 43,032 bytes:
+ *
+ *   0     the list; 1 zero
+ *   2-3   how many entries, 4-5 how many asides, each at most 512; 6-7 zero
+ *   8-23  the base vector
+ *   24 + 72 i      entry i, a row as of the tree table, byte 1 zero
+ *   36888 + 12 j   aside j, a row as of the tree table
+ *   Rows not used are zero. After a start the first byte is 255 and all others
+ *   are zero; who lends a fresh buffer without sab_start sets it so.
+ *
+ * A base that breaks this layout is refused with 19; so is one that names an
+ * identity above its vector, holds an identity twice, or a label twice in a
+ * folder, or has an entry that does not reach the root; and a log or base that
+ * counts a unit which is not listed.
  *
  *
  * THE INDEX
  *
- * An index lists the entries of a log's tree by folder, then by label, so that a
+ * An index lists the entries of a unit's tree by folder, then by label, so that a
  * label is found in a big folder without a look at all entries. It is lent memory
- * like the log, 20,484 bytes:
+ * like the log, 40,964 bytes:
  *
  *   0-1  how many rows, one for each entry of the tree; 2-3  zero
  *   4 + 40 i       row i
@@ -177,17 +255,19 @@
  * same folder and label, in any case. A row refers to no place in a log or in a
  * tree, and has the label as it was written.
  *
- * Who keeps one lends it to every call that changes the log: sab_start, sab_act,
+ * Who keeps one lends it to every call that changes the tree: sab_start, sab_act,
  * sab_take, sab_take_row. If it was right before, it is right after, whether the
- * call is refused or not: the same bytes as sab_index would make of the log. An
- * act puts its one change into it; a take makes it afresh, a row once. Who keeps
- * none lends no bytes, of length 0, and any pointer, also NULL. To these calls
- * every other length is refused with 1, before all else.
+ * call is refused or not: the same bytes as sab_index would make of log and base.
+ * An act puts its one change into it; a take makes it afresh, a row once, and
+ * needs work memory for that. Who keeps none lends no bytes, of length 0, and any
+ * pointer, also NULL; to a take then no work memory either. To these calls every
+ * other length, and to a take one of the two without the other, is refused with
+ * 1, before all else. sab_fold leaves the tree as it was, and with it the index.
  *
  * After sab_read_file or sab_merge, or when a log was changed by a call that was
  * lent no index, sab_index makes it afresh. It is not part of a file and need not
- * be stored. sab_hand_out, sab_hand_out_row, sab_try, sab_write_file, sab_show and
- * sab_vector change no log and need none.
+ * be stored. sab_fold, sab_hand_out, sab_hand_out_row, sab_try, sab_write_file,
+ * sab_show and sab_vector change no tree and need none.
  *
  * sab_find and sab_list need the index alone. They end in any bytes, with the
  * answers that docs/FORMAT.md defines; of an index that is not the log's these
@@ -201,6 +281,10 @@
  * whole. The log has none of these; a date or a mark that changed in it is not
  * noticed. (A log that is stored all the same is handed to the next call as it
  * was; a torn one is mostly refused with 19, but not always.)
+ *
+ * Once records are folded there is no such file (29). Then store log and base
+ * together, in one piece, with archive, unit and a sum of your own; never one of
+ * them apart from the other.
  *
  * - Never write over the only copy. Write a second file, read it back with
  *   sab_read_file, and only then give up the first. After a power cut, read both
@@ -227,23 +311,26 @@ extern "C" {
 
 /* ---- The version of this header and of its calls ---- */
 
-#define SAB_VERSION_MAJOR 5
+#define SAB_VERSION_MAJOR 6
 #define SAB_VERSION_MINOR 0
-#define SAB_VERSION_PATCH 1
-#define SAB_VERSION "5.0.1"
+#define SAB_VERSION_PATCH 0
+#define SAB_VERSION "6.0.0"
 
 /* ---- Lengths in bytes ---- */
 
 #define SAB_RECORD_BYTES 80      /* a record, and a wish */
 #define SAB_LOG_BYTES 40960      /* a log: 512 places of 80 */
+#define SAB_BASE_BYTES 43032     /* list and base: 24 bytes, 512 rows of 72, 512
+                                    of 12 */
 #define SAB_BLOCK_BYTES 512      /* a block: up to six records */
 #define SAB_FILE_BYTES 44032     /* lent for writing a file: 86 blocks */
-#define SAB_TREE_BYTES 43012     /* the tree table */
-#define SAB_INDEX_BYTES 20484    /* an index: 512 rows of 40 behind 4 bytes */
+#define SAB_TREE_BYTES 86020     /* the tree table */
+#define SAB_WORK_BYTES 86020     /* work memory */
+#define SAB_INDEX_BYTES 40964    /* an index: 1,024 rows of 40 behind 4 bytes */
 #define SAB_VECTOR_BYTES 16      /* a vector: eight 16-bit counts, unit 0 first */
 #define SAB_LACKS_BYTES 8        /* how far two vectors are apart: two numbers */
 #define SAB_HEAD_BYTES 24        /* what a file says of itself */
-#define SAB_REPORT_BYTES 2068    /* the report of a row that is tried */
+#define SAB_REPORT_BYTES 4116    /* the report of a row that is tried */
 #define SAB_LISTING_BYTES 76800  /* lent for a listing; none is longer */
 #define SAB_LENGTH_BYTES 4       /* the length of a listing */
 #define SAB_LABEL_BYTES 32       /* a label with the zeros behind it */
@@ -279,7 +366,7 @@ extern "C" {
                                    seen a record, but not all that one saw */
 #define SAB_OTHER_BYTES 10u   /* P a record is held already, with other bytes: a
                                    number was used twice */
-#define SAB_FULL_LOG 11u      /* P a 513th record */
+#define SAB_FULL_LOG 11u      /* P a 513th record that is not folded */
 #define SAB_NO_OBJECT 12u     /*   the object is not in the tree */
 #define SAB_NO_FOLDER 13u     /*   the folder is not in the tree */
 #define SAB_WRONG_KIND 14u    /*   a trace used as a folder, or a store on a
@@ -291,7 +378,8 @@ extern "C" {
                                    was changed by a record that its maker had
                                    not seen. No call returns it */
 #define SAB_NOT_ASIDE 18u     /*   a record to settle does not stand aside */
-#define SAB_UNSOUND_LOG 19u   /*   the lent log is not sound: torn, or no log */
+#define SAB_UNSOUND_LOG 19u   /*   the lent log, list or base is not sound: torn,
+                                   or not of one state */
 #define SAB_BAD_FILE 20u      /* P a file's blocks disagree, its ranks do not
                                    rise, or its vector is not its counts */
 #define SAB_BAD_UNIT 21u      /*   the call's own unit is above 7 */
@@ -300,6 +388,16 @@ extern "C" {
 #define SAB_INTO_ITSELF 25u   /* P a move would put a folder into itself or below
                                    itself; the place is 0. Also a reason for
                                    standing aside */
+#define SAB_UNLISTED 26u      /* P a list lacks the own unit or one that has a
+                                   record, or a record or an act is of a unit
+                                   that is not listed; the place is 0 */
+#define SAB_BELOW_BASE 27u    /* P a new record has not seen all that is folded,
+                                   or a vector asked for lacks some of it; the
+                                   place is 0 */
+#define SAB_LAST_NUMBER 28u   /* P the own unit has used its last number, 65,535;
+                                   the place is 0 */
+#define SAB_FOLDED 29u        /* P records are folded: a file of the form SAB1
+                                   cannot hold them; the place is 0 */
 
 /* ---- Operations of a record, byte 1 ---- */
 
@@ -346,36 +444,43 @@ uint32_t sab_compare(const uint8_t *first, size_t first_len,
                      const uint8_t *second, size_t second_len, uint8_t *lacks,
                      size_t lacks_len);
 
-/* Gives the vector of a log: how many records of each unit it holds.
+/* Gives the held vector: how many records of each unit a unit holds, folded ones
+ * with them.
  *
  * log      40,960 bytes, only read
+ * base     43,032 bytes, only read
  * vector   16 bytes; on 0 every byte is written: eight counts, unit 0 first
  *
- * Returns 0, and SAB_COUNT is how many records the log holds, 0 to 512; 1 log or
- * vector not of its length; 19 log not sound.
+ * Returns 0, and SAB_COUNT is how many records the log holds, without folded
+ * ones, 0 to 512; 1 log, base or vector not of its length; 19 log or base not
+ * sound.
  */
-uint32_t sab_vector(const uint8_t *log, size_t log_len, uint8_t *vector,
-                    size_t vector_len);
+uint32_t sab_vector(const uint8_t *log, size_t log_len, const uint8_t *base,
+                    size_t base_len, uint8_t *vector, size_t vector_len);
 
-/* Starts a unit: makes its log all zeros, whatever it held. See the caveat.
+/* Starts a unit: makes its log all zeros and its base empty, with all eight units
+ * listed, whatever they held. See the caveat.
  *
  * log       40,960 bytes; on 0 every byte is zero
- * index     20,484 bytes, or none; on 0 every byte is zero: the index of no entry
+ * base      43,032 bytes; on 0 the first is 255 and every other zero
+ * index     40,964 bytes, or none; on 0 every byte is zero: the index of no entry
  * archive   any number; decides nothing here
  * unit      the own unit
  *
- * Returns 0; 1 index not of 0 or 20,484 bytes, log not of 40,960; 21 unit above
- * 7.
+ * Returns 0; 1 index not of 0 or 40,964 bytes, log not of 40,960 or base not of
+ * 43,032; 21 unit above 7.
  */
-uint32_t sab_start(uint8_t *log, size_t log_len, uint8_t *index,
-                   size_t index_len, uint32_t archive, uint32_t unit);
+uint32_t sab_start(uint8_t *log, size_t log_len, uint8_t *base,
+                   size_t base_len, uint8_t *index, size_t index_len,
+                   uint32_t archive, uint32_t unit);
 
 /* Makes a record of the own unit, if it fits the tree.
  *
  * log       40,960 bytes; on 0 the record stands behind those held, with the
  *           unit's next number and the held vector as what it has seen; the
  *           other bytes are as they were
- * index     20,484 bytes, or none; on 0 a make puts its entry in, a remove takes
+ * base      43,032 bytes, only read
+ * index     40,964 bytes, or none; on 0 a make puts its entry in, a remove takes
  *           it out, a rename or a move puts it elsewhere; a store and a settle
  *           change nothing
  * archive   any number; decides nothing here
@@ -392,15 +497,19 @@ uint32_t sab_start(uint8_t *log, size_t log_len, uint8_t *index,
  *                or last, then zeros; a new one without a stroke (2F): see 24;
  *             64-79 mark of the trace file, any bytes;
  *           fields that the operation does not use are zero
+ * work      86,020 bytes, work memory
  *
  * Returns 0;
- *    1 index not of 0 or 20,484, log not of 40,960 or wish not of 80 bytes;
+ *    1 index not of 0 or 40,964, log not of 40,960, base not of 43,032, wish not
+ *      of 80 or work not of 86,020 bytes;
  *   21 unit above 7;
- *   19 log not sound;
+ *   19 log or base not sound;
+ *   26 the own unit is not listed;
  *    7 wish of another unit, with number or seen, or malformed; an identity that
  *      this unit has not seen is malformed too;
  *   24 make, rename, move: well formed, but the label has a stroke (2F). Records
  *      that hold one, old ones of this unit too, are taken, read and shown;
+ *   28 the unit has made 65,535 records;
  *   11 the log is full;
  *   12 store, remove, rename, move: the object is not in the tree;
  *   13 make, move: the folder is not in the tree;
@@ -418,62 +527,74 @@ uint32_t sab_start(uint8_t *log, size_t log_len, uint8_t *index,
  * root, going from folder to folder, in fewer steps than there are entries, the
  * root included.
  */
-uint32_t sab_act(uint8_t *log, size_t log_len, uint8_t *index, size_t index_len,
+uint32_t sab_act(uint8_t *log, size_t log_len, const uint8_t *base,
+                 size_t base_len, uint8_t *index, size_t index_len,
                  uint32_t archive, uint32_t unit, const uint8_t *wish,
-                 size_t wish_len);
+                 size_t wish_len, uint8_t *work, size_t work_len);
 
 /* Hands out one block: the first six or fewer records, in rank order, that the
  * asked vector lacks.
  *
  * log       40,960 bytes, only read
+ * base      43,032 bytes, only read
  * archive   goes into the block
  * unit      the own unit; goes into the block
  * asked     16 bytes, only read: the vector of the unit that asks; any counts
  * block     512 bytes; on 0 every byte is written. Its count, byte 9, is 0 if
- *           nothing is lacking; its vector, bytes 12 to 27, is that of this log
+ *           nothing is lacking; its vector, bytes 12 to 27, is the held vector
  *
  * For k records lacking, k above 0, k divided by 6 and rounded up hand-outs and
  * takes pass all.
  *
- * Returns 0; 1 log, asked or block not of its length; 21 unit above 7; 19 log
- * not sound.
+ * Returns 0; 1 log, base, asked or block not of its length; 21 unit above 7; 19
+ * log or base not sound; 27 asked has a count below that of the base vector.
  */
-uint32_t sab_hand_out(const uint8_t *log, size_t log_len, uint32_t archive,
-                      uint32_t unit, const uint8_t *asked, size_t asked_len,
-                      uint8_t *block, size_t block_len);
+uint32_t sab_hand_out(const uint8_t *log, size_t log_len, const uint8_t *base,
+                      size_t base_len, uint32_t archive, uint32_t unit,
+                      const uint8_t *asked, size_t asked_len, uint8_t *block,
+                      size_t block_len);
 
 /* Takes a block wholly or not at all: its new records are laid into the log by
  * rank. Records that are held already must be equal and change nothing, so a
- * block may come twice. The block's place and vector are not judged.
+ * block may come twice. Folded records are passed over and not compared. The
+ * block's place and vector are not judged.
  *
  * log       40,960 bytes; on 0 it holds the records held before and the block's
- * index     20,484 bytes, or none; on 0 that of the log, made afresh
+ * base      43,032 bytes, only read
+ * index     40,964 bytes, or none; on 0 that of log and base, made afresh
  * archive   the archive that the block must have
  * unit      the own unit
  * block     512 bytes, only read
+ * work      86,020 bytes, work memory; none if no index is lent
  *
  * Returns 0;
- *    1 index not of 0 or 20,484 bytes, log not of 40,960;
+ *    1 index and work not of 40,964 and 86,020 bytes, nor both of 0; log not of
+ *      40,960 or base not of 43,032;
  *   21 unit above 7;
- *   19 log not sound;
+ *   19 log or base not sound;
  *    2 block not of 512 bytes; 3 letters; 4 a sum; 5 header; 6 archive;
  *   then for its records one by one
  *    7 malformed;
+ *   26 of a unit that is not listed;
+ *   then, unless it is folded,
  *   10 held with other bytes (earlier records of the block count as held);
  *    8 not next, or has seen what is not held;
+ *   27 has not seen all that is folded;
  *    9 seen not closed;
  *   11 a 513th record.
  * The place is 0.
  */
-uint32_t sab_take(uint8_t *log, size_t log_len, uint8_t *index,
-                  size_t index_len, uint32_t archive, uint32_t unit,
-                  const uint8_t *block, size_t block_len);
+uint32_t sab_take(uint8_t *log, size_t log_len, const uint8_t *base,
+                  size_t base_len, uint8_t *index, size_t index_len,
+                  uint32_t archive, uint32_t unit, const uint8_t *block,
+                  size_t block_len, uint8_t *work, size_t work_len);
 
 /* Hands out a row: all blocks of what the asked vector lacks, each as
  * sab_hand_out would give it once those before are taken. One check of the log
  * for all of them.
  *
  * log       40,960 bytes, only read
+ * base      43,032 bytes, only read
  * archive   goes into the blocks
  * unit      the own unit; goes into the blocks
  * asked     16 bytes, only read: the vector of the unit that asks; any counts
@@ -481,83 +602,123 @@ uint32_t sab_take(uint8_t *log, size_t log_len, uint8_t *index,
  *           which are the row, then zeros, which are not part of it
  *
  * Returns 0, and SAB_COUNT is the count of blocks, 0 to 86, 0 if nothing is
- * lacking; 1 log, asked or row not of its length; 21 unit above 7; 19 log not
- * sound.
+ * lacking; 1 log, base, asked or row not of its length; 21 unit above 7; 19 log or
+ * base not sound; 27 asked has a count below that of the base vector.
  */
-uint32_t sab_hand_out_row(const uint8_t *log, size_t log_len, uint32_t archive,
-                          uint32_t unit, const uint8_t *asked,
-                          size_t asked_len, uint8_t *row, size_t row_len);
+uint32_t sab_hand_out_row(const uint8_t *log, size_t log_len,
+                          const uint8_t *base, size_t base_len,
+                          uint32_t archive, uint32_t unit,
+                          const uint8_t *asked, size_t asked_len, uint8_t *row,
+                          size_t row_len);
 
 /* Takes the blocks of a row in turn, each as sab_take does, up to the first that
  * is refused. One check of the log for all of them.
  *
  * log       40,960 bytes; on 0 it holds the records held before and those of the
  *           blocks taken
- * index     20,484 bytes, or none; on 0 that of the log, made afresh if a block
- *           was taken, also where a later one stops the row; else as it was
+ * base      43,032 bytes, only read
+ * index     40,964 bytes, or none; on 0 that of log and base, made afresh if a
+ *           block was taken, also where a later one stops the row; else as it was
  * archive   the archive that the blocks must have
  * unit      the own unit
  * row       0 to 86 blocks of 512 bytes, only read
+ * work      86,020 bytes, work memory; none if no index is lent
  *
  * Returns 0, and SAB_TAKEN is how many blocks were taken, SAB_STOPPED the number
- * that sab_take would answer for the block behind them, 3 to 11, or 0 if all were
- * taken; 1 index not of 0 or 20,484 bytes, log not of 40,960; 21 unit above 7; 2
- * row not of 0 to 86 whole blocks; 19 log not sound.
+ * that sab_take would answer for the block behind them, 3 to 11, 26 or 27, or 0 if
+ * all were taken; 1 index and work not of 40,964 and 86,020 bytes, nor both of 0,
+ * log not of 40,960 or base not of 43,032; 21 unit above 7; 2 row not of 0 to 86
+ * whole blocks; 19 log or base not sound.
  */
-uint32_t sab_take_row(uint8_t *log, size_t log_len, uint8_t *index,
-                      size_t index_len, uint32_t archive, uint32_t unit,
-                      const uint8_t *row, size_t row_len);
+uint32_t sab_take_row(uint8_t *log, size_t log_len, const uint8_t *base,
+                      size_t base_len, uint8_t *index, size_t index_len,
+                      uint32_t archive, uint32_t unit, const uint8_t *row,
+                      size_t row_len, uint8_t *work, size_t work_len);
 
 /* Tells what sab_take_row would do, on a copy of the log.
  *
  * log       40,960 bytes, only read
+ * base      43,032 bytes, only read; it is that of the copy too
  * archive   the archive that the blocks must have
  * unit      the own unit
  * row       0 to 86 blocks of 512 bytes, only read
  * copy      40,960 bytes; on 0 the log as it would be
- * tree      43,012 bytes; on 0 the tree table of the copy
- * report    2,068 bytes; on 0 every byte is written:
+ * tree      86,020 bytes; on 0 the tree table of the copy
+ * report    4,116 bytes; on 0 every byte is written:
  *             0 how many blocks would be taken;
- *             1 the number that stops the row, 3 to 11, or 0;
+ *             1 the number that stops the row, 3 to 11, 26 or 27, or 0;
  *             2-3 how many entries become disputed;
- *             4-19 the vector of the copy;
- *             20-2067 the identities of these entries, 4 bytes each: unit, zero,
+ *             4-19 the held vector of the copy;
+ *             20-4115 the identities of these entries, 4 bytes each: unit, zero,
  *                number; by rank of their makers, then zeros.
  *           An entry becomes disputed if it is disputed in the tree of the copy
  *           and was no disputed entry of the log's tree.
  *
- * Returns 0; 1 log, copy, tree or report not of its length; 21 unit above 7; 2
- * row not of 0 to 86 whole blocks; 19 log not sound.
+ * Returns 0; 1 log, base, copy, tree or report not of its length; 21 unit above 7;
+ * 2 row not of 0 to 86 whole blocks; 19 log or base not sound.
  */
-uint32_t sab_try(const uint8_t *log, size_t log_len, uint32_t archive,
-                 uint32_t unit, const uint8_t *row, size_t row_len,
-                 uint8_t *copy, size_t copy_len, uint8_t *tree, size_t tree_len,
+uint32_t sab_try(const uint8_t *log, size_t log_len, const uint8_t *base,
+                 size_t base_len, uint32_t archive, uint32_t unit,
+                 const uint8_t *row, size_t row_len, uint8_t *copy,
+                 size_t copy_len, uint8_t *tree, size_t tree_len,
                  uint8_t *report, size_t report_len);
 
-/* Writes the whole log as a file.
+/* Lists the units of the archive, and folds: the longest run of records, from the
+ * lowest rank on, that every listed unit has heard of goes from the log into the
+ * base. See FOLDING.
+ *
+ * log       40,960 bytes; on 0 it holds the records that are not folded, by rank,
+ *           then zeros
+ * base      43,032 bytes; on 0 it has the list given, also where no record was
+ *           folded, and the tree, the asides and the vector of all records folded
+ *           so far
+ * archive   any number; decides nothing here
+ * unit      the own unit
+ * list      the listed units, bit u for unit u
+ * work      86,020 bytes, work memory
+ *
+ * A base holds 512 entries and 512 asides. Of the runs whose base has room the
+ * longest is folded. Folding again with the same list at once folds nothing more.
+ *
+ * Returns 0, and SAB_COUNT is how many records were folded, 0 to 512; 1 log, base
+ * or work not of its length; 21 unit above 7; 19 log or base not sound, judged
+ * with the list stored; 26 the list lacks the own unit or a unit that has a record,
+ * folded or not, or it is above 255.
+ */
+uint32_t sab_fold(uint8_t *log, size_t log_len, uint8_t *base, size_t base_len,
+                  uint32_t archive, uint32_t unit, uint32_t list,
+                  uint8_t *work, size_t work_len);
+
+/* Writes the whole log as a file, if no records are folded. The list is not
+ * written.
  *
  * log       40,960 bytes, only read
+ * base      43,032 bytes, only read
  * archive   goes into the file
  * unit      the own unit; goes into the file
  * file      44,032 bytes; on 0 every byte is written: SAB_COUNT blocks of 512,
  *           which are the file, then zeros, which are not part of it
  *
- * Returns 0, and SAB_COUNT is the count of blocks, 1 to 86; 1 log or file not of
- * its length; 21 unit above 7; 19 log not sound.
+ * Returns 0, and SAB_COUNT is the count of blocks, 1 to 86; 1 log, base or file
+ * not of its length; 21 unit above 7; 19 log or base not sound; 29 records are
+ * folded.
  */
-uint32_t sab_write_file(const uint8_t *log, size_t log_len, uint32_t archive,
+uint32_t sab_write_file(const uint8_t *log, size_t log_len,
+                        const uint8_t *base, size_t base_len, uint32_t archive,
                         uint32_t unit, uint8_t *file, size_t file_len);
 
 /* Reads a file, of any archive, into a lent log.
  *
  * log    40,960 bytes, whose old bytes are not judged; on 0 it holds the file's
  *        records
+ * base   43,032 bytes, whose old bytes are not judged; on 0 it is empty, with all
+ *        eight units listed
  * file   1 to 86 blocks, 512 to 44,032 bytes, only read
  * head   24 bytes; on 0 what the file says of itself:
  *          0-3 archive; 4 unit; 5 zero; 6-7 count of records; 8-23 vector
  *
  * Returns 0, and SAB_COUNT is the count of records, 0 to 512;
- *    1 log or head not of its length;
+ *    1 log, base or head not of its length;
  *    2 file not of 1 to 86 whole blocks;
  *   then block by block 3 letters, 4 a sum, 5 header, 20 place, unit, archive or
  *   vector unlike the first block's, or a short block that is not the last;
@@ -566,8 +727,9 @@ uint32_t sab_write_file(const uint8_t *log, size_t log_len, uint32_t archive,
  *   last 20, at the last block, a vector that is not the record counts.
  * The place says which block.
  */
-uint32_t sab_read_file(uint8_t *log, size_t log_len, const uint8_t *file,
-                       size_t file_len, uint8_t *head, size_t head_len);
+uint32_t sab_read_file(uint8_t *log, size_t log_len, uint8_t *base,
+                       size_t base_len, const uint8_t *file, size_t file_len,
+                       uint8_t *head, size_t head_len);
 
 /* Makes one file of all records of two: the last file of an analyser that is
  * retired and its successor's, say. Both files must be good and of one archive.
@@ -602,12 +764,15 @@ uint32_t sab_merge(const uint8_t *first, size_t first_len,
                    const uint8_t *second, size_t second_len, uint8_t *log,
                    size_t log_len, uint8_t *file, size_t file_len);
 
-/* Shows the tree of a log: the replay of its records in rank order.
+/* Shows the tree: the replay of the log's records in rank order, behind what the
+ * folded ones left in the base.
  *
  * log    40,960 bytes, only read
- * tree   43,012 bytes; on 0 every byte is written:
+ * base   43,032 bytes, only read
+ * tree   86,020 bytes; on 0 every byte is written:
  *
- *   0-1  how many entries; 2-3  how many asides; together at most 512
+ *   0-1  how many entries; 2-3  how many asides; each at most 1,024, and
+ *        together at most 512 more than the rows of the base
  *   4 + 72 i       entry i, by rank of the record that made it
  *       0      kind: 1 folder, 2 trace
  *       1      1 if disputed (an open aside marks it), else 0
@@ -620,7 +785,7 @@ uint32_t sab_merge(const uint8_t *first, size_t first_len,
  *       20-23  date of the last contents record: year (2), month, day
  *       24-55  label as it was written, then zeros
  *       56-71  mark of the last contents record; of a folder zeros
- *   36868 + 12 j   aside j, by rank
+ *   73732 + 12 j   aside j, by rank
  *       0-3    identity
  *       4      reason: 12 to 18 or 25
  *       5      1 open, 2 settled
@@ -628,10 +793,10 @@ uint32_t sab_merge(const uint8_t *first, size_t first_len,
  *       8-11   the marked entry, even if removed since; all zero for none
  *   An identity is four bytes: unit, zero, number (2). Rows not used are zero.
  *
- * Returns 0; 1 log or tree not of its length; 19 log not sound.
+ * Returns 0; 1 log, base or tree not of its length; 19 log or base not sound.
  */
 #define SAB_TREE_ENTRIES 4     /* where the rows of entries begin */
-#define SAB_TREE_ASIDES 36868  /* where the rows of asides begin */
+#define SAB_TREE_ASIDES 73732  /* where the rows of asides begin */
 #define SAB_ENTRY_BYTES 72     /* a row of an entry */
 #define SAB_ASIDE_BYTES 12     /* a row of an aside */
 #define SAB_FOLDER 1u          /* kinds of entries */
@@ -639,26 +804,30 @@ uint32_t sab_merge(const uint8_t *first, size_t first_len,
 #define SAB_OPEN 1u            /* states of asides */
 #define SAB_SETTLED 2u
 
-uint32_t sab_show(const uint8_t *log, size_t log_len, uint8_t *tree,
-                  size_t tree_len);
+uint32_t sab_show(const uint8_t *log, size_t log_len, const uint8_t *base,
+                  size_t base_len, uint8_t *tree, size_t tree_len);
 
-/* Makes the index of a log afresh.
+/* Makes the index of a log and its base afresh.
  *
  * log     40,960 bytes, only read
- * index   20,484 bytes, whose old bytes are not judged; on 0 every byte is
+ * base    43,032 bytes, only read
+ * index   40,964 bytes, whose old bytes are not judged; on 0 every byte is
  *         written
+ * work    86,020 bytes, work memory
  *
- * Returns 0; 1 log or index not of its length; 19 log not sound.
+ * Returns 0; 1 log, base, index or work not of its length; 19 log or base not
+ * sound.
  */
 #define SAB_INDEX_ROWS 4        /* where the rows of an index begin */
 #define SAB_INDEX_ROW_BYTES 40  /* a row of an index */
 
-uint32_t sab_index(const uint8_t *log, size_t log_len, uint8_t *index,
-                   size_t index_len);
+uint32_t sab_index(const uint8_t *log, size_t log_len, const uint8_t *base,
+                   size_t base_len, uint8_t *index, size_t index_len,
+                   uint8_t *work, size_t work_len);
 
 /* Looks up a label in a folder.
  *
- * index    20,484 bytes of any kind, only read
+ * index    40,964 bytes of any kind, only read
  * unit     of the folder; the root is 0
  * number   of the folder; the root is 0. Of a trace, and of what is not in the
  *          tree, no entry is found; nor of a unit above 7 or a number above
@@ -675,12 +844,12 @@ uint32_t sab_find(const uint8_t *index, size_t index_len, uint32_t unit,
 
 /* Lists a folder: its entries are rows of the index one behind another, by label.
  *
- * index    20,484 bytes of any kind, only read
+ * index    40,964 bytes of any kind, only read
  * unit     of the folder, as of sab_find; of a trace, and of what is not in the
  *          tree, no row is listed
  * number   of the folder
- * range    4 bytes; on 0 every byte is written: 0-1 the first row, 0 to 512; 2-3
- *          how many rows. Together they are at most 512
+ * range    4 bytes; on 0 every byte is written: 0-1 the first row, 0 to 1,024;
+ *          2-3 how many rows. Together they are at most 1,024
  *
  * Row i begins at byte SAB_INDEX_ROWS + SAB_INDEX_ROW_BYTES * i of the index.
  *
@@ -696,7 +865,7 @@ uint32_t sab_list(const uint8_t *index, size_t index_len, uint32_t unit,
  *
  * file     the file's bytes, only read
  * log      40,960 bytes, work space; on 0 it holds the file's records
- * tree     43,012 bytes, work space; on 0 it is the tree of that log
+ * tree     86,020 bytes, work space; on 0 it is the tree of that log
  * out      76,800 bytes; on every number but 1 the listing stands at its
  *          beginning, and the bytes behind it are as they were
  * length   4 bytes; on every number but 1 the length of the listing

@@ -1,6 +1,6 @@
 //! A tree of 512 entries: a folder of 400, and others.
 
-use plain::{INDEX, LOG, TREE};
+use plain::{EMPTY_BASE, INDEX, LOG, TREE};
 use workload::Chance;
 
 /// An entry by its folder and label.
@@ -39,7 +39,7 @@ impl Big {
             wish[24..28].copy_from_slice(&folder);
             wish[28..32].copy_from_slice(&[0xe9, 7, 3, 3]);
             wish[32..32 + label.len()].copy_from_slice(label.as_bytes());
-            plain::act(&mut log, &mut [], 7, 0, &wish).expect("a make that fits");
+            plain::act(&mut log, &EMPTY_BASE, &mut [], 7, 0, &wish).expect("a make that fits");
         };
         make(1, [0; 4], "Bench");
         make(1, [0; 4], "Roof");
@@ -54,9 +54,9 @@ impl Big {
             make(2, [[0; 4], [0, 0, 2, 0]][i % 2], &format!("Gain {i}"));
         }
         let mut index = vec![0; INDEX];
-        plain::index(&log, &mut index).expect("a sound log");
+        plain::index(&log, &EMPTY_BASE, &mut index).expect("a sound log");
         let mut tree = vec![0; TREE];
-        plain::show(&log, &mut tree).expect("a sound log");
+        plain::show(&log, &EMPTY_BASE, &mut tree).expect("a sound log");
         let entries: Vec<Key> = tree[4..]
             .chunks(72)
             .take(usize::from(u16::from_le_bytes([tree[0], tree[1]])))

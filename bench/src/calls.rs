@@ -5,9 +5,9 @@ use crate::times::clock;
 use crate::big::Big;
 use crate::deep;
 use library::{Library, REPORT, Trial};
-use plain::{BLOCK, FILE, INDEX, LOG, RECORD, TREE};
+use plain::{BASE, BLOCK, EMPTY_BASE, FILE, INDEX, LOG, RECORD, TREE};
 use std::hint::black_box;
-use workload::{Mix, log_of, vector_of};
+use workload::{Chance, Mix, Units, log_of, vector_of};
 
 const ARCHIVE: u32 = 7;
 const SIZES: [usize; 4] = [0, 64, 256, 512];
@@ -55,7 +55,7 @@ pub fn cases(log: &[u8], pair: &Pair, big: &Big) -> Vec<Case> {
             cases.push(Case { name, run });
         };
         let lent = first(log, size);
-        case("check of the log", check(lent.clone()));
+        case("check of the log", check(lent.clone(), EMPTY_BASE.to_vec()));
         case("start", start(lent.clone()));
         let acting = first(log, size.min(511));
         case("act", act(acting.clone(), With::None, new_trace()));
@@ -97,6 +97,28 @@ pub fn cases(log: &[u8], pair: &Pair, big: &Big) -> Vec<Case> {
         let name = name.to_string();
         cases.push(Case { name, run });
     }
+    // One unit alone has heard all.
+    let alone = log_of(512, 1, 6, &Mix::BENCH, 1);
+    for size in SIZES {
+        let lent = first(&alone, size);
+        cases.push(Case {
+            name: format!("fold, {size} records"),
+            run: fold(lent, EMPTY_BASE.to_vec(), 1),
+        });
+    }
+    let (log_on, base) = based();
+    for (name, run) in [
+        ("check, 256 records on 512 folded", check(log_on.clone(), base.clone())),
+        (
+            "act, 256 records on 512 folded",
+            act_on(log_on.clone(), base.clone(), With::None, new_trace()),
+        ),
+        ("show the tree, 256 records on 512 folded", show_on(log_on.clone(), base.clone())),
+        ("fold, 256 records on 512 folded", fold(log_on, base, 1)),
+    ] {
+        let name = name.to_string();
+        cases.push(Case { name, run });
+    }
     cases.push(Case {
         name: "compare, 1000 times".to_string(),
         run: compare(vector_of(log)),
@@ -113,22 +135,22 @@ pub fn cases(log: &[u8], pair: &Pair, big: &Big) -> Vec<Case> {
 }
 
 /// A take refuses a block of another length right after it has checked the log.
-fn check(mut log: Vec<u8>) -> Run {
+fn check(mut log: Vec<u8>, base: Vec<u8>) -> Run {
     Box::new(move |library| {
         Some(clock(|| {
-            let answer = library.take(black_box(&mut log), &mut [], ARCHIVE, 0, &[]);
+            let answer = library.take(black_box(&mut log), &base, &mut [], ARCHIVE, 0, &[]);
             assert!(answer.is_err_and(|refusal| refusal.number == 2));
         }))
     })
 }
 
 fn start(log: Vec<u8>) -> Run {
-    let mut lent = log.clone();
+    let (mut lent, mut base) = (log.clone(), EMPTY_BASE.to_vec());
     Box::new(move |library| {
         lent.copy_from_slice(&log);
         Some(clock(|| {
             library
-                .start(black_box(&mut lent), &mut [], ARCHIVE, 0)
+                .start(black_box(&mut lent), &mut base, &mut [], ARCHIVE, 0)
                 .unwrap()
         }))
     })
@@ -142,25 +164,29 @@ enum With {
 }
 
 /// The index that is lent with a log.
-fn index_of(log: &[u8], with: With) -> Vec<u8> {
+fn index_of(log: &[u8], base: &[u8], with: With) -> Vec<u8> {
     let mut index = vec![0; INDEX];
     match with {
-        With::Index => plain::index(log, &mut index).expect("a sound log"),
+        With::Index => plain::index(log, base, &mut index).expect("a sound log"),
         With::None => index.clear(),
     }
     index
 }
 
 fn act(log: Vec<u8>, with: With, wish: [u8; 80]) -> Run {
+    act_on(log, EMPTY_BASE.to_vec(), with, wish)
+}
+
+fn act_on(log: Vec<u8>, base: Vec<u8>, with: With, wish: [u8; 80]) -> Run {
     let mut lent = log.clone();
-    let index = index_of(&log, with);
+    let index = index_of(&log, &base, with);
     let mut listed = index.clone();
     Box::new(move |library| {
         lent.copy_from_slice(&log);
         listed.copy_from_slice(&index);
         Some(clock(|| {
             library
-                .act(black_box(&mut lent), &mut listed, ARCHIVE, 0, &wish)
+                .act(black_box(&mut lent), &base, &mut listed, ARCHIVE, 0, &wish)
                 .unwrap()
         }))
     })
@@ -171,7 +197,7 @@ fn hand_out(log: Vec<u8>, asked: [u16; 8]) -> Run {
     Box::new(move |library| {
         Some(clock(|| {
             library
-                .hand_out(black_box(&log), ARCHIVE, 0, &asked, &mut block)
+                .hand_out(black_box(&log), &EMPTY_BASE, ARCHIVE, 0, &asked, &mut block)
                 .unwrap()
         }))
     })
@@ -179,15 +205,15 @@ fn hand_out(log: Vec<u8>, asked: [u16; 8]) -> Run {
 
 fn take(log: Vec<u8>, other: &[u8], with: With) -> Run {
     let mut block = [0; BLOCK];
-    plain::hand_out(other, ARCHIVE, 1, &vector_of(&log), &mut block).expect("a sound log");
+    plain::hand_out(other, &EMPTY_BASE, ARCHIVE, 1, &vector_of(&log), &mut block).expect("a sound log");
     assert_eq!(block[9], 6);
     let mut lent = log.clone();
-    let mut index = index_of(&log, with);
+    let mut index = index_of(&log, &EMPTY_BASE, with);
     Box::new(move |library| {
         lent.copy_from_slice(&log);
         Some(clock(|| {
             library
-                .take(black_box(&mut lent), &mut index, ARCHIVE, 0, &block)
+                .take(black_box(&mut lent), &EMPTY_BASE, &mut index, ARCHIVE, 0, &block)
                 .unwrap()
         }))
     })
@@ -198,7 +224,7 @@ fn hand_out_row(log: Vec<u8>) -> Run {
     Box::new(move |library| {
         Some(clock(|| {
             library
-                .hand_out_row(black_box(&log), ARCHIVE, 0, &[0; 8], &mut row)
+                .hand_out_row(black_box(&log), &EMPTY_BASE, ARCHIVE, 0, &[0; 8], &mut row)
                 .unwrap();
         }))
     })
@@ -207,7 +233,7 @@ fn hand_out_row(log: Vec<u8>) -> Run {
 /// The row of what a log lacks of another.
 fn row_for(log: &[u8], other: &[u8]) -> Vec<u8> {
     let mut row = vec![0; FILE];
-    let blocks = plain::hand_out_row(other, ARCHIVE, 1, &vector_of(log), &mut row);
+    let blocks = plain::hand_out_row(other, &EMPTY_BASE, ARCHIVE, 1, &vector_of(log), &mut row);
     row.truncate(BLOCK * usize::from(blocks.expect("a sound log")));
     row
 }
@@ -215,12 +241,12 @@ fn row_for(log: &[u8], other: &[u8]) -> Vec<u8> {
 fn take_row(log: Vec<u8>, other: &[u8], with: With) -> Run {
     let row = row_for(&log, other);
     let mut lent = log.clone();
-    let mut index = index_of(&log, with);
+    let mut index = index_of(&log, &EMPTY_BASE, with);
     Box::new(move |library| {
         lent.copy_from_slice(&log);
         Some(clock(|| {
             library
-                .take_row(black_box(&mut lent), &mut index, ARCHIVE, 0, &row)
+                .take_row(black_box(&mut lent), &EMPTY_BASE, &mut index, ARCHIVE, 0, &row)
                 .unwrap();
         }))
     })
@@ -236,7 +262,7 @@ fn try_row(log: Vec<u8>, other: &[u8]) -> Run {
     Box::new(move |library| {
         Some(clock(|| {
             library
-                .try_row(black_box(&log), ARCHIVE, 0, &row, &mut trial)
+                .try_row(black_box(&log), &EMPTY_BASE, ARCHIVE, 0, &row, &mut trial)
                 .unwrap();
         }))
     })
@@ -247,7 +273,7 @@ fn write_file(log: Vec<u8>) -> Run {
     Box::new(move |library| {
         Some(clock(|| {
             library
-                .write_file(black_box(&log), ARCHIVE, 0, &mut file)
+                .write_file(black_box(&log), &EMPTY_BASE, ARCHIVE, 0, &mut file)
                 .unwrap()
         }))
     })
@@ -256,17 +282,17 @@ fn write_file(log: Vec<u8>) -> Run {
 /// The file of a log.
 fn file_of(log: &[u8]) -> Vec<u8> {
     let mut file = vec![0; FILE];
-    let blocks = plain::write_file(log, ARCHIVE, 0, &mut file).expect("a sound log");
+    let blocks = plain::write_file(log, &EMPTY_BASE, ARCHIVE, 0, &mut file).expect("a sound log");
     file.truncate(BLOCK * blocks as usize);
     file
 }
 
 fn read_file(log: &[u8]) -> Run {
     let file = file_of(log);
-    let mut lent = vec![0; LOG];
+    let (mut lent, mut base) = (vec![0; LOG], vec![0; BASE]);
     Box::new(move |library| {
         Some(clock(|| {
-            library.read_file(&mut lent, black_box(&file)).unwrap()
+            library.read_file(&mut lent, &mut base, black_box(&file)).unwrap()
         }))
     })
 }
@@ -284,13 +310,48 @@ fn merge(logs: [&[u8]; 2]) -> Run {
 }
 
 fn show(log: Vec<u8>) -> Run {
+    show_on(log, EMPTY_BASE.to_vec())
+}
+
+fn show_on(log: Vec<u8>, base: Vec<u8>) -> Run {
     let mut tree = vec![0; TREE];
-    Box::new(move |library| Some(clock(|| library.show(black_box(&log), &mut tree).unwrap())))
+    Box::new(move |library| {
+        Some(clock(|| library.show(black_box(&log), black_box(&base), &mut tree).unwrap()))
+    })
+}
+
+/// Folds by a list.
+fn fold(log: Vec<u8>, base: Vec<u8>, list: u8) -> Run {
+    let (mut lent, mut left) = (log.clone(), base.clone());
+    Box::new(move |library| {
+        lent.copy_from_slice(&log);
+        left.copy_from_slice(&base);
+        Some(clock(|| {
+            library.fold(black_box(&mut lent), &mut left, ARCHIVE, 0, list).unwrap();
+        }))
+    })
+}
+
+/// What unit 0, alone in its archive, holds after 512 records that were folded and
+/// 256 that are not. All of these could be folded.
+fn based() -> (Vec<u8>, Vec<u8>) {
+    let mut units = Units::empty(1, ARCHIVE);
+    let mut chance = Chance::new(8);
+    for records in [512, 256] {
+        let mut made = 0;
+        while made < records {
+            made += units.act(&mut chance, &Mix::BENCH, 0) as usize;
+        }
+        if records == 512 {
+            assert_eq!(units.fold(0, 1), Ok(512));
+        }
+    }
+    (units.logs.swap_remove(0), units.bases.swap_remove(0))
 }
 
 fn index(log: Vec<u8>) -> Run {
     let mut index = vec![0; INDEX];
-    Box::new(move |library| Some(clock(|| library.index(black_box(&log), &mut index).unwrap())))
+    Box::new(move |library| Some(clock(|| library.index(black_box(&log), &EMPTY_BASE, &mut index).unwrap())))
 }
 
 /// Looks up the entries of the big tree, in an order by chance; with another last

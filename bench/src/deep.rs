@@ -1,6 +1,6 @@
 //! The longest ways up: a chain of folders, and moves at its end.
 
-use plain::LOG;
+use plain::{EMPTY_BASE, LOG};
 
 /// How deep the chain is, and how many moves follow: their product is greatest so.
 const DEPTH: u16 = 256;
@@ -20,7 +20,7 @@ pub fn log() -> Vec<u8> {
     let makes = (0..DEPTH).map(make);
     let moves = (DEPTH..511).map(|_| wish());
     for wish in makes.chain(moves) {
-        plain::act(&mut log, &mut [], 7, 0, &wish).expect("a wish that fits");
+        plain::act(&mut log, &EMPTY_BASE, &mut [], 7, 0, &wish).expect("a wish that fits");
     }
     log
 }

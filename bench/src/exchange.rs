@@ -2,7 +2,7 @@
 
 use crate::times::clock;
 use library::Library;
-use plain::{BLOCK, FILE, LOG};
+use plain::{BLOCK, EMPTY_BASE, FILE, LOG};
 use workload::{Chance, Mix, Units, vector_of};
 
 const ARCHIVE: u32 = 7;
@@ -75,10 +75,10 @@ fn pass_row(
     row: &mut [u8],
 ) {
     let blocks = library
-        .hand_out_row(from, ARCHIVE, giver, &vector_of(to), row)
+        .hand_out_row(from, &EMPTY_BASE, ARCHIVE, giver, &vector_of(to), row)
         .unwrap();
     let row = &row[..BLOCK * usize::from(blocks)];
-    let taken = library.take_row(to, &mut [], ARCHIVE, taker, row).unwrap();
+    let taken = library.take_row(to, &EMPTY_BASE, &mut [], ARCHIVE, taker, row).unwrap();
     assert_eq!(taken.stopped, 0);
 }
 
@@ -88,12 +88,12 @@ fn pass(library: &dyn Library, from: &[u8], giver: u32, to: &mut [u8], taker: u3
     let mut block = [0; BLOCK];
     loop {
         library
-            .hand_out(from, ARCHIVE, giver, &asked, &mut block)
+            .hand_out(from, &EMPTY_BASE, ARCHIVE, giver, &asked, &mut block)
             .unwrap();
         if block[9] == 0 {
             return;
         }
-        library.take(to, &mut [], ARCHIVE, taker, &block).unwrap();
+        library.take(to, &EMPTY_BASE, &mut [], ARCHIVE, taker, &block).unwrap();
         for record in block[28..].chunks(80).take(block[9] as usize) {
             asked[record[0] as usize] += 1;
         }

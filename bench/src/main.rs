@@ -56,7 +56,7 @@ fn main() {
     let libraries = libraries();
     let log = workload::log_of(512, options.units, 6, &workload::Mix::BENCH, 1);
     let mut file = vec![0; plain::FILE];
-    plain::write_file(&log, 7, 0, &mut file).expect("a sound log");
+    plain::write_file(&log, &plain::EMPTY_BASE, 7, 0, &mut file).expect("a sound log");
 
     let pair = exchange::Pair::new();
     let big = big::Big::new();

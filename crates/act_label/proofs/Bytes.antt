@@ -11,8 +11,8 @@ use lib.Dec.{leb, eqb}
 use lib.ListN.{getD, length, take}
 use lib.Seq.{take-suc}
 use borrow.Author.Tests.{eqb-true}
-use Rattle.model.specs.Record.{printable}
-use Rattle.model.specs.Outcome.{firstOf, hasStroke}
+use Rattle.model.specs.Record.{printable, hasStroke}
+use Rattle.model.specs.Numbers.{firstOf}
 use Rattle.act_bytes.specs.Table.{mayStand}
 use Rattle.byte_slice.proofs.Numbers.{bool-cases}
 use Rattle.act_label.specs.Label.{standTo, plainTo, textNumber}

@@ -10,8 +10,8 @@ use lib.ListN.{getD, length, take, drop, length-drop, take-append-drop}
 use lib.Seq.{take-all}
 use borrow.Author.Tests.{leb-true, eqb-false, le-leb, ne-eqb, not-true, not-false}
 use Rattle.model.specs.Bytes.{blank, part}
-use Rattle.model.specs.Record.{Rec, op, labelOf, textLength, printable, isLabel, usesLabel, unused, labelFits}
-use Rattle.model.specs.Outcome.{firstOf, hasStroke}
+use Rattle.model.specs.Record.{Rec, op, labelOf, textLength, printable, isLabel, usesLabel, unused, labelFits, hasStroke}
+use Rattle.model.specs.Numbers.{firstOf}
 use Rattle.byte_slice.proofs.Numbers.{and-true, and-right, test-false, not-both}
 use Rattle.log_laws.proofs.Formed.{blank-no-stroke}
 use Rattle.act_label.specs.Label.{textNumber, labelNumber, fieldNumber}

@@ -1,3 +1,3 @@
 pub mod Bytes
 pub mod Label
-pub mod Besides
+pub mod Body

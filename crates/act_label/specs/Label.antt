@@ -4,11 +4,10 @@
 use Prim.Native.Nat.{ℕ, zero, suc}
 use mathlib.Core.Bool.{Bool, true, cond, _&&_, _||_}
 use mathlib.Core.List.{List}
-use lib.Dec.{eqb}
+use lib.Dec.{leb, eqb}
 use lib.ListN.{getD}
-use Rattle.model.specs.Numbers.{malformed, strokeInLabel}
-use Rattle.model.specs.Record.{Rec, labelOf, isLabel, headFits, objectFits, folderFits, dateFits, labelFits, markFits}
-use Rattle.model.specs.Outcome.{firstOf, hasStroke}
+use Rattle.model.specs.Numbers.{malformed, strokeInLabel, firstOf}
+use Rattle.model.specs.Record.{Rec, op, labelOf, isLabel, objectFits, folderFits, dateFits, labelFits, markFits, hasStroke}
 use Rattle.act_bytes.specs.Table.{mayStand}
 
 -- each of the first n bytes may stand
@@ -33,6 +32,6 @@ labelNumber t = firstOf (cond (isLabel t) 0 malformed) (cond (hasStroke t) strok
 unfoldable pub fieldNumber : Rec → ℕ
 fieldNumber r = firstOf (cond (labelFits r) 0 malformed) (cond (hasStroke (labelOf r)) strokeInLabel 0)
 
--- a record of 80 bytes, well formed but for its label
-unfoldable pub formedBesides : Rec → Bool
-formedBesides r = headFits r && (objectFits r && (folderFits r && (dateFits r && markFits r)))
+-- a known operation, and each field but the label fits; unit and number are not asked
+unfoldable pub bodyFits : Rec → Bool
+bodyFits r = leb 1 (op r) && (leb (op r) 7 && (objectFits r && (folderFits r && (dateFits r && markFits r))))

@@ -1,10 +1,10 @@
-// The label of a wish: its bytes are judged by a table. And all else that its record is asked to be well formed.
+// The label of a wish: its bytes are judged by a table. And all else that is asked of its record before it has a number.
 ghost use mathlib.Core.Path.{_≡_};
 ghost use Prim.Native.Nat.{_≤_};
 ghost use lib.ListN.{length};
 ghost use Rattle.model.specs.Lengths.{recordSize};
 ghost use Rattle.act_bytes.specs.Table.{Right};
-ghost use Rattle.act_label.specs.Label.{textNumber, labelNumber, fieldNumber, formedBesides};
+ghost use Rattle.act_label.specs.Label.{textNumber, labelNumber, fieldNumber, bodyFits};
 use act_bytes::label_table;
 use act_bytes::may_stand;
 use record_uses::uses_label;
@@ -70,12 +70,16 @@ pub fn field_number(rec: &[u8]) -> u8
 
 // ---- the rest of the record
 
-// All that a well-formed record is asked, but for its label.
-pub fn formed_besides(rec: &[u8]) -> bool
+// The operation is known, and each field but the label fits. Unit and number are not asked: the two bytes of the number are not read.
+pub fn body_fits(rec: &[u8]) -> bool
     requires { ⌜ length (now rec) ≡ recordSize ⌝ }
-    ensures { λ r. ⌜ r ≡ formedBesides (now (rec .entry)) ⌝ }
+    ensures { λ r. ⌜ r ≡ bodyFits (now (rec .entry)) ⌝ }
 {
-    if !record_fields::head_fits(rec) {
+    let op = rec[1];
+    if op < 1 {
+        return false;
+    }
+    if 7 < op {
         return false;
     }
     if !record_fields::object_fits(rec) {

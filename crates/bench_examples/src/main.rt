@@ -1,4 +1,5 @@
-// The bench examples of document 01 that are not starred, run on the code: what it answers is printed and compared.
+// The bench examples of document 01 that are not starred, run on the code: what it answers is printed and compared. No unit folds, so one
+// empty base stands for all.
 ghost use Prim.Native.Nat.{_≤_};
 ghost use lib.ListN.{length};
 use vector::Vector;
@@ -30,21 +31,27 @@ fn accepted(number: u8) -> u64
     0
 }
 
+// An act of unit 0, with work memory of its own: the number that it answers.
+fn act_number(log: &mut [u8], base: &[u8], wish: &[u8]) -> u8 {
+    let mut work = [0u8; 86020];
+    let a = act::act(log, base, 7, 0, wish, &mut work);
+    a.number
+}
+
 // n wishes are acted on: how many of the acts answer 0.
-fn fill(log: &mut [u8], n: usize) -> u64 {
+fn fill(log: &mut [u8], base: &[u8], n: usize) -> u64 {
     let mut done: u64 = 0;
     for k in 0..n {
         let w = wish(k);
-        let a = act::act(log, 7, 0, &w.bytes);
-        done += accepted(a.number);
+        done += accepted(act_number(log, base, &w.bytes));
     }
     done
 }
 
 // The vector of a log, as it stands in a block that is handed out.
-fn held(log: &[u8]) -> Vector {
+fn held(log: &[u8], base: &[u8]) -> Vector {
     let mut b = [0u8; 512];
-    hand_out::hand_out(log, 7, 1, vector::zero_vector(), &mut b);
+    hand_out::hand_out(log, base, 7, 1, vector::zero_vector(), &mut b);
     vector::vector_at(&b, 12)
 }
 
@@ -55,15 +62,15 @@ pub struct Passed {
 }
 
 // Blocks are passed to another log until nothing is lacking, at most 100.
-fn pass(from: &[u8], to: &mut [u8]) -> Passed {
+fn pass(from: &[u8], to: &mut [u8], base: &[u8]) -> Passed {
     let mut taken: u64 = 0;
     for n in 0u64..100 {
         let mut b = [0u8; 512];
-        hand_out::hand_out(from, 7, 0, held(to), &mut b);
+        hand_out::hand_out(from, base, 7, 0, held(to, base), &mut b);
         if b[9] == 0 {
             return Passed { blocks: n, taken };
         }
-        let t = take::take(to, 7, 1, &b);
+        let t = take::take(to, base, 7, 1, &b);
         taken += accepted(t.number);
     }
     Passed { blocks: 100, taken }
@@ -86,11 +93,11 @@ fn say_same(log: &[u8], other: &[u8]) {
 }
 
 // n records are lacking: how many blocks pass them, what the takes answer, and what the receiver holds.
-fn lacking(n: usize) {
+fn lacking(n: usize, base: &[u8]) {
     let mut log = [0u8; 40960];
     let mut other = [0u8; 40960];
-    say(b"acts that answer 0: ", fill(&mut log, n));
-    let p = pass(&log, &mut other);
+    say(b"acts that answer 0: ", fill(&mut log, base, n));
+    let p = pass(&log, &mut other, base);
     io::print_decimal(1, n as u64);
     say(b" lacking, blocks: ", p.blocks);
     say(b"takes that answer 0: ", p.taken);
@@ -98,23 +105,23 @@ fn lacking(n: usize) {
 }
 
 // A log of 512 records: the blocks of its file, and the records of the last.
-fn full() {
+fn full(base: &[u8]) {
     let mut log = [0u8; 40960];
     let mut file = [0u8; 44032];
-    say(b"acts that answer 0: ", fill(&mut log, 512));
-    let w = write_file::write_file(&log, 7, 0, &mut file);
+    say(b"acts that answer 0: ", fill(&mut log, base, 512));
+    let w = write_file::write_file(&log, base, 7, 0, &mut file);
     say(b"512 records, blocks: ", w.blocks as u64);
     say(
         b"records in the last: ",
         byte_slice::wide(file[43529]) as u64,
     );
     let more = wish(513);
-    let a = act::act(&mut log, 7, 0, &more.bytes);
-    say(b"a 513th record: ", a.number as u64);
+    let number = act_number(&mut log, base, &more.bytes);
+    say(b"a 513th record: ", number as u64);
 }
 
 // A wish to make a folder with a label.
-fn label(text: &[u8])
+fn label(text: &[u8], base: &[u8])
     requires { ⌜ length (now text) ≤ 48 ⌝ }
 {
     let mut log = [0u8; 40960];
@@ -125,28 +132,30 @@ fn label(text: &[u8])
     b[29] = 7;
     b[30] = 3;
     b[31] = 3;
-    let a = act::act(&mut log, 7, 0, &b);
+    let number = act_number(&mut log, base, &b);
     io::write_all(1, b"a label of ");
     io::print_decimal(1, text.len() as u64);
-    say(b" bytes: ", a.number as u64);
+    say(b" bytes: ", number as u64);
 }
 
 // A wish dated 31 December 1989.
-fn dated() {
+fn dated(base: &[u8]) {
     let mut log = [0u8; 40960];
     let mut w = wish(0);
     w.bytes[28] = 197;
     w.bytes[30] = 12;
     w.bytes[31] = 31;
-    let a = act::act(&mut log, 7, 0, &w.bytes);
-    say(b"1989-12-31: ", a.number as u64);
+    let number = act_number(&mut log, base, &w.bytes);
+    say(b"1989-12-31: ", number as u64);
 }
 
 fn main() {
-    dated();
-    lacking(6);
-    lacking(7);
-    full();
-    label(b"xxxxxxxxxxxxxxxxxxxxxxxxxxxxxxxx");
-    label(b"xxxxxxxxxxxxxxxxxxxxxxxxxxxxxxxxx");
+    let mut base = [0u8; 43032];
+    base[0] = 255;
+    dated(&base);
+    lacking(6, &base);
+    lacking(7, &base);
+    full(&base);
+    label(b"xxxxxxxxxxxxxxxxxxxxxxxxxxxxxxxx", &base);
+    label(b"xxxxxxxxxxxxxxxxxxxxxxxxxxxxxxxxx", &base);
 }

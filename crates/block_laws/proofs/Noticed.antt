@@ -11,8 +11,7 @@ use lib.ListN.{getD, length, set, length-set}
 use lib.Seq.{getD-set-same, getD-set-other}
 use borrow.Author.Tests.{eq-eqb, ne-eqb}
 use Rattle.model.specs.Bytes.{word}
-use Rattle.model.specs.Block.{firstTo, blockFault}
-use Rattle.model.specs.Outcome.{refusal, orRefused, guardNumber, guarded, givenFault, tookBlock, takeOf}
+use Rattle.model.specs.Block.{firstTo, blockFault, givenFault}
 use Rattle.byte_slice.proofs.Numbers.{lt-or-ge}
 use Rattle.byte_slice.proofs.Words.{word-same}
 use Rattle.block_laws.proofs.Sums.{first-small, first-same, second-same}
@@ -124,23 +123,10 @@ noticed b i z l h p q d e f =
     (lt-or-ge i 510))
     (lt-or-ge i 508)
 
--- and so taking it is refused, and the log stays
+-- and so it is no block to take
 pub altered-given : (archive : ℕ) (b : List ℕ) (i z : ℕ) → length b ≡ 512 → i < 512 → getD b i 0 < 256 → z < 256 → (getD b i 0 ≡ z → ⊥) → blockFault b ≡ 0 → givenFault archive (set b i z) ≡ 0 → ⊥
 unfolding givenFault
 altered-given archive b i z l h p q d e f =
     let m : length (set b i z) ≡ 512 = length-set b i z ∙ l in
     let n : blockFault (set b i z) ≡ 0 → ⊥ = noticed b i z l h p q d e in
     n (rw (eq-eqb (length (set b i z)) 512 m, ne-eqb (blockFault (set b i z)) 0 n) at f)
-
-pub altered-taken : (archive u : ℕ) (log b : List ℕ) (i z : ℕ) → length b ≡ 512 → i < 512 → getD b i 0 < 256 → z < 256 → (getD b i 0 ≡ z → ⊥) → blockFault b ≡ 0
-    → (takeOf archive u log (set b i z) .number ≡ 0 → ⊥) × (takeOf archive u log (set b i z) .log ≡ log)
-unfolding takeOf guarded tookBlock
-altered-taken archive u log b i z l h p q d e = go (givenFault archive (set b i z)) (altered-given archive b i z l h p q d e)
-  where
-    checked : (k n : ℕ) → (orRefused k log [] (refusal (suc n) log []) .number ≡ 0 → ⊥) × (orRefused k log [] (refusal (suc n) log []) .log ≡ log)
-    checked zero n = (λ x. omega arith, refl)
-    checked (suc k) n = (λ x. omega arith, refl)
-
-    go : (n : ℕ) → (n ≡ 0 → ⊥) → (guarded u log [] true (tookBlock log (set b i z) n) .number ≡ 0 → ⊥) × (guarded u log [] true (tookBlock log (set b i z) n) .log ≡ log)
-    go zero x = absurd (x refl)
-    go (suc n) x = checked (guardNumber u log true true) n

@@ -10,8 +10,7 @@ use borrow.Author.Tests.{le-leb, eq-eqb}
 use Rattle.model.specs.Bytes.{two, four, part, blank, padded, joined}
 use Rattle.model.specs.Vector.{vectorBytes}
 use Rattle.model.specs.Record.{Rec}
-use Rattle.model.specs.Block.{Header, letters, headBytes, bodyBytes, sealed, blockOf, firstTo, secondTo, countIn, senderIn, archiveIn, placeIn, vectorIn, sumsHold, headerHolds, blockFault, blockRecords}
-use Rattle.model.specs.Outcome.{givenFault}
+use Rattle.model.specs.Block.{Header, letters, headBytes, bodyBytes, sealed, blockOf, firstTo, secondTo, countIn, senderIn, archiveIn, placeIn, vectorIn, sumsHold, headerHolds, blockFault, blockRecords, givenFault}
 use Rattle.byte_slice.proofs.Parts.{part-middle}
 use Rattle.byte_slice.proofs.Words.{word-at, long-at}
 use Rattle.byte_slice.proofs.Compare.{same-refl, blank-zeros}

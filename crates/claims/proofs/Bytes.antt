@@ -12,13 +12,18 @@ use borrow.Author.Tests.{ltb-true, lt-ltb}
 use Rattle.model.specs.Bytes.{two, four, blank, part, padded, joined}
 use Rattle.model.specs.Vector.{countBytes, vectorBytes}
 use Rattle.model.specs.Record.{Rec}
-use Rattle.model.specs.Log.{vectorOf, recordsIn, recordsOf, logBytes}
+use Rattle.model.specs.Log.{countOn, vectorOn, vectorOf, recordsIn, recordsOf, logBytes}
 use Rattle.model.specs.Block.{firstTo, secondTo, headBytes, bodyBytes, sealed, blockOf, countIn, recordAt, recordsFrom, blockRecords}
 use Rattle.model.specs.File.{headerOf, fileBlock, fileTo, fileOf, blockCount}
-use Rattle.byte_slice.proofs.Numbers.{and-true, true-and, cond-cases}
+use Rattle.base_model.specs.Base.{baseVector}
+use Rattle.byte_slice.proofs.Numbers.{lt-or-ge, and-true, true-and, cond-cases}
+use Rattle.vector.proofs.InBytes.{vectorAt-bound}
+use Rattle.record.proofs.Ranks.{num-bound}
 use Rattle.log_laws.specs.Members.{Has}
+use Rattle.log_laws.specs.Sound.{SoundOn}
 use Rattle.log_laws.proofs.Members.{All, all-append, all-drop, has-take, has-drop}
-use Rattle.log_laws.proofs.Tests.{vectorOf-getD}
+use Rattle.log_laws.proofs.Counts.{find-held-on}
+use Rattle.log_laws.proofs.Tests.{vectorOn-getD, vectorOf-getD}
 use Rattle.log_admit.proofs.Counts.{count-few}
 use Rattle.encoding_laws.proofs.Files.{six, few-blocks}
 use Rattle.machine.specs.Callable.{allBelow}
@@ -64,7 +69,7 @@ zeros-below (suc n) = (omega arith, zeros-below n)
 pub two-below : (n : ℕ) → n < 65536 → Below 256 (two n)
 two-below n h = (omega arith, (omega arith, tt))
 
-padded-below : (n : ℕ) (b : List ℕ) → Below 256 b → Below 256 (padded n b)
+pub padded-below : (n : ℕ) (b : List ℕ) → Below 256 b → Below 256 (padded n b)
 unfolding padded
 padded-below n b h = below-append b (replicate (n - length b) 0) h (zeros-below (n - length b))
 
@@ -108,14 +113,43 @@ block-records-below b h = from-below b 0 (countIn b) h
 
 -- ---- vectors
 
+-- eight counts of 16 bits
+abbrev pub Small : List ℕ → Type 0
+Small v = (u : ℕ) → u < 8 → getD v u 0 < 65536
+
 counts-below : (v : List ℕ) (n : ℕ) → ((u : ℕ) → u < n → getD v u 0 < 65536) → Below 256 (countBytes v n)
 unfolding countBytes
 counts-below v zero h = tt
 counts-below v (suc n) h = below-append (countBytes v n) (two (getD v n 0)) (counts-below v n (λ u k. h u (omega arith))) (two-below (getD v n 0) (h n (omega arith)))
 
-pub vector-below : (l : List Rec) → length l ≤ 512 → Below 256 (vectorBytes (vectorOf l))
+pub vector-below : (v : List ℕ) → Small v → Below 256 (vectorBytes v)
 unfolding vectorBytes
-vector-below l k = counts-below (vectorOf l) 8 (λ u b. omega (arith, vectorOf-getD l u b, count-few u l))
+vector-below v h = counts-below v 8 h
+
+-- of at most 512 records
+pub few-small : (l : List Rec) → length l ≤ 512 → Small (vectorOf l)
+few-small l k u b = omega (arith, vectorOf-getD l u b, count-few u l)
+
+pub below-at : (b : List ℕ) → Below 256 b → (j : ℕ) → getD b j 0 < 256
+below-at [] h j = omega arith
+below-at (x ∷ b) h zero = h .0
+below-at (x ∷ b) h (suc j) = below-at b (h .1) j
+
+-- of a base
+pub base-small : (b : List ℕ) → Below 256 b → Small (baseVector b)
+unfolding baseVector
+base-small b h u k = vectorAt-bound b 8 u (below-at b h) k
+
+-- of the records behind it, whose numbers are of 16 bits
+pub held-small : (v : List ℕ) (l : List Rec) → SoundOn v l → Small v → Recs l → Small (vectorOn v l)
+held-small v l h low r u k =
+    let e = vectorOn-getD v l u k in
+    ⊎-elim
+    (λ (c : getD v u 0 < countOn v u l).
+    let (s, i, _, q) = find-held-on v l u (countOn v u l) h c (omega arith) in
+    omega (arith, num-bound s (below-at s (r s i))))
+    (λ c. omega (arith, low u k))
+    (lt-or-ge (getD v u 0) (countOn v u l))
 
 -- ---- blocks and files
 
@@ -129,19 +163,19 @@ unfolding secondTo
 second-below b zero = omega arith
 second-below b (suc n) = omega arith
 
-pub block-below : (archive u place : ℕ) (l rs : List Rec) → archive < 4294967296 → u ≤ 7 → place < 65536 → length l ≤ 512 → length rs ≤ 6 → Recs rs
-    → Below 256 (blockOf (headerOf archive u place l) rs)
+pub block-below : (archive u place : ℕ) (v : List ℕ) (rs : List Rec) → archive < 4294967296 → u ≤ 7 → place < 65536 → Small v → length rs ≤ 6 → Recs rs
+    → Below 256 (blockOf (headerOf archive u place v) rs)
 unfolding blockOf sealed bodyBytes headBytes headerOf
-block-below archive u place l rs a b c k n h =
-    let body : List ℕ = bodyBytes (headerOf archive u place l) rs in
+block-below archive u place v rs a b c k n h =
+    let body : List ℕ = bodyBytes (headerOf archive u place v) rs in
     let letters : Below 256 (83 ∷ 65 ∷ 66 ∷ 49 ∷ []) = (omega arith, (omega arith, (omega arith, (omega arith, tt)))) in
     let number : Below 256 (four archive) = (omega arith, (omega arith, (omega arith, (omega arith, tt)))) in
-    let rest : Below 256 (two place ++ vectorBytes (vectorOf l)) = below-append (two place) (vectorBytes (vectorOf l)) (two-below place c) (vector-below l k) in
-    let head : Below 256 (headBytes (headerOf archive u place l) (length rs)) =
-    below-append (83 ∷ 65 ∷ 66 ∷ 49 ∷ []) (four archive ++ ((u ∷ length rs ∷ []) ++ (two place ++ vectorBytes (vectorOf l)))) letters
-    (below-append (four archive) ((u ∷ length rs ∷ []) ++ (two place ++ vectorBytes (vectorOf l))) number (omega arith, (omega arith, rest))) in
+    let rest : Below 256 (two place ++ vectorBytes v) = below-append (two place) (vectorBytes v) (two-below place c) (vector-below v k) in
+    let head : Below 256 (headBytes (headerOf archive u place v) (length rs)) =
+    below-append (83 ∷ 65 ∷ 66 ∷ 49 ∷ []) (four archive ++ ((u ∷ length rs ∷ []) ++ (two place ++ vectorBytes v))) letters
+    (below-append (four archive) ((u ∷ length rs ∷ []) ++ (two place ++ vectorBytes v)) number (omega arith, (omega arith, rest))) in
     below-append body (two (firstTo body 254) ++ two (secondTo body 254))
-    (below-append (headBytes (headerOf archive u place l) (length rs)) (padded 480 (joined rs)) head (padded-below 480 (joined rs) (joined-below rs h)))
+    (below-append (headBytes (headerOf archive u place v) (length rs)) (padded 480 (joined rs)) head (padded-below 480 (joined rs) (joined-below rs h)))
     (below-append (two (firstTo body 254)) (two (secondTo body 254)) (two-below (firstTo body 254) (first-below body 254)) (two-below (secondTo body 254) (second-below body 254)))
 
 file-to-below : (archive u : ℕ) (l : List Rec) (n : ℕ) → archive < 4294967296 → u ≤ 7 → length l ≤ 512 → n ≤ 86 → Recs l → Below 256 (fileTo archive u l n)
@@ -149,8 +183,8 @@ unfolding fileTo fileBlock
 file-to-below archive u l zero a b k c h = tt
 file-to-below archive u l (suc n) a b k c h =
     let rs : List Rec = take 6 (drop (6 * n) l) in
-    below-append (fileTo archive u l n) (blockOf (headerOf archive u n l) rs) (file-to-below archive u l n a b k (omega arith) h)
-    (block-below archive u n l rs a b (omega arith) k (six (drop (6 * n) l)) (λ r i. h r (has-drop (6 * n) l r (has-take 6 (drop (6 * n) l) r i))))
+    below-append (fileTo archive u l n) (blockOf (headerOf archive u n (vectorOf l)) rs) (file-to-below archive u l n a b k (omega arith) h)
+    (block-below archive u n (vectorOf l) rs a b (omega arith) (few-small l k) (six (drop (6 * n) l)) (λ r i. h r (has-drop (6 * n) l r (has-take 6 (drop (6 * n) l) r i))))
 
 pub file-below : (archive u : ℕ) (l : List Rec) → archive < 4294967296 → u ≤ 7 → length l ≤ 512 → Recs l → Below 256 (padded 44032 (fileOf archive u l))
 unfolding fileOf

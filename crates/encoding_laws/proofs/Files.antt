@@ -8,6 +8,7 @@ use mathlib.Core.List.{List, [], _∷_, _++_, append-assoc}
 use lib.ListN.{length, take, drop, length-append, length-take}
 use Rattle.model.specs.Bytes.{part, padded}
 use Rattle.model.specs.Record.{Rec}
+use Rattle.model.specs.Log.{vectorOf}
 use Rattle.model.specs.File.{blockCount, headerOf, fileBlock, fileTo, fileOf, blockAt}
 use Rattle.byte_slice.proofs.Numbers.{lt-or-ge}
 use Rattle.byte_slice.proofs.Parts.{part-middle}
@@ -35,7 +36,7 @@ few-blocks n k = omega arith
 module _ (archive u : ℕ) (l : List Rec) (z : Sized l) where
   pub length-fileBlock : (k : ℕ) → length (fileBlock archive u l k) ≡ 512
   unfolding fileBlock
-  length-fileBlock k = length-block (headerOf archive u k l) (take 6 (drop (6 * k) l)) (sized-take 6 (drop (6 * k) l) (sized-drop (6 * k) l z)) (six (drop (6 * k) l))
+  length-fileBlock k = length-block (headerOf archive u k (vectorOf l)) (take 6 (drop (6 * k) l)) (sized-take 6 (drop (6 * k) l) (sized-drop (6 * k) l z)) (six (drop (6 * k) l))
 
   pub length-fileTo : (n : ℕ) → length (fileTo archive u l n) ≡ 512 * n
   unfolding fileTo

@@ -10,24 +10,27 @@ use lib.ListN.{length, take, drop, replicate, take-append-drop, length-drop}
 use lib.Seq.{take-at, drop-at, take-add, length-take-le}
 use Rattle.model.specs.Bytes.{blank, padded, joined}
 use Rattle.model.specs.Record.{Rec, wellFormed}
-use Rattle.model.specs.Log.{noCounts, recordsIn, recordsOf, soundAfter, soundLog, logBytes}
+use Rattle.model.specs.Log.{noCounts, recordsIn, recordsOf, soundAfter, soundLogOn, soundLog, logBytes}
 use Rattle.byte_slice.proofs.Numbers.{cond-cases, and-true}
 use Rattle.byte_slice.proofs.Compare.{blank-zeros, blank-eq, blank-take}
 use Rattle.byte_slice.proofs.PutAt.{length-padded}
 use Rattle.block_laws.proofs.Fields.{Sized, length-joined}
 use Rattle.log_laws.specs.Members.{Has}
-use Rattle.log_laws.specs.Sound.{Sound}
+use Rattle.log_laws.specs.Sound.{SoundOn, Sound}
 use Rattle.log_laws.proofs.Formed.{well-length, well-not-blank}
-use Rattle.log_laws.proofs.Counts.{formed}
-use Rattle.log_laws.proofs.Tests.{sound-means, means-sound}
+use Rattle.log_laws.proofs.Counts.{formed-on}
+use Rattle.log_laws.proofs.Tests.{sound-means-on, means-sound-on}
 
 -- ---- well-formed records
 
 abbrev pub Proper : List Rec → Type 0
 Proper l = (r : Rec) → Has r l → wellFormed r ≡ true
 
+pub sound-proper-on : (v : List ℕ) (l : List Rec) → SoundOn v l → Proper l
+sound-proper-on v l h r i = formed-on v [] l r h i
+
 pub sound-proper : (l : List Rec) → Sound l → Proper l
-sound-proper l h r i = formed [] l r h i
+sound-proper l h = sound-proper-on noCounts l h
 
 pub proper-sized : (l : List Rec) → Proper l → Sized l
 proper-sized [] h = tt
@@ -97,13 +100,21 @@ bytes-back b n e =
 
 -- ---- soundness of the bytes
 
+pub sound-records-on : (v b : List ℕ) → soundLogOn v b ≡ true → SoundOn v (recordsOf b)
+unfolding soundLogOn
+sound-records-on v b e = sound-means-on v (recordsOf b) (and-true (soundAfter v [] (recordsOf b)) (blank (drop (80 * length (recordsOf b)) b)) e .0)
+
 pub sound-records : (b : List ℕ) → soundLog b ≡ true → Sound (recordsOf b)
 unfolding soundLog
-sound-records b e = sound-means (recordsOf b) (and-true (soundAfter noCounts [] (recordsOf b)) (blank (drop (80 * length (recordsOf b)) b)) e .0)
+sound-records b e = sound-records-on noCounts b e
+
+pub sound-bytes-on : (v b : List ℕ) → length b ≡ 40960 → soundLogOn v b ≡ true → logBytes (recordsOf b) ≡ b
+unfolding soundLogOn
+sound-bytes-on v b n e = bytes-back b n (and-true (soundAfter v [] (recordsOf b)) (blank (drop (80 * length (recordsOf b)) b)) e .1)
 
 pub sound-bytes : (b : List ℕ) → length b ≡ 40960 → soundLog b ≡ true → logBytes (recordsOf b) ≡ b
 unfolding soundLog
-sound-bytes b n e = bytes-back b n (and-true (soundAfter noCounts [] (recordsOf b)) (blank (drop (80 * length (recordsOf b)) b)) e .1)
+sound-bytes b n e = sound-bytes-on noCounts b n e
 
 pub sound-few : (b : List ℕ) → length (recordsOf b) ≤ 512
 unfolding recordsOf
@@ -113,11 +124,15 @@ rest-blank : (l : List Rec) → Sized l → blank (drop (80 * length l) (logByte
 unfolding logBytes padded
 rest-blank l z = rw (drop-at (joined l) (replicate (40960 - length (joined l)) 0) (80 * length l) (length-joined l z)) (blank-zeros (40960 - length (joined l)))
 
+pub log-sound-on : (v : List ℕ) (l : List Rec) → SoundOn v l → length l ≤ 512 → soundLogOn v (logBytes l) ≡ true
+unfolding soundLogOn
+log-sound-on v l h k =
+    let p = sound-proper-on v l h in
+    rw (records-back l p k, means-sound-on v l h) (rest-blank l (proper-sized l p))
+
 pub log-sound : (l : List Rec) → Sound l → length l ≤ 512 → soundLog (logBytes l) ≡ true
 unfolding soundLog
-log-sound l h k =
-    let p = sound-proper l h in
-    rw (records-back l p k, means-sound l h) (rest-blank l (proper-sized l p))
+log-sound l h k = log-sound-on noCounts l h k
 
 -- the log without a record
 pub empty-log : logBytes [] ≡ replicate 40960 0

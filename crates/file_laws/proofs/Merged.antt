@@ -12,20 +12,22 @@ use lib.Seq.{take-at}
 use borrow.Author.Tests.{eq-eqb}
 use Rattle.model.specs.Bytes.{padded}
 use Rattle.model.specs.Record.{Rec}
-use Rattle.model.specs.Log.{count, vectorOf, recordsOf, logBytes}
+use Rattle.model.specs.Log.{count, noCounts, vectorOf, recordsOf, logBytes, lacking}
 use Rattle.model.specs.Block.{archiveIn, senderIn}
-use Rattle.model.specs.File.{blockCount, fileOf, fileLength, blocksIn, blockAt, fileRecords, fault, fileFault, checkedFault, readBack, readOf}
-use Rattle.model.specs.Outcome.{lacking, taken, takeAll}
+use Rattle.model.specs.File.{blockCount, fileOf, fileLength, blocksIn, blockAt, fileRecords, fault, fileFault, checkedFault}
+use Rattle.base_model.specs.Base.{emptyBase}
+use Rattle.call_model.specs.Read.{readBack, readOf}
+use Rattle.call_model.specs.Outcome.{taken, takeAll}
 use Rattle.model.specs.Merge.{union, unionFault, merged, joinedFile, mergeOf}
 use Rattle.log_laws.specs.Members.{Has}
 use Rattle.log_laws.specs.Sound.{Sound}
 use Rattle.log_laws.proofs.Same.{unique}
-use Rattle.merge_laws.proofs.Union.{union-taken}
+use Rattle.take_laws.proofs.Union.{union-taken}
 use Rattle.merge_laws.proofs.Counts.{union-longer, union-counts, union-length-exchanged}
 use Rattle.merge_laws.proofs.Claims.{agree-exchanged, union-exchanged, union-itself}
-use Rattle.encoding_laws.specs.Keeps.{Good}
-use Rattle.encoding_laws.proofs.Calls.{log-good, sound-back}
-use Rattle.encoding_laws.proofs.Merging.{checked-both, file-sound, file-few, archives-one, files-agree, files-room, files-faultless, Accepted, merge-accepted, accepted-merge, records-both, records-few}
+use Rattle.call_laws.specs.Keeps.{GoodLog}
+use Rattle.call_laws.proofs.States.{log-good, sound-back, fresh-good, empty-list, empty-vector}
+use Rattle.call_laws.proofs.Merging.{checked-both, file-sound, file-few, archives-one, files-agree, files-room, files-faultless, Accepted, merge-accepted, accepted-merge, records-both, records-few}
 use Rattle.file_laws.specs.Taking.{TakesBlocks}
 use Rattle.file_laws.proofs.Blocks.{Bytes}
 use Rattle.file_laws.proofs.Rewritten.{file-again, length-right, sender-right}
@@ -33,9 +35,10 @@ use Rattle.file_laws.proofs.Taking.{file-taken}
 use Rattle.file_laws.proofs.Written as Written
 
 -- a good file is read
-read-good : (f log : List ℕ) → fileLength f ≡ true → fileFault f .number ≡ 0 → length log ≡ 40960 → readOf log f .log ≡ logBytes (fileRecords f)
+read-good : (f log base : List ℕ) → fileLength f ≡ true → fileFault f .number ≡ 0 → length log ≡ 40960 → length base ≡ 43032
+    → (readOf log base f .log ≡ logBytes (fileRecords f)) × (readOf log base f .base ≡ emptyBase)
 unfolding readOf readBack
-read-good f log a e l = rw (eq-eqb (length log) 40960 l, a, eq-eqb (fileFault f .number) 0 e)
+read-good f log base a e l m = rw (eq-eqb (length log) 40960 l, eq-eqb (length base) 43032 m, a, eq-eqb (fileFault f .number) 0 e) (refl, refl)
 
 -- ---- a merge that is accepted
 
@@ -53,7 +56,7 @@ module _ (f g log lent : List ℕ) (z : mergeOf f g log lent .number ≡ 0) wher
   result = accepted-merge f g log lent given
 
   -- the log that it leaves is good, and has the union of the two files' records
-  pub merged-sound : Good (mergeOf f g log lent .log) × (recordsOf (mergeOf f g log lent .log) ≡ union (fileRecords f) (fileRecords g))
+  pub merged-sound : GoodLog (mergeOf f g log lent .log) × (recordsOf (mergeOf f g log lent .log) ≡ union (fileRecords f) (fileRecords g))
   unfolding joinedFile
   merged-sound = rw result (log-good (union (fileRecords f) (fileRecords g)) sound few, sound-back (union (fileRecords f) (fileRecords g)) sound few)
 
@@ -68,8 +71,8 @@ module _ (f g log lent : List ℕ) (z : mergeOf f g log lent .number ≡ 0) wher
   merged-counts u k = rw (merged-sound .1) (union-counts (fileRecords f) (fileRecords g) (file-sound g (given .second)) u k)
 
   -- the blocks written are a file of them, under the first file's archive and unit, which reads back as that log; zeros stand behind
-  pub merged-reads : (spare : List ℕ) → length spare ≡ 40960
-      → readOf spare (take (512 * (mergeOf f g log lent .blocks)) (mergeOf f g log lent .lent))
+  pub merged-reads : (spare base : List ℕ) → length spare ≡ 40960 → length base ≡ 43032
+      → readOf spare base (take (512 * (mergeOf f g log lent .blocks)) (mergeOf f g log lent .lent))
       ≡ record {
         number = 0;
         place = 0;
@@ -78,16 +81,17 @@ module _ (f g log lent : List ℕ) (z : mergeOf f g log lent .number ≡ 0) wher
         records = length (union (fileRecords f) (fileRecords g));
         vector = vectorOf (union (fileRecords f) (fileRecords g));
         log = mergeOf f g log lent .log;
+        base = emptyBase;
       }
   unfolding joinedFile padded
-  merged-reads spare e =
+  merged-reads spare base e d =
       let l : List Rec = union (fileRecords f) (fileRecords g) in
       let a : ℕ = archiveIn (blockAt f 0) in
       let u : ℕ = senderIn (blockAt f 0) in
       let (x, y) = checked-both f (given .first) in
       let k : u ≤ 7 = sender-right f x y in
       rw (result, take-at (fileOf a u l) (replicate (44032 - length (fileOf a u l)) 0) (512 * blockCount (length l)) (Written.file-bytes a u l sound few k))
-      (Written.read-is a u l sound few k spare e)
+      (Written.read-is a u l sound few k spare base e d)
 
   -- the other way round it is accepted too, and leaves the same log
   pub merge-either-way : (mergeOf g f log lent .number ≡ 0) × (mergeOf g f log lent .log ≡ mergeOf f g log lent .log)
@@ -105,20 +109,23 @@ module _ (f g log lent : List ℕ) (z : mergeOf f g log lent .number ≡ 0) wher
       record { log-long = given .log-long; lent-long = given .lent-long; first = given .second; second = given .first; together = ap (λ e. e .number) t } in
       rw (accepted-merge g f log lent x, result) (refl, ap logBytes (sym (union-exchanged a b sa sb h)))
 
-  -- the first file is read into a log, and the second's blocks are taken there one after another: each take answers 0, and they leave the
-  -- log that the merge leaves
-  pub merge-is-taking : (u : ℕ) → u ≤ 7 → TakesBlocks (archiveIn (blockAt f 0)) u g 0 (blocksIn g) (readOf log f .log) (mergeOf f g log lent .log)
+  -- the first file is read into a log and a base, and the second's blocks are taken there one after another: each take answers 0, and they
+  -- leave the log that the merge leaves
+  pub merge-is-taking : (base : List ℕ) → length base ≡ 43032 → (u : ℕ) → u ≤ 7
+      → TakesBlocks (archiveIn (blockAt f 0)) u (readOf log base f .base) g 0 (blocksIn g) (readOf log base f .log) (mergeOf f g log lent .log)
   unfolding joinedFile
-  merge-is-taking u k =
+  merge-is-taking base d u k =
       let a : List Rec = fileRecords f in
       let b : List Rec = fileRecords g in
       let (xf, yf) = checked-both f (given .first) in
       let (xg, yg) = checked-both g (given .second) in
       let sa = file-sound f (given .first) in
-      let t : takeAll a b ≡ taken (union a b) =
-      union-taken a b sa (file-sound g (given .second)) (files-agree f g (given .together) (given .first)) (files-room f g (given .together) (given .first)) in
-      rw (result, read-good f log xf yf (given .log-long), ← archives-one f g (given .together))
-      (file-taken g xg yg u k a (union a b) sa (file-few f (given .first)) t)
+      let room = files-room f g (given .together) (given .first) in
+      let t : takeAll 255 noCounts a b ≡ taken (union a b) =
+      union-taken a b sa (file-sound g (given .second)) (files-agree f g (given .together) (given .first)) room in
+      let (x, y) = read-good f log base xf yf (given .log-long) d in
+      rw (result, x, y, ← archives-one f g (given .together))
+      (file-taken g xg yg u k emptyBase a (union a b) (fresh-good a sa (file-few f (given .first))) (sound-back a sa (file-few f (given .first))) (rw (empty-list, empty-vector) t))
 
 -- a good file with itself is that file
 pub merge-itself : (f log lent : List ℕ) → Bytes f → checkedFault f .number ≡ 0 → length log ≡ 40960 → length lent ≡ 44032

@@ -13,11 +13,12 @@ use borrow.Author.Tests.{eqb-true, eqb-false, leb-true, ne-eqb, lt-ltb, le-ltb}
 use Rattle.model.specs.Bytes.{sameBytes, part}
 use Rattle.model.specs.Log.{vectorOf}
 use Rattle.model.specs.Block.{blockOf, blockFault, archiveIn, senderIn, placeIn, countIn, vectorIn, blockRecords}
-use Rattle.model.specs.File.{blockCount, headerOf, fileBlock, fileTo, fileOf, fileLength, blocksIn, blockAt, countFits, agrees, fileBlockFault, Fault, fault, blocksFault, recordsCounted, fileRecordsFrom, fileRecords, recordsFault, countsFault, orElse, fileFault, checkedFault, notRead, readBack, readOf}
+use Rattle.model.specs.File.{blockCount, headerOf, fileBlock, fileTo, fileOf, fileLength, blocksIn, blockAt, countFits, agrees, fileBlockFault, Fault, fault, blocksFault, recordsCounted, fileRecordsFrom, fileRecords, recordsFault, countsFault, orElse, fileFault, checkedFault}
+use Rattle.call_model.specs.Read.{notRead, readBack, readOf}
 use Rattle.byte_slice.proofs.Numbers.{bool-cases, lt-or-ge, eq-or-ne, and-true}
 use Rattle.byte_slice.proofs.Parts.{part-length}
 use Rattle.byte_slice.proofs.Compare.{same-eq}
-use Rattle.encoding_laws.proofs.Reading.{checked-right}
+use Rattle.call_laws.proofs.Reading.{checked-right}
 use Rattle.block_laws.proofs.Faults.{header-right, stored-header}
 use Rattle.file_laws.proofs.Records.{records-of-block, length-fileRecords, take-fileRecords, drop-fileRecords}
 use Rattle.file_laws.proofs.Blocks.{Bytes, bytes-part, headerIn, block-again}
@@ -33,17 +34,17 @@ no-fault a b e =
     (λ (h : eqb (a .number) 0 ≡ false). let z : a .number ≡ 0 = rw h at e in absurd (eqb-false (a .number) 0 h z))
     (bool-cases (eqb (a .number) 0))
 
-pub read-accepted : (log f : List ℕ) → readOf log f .number ≡ 0 → (fileLength f ≡ true) × (fileFault f .number ≡ 0) × (readOf log f ≡ readBack f)
+pub read-accepted : (log base f : List ℕ) → readOf log base f .number ≡ 0 → (fileLength f ≡ true) × (fileFault f .number ≡ 0) × (readOf log base f ≡ readBack f)
 unfolding readOf notRead
-read-accepted log f e =
+read-accepted log base f e =
     ⊎-elim
-    (λ (a : eqb (length log) 40960 ≡ true).
+    (λ (a : (eqb (length log) 40960 && eqb (length base) 43032) ≡ true).
     ⊎-elim
     (λ (c : eqb (checkedFault f .number) 0 ≡ true). let (x, y) = checked-right f (eqb-true (checkedFault f .number) 0 c) in (x, y, rw (a, c)))
     (λ (c : eqb (checkedFault f .number) 0 ≡ false). let z : checkedFault f .number ≡ 0 = rw (a, c) at e in absurd (eqb-false (checkedFault f .number) 0 c z))
     (bool-cases (eqb (checkedFault f .number) 0)))
-    (λ (a : eqb (length log) 40960 ≡ false). let z : _≡_ {A = ℕ} 1 0 = rw a at e in absurd (omega arith))
-    (bool-cases (eqb (length log) 40960))
+    (λ (a : (eqb (length log) 40960 && eqb (length base) 43032) ≡ false). let z : _≡_ {A = ℕ} 1 0 = rw a at e in absurd (omega arith))
+    (bool-cases (eqb (length log) 40960 && eqb (length base) 43032))
 
 pub blocks-passed : (f : List ℕ) (n k : ℕ) → blocksFault f k n .number ≡ 0 → (j : ℕ) → k ≤ j → j < k + n → fileBlockFault f j ≡ 0
 unfolding blocksFault fault
@@ -200,7 +201,7 @@ module _ (f : List ℕ) (a : fileLength f ≡ true) (e : fileFault f .number ≡
         let b : List ℕ = blockAt f k in
         let w : 512 * k + 512 ≤ length f = omega (arith, lengths .0) in
         let A : Agreeing f n k = agreeing k h in
-        let H : headerOf archive sender k (fileRecords f) ≡ headerIn b =
+        let H : headerOf archive sender k (vectorOf (fileRecords f)) ≡ headerIn b =
         λ i. record {
           archive = sym (A .archived) i;
           sender = sym (A .sent) i;

@@ -9,28 +9,30 @@ use lib.ListN.{length, take, drop, take-append-drop, drop-of-length-le}
 use lib.Seq.{drop-drop}
 use borrow.Author.Tests.{eq-eqb}
 use Rattle.model.specs.Record.{Rec}
-use Rattle.model.specs.Log.{logBytes}
-use Rattle.model.specs.Block.{archiveIn}
+use Rattle.model.specs.Log.{recordsOf, logBytes}
+use Rattle.model.specs.Block.{archiveIn, givenFault}
 use Rattle.model.specs.File.{blockCount, fileLength, blocksIn, blockAt, fileRecords, fileFault}
-use Rattle.model.specs.Outcome.{outcome, Took, refused, taken, takeOne, takeAll, givenFault, takeOf}
+use Rattle.base_model.specs.Base.{baseIn, baseVector}
+use Rattle.call_model.specs.Outcome.{outcome, Took, refused, taken, takeOne, takeAll, takeOf}
 use Rattle.byte_slice.proofs.Parts.{part-length}
-use Rattle.log_laws.specs.Sound.{Sound}
-use Rattle.log_laws.proofs.Take.{refused-taken, taken-same, takeAll-nil, takeAll-goes, takeAll-stops, all-from}
-use Rattle.encoding_laws.proofs.Calls.{log-good, sound-back, take-done}
+use Rattle.take_laws.proofs.Take.{refused-taken, taken-same, takeAll-nil, takeAll-goes, takeAll-stops}
+use Rattle.call_laws.specs.Keeps.{Good}
+use Rattle.call_laws.proofs.Calls.{takesOn, take-back, take-left, take-done}
 use Rattle.file_laws.specs.Taking.{TakesBlocks}
 use Rattle.file_laws.proofs.Rewritten.{Agreeing, agreeing, lengths, length-right, records-right}
 
 -- records taken one after another are taken in two parts
-parted : (l rs more m : List Rec) → takeAll l (rs ++ more) ≡ taken m → (x : List Rec) × (takeAll l rs ≡ taken x) × (takeAll x more ≡ taken m)
-parted l [] more m e = (l, takeAll-nil l, e)
-parted l (r ∷ rs) more m e = go (takeOne l r) refl (λ y q. parted y rs more m q)
+parted : (p : ℕ) (v : List ℕ) (l rs more m : List Rec) → takeAll p v l (rs ++ more) ≡ taken m → (x : List Rec) × (takeAll p v l rs ≡ taken x) × (takeAll p v x more ≡ taken m)
+parted p v l [] more m e = (l, takeAll-nil p v l, e)
+parted p v l (r ∷ rs) more m e = go (takeOne p v l r) refl (λ y q. parted p v y rs more m q)
   where
-    go : (o : Took) → takeOne l r ≡ o → ((y : List Rec) → takeAll y (rs ++ more) ≡ taken m → (x : List Rec) × (takeAll y rs ≡ taken x) × (takeAll x more ≡ taken m))
-        → (x : List Rec) × (takeAll l (r ∷ rs) ≡ taken x) × (takeAll x more ≡ taken m)
-    go (refused n) q k = refused-taken (sym (takeAll-stops l r (rs ++ more) n q) ∙ e)
+    go : (o : Took) → takeOne p v l r ≡ o
+        → ((y : List Rec) → takeAll p v y (rs ++ more) ≡ taken m → (x : List Rec) × (takeAll p v y rs ≡ taken x) × (takeAll p v x more ≡ taken m))
+        → (x : List Rec) × (takeAll p v l (r ∷ rs) ≡ taken x) × (takeAll p v x more ≡ taken m)
+    go (refused n) q k = refused-taken (sym (takeAll-stops p v l r (rs ++ more) n q) ∙ e)
     go (taken y) q k =
-        let (x, a, b) = k y (sym (takeAll-goes l r (rs ++ more) y q) ∙ e) in
-        (x, takeAll-goes l r rs y q ∙ a, b)
+        let (x, a, b) = k y (sym (takeAll-goes p v l r (rs ++ more) y q) ∙ e) in
+        (x, takeAll-goes p v l r rs y q ∙ a, b)
 
 module _ (g : List ℕ) (a : fileLength g ≡ true) (e : fileFault g .number ≡ 0) (u : ℕ) (own : u ≤ 7) where
   abbrev archive : ℕ
@@ -43,28 +45,33 @@ module _ (g : List ℕ) (a : fileLength g ≡ true) (e : fileFault g .number ≡
       let A : Agreeing g (blocksIn g) k = agreeing g a e k h in
       rw (eq-eqb (length (blockAt g k)) 512 (part-length g (512 * k) 512 w), eq-eqb (archiveIn (blockAt g k)) archive (A .archived), A .good)
 
-  -- the records from block k on
-  blocks-taken : (n k : ℕ) (l m : List Rec) → k + n ≡ blocksIn g → Sound l → length l ≤ 512 → takeAll l (drop (6 * k) (fileRecords g)) ≡ taken m
-      → TakesBlocks archive u g k n (logBytes l) (logBytes m)
-  unfolding blockCount
-  blocks-taken zero k l m h s few t =
-      let r : List Rec = fileRecords g in
-      let z : drop (6 * k) r ≡ [] = drop-of-length-le r {i = 6 * k} (omega (arith, length-right g a e)) in
-      ap logBytes (taken-same (sym (takeAll-nil l) ∙ ap (takeAll l) (sym z) ∙ t))
-  blocks-taken (suc n) k l m h s few t =
-      let r : List Rec = fileRecords g in
-      let d : List Rec = drop (6 * k) r in
-      let b : List ℕ = blockAt g k in
-      let (x, p, q) = parted l (take 6 d) (drop 6 d) m (ap (takeAll l) (take-append-drop 6 d) ∙ t) in
-      let w = all-from (take 6 d) l x s p in
-      let o : takeOf archive u (logBytes l) b ≡ outcome 0 0 (logBytes x) [] 0 =
-      take-done archive u (logBytes l) b x own (log-good l s few) (given k (omega arith))
-      (rw (sound-back l s few, ← records-right g a e k (omega arith)) p) in
-      let six : 6 * k + 6 ≡ 6 * suc k = omega arith in
-      let rest = blocks-taken n (suc k) x m (omega arith) (w .sound) (w .room few)
-      (ap (λ (i : ℕ). takeAll x (drop i r)) (sym six) ∙ ap (takeAll x) (sym (drop-drop 6 (6 * k) r)) ∙ q) in
-      rw o (refl, rest)
+  -- the records that the base takes into l
+  module _ (base : List ℕ) where
+    abbrev takes : List Rec → List Rec → Took
+    takes l rs = takeAll (baseIn base .list) (baseVector base) l rs
 
-  -- a log takes the blocks of the file as it takes its records
-  pub file-taken : (l m : List Rec) → Sound l → length l ≤ 512 → takeAll l (fileRecords g) ≡ taken m → TakesBlocks archive u g 0 (blocksIn g) (logBytes l) (logBytes m)
-  file-taken l m s few t = blocks-taken (blocksIn g) 0 l m (omega arith) s few t
+    -- the records from block k on
+    blocks-taken : (n k : ℕ) (l m : List Rec) → k + n ≡ blocksIn g → Good (logBytes l) base → recordsOf (logBytes l) ≡ l → takes l (drop (6 * k) (fileRecords g)) ≡ taken m
+        → TakesBlocks archive u base g k n (logBytes l) (logBytes m)
+    unfolding blockCount
+    blocks-taken zero k l m h s back t =
+        let r : List Rec = fileRecords g in
+        let z : drop (6 * k) r ≡ [] = drop-of-length-le r {i = 6 * k} (omega (arith, length-right g a e)) in
+        ap logBytes (taken-same (sym (takeAll-nil (baseIn base .list) (baseVector base) l) ∙ ap (takes l) (sym z) ∙ t))
+    blocks-taken (suc n) k l m h s back t =
+        let r : List Rec = fileRecords g in
+        let d : List Rec = drop (6 * k) r in
+        let b : List ℕ = blockAt g k in
+        let (x, p, q) = parted (baseIn base .list) (baseVector base) l (take 6 d) (drop 6 d) m (ap (takes l) (take-append-drop 6 d) ∙ t) in
+        let now : takesOn (logBytes l) base (take 6 d) ≡ taken x = rw back p in
+        let o : takeOf archive u (logBytes l) base b ≡ outcome 0 0 (logBytes x) [] 0 =
+        take-done archive u (logBytes l) base b x own s (given k (omega arith)) (rw (← records-right g a e k (omega arith)) now) in
+        let six : 6 * k + 6 ≡ 6 * suc k = omega arith in
+        let rest = blocks-taken n (suc k) x m (omega arith) (take-left (logBytes l) base (take 6 d) x s now) (take-back (logBytes l) base (take 6 d) x s now)
+        (ap (λ (i : ℕ). takes x (drop i r)) (sym six) ∙ ap (takes x) (sym (drop-drop 6 (6 * k) r)) ∙ q) in
+        rw o (refl, rest)
+
+    -- a log takes the blocks of the file as it takes its records
+    pub file-taken : (l m : List Rec) → Good (logBytes l) base → recordsOf (logBytes l) ≡ l → takes l (fileRecords g) ≡ taken m
+        → TakesBlocks archive u base g 0 (blocksIn g) (logBytes l) (logBytes m)
+    file-taken l m s back t = blocks-taken (blocksIn g) 0 l m (omega arith) s back t

@@ -14,7 +14,9 @@ use Rattle.model.specs.Bytes.{padded}
 use Rattle.model.specs.Record.{Rec}
 use Rattle.model.specs.Log.{vectorOf, noCounts, soundAfter, recordFault, logBytes}
 use Rattle.model.specs.Block.{blockOf, blockFault, archiveIn, senderIn, placeIn, countIn, vectorIn, recordAt, blockRecords}
-use Rattle.model.specs.File.{blockCount, headerOf, fileBlock, fileOf, fileLength, blocksIn, blockAt, countFits, agrees, fileBlockFault, fault, blocksFault, recordsCounted, fileRecords, recordsFault, countsFault, orElse, fileFault, readBack, readOf}
+use Rattle.model.specs.File.{blockCount, headerOf, fileBlock, fileOf, fileLength, blocksIn, blockAt, countFits, agrees, fileBlockFault, fault, blocksFault, recordsCounted, fileRecords, recordsFault, countsFault, orElse, fileFault}
+use Rattle.base_model.specs.Base.{emptyBase}
+use Rattle.call_model.specs.Read.{readBack, readOf}
 use Rattle.byte_slice.proofs.Numbers.{lt-or-ge, eq-or-ne, and-true}
 use Rattle.byte_slice.proofs.Parts.{part-front}
 use Rattle.byte_slice.proofs.Compare.{same-refl}
@@ -101,7 +103,7 @@ module _ (archive u : ℕ) (l : List Rec) (s : Sound l) (h : length l ≤ 512) (
   some-length : (k : ℕ) → length (some k) ≡ min 6 (length l - 6 * k)
   some-length k = rw (length-take 6 (drop (6 * k) l), length-drop (6 * k) l)
 
-  pub block-is : (k : ℕ) → k < blocks → blockAt file k ≡ blockOf (headerOf archive u k l) (some k)
+  pub block-is : (k : ℕ) → k < blocks → blockAt file k ≡ blockOf (headerOf archive u k (vectorOf l)) (some k)
   unfolding blockAt padded fileBlock
   block-is k b =
       sym (part-front file (replicate (44032 - length file) 0) (512 * k) 512 (omega (arith, file-bytes))) ∙ block-of-file archive u l sized k b
@@ -110,37 +112,37 @@ module _ (archive u : ℕ) (l : List Rec) (s : Sound l) (h : length l ≤ 512) (
   module _ (k : ℕ) (b : k < blocks) where
     pub sender-is : senderIn (blockAt file k) ≡ u
     unfolding headerOf
-    sender-is = rw (block-is k b) (sender-back (headerOf archive u k l) (some k))
+    sender-is = rw (block-is k b) (sender-back (headerOf archive u k (vectorOf l)) (some k))
 
     pub archive-is : archiveIn (blockAt file k) ≡ archive
     unfolding headerOf
-    archive-is = rw (block-is k b) (archive-back (headerOf archive u k l) (some k))
+    archive-is = rw (block-is k b) (archive-back (headerOf archive u k (vectorOf l)) (some k))
 
     pub place-is : placeIn (blockAt file k) ≡ k
     unfolding headerOf
-    place-is = rw (block-is k b) (place-back (headerOf archive u k l) (some k))
+    place-is = rw (block-is k b) (place-back (headerOf archive u k (vectorOf l)) (some k))
 
     pub vector-is : vectorIn (blockAt file k) ≡ vectorOf l
     unfolding headerOf
-    vector-is = rw (block-is k b) (vector-in-back (headerOf archive u k l) (some k) (vectorOf-length l))
+    vector-is = rw (block-is k b) (vector-in-back (headerOf archive u k (vectorOf l)) (some k) (vectorOf-length l))
 
     pub count-is : countIn (blockAt file k) ≡ min 6 (length l - 6 * k)
-    count-is = rw (block-is k b) (count-back (headerOf archive u k l) (some k) ∙ some-length k)
+    count-is = rw (block-is k b) (count-back (headerOf archive u k (vectorOf l)) (some k) ∙ some-length k)
 
     sound-block : blockFault (blockAt file k) ≡ 0
     unfolding headerOf
-    sound-block = rw (block-is k b) (faultless (headerOf archive u k l) (some k) (some-sized k) (six (drop (6 * k) l)) u7)
+    sound-block = rw (block-is k b) (faultless (headerOf archive u k (vectorOf l)) (some k) (some-sized k) (six (drop (6 * k) l)) u7)
 
     record-is : (j : ℕ) → j < 6 → 6 * k + j < length l → recordAt (blockAt file k) j ≡ getD l (6 * k + j) []
     unfolding blockRecords
     record-is j j6 q =
         let rs : List Rec = some k in
-        let x : List ℕ = blockOf (headerOf archive u k l) rs in
-        let c : countIn x ≡ length rs = count-back (headerOf archive u k l) rs in
+        let x : List ℕ = blockOf (headerOf archive u k (vectorOf l)) rs in
+        let c : countIn x ≡ length rs = count-back (headerOf archive u k (vectorOf l)) rs in
         let z : 0 + j ≡ j = omega arith in
         rw (block-is k b)
         (sym ((getD-recordsFrom x 0 (countIn x) j (omega (arith, some-length k))) ∙ ap (recordAt x) z)
-        ∙ ap (λ (t : List Rec). getD t j []) (block-records (headerOf archive u k l) rs (some-sized k) (six (drop (6 * k) l)))
+        ∙ ap (λ (t : List Rec). getD t j []) (block-records (headerOf archive u k (vectorOf l)) rs (some-sized k) (six (drop (6 * k) l)))
         ∙ getD-take 6 (drop (6 * k) l) j [] j6
         ∙ getD-drop (6 * k) l j [])
 
@@ -197,12 +199,13 @@ module _ (archive u : ℕ) (l : List Rec) (s : Sound l) (h : length l ≤ 512) (
         same-refl (vectorOf l),
       )
 
-  pub read-is : (log : List ℕ) → length log ≡ 40960
-      → readOf log file ≡ record { number = 0; place = 0; archive = archive; sender = u; records = length l; vector = vectorOf l; log = logBytes l }
+  pub read-is : (log base : List ℕ) → length log ≡ 40960 → length base ≡ 43032
+      → readOf log base file ≡ record { number = 0; place = 0; archive = archive; sender = u; records = length l; vector = vectorOf l; log = logBytes l; base = emptyBase }
   unfolding readOf readBack fault
-  read-is log e =
+  read-is log base e d =
       rw (
         eq-eqb (length log) 40960 e,
+        eq-eqb (length base) 43032 d,
         length-accepted,
         no-fault,
         archive-is 0 first-block,

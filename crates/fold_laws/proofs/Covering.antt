@@ -18,8 +18,8 @@ use Rattle.log_laws.specs.Members.{Has, Sub, Agree}
 use Rattle.log_laws.specs.Sound.{Sound}
 use Rattle.log_laws.proofs.Formed.{well-unit, well-own}
 use Rattle.log_laws.proofs.Counts.{number-held, find-held, seen-within}
-use Rattle.fold_laws.specs.Lists.{isListed}
-use Rattle.fold_laws.specs.Fold.{lastOf, heardFrom, heardByAll, heardRun, countsAsBase, longest, runOf}
+use Rattle.base_model.specs.Base.{isListed}
+use Rattle.call_model.specs.Fold.{lastOf, heardFrom, heardByAll, heardRun, countsAsBase, longest, runOf}
 use Rattle.fold_laws.specs.Heard.{Heard, Made, Behind}
 use Rattle.fold_laws.proofs.Hearing.{heard-other, heard-counted, heard-seen, heard-none, all-heard}
 

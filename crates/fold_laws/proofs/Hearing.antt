@@ -15,8 +15,8 @@ use Rattle.model.specs.Record.{Rec, unit, num, seen, seenVector}
 use Rattle.model.specs.Log.{vectorOn}
 use Rattle.byte_slice.proofs.Numbers.{bool-cases, and-true}
 use Rattle.log_laws.proofs.Tests.{seenVector-getD, seenVector-length, allTo-at, allTo-all}
-use Rattle.fold_laws.specs.Lists.{isListed, listsAll, listFits}
-use Rattle.fold_laws.specs.Fold.{lastOf, heardFrom, heardBy, heardByAll}
+use Rattle.base_model.specs.Base.{isListed, listsAll}
+use Rattle.call_model.specs.Fold.{lastOf, heardFrom, heardBy, heardByAll, listFits}
 
 -- the own unit: all that it holds
 pub heard-self : (u : ℕ) (v : List ℕ) (l : List Rec) → heardBy u v l u ≡ vectorOn v l

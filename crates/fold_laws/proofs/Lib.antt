@@ -1,11 +1,8 @@
-pub mod Prefix
-pub mod Taking
 pub mod Hearing
 pub mod Covering
-pub mod Way
 pub mod Twice
 pub mod Bases
+pub mod Stores
 pub mod Worlds
 pub mod Alike
-pub mod Examples
 pub mod Claims

@@ -11,14 +11,13 @@ use lib.Dec.{leb}
 use lib.ListN.{getD, length, take, drop, take-append-drop}
 use lib.Seq.{take-add}
 use Rattle.model.specs.Record.{Rec, unit, num}
-use Rattle.model.specs.Log.{count, countOn, vectorOn}
-use Rattle.model.specs.Replay.{Entry, Aside, Tree, replayFrom}
+use Rattle.model.specs.Log.{count, vectorOn}
+use Rattle.model.specs.Replay.{Entry, Aside, Tree, replayFrom, trim}
 use Rattle.byte_slice.proofs.Numbers.{eq-or-ne, lt-or-ge, bool-cases}
 use Rattle.log_laws.specs.Members.{Has}
 use Rattle.log_laws.proofs.Tests.{vectorOn-getD}
-use Rattle.fold_laws.specs.Fold.{lastOf, heardFrom, heardByAll, heardRun, countsAsBase, longest, runOf}
+use Rattle.call_model.specs.Fold.{lastOf, heardFrom, heardByAll, heardRun, countsAsBase, longest, runOf}
 use Rattle.log_laws.proofs.Counts.{count-append}
-use Rattle.tree_laws.specs.Trees.{trim}
 use Rattle.tree_laws.proofs.Settling.{replay-append}
 use Rattle.tree_laws.proofs.Trimming.{replay-alike, trim-again}
 use Rattle.fold_laws.proofs.Hearing.{heard-self, heard-other, heard-last, heard-none, all-heard, heard-all}

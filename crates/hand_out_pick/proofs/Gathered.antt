@@ -1,4 +1,4 @@
--- The records that a vector lacks, the first six or fewer or all, gathered in one pass over a sound log.
+-- The records that a vector lacks, the first six or fewer or all, gathered in one pass over a log that is sound behind a base vector.
 -- Assumes nothing.
 use Prim.Native.Nat.{ℕ, zero, suc, _+_, _-_, _*_, _≤_, _<_}
 use native.Mathlib.Numerals.{add-one}
@@ -13,14 +13,13 @@ use lib.Seq.{take-suc, take-all, take-at}
 use borrow.Author.Tests.{not-true, not-false}
 use Rattle.model.specs.Bytes.{part, padded, joined, putAt}
 use Rattle.model.specs.Record.{Rec, unit, num}
-use Rattle.model.specs.Log.{recordsOf, soundLog, logBytes}
-use Rattle.model.specs.Outcome.{lacking}
+use Rattle.model.specs.Log.{recordsOf, soundLogOn, logBytes, lacking}
 use Rattle.byte_slice.proofs.Parts.{part-is}
 use Rattle.byte_slice.proofs.PutAt.{put-padded, padded-nil}
 use Rattle.block_laws.proofs.Fields.{Sized, length-joined, joined-at, joined-append}
 use Rattle.log_laws.specs.Members.{Has}
-use Rattle.log_laws.proofs.Counts.{unit-of}
-use Rattle.encoding_laws.proofs.Logs.{sound-proper, proper-sized, sound-records, sound-bytes, sound-few}
+use Rattle.log_laws.proofs.Counts.{unit-of-on}
+use Rattle.encoding_laws.proofs.Logs.{sound-proper-on, proper-sized, sound-records-on, sound-bytes-on, sound-few}
 use Rattle.encoding_laws.proofs.Files.{sized-take}
 
 -- ---- lacking, over lists laid end to end
@@ -63,19 +62,19 @@ lacking-one : (v : List ℕ) (r : Rec) (t : Bool) → t ≡ ltb (getD v (unit r)
 unfolding lacking
 lacking-one v r t e = rw e
 
-module _ (v b : List ℕ) (long : length b ≡ 40960) (sound : soundLog b ≡ true) where
+module _ (base v b : List ℕ) (long : length b ≡ 40960) (sound : soundLogOn base b ≡ true) where
   sized : Sized (recordsOf b)
-  sized = proper-sized (recordsOf b) (sound-proper (recordsOf b) (sound-records b sound))
+  sized = proper-sized (recordsOf b) (sound-proper-on base (recordsOf b) (sound-records-on base b sound))
 
   -- the record at a place
   pub record-at : (i : ℕ) → i < length (recordsOf b) → part b (80 * i) 80 ≡ getD (recordsOf b) i []
   unfolding logBytes padded
   record-at i h =
       let t : List ℕ = replicate (40960 - length (joined (recordsOf b))) 0 in
-      subst (λ (x : List ℕ). part x (80 * i) 80 ≡ getD (recordsOf b) i []) (sound-bytes b long sound) (joined-at (recordsOf b) i t sized h)
+      subst (λ (x : List ℕ). part x (80 * i) 80 ≡ getD (recordsOf b) i []) (sound-bytes-on base b long sound) (joined-at (recordsOf b) i t sized h)
 
   pub unit-below : (i : ℕ) → i < length (recordsOf b) → unit (part b (80 * i) 80) < 8
-  unit-below i h = rw (record-at i h) (unit-of [] (recordsOf b) (getD (recordsOf b) i []) (sound-records b sound) (has-at (recordsOf b) i h))
+  unit-below i h = rw (record-at i h) (unit-of-on base [] (recordsOf b) (getD (recordsOf b) i []) (sound-records-on base b sound) (has-at (recordsOf b) i h))
 
   length-gathered : (i : ℕ) → length (joined (gathered v b i)) ≡ 80 * length (gathered v b i)
   unfolding gathered

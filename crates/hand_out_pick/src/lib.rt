@@ -1,4 +1,5 @@
-// The records of a log that a vector lacks, gathered one behind another: the first six or fewer, or all.
+// The records of a log that a vector lacks, gathered one behind another: the first six or fewer, or all. The base vector only says behind
+// which records the log is sound.
 ghost use mathlib.Core.Path.{_≡_};
 ghost use mathlib.Core.Bool.{true};
 ghost use Prim.Native.Nat.{_<_, _≤_};
@@ -6,8 +7,7 @@ ghost use lib.Dec.{ltb};
 ghost use lib.ListN.{length, getD, take, replicate};
 ghost use Rattle.model.specs.Bytes.{padded, joined};
 ghost use Rattle.model.specs.Record.{unit, num};
-ghost use Rattle.model.specs.Log.{recordsOf, soundLog};
-ghost use Rattle.model.specs.Outcome.{lacking};
+ghost use Rattle.model.specs.Log.{recordsOf, soundLogOn, lacking};
 use byte_slice::put;
 use record::number_of;
 use record::unit_of;
@@ -23,8 +23,8 @@ pub fn lacks(v: Vector, rec: &[u8]) -> bool
 }
 
 // The first six or fewer records that a vector lacks are laid one behind another; their count is returned.
-pub fn gather(log: &[u8], used: usize, v: Vector, recs: &mut [u8]) -> u8
-    requires { ⌜ (length (now log) ≡ 40960) × (soundLog (now log) ≡ true) × (used ≡ length (recordsOf (now log))) × (now recs ≡ replicate 480 0) ⌝ }
+pub fn gather(base: Vector, log: &[u8], used: usize, v: Vector, recs: &mut [u8]) -> u8
+    requires { ⌜ (length (now log) ≡ 40960) × (soundLogOn (base .counts) (now log) ≡ true) × (used ≡ length (recordsOf (now log))) × (now recs ≡ replicate 480 0) ⌝ }
     ensures counted { λ r. ⌜ r ≡ length (take 6 (lacking (v .counts) (recordsOf (now (log .entry))))) ⌝ }
     ensures laid { λ r. ⌜ now (recs .exit) ≡ padded 480 (joined (take 6 (lacking (v .counts) (recordsOf (now (log .entry)))))) ⌝ }
 {
@@ -48,8 +48,8 @@ pub fn gather(log: &[u8], used: usize, v: Vector, recs: &mut [u8]) -> u8
 }
 
 // All records that a vector lacks are laid one behind another; their count is returned.
-pub fn gather_all(log: &[u8], used: usize, v: Vector, recs: &mut [u8]) -> usize
-    requires { ⌜ (length (now log) ≡ 40960) × (soundLog (now log) ≡ true) × (used ≡ length (recordsOf (now log))) × (now recs ≡ replicate 40960 0) ⌝ }
+pub fn gather_all(base: Vector, log: &[u8], used: usize, v: Vector, recs: &mut [u8]) -> usize
+    requires { ⌜ (length (now log) ≡ 40960) × (soundLogOn (base .counts) (now log) ≡ true) × (used ≡ length (recordsOf (now log))) × (now recs ≡ replicate 40960 0) ⌝ }
     ensures counted { λ r. ⌜ (r ≡ length (lacking (v .counts) (recordsOf (now (log .entry))))) × (r ≤ 512) ⌝ }
     ensures laid { λ r. ⌜ now (recs .exit) ≡ padded 40960 (joined (lacking (v .counts) (recordsOf (now (log .entry))))) ⌝ }
 {

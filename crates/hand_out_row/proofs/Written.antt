@@ -5,28 +5,31 @@ use native.Mathlib.Numerals.{add-one}
 use native.Mathlib.Omega.{arith}
 use mathlib.Core.Path.{_≡_, sym, _∙_}
 use mathlib.Core.Logic.{⊎-elim}
-use mathlib.Core.Bool.{true}
+use mathlib.Core.Bool.{Bool, true, false, not}
 use mathlib.Core.List.{List, _++_, append-nil}
 use lib.Dec.{eqb}
 use lib.ListN.{length, take, drop, replicate, length-append, length-take, length-drop, length-replicate}
 use lib.Seq.{take-all, drop-length}
-use Rattle.model.specs.Vector.{blocksFor}
+use borrow.Author.Tests.{not-true, not-false}
+use Rattle.model.specs.Vector.{covers, blocksFor}
 use Rattle.model.specs.Bytes.{padded, joined, putAt}
 use Rattle.model.specs.Record.{Rec}
-use Rattle.model.specs.Log.{recordsOf, soundLog, vectorOf}
+use Rattle.model.specs.Log.{recordsOf, soundLogOn, lacking}
 use Rattle.model.specs.Block.{headBytes, bodyBytes, sealed, blockOf}
 use Rattle.model.specs.File.{headerOf}
-use Rattle.model.specs.Outcome.{outcome, lacking}
+use Rattle.base_model.specs.Base.{baseVector}
+use Rattle.call_model.specs.Outcome.{outcome}
 use Rattle.byte_slice.proofs.Numbers.{lt-or-ge}
 use Rattle.byte_slice.proofs.Parts.{part-is}
 use Rattle.byte_slice.proofs.PutAt.{put-grows}
 use Rattle.block_laws.proofs.Fields.{Sized, joined-part}
-use Rattle.encoding_laws.proofs.Logs.{sound-proper, proper-sized, sound-records}
+use Rattle.encoding_laws.proofs.Logs.{sound-proper-on, proper-sized, sound-records-on}
+use Rattle.base_head.specs.Head.{headed}
 use Rattle.call_guard.specs.Opened.{opened, openOf}
-use Rattle.call_guard.proofs.Opening.{call-passes}
+use Rattle.call_guard.proofs.Opening.{open-sound, open-held, open-folded, call-refused, call-passes}
 use Rattle.hand_out_pick.proofs.Gathered.{sized-lacking}
 use Rattle.row_laws.proofs.Raised.{length-rowBlock, length-rowTo}
-use Rattle.row_model.specs.Row.{rowBlock, rowTo, rowOf, handRowOf}
+use Rattle.row_model.specs.Row.{rowBlock, rowTo, rowOf, handedRow, handRowOf}
 
 -- ---- how many blocks
 
@@ -50,17 +53,17 @@ take-six l n e =
     (λ (h : 6 ≤ length l). let m : n ≡ 6 = omega arith in rw m)
     (lt-or-ge (length l) 6)
 
-module _ (b v : List ℕ) (sound : soundLog b ≡ true) where
+module _ (base b v own : List ℕ) (sound : soundLogOn base b ≡ true) where
   w : List Rec
   w = lacking v (recordsOf b)
 
   sized : Sized w
   unfolding w
-  sized = sized-lacking v (recordsOf b) (proper-sized (recordsOf b) (sound-proper (recordsOf b) (sound-records b sound)))
+  sized = sized-lacking v (recordsOf b) (proper-sized (recordsOf b) (sound-proper-on base (recordsOf b) (sound-records-on base b sound)))
 
-  module _ (a u k m c : ℕ) (recs h : List ℕ) {s : List ℕ} (laid : recs ≡ padded 40960 (joined (lacking v (recordsOf b)))) (counted : m ≡ length (lacking v (recordsOf b))) (own : h ≡ vectorOf (recordsOf b)) (n : c ≡ min 6 (m - 6 * k)) where
-    pub block-is : 6 * k ≤ m → s ≡ sealed (headBytes (record { archive = a; sender = u; place = 0; vector = h }) c ++ padded 480 (take (480 * k + 80 * c - 480 * k) (drop (480 * k) recs)))
-        → s ≡ rowBlock a u (recordsOf b) (lacking v (recordsOf b)) k
+  module _ (a u k m c : ℕ) (recs : List ℕ) {s : List ℕ} (laid : recs ≡ padded 40960 (joined (lacking v (recordsOf b)))) (counted : m ≡ length (lacking v (recordsOf b))) (n : c ≡ min 6 (m - 6 * k)) where
+    pub block-is : 6 * k ≤ m → s ≡ sealed (headBytes (record { archive = a; sender = u; place = 0; vector = own }) c ++ padded 480 (take (480 * k + 80 * c - 480 * k) (drop (480 * k) recs)))
+        → s ≡ rowBlock a u own (lacking v (recordsOf b)) k
     unfolding rowBlock headerOf blockOf bodyBytes padded w
     block-is g f =
         let l : List Rec = drop (6 * k) w in
@@ -69,42 +72,62 @@ module _ (b v : List ℕ) (sound : soundLog b ≡ true) where
         let i : length (take 6 l) ≡ c = omega (arith, length-take 6 l, length-drop (6 * k) w) in
         let j : joined (take 6 l) ≡ take (480 * k + 80 * c - 480 * k) (drop (480 * k) recs) =
         rw (take-six l c (omega (arith, length-drop (6 * k) w)), part-is recs (480 * k) (80 * c), laid, ← e) (sym (joined-part w (6 * k) c t sized (omega arith))) in
-        f ∙ rw (j, i, own)
+        f ∙ rw (j, i)
 
   -- ---- the whole row
 
   module _ (a u : ℕ) (d : List ℕ) (room : length d ≡ 44032) where
     -- one block more
-    pub goes-on : (k n : ℕ) {e s o : List ℕ} → o ≡ putAt e (512 * k) s → s ≡ rowBlock a u (recordsOf b) (lacking v (recordsOf b)) k
-        → e ≡ rowTo a u (recordsOf b) (lacking v (recordsOf b)) k ++ drop (512 * k) d → k < n → n ≤ 86
-        → o ≡ rowTo a u (recordsOf b) (lacking v (recordsOf b)) (k + 1) ++ drop (512 * (k + 1)) d
+    pub goes-on : (k n : ℕ) {e s o : List ℕ} → o ≡ putAt e (512 * k) s → s ≡ rowBlock a u own (lacking v (recordsOf b)) k
+        → e ≡ rowTo a u own (lacking v (recordsOf b)) k ++ drop (512 * k) d → k < n → n ≤ 86
+        → o ≡ rowTo a u own (lacking v (recordsOf b)) (k + 1) ++ drop (512 * (k + 1)) d
     unfolding rowTo w
     goes-on k n r q p h g =
-        let f = rowTo a u (recordsOf b) w k in
-        let x = rowBlock a u (recordsOf b) w k in
-        let lf : length f ≡ 512 * k = length-rowTo a u (recordsOf b) w sized k in
-        let lw : length (f ++ x) ≡ 512 * (k + 1) = omega (arith, length-append f x, length-rowBlock a u (recordsOf b) w sized k) in
+        let f = rowTo a u own w k in
+        let x = rowBlock a u own w k in
+        let lf : length f ≡ 512 * k = length-rowTo a u own w sized k in
+        let lw : length (f ++ x) ≡ 512 * (k + 1) = omega (arith, length-append f x, length-rowBlock a u own w sized k) in
         let y : putAt (f ++ drop (512 * k) d) (512 * k) x ≡ (f ++ x) ++ drop (512 * (k + 1)) d = rw (lf, lw) at (put-grows d f x (omega arith)) in
         r ∙ rw (p, q, y, add-one k)
 
     -- zeros behind the last block
-    pub ends : (k n m : ℕ) {e o : List ℕ} → k ≤ n → n ≤ k → n ≤ 86 → n ≡ blocksFor m → m ≡ length (lacking v (recordsOf b)) → e ≡ rowTo a u (recordsOf b) (lacking v (recordsOf b)) k ++ drop (512 * k) d
-        → o ≡ putAt e (512 * n) (replicate (44032 - 512 * n) 0) → o ≡ padded 44032 (rowOf a u (recordsOf b) v)
+    pub ends : (k n m : ℕ) {e o : List ℕ} → k ≤ n → n ≤ k → n ≤ 86 → n ≡ blocksFor m → m ≡ length (lacking v (recordsOf b)) → e ≡ rowTo a u own (lacking v (recordsOf b)) k ++ drop (512 * k) d
+        → o ≡ putAt e (512 * n) (replicate (44032 - 512 * n) 0) → o ≡ padded 44032 (rowOf a u own (recordsOf b) v)
     unfolding rowOf padded w
     ends k n m h g c r q p z =
-        let f = rowTo a u (recordsOf b) w n in
+        let f = rowTo a u own w n in
         let y : List ℕ = replicate (44032 - 512 * n) 0 in
         let kn : k ≡ n = omega arith in
         let nc : n ≡ blocksFor (length (lacking v (recordsOf b))) = all-counted (lacking v (recordsOf b)) m n q r in
-        let lf : length f ≡ 512 * n = length-rowTo a u (recordsOf b) w sized n in
+        let lf : length f ≡ 512 * n = length-rowTo a u own w sized n in
         let lz : length (f ++ y) ≡ length d = omega (arith, length-append f y, length-replicate {A = ℕ} (44032 - 512 * n) 0) in
         let x : putAt (f ++ drop (512 * n) d) (512 * n) y ≡ f ++ y = (rw (lf, lz) at (put-grows d f y (omega arith))) ∙ rw (drop-length d, append-nil) in
         z ∙ rw (p, kn, x, ← nc, lf)
 
--- ---- success
+-- ---- the ways out
 
-pub all-handed : (a u : ℕ) (log v lent : List ℕ) {n used : ℕ} {held : List ℕ} → opened n held used ≡ openOf u log (eqb (length lent) 44032) true → n ≡ 0
-    → {k : ℕ} {o : List ℕ} → o ≡ padded 44032 (rowOf a u (recordsOf log) v) → k ≡ blocksFor (length (lacking v (recordsOf log))) → outcome 0 0 log o k ≡ handRowOf a u log v lent
-unfolding handRowOf
-all-handed a u log v lent e z p q =
-    (rw (p, q)) ∙ call-passes u log lent (eqb (length lent) 44032) e (outcome 0 0 log (padded 44032 (rowOf a u (recordsOf log) v)) (blocksFor (length (lacking v (recordsOf log))))) z
+module _ (a u : ℕ) (log base v lent : List ℕ) {n m k j : ℕ} {folded held : List ℕ} {used : ℕ} (e : opened n (headed m folded k j) held used ≡ openOf u log base (eqb (length lent) 44032) true) where
+  pub hand-refused : (n ≡ 0 → ⊥) → outcome n 0 log lent 0 ≡ handRowOf a u log base v lent
+  unfolding handRowOf
+  hand-refused h = call-refused u log base lent (eqb (length lent) 44032) e (handedRow a u log base v lent) h
+
+  module _ (z : n ≡ 0) where
+    pub told-sound : soundLogOn folded log ≡ true
+    told-sound = rw (open-folded u log base (eqb (length lent) 44032) true e z) (open-sound u log base (eqb (length lent) 44032) true e z)
+
+    module _ (t : Bool) (c : t ≡ covers v folded) where
+      asks : covers v (baseVector base) ≡ t
+      asks = sym (rw (open-folded u log base (eqb (length lent) 44032) true e z) at c)
+
+      -- what is lacked may be folded
+      pub asked-below : not t ≡ true → outcome 27 0 log lent 0 ≡ handRowOf a u log base v lent
+      unfolding handRowOf handedRow
+      asked-below h =
+          let d : outcome 27 0 log lent 0 ≡ handedRow a u log base v lent = rw (asks, not-true t h) in
+          d ∙ call-passes u log base lent (eqb (length lent) 44032) e (handedRow a u log base v lent) z
+
+      pub all-handed : not t ≡ false → {i : ℕ} {o : List ℕ} → o ≡ padded 44032 (rowOf a u held (recordsOf log) v) → i ≡ blocksFor (length (lacking v (recordsOf log))) → outcome 0 0 log o i ≡ handRowOf a u log base v lent
+      unfolding handRowOf handedRow
+      all-handed g {i} {o} p q =
+          let d : outcome 0 0 log o i ≡ handedRow a u log base v lent = rw (p, q, open-held u log base (eqb (length lent) 44032) true e z, asks, not-false t g) in
+          d ∙ call-passes u log base lent (eqb (length lent) 44032) e (handedRow a u log base v lent) z

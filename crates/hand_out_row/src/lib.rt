@@ -6,8 +6,8 @@ ghost use lib.ListN.{length, replicate};
 ghost use Rattle.model.specs.Vector.{blocksFor};
 ghost use Rattle.model.specs.Lengths.{logSize, fileSize, logPlaces};
 ghost use Rattle.model.specs.Bytes.{padded, joined};
-ghost use Rattle.model.specs.Log.{recordsOf, soundLog, vectorOf};
-ghost use Rattle.model.specs.Outcome.{outcome, lacking};
+ghost use Rattle.model.specs.Log.{recordsOf, soundLogOn, lacking};
+ghost use Rattle.call_model.specs.Outcome.{outcome};
 ghost use Rattle.row_model.specs.Row.{rowBlock, rowOf, handRowOf};
 use block_write::Block;
 use block_write::block_of;
@@ -16,6 +16,7 @@ use hand_out_pick::gather_all;
 use model::FILE_BYTES;
 use model::LOG_BYTES;
 use vector::Vector;
+use vector::covers;
 use write_file::Written;
 use write_file::clear_behind;
 use write_file_blocks::count_at;
@@ -36,8 +37,9 @@ fn row_count(n: usize) -> usize
     (n + 5) / 6
 }
 
-// Block k of the n records that the asked vector lacks, which lie one behind another. The log and the asked vector only say which they are.
+// Block k of the n records that the asked vector lacks, which lie one behind another. Base vector, log and asked vector only say which they are.
 fn row_block(
+    folded: Vector,
     log: &[u8],
     asked: Vector,
     recs: &[u8],
@@ -47,8 +49,8 @@ fn row_block(
     archive: u32,
     unit: u8,
 ) -> Block
-    requires { ⌜ (soundLog (now log) ≡ true) × (length (now recs) ≡ logSize) × (now recs ≡ padded logSize (joined (lacking (asked .counts) (recordsOf (now log))))) × (n ≡ length (lacking (asked .counts) (recordsOf (now log)))) × (held .counts ≡ vectorOf (recordsOf (now log))) × (n ≤ logPlaces) × (6 * k ≤ n) ⌝ }
-    ensures { λ r. ⌜ r .bytes ≡ rowBlock archive unit (recordsOf (now (log .entry))) (lacking (asked .counts) (recordsOf (now (log .entry)))) k ⌝ }
+    requires { ⌜ (soundLogOn (folded .counts) (now log) ≡ true) × (length (now recs) ≡ logSize) × (now recs ≡ padded logSize (joined (lacking (asked .counts) (recordsOf (now log))))) × (n ≡ length (lacking (asked .counts) (recordsOf (now log)))) × (n ≤ logPlaces) × (6 * k ≤ n) ⌝ }
+    ensures { λ r. ⌜ r .bytes ≡ rowBlock archive unit (held .counts) (lacking (asked .counts) (recordsOf (now (log .entry)))) k ⌝ }
 {
     let c = count_at(n, k);
     let at = 480 * k;
@@ -57,6 +59,7 @@ fn row_block(
 
 // Block after block is written, then zeros; the count of blocks is returned.
 fn write_row(
+    folded: Vector,
     log: &[u8],
     used: usize,
     held: Vector,
@@ -65,16 +68,16 @@ fn write_row(
     asked: Vector,
     out: &mut [u8],
 ) -> u8
-    requires { ⌜ (length (now log) ≡ logSize) × (soundLog (now log) ≡ true) × (used ≡ length (recordsOf (now log))) × (held .counts ≡ vectorOf (recordsOf (now log))) × (length (now out) ≡ fileSize) ⌝ }
+    requires { ⌜ (length (now log) ≡ logSize) × (soundLogOn (folded .counts) (now log) ≡ true) × (used ≡ length (recordsOf (now log))) × (length (now out) ≡ fileSize) ⌝ }
     ensures counted { λ r. ⌜ r ≡ blocksFor (length (lacking (asked .counts) (recordsOf (now (log .entry))))) ⌝ }
-    ensures written { λ _. ⌜ now (out .exit) ≡ padded fileSize (rowOf archive unit (recordsOf (now (log .entry))) (asked .counts)) ⌝ }
+    ensures written { λ _. ⌜ now (out .exit) ≡ padded fileSize (rowOf archive unit (held .counts) (recordsOf (now (log .entry))) (asked .counts)) ⌝ }
 {
     let mut recs = fresh_records();
-    let m = gather_all(log, used, asked, &mut recs);
+    let m = gather_all(folded, log, used, asked, &mut recs);
     let n = row_count(m);
     let mut k: usize = 0;
     while k < n {
-        let b = row_block(log, asked, &recs, m, k, held, archive, unit);
+        let b = row_block(folded, log, asked, &recs, m, k, held, archive, unit);
         write_at(out, k, b);
         k += 1;
     }
@@ -82,11 +85,19 @@ fn write_row(
     n as u8
 }
 
-// All blocks of what the asked vector lacks are written into the lent row, with zeros behind the last. The log is only read.
-pub fn hand_out_row(log: &[u8], archive: u32, unit: u8, asked: Vector, out: &mut [u8]) -> Written
-    ensures { λ r. ⌜ outcome (r .number) (r .place) (now (log .entry)) (now (out .exit)) (r .blocks) ≡ handRowOf archive unit (now (log .entry)) (asked .counts) (now (out .entry)) ⌝ }
+// All blocks of what the asked vector lacks are written into the lent row, with zeros behind the last. Checked in this order: 1, 21, 19, 27.
+// Log and base are only read.
+pub fn hand_out_row(
+    log: &[u8],
+    base: &[u8],
+    archive: u32,
+    unit: u8,
+    asked: Vector,
+    out: &mut [u8],
+) -> Written
+    ensures { λ r. ⌜ outcome (r .number) (r .place) (now (log .entry)) (now (out .exit)) (r .blocks) ≡ handRowOf archive unit (now (log .entry)) (now (base .entry)) (asked .counts) (now (out .entry)) ⌝ }
 {
-    let o = open(log, unit, out.len() == FILE_BYTES, true);
+    let o = open(log, base, unit, out.len() == FILE_BYTES, true);
     if o.number != 0 {
         return Written {
             number: o.number,
@@ -94,7 +105,16 @@ pub fn hand_out_row(log: &[u8], archive: u32, unit: u8, asked: Vector, out: &mut
             blocks: 0,
         };
     }
-    let n = write_row(log, o.used, o.held, archive, unit, asked, out);
+    let head = o.head;
+    let folded = head.folded;
+    if !covers(asked, folded) {
+        return Written {
+            number: 27,
+            place: 0,
+            blocks: 0,
+        };
+    }
+    let n = write_row(folded, log, o.used, o.held, archive, unit, asked, out);
     Written {
         number: 0,
         place: 0,

@@ -2,16 +2,17 @@
 -- Assumes nothing.
 use Prim.Native.Nat.{ℕ, _+_, _-_, _*_, _≤_, _<_}
 use native.Mathlib.Omega.{arith}
-use mathlib.Core.Path.{_≡_, refl, sym, ap, _∙_}
+use mathlib.Core.Path.{_≡_, _∙_}
 use mathlib.Core.Logic.{_⊎_, ⊎-elim}
 use mathlib.Core.List.{List}
-use lib.ListN.{getD, length, take, drop}
+use lib.ListN.{getD, take, drop}
 use borrow.Author.Tests.{le-leb, lt-leb, eq-eqb, ne-eqb, lt-ltb, le-ltb}
 use Rattle.byte_slice.proofs.Parts.{part-is}
 use Rattle.model.specs.Bytes.{part}
 use Rattle.model.specs.Record.{Rec, op, selfOf, objectOf, folderOf, labelOf, usesFolder}
-use Rattle.model.specs.Replay.{Entry, Tree, entryOf}
-use Rattle.tree_table.specs.Rows.{InRange, entryIn, entriesFrom, rowIn, treeIn}
+use Rattle.model.specs.Replay.{entryOf}
+use Rattle.model.specs.Table.{entryIn}
+use Rattle.tree_table.specs.Rows.{InRange, entriesFrom, rowIn, treeIn}
 use Rattle.tree_judge.specs.Judged.{Asks}
 use Rattle.index_model.specs.Change.{putIn, takeOut, moveIn}
 use Rattle.index_model.specs.Acting.{removedIn, renamedIn, movedIn, changeIn}

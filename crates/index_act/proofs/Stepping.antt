@@ -1,19 +1,16 @@
 -- What judging a record and changing the index is asked, over plain values.
 -- Assumes nothing.
-use Prim.Native.Nat.{ℕ, _+_, _*_, _≤_, _<_}
+use Prim.Native.Nat.{ℕ, _+_, _*_, _<_}
 use native.Mathlib.Omega.{arith}
 use mathlib.Core.Path.{_≡_, refl, sym, ap, _∙_}
-use mathlib.Core.Bool.{true}
 use mathlib.Core.List.{List, []}
-use lib.ListN.{getD, length}
+use lib.ListN.{getD}
 use borrow.Author.Tests.{ne-eqb}
 use Rattle.model.specs.Record.{Rec}
-use Rattle.model.specs.Log.{recordsOf, soundLog}
-use Rattle.model.specs.Replay.{Entry, Tree, Verdict, fits, aside, judge, replay}
-use Rattle.model.specs.Outcome.{reasonOf}
+use Rattle.model.specs.Replay.{Entry, Tree, Verdict, fits, aside, judge, reasonOf}
+use Rattle.model.specs.Table.{entryIn}
 use Rattle.log_laws.proofs.Members.{All, all-at}
-use Rattle.encoding_laws.proofs.Logs.{sound-records, sound-few}
-use Rattle.tree_table.specs.Rows.{entryIn, entriesFrom, treeIn}
+use Rattle.tree_table.specs.Rows.{entriesFrom, treeIn}
 use Rattle.tree_lookup.specs.Roles.{Works}
 use Rattle.tree_lookup.proofs.Working.{works-tree, proper-at}
 use Rattle.tree_laws.proofs.Verdicts.{Under, Reason, reason-least, reason-range}
@@ -23,19 +20,17 @@ use Rattle.index_model.specs.Acting.{changeIn, stepIn}
 use Rattle.index_model.specs.Kept.{ifLent}
 use Rattle.index_laws.proofs.Exact.{Rowed}
 use Rattle.index_laws.proofs.Made.{entries-at}
-use Rattle.index_laws.proofs.Rowed.{sound-all}
 use Rattle.keep_lent.proofs.Lent.{lent-same}
 use Rattle.index_act.specs.Inside.{Inside}
 
 nobody : Entry
 nobody = record { made = 0; kind = 0; inside = 0; label = []; contents = 0; date = []; mark = []; placing = 0 }
 
-pub laid-inside : (log b register : List ℕ) (n m : ℕ) → soundLog log ≡ true → Works b register n m (replay (recordsOf log)) → Inside b n
+-- a tree whose entries have rows in an index stands in a table
+pub laid-inside : (b register : List ℕ) (n m : ℕ) (t : Tree) → Works b register n m t → All Rowed (t .entries) → Inside b n
 unfolding treeIn
-laid-inside log b register n m s w =
-    let t = replay (recordsOf log) in
+laid-inside b register n m t w a =
     let q : entriesFrom b 0 n ≡ t .entries = ap (λ (x : Tree). x .entries) (works-tree b register n m t w) in
-    let a : All Rowed (t .entries) = sound-all (recordsOf log) (sound-records log s) (sound-few log) in
     let row : (i : ℕ) → i < n → entryIn b (4 + 72 * i) ≡ getD (t .entries) i nobody =
     λ i h. let z : 0 + i ≡ i = omega arith in sym (rw z at (entries-at b 0 n i nobody h)) ∙ rw q in
     let c = w .rows in
@@ -51,21 +46,17 @@ unfolding reasonOf
 reason-zero fits h e = refl
 reason-zero (aside n k) h e = absurd (omega (arith, reason-least n h))
 
-module _ (r b register : List ℕ) (n m : ℕ) (t : Tree) (w : Works b register n m t) (x k : ℕ) (e : verdictOf x k ≡ judge r (treeIn b n m)) (index : List ℕ) where
-  tree : treeIn b n m ≡ t
-  tree = works-tree b register n m t w
+module _ (r : Rec) (t : Tree) (x k : ℕ) (e : verdictOf x k ≡ judge r t) where
+  pub reason-is : x ≡ reasonOf (judge r t)
+  reason-is = verdict-numbers x k (judge r t) e .0
 
-  fitted : x ≡ 0 → judge r t ≡ fits
-  fitted h =
-      let v : verdictOf x k ≡ judge r t = e ∙ ap (judge r) tree in
-      reason-zero (judge r t) (reason-range r t) (sym (verdict-numbers x k (judge r t) v .0) ∙ h)
+  module _ (index : List ℕ) where
+    pub changed-it : x ≡ 0 → (y : List ℕ) → y ≡ ifLent index (changeIn r t index) → y ≡ ifLent index (stepIn (judge r t) r t index)
+    unfolding stepIn
+    changed-it h y q = rw (reason-zero (judge r t) (reason-range r t) (sym reason-is ∙ h)) q
 
-  pub changed-it : x ≡ 0 → (y : List ℕ) → y ≡ ifLent index (changeIn r (treeIn b n m) index) → y ≡ ifLent index (stepIn (judge r t) r t index)
-  unfolding stepIn
-  changed-it h y q = rw (fitted h) (q ∙ rw tree)
-
-  pub left-it : (x ≡ 0 → ⊥) → index ≡ ifLent index (stepIn (judge r t) r t index)
-  unfolding verdictOf stepIn
-  left-it h =
-      let v : judge r t ≡ aside x k = ap (judge r) (sym tree) ∙ sym e ∙ rw (ne-eqb x 0 h) in
-      rw v (lent-same index)
+    pub left-it : (x ≡ 0 → ⊥) → index ≡ ifLent index (stepIn (judge r t) r t index)
+    unfolding verdictOf stepIn
+    left-it h =
+        let v : judge r t ≡ aside x k = sym e ∙ rw (ne-eqb x 0 h) in
+        rw v (lent-same index)

@@ -2,7 +2,7 @@
 -- Assumes nothing.
 use Prim.Native.Nat.{ℕ, _+_, _*_, _<_}
 use mathlib.Core.List.{List}
-use Rattle.tree_table.specs.Rows.{entryIn}
+use Rattle.model.specs.Table.{entryIn}
 
 -- the entries in the first n rows of a table have folders of a known unit and a 16-bit number, and identities alike
 pub record Inside (b : List ℕ) (n : ℕ) : Type 0 where

@@ -3,11 +3,9 @@ ghost use mathlib.Core.Path.{_≡_};
 ghost use mathlib.Core.Bool.{true};
 ghost use Prim.Native.Nat.{_≤_, _<_};
 ghost use lib.ListN.{length, getD};
-ghost use Rattle.model.specs.Lengths.{logSize, treeSize};
+ghost use Rattle.model.specs.Lengths.{recordSize, treeSize};
 ghost use Rattle.model.specs.Record.{selfOf};
-ghost use Rattle.model.specs.Log.{recordsOf, soundLog};
-ghost use Rattle.model.specs.Replay.{judge as judgeOf, replay as replayOf};
-ghost use Rattle.model.specs.Outcome.{reasonOf};
+ghost use Rattle.model.specs.Replay.{judge as judgeOf, reasonOf};
 ghost use Rattle.tree_table.specs.Rows.{InRange, rowIn, treeIn};
 ghost use Rattle.tree_lookup.specs.Roles.{Holds};
 ghost use Rattle.tree_judge.specs.Judged.{Asks};
@@ -15,13 +13,11 @@ ghost use Rattle.index_model.specs.Index.{indexSize};
 ghost use Rattle.index_model.specs.Acting.{removedIn, renamedIn, movedIn, changeIn, stepIn};
 ghost use Rattle.index_model.specs.Kept.{indexFits, ifLent};
 ghost use Rattle.index_act.specs.Inside.{Inside};
-use model::TREE_BYTES;
-use tree_maps::REGISTER;
 use tree_table::Size;
 
 // The entry in a row, if it is one of n, is taken out of the index.
 fn remove_from(table: &[u8], n: usize, row: usize, index: &mut [u8])
-    requires { ⌜ (length (now table) ≡ treeSize) × (n ≤ 512) × (length (now index) ≡ indexSize) ⌝ }
+    requires { ⌜ (length (now table) ≡ treeSize) × (n ≤ 1024) × (length (now index) ≡ indexSize) ⌝ }
     ensures { λ _. ⌜ now (index .exit) ≡ removedIn (now (index .entry)) (rowIn (now (table .entry)) n row) ⌝ }
 {
     if n <= row {
@@ -34,7 +30,7 @@ fn remove_from(table: &[u8], n: usize, row: usize, index: &mut [u8])
 
 // The entry in a row, if it is one of n, gets the label of a record in the index.
 fn rename_in(rec: &[u8], table: &[u8], n: usize, row: usize, index: &mut [u8])
-    requires { ⌜ (length (now rec) ≡ 80) × (length (now table) ≡ treeSize) × (n ≤ 512) × Inside (now table) n × (length (now index) ≡ indexSize) ⌝ }
+    requires { ⌜ (length (now rec) ≡ recordSize) × (length (now table) ≡ treeSize) × (n ≤ 1024) × Inside (now table) n × (length (now index) ≡ indexSize) ⌝ }
     ensures { λ _. ⌜ now (index .exit) ≡ renamedIn (now (rec .entry)) (now (index .entry)) (rowIn (now (table .entry)) n row) ⌝ }
 {
     if n <= row {
@@ -55,7 +51,7 @@ fn rename_in(rec: &[u8], table: &[u8], n: usize, row: usize, index: &mut [u8])
 
 // The entry in a row, if it is one of n, gets the folder and the label of a record in the index.
 fn move_to(rec: &[u8], table: &[u8], n: usize, row: usize, index: &mut [u8])
-    requires { ⌜ Asks (now rec) × (getD (now rec) 1 0 ≡ 7) × (length (now table) ≡ treeSize) × (n ≤ 512) × Inside (now table) n × (length (now index) ≡ indexSize) ⌝ }
+    requires { ⌜ Asks (now rec) × (getD (now rec) 1 0 ≡ 7) × (length (now table) ≡ treeSize) × (n ≤ 1024) × Inside (now table) n × (length (now index) ≡ indexSize) ⌝ }
     ensures { λ _. ⌜ now (index .exit) ≡ movedIn (now (rec .entry)) (now (index .entry)) (rowIn (now (table .entry)) n row) ⌝ }
 {
     if n <= row {
@@ -118,19 +114,22 @@ fn change_lent(rec: &[u8], table: &[u8], register: &[u16], size: Size, index: &m
     change_index(rec, table, register, size, index);
 }
 
-// The reason under which a record would stand aside behind the records of a sound log, or 0; and then the index is changed, if one is lent.
-pub fn judge_and_change(log: &[u8], used: usize, rec: &[u8], index: &mut [u8]) -> u8
-    requires { ⌜ (length (now log) ≡ logSize) × (soundLog (now log) ≡ true) × (used ≡ length (recordsOf (now log))) × Asks (now rec) × InRange (selfOf (now rec)) × (indexFits (now index) ≡ true) ⌝ }
-    ensures reason { λ r. ⌜ r ≡ reasonOf (judgeOf (now (rec .entry)) (replayOf (recordsOf (now (log .entry))))) ⌝ }
-    ensures index { λ _. ⌜ now (index .exit) ≡ ifLent (now (index .entry)) (stepIn (judgeOf (now (rec .entry)) (replayOf (recordsOf (now (log .entry))))) (now (rec .entry)) (replayOf (recordsOf (now (log .entry)))) (now (index .entry))) ⌝ }
+// The reason under which a record would stand aside behind the tree in a table, or 0; and then the index is changed, if one is lent.
+pub fn judge_and_change(
+    rec: &[u8],
+    table: &[u8],
+    register: &[u16],
+    size: Size,
+    index: &mut [u8],
+) -> u8
+    requires { ⌜ Asks (now rec) × InRange (selfOf (now rec)) × Holds (now table) (now register) (size .entries) (size .asides) × Inside (now table) (size .entries) × (indexFits (now index) ≡ true) ⌝ }
+    ensures reason { λ r. ⌜ r ≡ reasonOf (judgeOf (now (rec .entry)) (treeIn (now (table .entry)) (size .entries) (size .asides))) ⌝ }
+    ensures index { λ _. ⌜ now (index .exit) ≡ ifLent (now (index .entry)) (stepIn (judgeOf (now (rec .entry)) (treeIn (now (table .entry)) (size .entries) (size .asides))) (now (rec .entry)) (treeIn (now (table .entry)) (size .entries) (size .asides)) (now (index .entry))) ⌝ }
 {
-    let mut table = [0u8; TREE_BYTES];
-    let mut register = [0u16; REGISTER];
-    let size = tree_replay::replay_log(log, used, &mut table, &mut register);
-    let j = tree_judge::judge(rec, &table, &register, size);
+    let j = tree_judge::judge(rec, table, register, size);
     let n = j.reason;
     if n == 0 {
-        change_lent(rec, &table, &register, size, index);
+        change_lent(rec, table, register, size, index);
     }
     n
 }

@@ -14,7 +14,7 @@ use Rattle.byte_slice.proofs.PutAt.{length-put, put-more, put-front}
 use Rattle.model.specs.Bytes.{two, part, putAt}
 use Rattle.model.specs.Replay.{sameLabel}
 use Rattle.model.specs.Table.{identityBytes}
-use Rattle.index_model.specs.Index.{folderKey, rowBefore, rowsIn, folderAt, labelAt, rowIs, halve, seek}
+use Rattle.index_model.specs.Index.{indexSize, indexPlaces, folderKey, rowBefore, rowsIn, folderAt, labelAt, rowIs, halve, seek}
 use Rattle.index_model.specs.Change.{rowBytes, putRow, putIn, takeRow, takeOut, moveIn}
 
 identity-long : (k : ℕ) → length (identityBytes k) ≡ 4
@@ -42,7 +42,7 @@ unfolding rowBytes
 row-bytes-long f k t h =
     omega (arith, length-append (identityBytes f) (t ++ identityBytes k), length-append t (identityBytes k), identity-long f, identity-long k)
 
-pub row-put : (d a z w : List ℕ) (n i f k : ℕ) (t : List ℕ) → length d ≡ 20484 → n < 512 → i ≤ n → length t ≡ 32
+pub row-put : (d a z w : List ℕ) (n i f k : ℕ) (t : List ℕ) → length d ≡ indexSize → n < indexPlaces → i ≤ n → length t ≡ 32
     → a ≡ putAt d (4 + 40 * i + 40) (part d (4 + 40 * i) (4 + 40 * n - (4 + 40 * i)))
     → z ≡ putAt a (4 + 40 * i) (rowBytes f t k)
     → w ≡ putAt z 0 (two (n + 1))
@@ -59,7 +59,7 @@ row-put d a z w n i f k t ld h g lt p q u =
     let v : putAt (putAt d (at + 40) B) at R ≡ putAt d at (R ++ B) = rw lR at (put-front d at R B (omega arith)) in
     u ∙ ap (λ (l : List ℕ). putAt l 0 (two (n + 1))) (q ∙ rw (a1, v))
 
-pub row-taken : (d a x w : List ℕ) (n i : ℕ) → length d ≡ 20484 → n ≤ 512 → i < n
+pub row-taken : (d a x w : List ℕ) (n i : ℕ) → length d ≡ indexSize → n ≤ indexPlaces → i < n
     → a ≡ putAt d (4 + 40 * i) (part d (4 + 40 * i + 40) (40 * (n - i - 1)))
     → x ≡ putAt a (4 + 40 * i + 40 * (n - i - 1)) (replicate 40 0)
     → w ≡ putAt x 0 (two (n - 1))
@@ -79,18 +79,18 @@ taken-low b f t n i r p e z =
     omega (arith, ltb-true i (rowsIn b) u)
 
 module _ (b : List ℕ) (f : ℕ) (t : List ℕ) {n : ℕ} (p : n ≡ rowsIn b) where
-  pub put-full : (k : ℕ) → 512 ≤ n → b ≡ putIn b f t k
+  pub put-full : (k : ℕ) → indexPlaces ≤ n → b ≡ putIn b f t k
   unfolding putIn
-  put-full k h = rw (← p, le-ltb n 512 h)
+  put-full k h = rw (← p, le-ltb n indexPlaces h)
 
-  module _ {g i : ℕ} (q : g ≡ folderKey f) (s : i ≡ halve (rowBefore b g t) 10 0 n) where
+  module _ {g i : ℕ} (q : g ≡ folderKey f) (s : i ≡ halve (rowBefore b g t) 11 0 n) where
     sought : i ≡ seek b (folderKey f) t
     unfolding seek
     sought = s ∙ rw (p, q)
 
-    pub put-done : (k : ℕ) (w : List ℕ) → n < 512 → w ≡ putRow b n i (rowBytes f t k) → w ≡ putIn b f t k
+    pub put-done : (k : ℕ) (w : List ℕ) → n < indexPlaces → w ≡ putRow b n i (rowBytes f t k) → w ≡ putIn b f t k
     unfolding putIn
-    put-done k w h e = e ∙ rw (← p, lt-ltb n 512 h, ← sought)
+    put-done k w h e = e ∙ rw (← p, lt-ltb n indexPlaces h, ← sought)
 
     module _ {r : Bool} (e : r ≡ rowIs b f t i) where
       pub take-done : r ≡ true → (w : List ℕ) → w ≡ takeRow b n i → w ≡ takeOut b f t

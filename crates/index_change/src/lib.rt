@@ -3,8 +3,9 @@ ghost use mathlib.Core.Path.{_≡_};
 ghost use Prim.Native.Nat.{_+_, _-_, _*_, _≤_, _<_};
 ghost use lib.ListN.{length};
 ghost use Rattle.model.specs.Bytes.{putAt};
-ghost use Rattle.index_model.specs.Index.{indexSize};
+ghost use Rattle.index_model.specs.Index.{indexSize, indexPlaces};
 ghost use Rattle.index_model.specs.Change.{rowBytes, putRow, putIn, takeRow, takeOut, moveIn};
+use index_model::INDEX_PLACES;
 
 // A row is written: folder, label, entry.
 fn write_row(index: &mut [u8], at: usize, folder: u32, label: &[u8], entry: u32)
@@ -18,7 +19,7 @@ fn write_row(index: &mut [u8], at: usize, folder: u32, label: &[u8], entry: u32)
 
 // A row becomes row i of n.
 fn put_row(index: &mut [u8], n: usize, i: usize, folder: u32, label: &[u8], entry: u32)
-    requires { ⌜ (length (now index) ≡ indexSize) × (n < 512) × (i ≤ n) × (folder < 524288) × (length (now label) ≡ 32) × (entry < 524288) ⌝ }
+    requires { ⌜ (length (now index) ≡ indexSize) × (n < indexPlaces) × (i ≤ n) × (folder < 524288) × (length (now label) ≡ 32) × (entry < 524288) ⌝ }
     ensures { λ _. ⌜ now (index .exit) ≡ putRow (now (index .entry)) n i (rowBytes folder (now (label .entry)) entry) ⌝ }
 {
     let at = 4 + 40 * i;
@@ -33,7 +34,7 @@ pub fn put_in(index: &mut [u8], folder: u32, label: &[u8], entry: u32)
     ensures { λ _. ⌜ now (index .exit) ≡ putIn (now (index .entry)) folder (now (label .entry)) entry ⌝ }
 {
     let n = index_find::rows_in(index);
-    if 512 <= n {
+    if INDEX_PLACES <= n {
         return;
     }
     let i = index_find::seek(index, n, index_find::folder_key(folder), label);
@@ -42,7 +43,7 @@ pub fn put_in(index: &mut [u8], folder: u32, label: &[u8], entry: u32)
 
 // Row i of n goes.
 fn take_row(index: &mut [u8], n: usize, i: usize)
-    requires { ⌜ (length (now index) ≡ indexSize) × (n ≤ 512) × (i < n) ⌝ }
+    requires { ⌜ (length (now index) ≡ indexSize) × (n ≤ indexPlaces) × (i < n) ⌝ }
     ensures { λ _. ⌜ now (index .exit) ≡ takeRow (now (index .entry)) n i ⌝ }
 {
     let at = 4 + 40 * i;

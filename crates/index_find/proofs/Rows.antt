@@ -14,7 +14,7 @@ use Rattle.record_label.proofs.Same.{same-key, key-length}
 use Rattle.model.specs.Bytes.{part}
 use Rattle.model.specs.Record.{identityAt}
 use Rattle.model.specs.Replay.{sameLabel}
-use Rattle.index_model.specs.Index.{folderKey, keyBefore, rowBefore, rowsIn, folderAt, labelAt, entryAt, rowIs, halve, seek, findIn, firstIn, endIn, found, findOf, range, rangeOf}
+use Rattle.index_model.specs.Index.{indexSize, indexPlaces, folderKey, keyBefore, rowBefore, rowsIn, folderAt, labelAt, entryAt, rowIs, halve, seek, findIn, firstIn, endIn, found, findOf, range, rangeOf}
 
 -- ---- one row
 
@@ -36,7 +36,7 @@ module _ (b : List ℕ) (f : ℕ) (t : List ℕ) (i : ℕ) where
       row-other g = rw (← e, lt-ltb i n h, ← p, ne-eqb k f g)
 
       -- a label of another length is in no row
-      pub row-short : length b ≡ 20484 → n ≤ 512 → (length t ≡ 32 → ⊥) → false ≡ rowIs b f t i
+      pub row-short : length b ≡ indexSize → n ≤ indexPlaces → (length t ≡ 32 → ⊥) → false ≡ rowIs b f t i
       unfolding rowIs labelAt
       row-short m few g =
           let l = part b (4 + 40 * i + 4) 32 in
@@ -52,16 +52,16 @@ module _ (b : List ℕ) (f : ℕ) (t : List ℕ) (i : ℕ) where
 -- ---- the answers
 
 module _ (b : List ℕ) (f : ℕ) (t : List ℕ) where
-  pub find-bad-index : (length b ≡ 20484 → ⊥) → found 1 0 ≡ findOf b f t
+  pub find-bad-index : (length b ≡ indexSize → ⊥) → found 1 0 ≡ findOf b f t
   unfolding findOf
-  find-bad-index h = rw (ne-eqb (length b) 20484 h)
+  find-bad-index h = rw (ne-eqb (length b) indexSize h)
 
-  module _ (h : length b ≡ 20484) where
+  module _ (h : length b ≡ indexSize) where
     pub find-bad-label : (length t ≡ 32 → ⊥) → found 1 0 ≡ findOf b f t
     unfolding findOf
-    find-bad-label g = rw (eq-eqb (length b) 20484 h, ne-eqb (length t) 32 g)
+    find-bad-label g = rw (eq-eqb (length b) indexSize h, ne-eqb (length t) 32 g)
 
-    module _ (g : length t ≡ 32) {n k i : ℕ} (p : n ≡ rowsIn b) (q : k ≡ folderKey f) (s : i ≡ halve (rowBefore b k t) 10 0 n) {r : Bool} (e : r ≡ rowIs b f t i) where
+    module _ (g : length t ≡ 32) {n k i : ℕ} (p : n ≡ rowsIn b) (q : k ≡ folderKey f) (s : i ≡ halve (rowBefore b k t) 11 0 n) {r : Bool} (e : r ≡ rowIs b f t i) where
       sought : i ≡ seek b (folderKey f) t
       unfolding seek
       sought = s ∙ rw (p, q)
@@ -70,26 +70,26 @@ module _ (b : List ℕ) (f : ℕ) (t : List ℕ) where
       unfolding findOf findIn
       find-none z =
           let w : rowIs b f t (seek b (folderKey f) t) ≡ false = rw (← sought) (sym e ∙ not-true r z) in
-          rw (eq-eqb (length b) 20484 h, eq-eqb (length t) 32 g, w)
+          rw (eq-eqb (length b) indexSize h, eq-eqb (length t) 32 g, w)
 
       pub find-there : not r ≡ false → (x : ℕ) → x ≡ entryAt b i → found 0 x ≡ findOf b f t
       unfolding findOf findIn
       find-there z x y =
           let w : rowIs b f t (seek b (folderKey f) t) ≡ true = rw (← sought) (sym e ∙ not-false r z) in
-          rw (eq-eqb (length b) 20484 h, eq-eqb (length t) 32 g, w, ← sought, y)
+          rw (eq-eqb (length b) indexSize h, eq-eqb (length t) 32 g, w, ← sought, y)
 
-      pub row-within : not r ≡ false → n ≤ 512 → i < 512
+      pub row-within : not r ≡ false → n ≤ indexPlaces → i < indexPlaces
       unfolding rowIs
       row-within z few =
           let (u, v) = and-true (ltb i (rowsIn b)) (eqb (folderAt b i) f && sameLabel (labelAt b i) t) (sym e ∙ not-false r z) in
           omega (arith, ltb-true i (rowsIn b) u)
 
-pub list-bad-index : (b : List ℕ) (f : ℕ) → (length b ≡ 20484 → ⊥) → range 1 0 0 ≡ rangeOf b f
+pub list-bad-index : (b : List ℕ) (f : ℕ) → (length b ≡ indexSize → ⊥) → range 1 0 0 ≡ rangeOf b f
 unfolding rangeOf
-list-bad-index b f h = rw (ne-eqb (length b) 20484 h)
+list-bad-index b f h = rw (ne-eqb (length b) indexSize h)
 
-module _ (b : List ℕ) (f : ℕ) (h : length b ≡ 20484) {n k a z : ℕ} (p : n ≡ rowsIn b) (q : k ≡ folderKey f)
-    (x : a ≡ halve (rowBefore b k (replicate 32 0)) 10 0 n) (y : z ≡ halve (rowBefore b (k + 1) (replicate 32 0)) 10 0 n) where
+module _ (b : List ℕ) (f : ℕ) (h : length b ≡ indexSize) {n k a z : ℕ} (p : n ≡ rowsIn b) (q : k ≡ folderKey f)
+    (x : a ≡ halve (rowBefore b k (replicate 32 0)) 11 0 n) (y : z ≡ halve (rowBefore b (k + 1) (replicate 32 0)) 11 0 n) where
   first-is : a ≡ firstIn b f
   unfolding firstIn seek
   first-is = x ∙ rw (p, q)
@@ -100,8 +100,8 @@ module _ (b : List ℕ) (f : ℕ) (h : length b ≡ 20484) {n k a z : ℕ} (p : 
 
   pub list-none : z < a → range 0 a 0 ≡ rangeOf b f
   unfolding rangeOf
-  list-none g = let m : z - a ≡ 0 = omega arith in rw (eq-eqb (length b) 20484 h, ← first-is, ← end-is, m)
+  list-none g = let m : z - a ≡ 0 = omega arith in rw (eq-eqb (length b) indexSize h, ← first-is, ← end-is, m)
 
   pub list-there : range 0 a (z - a) ≡ rangeOf b f
   unfolding rangeOf
-  list-there = rw (eq-eqb (length b) 20484 h, ← first-is, ← end-is)
+  list-there = rw (eq-eqb (length b) indexSize h, ← first-is, ← end-is)

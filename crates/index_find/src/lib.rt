@@ -3,8 +3,12 @@ ghost use mathlib.Core.Path.{_≡_};
 ghost use Prim.Native.Nat.{_+_, _*_, _≤_, _<_};
 ghost use lib.ListN.{length};
 ghost use Rattle.model.specs.Replay.{labelKey};
-ghost use Rattle.index_model.specs.Index.{indexSize, comesBefore, folderKey, keyBefore, rowBefore, rowsIn, rowIs, entryAt, halve, found, findOf, range, rangeOf};
+ghost use Rattle.index_model.specs.Index.{indexSize, indexPlaces, comesBefore, folderKey, keyBefore, rowBefore, rowsIn, rowIs, entryAt, halve, found, findOf, range, rangeOf};
 use index_model::INDEX_BYTES;
+use index_model::INDEX_PLACES;
+
+// So often at most are the rows of an index halved.
+pub const HALVINGS: usize = 11;
 
 // What looking up answers: 1 for a wrong length, and the entry; 0 for none.
 pub struct Found {
@@ -59,18 +63,18 @@ pub fn key_before(f: u64, t: &[u8], g: u64, s: &[u8]) -> bool
     comes_before(t, s)
 }
 
-// How many rows an index has, at most 512.
+// How many rows an index has, at most 1,024.
 pub fn rows_in(index: &[u8]) -> usize
     requires { ⌜ length (now index) ≡ indexSize ⌝ }
-    ensures { λ r. ⌜ (r ≡ rowsIn (now (index .entry))) × (r ≤ 512) ⌝ }
+    ensures { λ r. ⌜ (r ≡ rowsIn (now (index .entry))) × (r ≤ indexPlaces) ⌝ }
 {
     let n = byte_slice::le16(index, 0) as usize;
-    if n < 512 { n } else { 512 }
+    if n < INDEX_PLACES { n } else { INDEX_PLACES }
 }
 
 // Row i comes before a label in the folder of a key.
 fn row_before(index: &[u8], i: usize, key: u64, label: &[u8]) -> bool
-    requires { ⌜ (length (now index) ≡ indexSize) × (i < 512) ⌝ }
+    requires { ⌜ (length (now index) ≡ indexSize) × (i < indexPlaces) ⌝ }
     ensures { λ r. ⌜ r ≡ rowBefore (now (index .entry)) key (now (label .entry)) i ⌝ }
 {
     let at = 4 + 40 * i;
@@ -81,13 +85,13 @@ fn row_before(index: &[u8], i: usize, key: u64, label: &[u8]) -> bool
 
 // The first of n rows that does not come before a label in the folder of a key, by halving.
 pub fn seek(index: &[u8], n: usize, key: u64, label: &[u8]) -> usize
-    requires { ⌜ (length (now index) ≡ indexSize) × (n ≤ 512) ⌝ }
-    ensures { λ r. ⌜ (r ≡ halve (rowBefore (now (index .entry)) key (now (label .entry))) 10 0 n) × (r ≤ n) ⌝ }
+    requires { ⌜ (length (now index) ≡ indexSize) × (n ≤ indexPlaces) ⌝ }
+    ensures { λ r. ⌜ (r ≡ halve (rowBefore (now (index .entry)) key (now (label .entry))) 11 0 n) × (r ≤ n) ⌝ }
 {
     let mut lo: usize = 0;
     let mut hi = n;
     let mut k: usize = 0;
-    while k < 10 {
+    while k < HALVINGS {
         if hi <= lo {
             return lo;
         }
@@ -104,7 +108,7 @@ pub fn seek(index: &[u8], n: usize, key: u64, label: &[u8]) -> usize
 
 // Row i is one of n rows, of the folder, and has the label, in capitals or small letters.
 pub fn row_is(index: &[u8], n: usize, i: usize, folder: u32, label: &[u8]) -> bool
-    requires { ⌜ (length (now index) ≡ indexSize) × (n ≡ rowsIn (now index)) × (n ≤ 512) ⌝ }
+    requires { ⌜ (length (now index) ≡ indexSize) × (n ≡ rowsIn (now index)) × (n ≤ indexPlaces) ⌝ }
     ensures { λ r. ⌜ r ≡ rowIs (now (index .entry)) folder (now (label .entry)) i ⌝ }
 {
     if n <= i {
@@ -123,7 +127,7 @@ pub fn row_is(index: &[u8], n: usize, i: usize, folder: u32, label: &[u8]) -> bo
 
 // The entry in row i.
 pub fn entry_at(index: &[u8], i: usize) -> u32
-    requires { ⌜ (length (now index) ≡ indexSize) × (i < 512) ⌝ }
+    requires { ⌜ (length (now index) ≡ indexSize) × (i < indexPlaces) ⌝ }
     ensures { λ r. ⌜ r ≡ entryAt (now (index .entry)) i ⌝ }
 {
     tree_table::identity_at(index, 4 + 40 * i + 36)

@@ -18,7 +18,7 @@ use Rattle.log_laws.proofs.Members.{All}
 use Rattle.tree_laws.specs.Replayed.{Has, makers}
 use Rattle.tree_laws.proofs.Labels.{Apart, Clash, Named, has-made}
 use Rattle.tree_laws.proofs.Steps.{effect-elim, withEntries}
-use Rattle.index_model.specs.Index.{folderKey, entryBefore, keyBefore, placed, ordered, indexRow, indexRows, indexBytes, indexOf, rowsIn, seek, rowIs}
+use Rattle.index_model.specs.Index.{indexPlaces, folderKey, entryBefore, keyBefore, placed, ordered, indexRow, indexRows, indexBytes, indexOf, rowsIn, seek, rowIs}
 use Rattle.index_model.specs.Change.{rowBytes, putIn, takeRow, takeOut, moveIn}
 use Rattle.index_model.specs.Acting.{removedIn, renamedIn, movedIn, changeIn}
 use Rattle.index_laws.proofs.Sorted.{Sorted, ordered-sorted, ordered-has, has-ordered}
@@ -68,7 +68,7 @@ module _ (p : List Entry) (x : Entry) (q : List Entry) where
   length-middle : length (p ++ (x ∷ q)) ≡ suc (length (p ++ q))
   length-middle = omega (arith, length-append p (x ∷ q), length-append p q)
 
-  module _ (few : length (p ++ (x ∷ q)) ≤ 512) (rowed : All Rowed (p ++ (x ∷ q))) (keys : KeysApart (p ++ (x ∷ q))) (d : Entry) where
+  module _ (few : length (p ++ (x ∷ q)) ≤ indexPlaces) (rowed : All Rowed (p ++ (x ∷ q))) (keys : KeysApart (p ++ (x ∷ q))) (d : Entry) where
     rowed-at : (y : Entry) → Has y (p ++ (x ∷ q)) → Rowed y
     rowed-at y i = has-all Rowed (p ++ (x ∷ q)) y rowed i
 
@@ -87,7 +87,7 @@ module _ (p : List Entry) (x : Entry) (q : List Entry) where
     take-middle =
         let m = p ++ (x ∷ q) in
         let l = ordered m in
-        let lf : length l ≤ 512 = omega (arith, length-ordered m) in
+        let lf : length l ≤ indexPlaces = omega (arith, length-ordered m) in
         let long : All Long l = all-has Long l (λ y i. rowed-at y (has-ordered m y i) .0) in
         let r = seek (indexBytes l) (folderKey (x .inside)) (x .label) in
         let xi = has-middle x (inl refl) in
@@ -231,7 +231,7 @@ pub record Fit (es : List Entry) : Type 0 where
   pub apart : Apart es
   pub named : Named es
   pub rowed : All Rowed (presentOnes es)
-  pub few : length (presentOnes es) ≤ 512
+  pub few : length (presentOnes es) ≤ indexPlaces
 
 keys-of : (es : List Entry) → Apart es → Named es → All Rowed (presentOnes es) → KeysApart (presentOnes es)
 unfolding presentOnes makers

@@ -17,7 +17,7 @@ use Rattle.byte_slice.proofs.PutAt.{put-in-front, put-in-back}
 use Rattle.model.specs.Bytes.{two, part, putAt, padded}
 use Rattle.model.specs.Replay.{Entry}
 use Rattle.log_laws.proofs.Members.{All, all-drop}
-use Rattle.index_model.specs.Index.{folderKey, keyBefore, entryBefore, placed, indexRow, indexRows, indexBytes, rowsIn, rowBefore, seek}
+use Rattle.index_model.specs.Index.{indexPlaces, folderKey, keyBefore, entryBefore, placed, indexRow, indexRows, indexBytes, rowsIn, rowBefore, seek}
 use Rattle.index_model.specs.Change.{rowBytes, putRow, putIn, takeRow}
 use Rattle.index_laws.proofs.Sorted.{Sorted, Sought}
 use Rattle.index_laws.proofs.Reading.{Long, row-long, rows-long, rows-counted, before-back, seek-finds}
@@ -89,13 +89,13 @@ rows-written n m a x y k e =
 
 module _ (l : List Entry) (long : All Long l) where
   Z : List ℕ
-  Z = replicate (20480 - length (indexRows l)) 0
+  Z = replicate (40960 - length (indexRows l)) 0
 
   bytes-cut : (i : ℕ) → indexBytes l ≡ head (length l) ++ (indexRows (take i l) ++ (indexRows (drop i l) ++ Z))
   unfolding indexBytes padded head Z
   bytes-cut i =
       let e : indexRows l ≡ indexRows (take i l) ++ indexRows (drop i l) = ap indexRows (sym (take-append-drop i l)) ∙ rows-append (take i l) (drop i l) in
-      let z : List ℕ = replicate (20480 - length (indexRows l)) 0 in
+      let z : List ℕ = replicate (40960 - length (indexRows l)) 0 in
       ap (λ (x : List ℕ). two (length l) ++ (0 ∷ 0 ∷ x)) (ap (λ (x : List ℕ). x ++ z) e ∙ append-assoc (indexRows (take i l)) (indexRows (drop i l)) z)
 
   front-long : (i : ℕ) → i ≤ length l → length (indexRows (take i l)) ≡ 40 * i
@@ -119,11 +119,11 @@ module _ (l : List Entry) (long : All Long l) where
       let M = A ++ (R ++ B) in
       let k : length M ≡ length (indexRows l) + 40 =
       omega (arith, length-append A (R ++ B), length-append R B, front-long i h, back-long i, row-long e n, rows-long l long) in
-      let w : 20480 - length (indexRows l) - 40 ≡ 20480 - length M = omega arith in
+      let w : 40960 - length (indexRows l) - 40 ≡ 40960 - length M = omega arith in
       let q : indexRows (take i l ++ (e ∷ drop i l)) ≡ M = rows-append (take i l) (e ∷ drop i l) in
-      let z : drop 40 Z ≡ replicate (20480 - length M) 0 = drop-replicate 40 (20480 - length (indexRows l)) 0 ∙ ap (λ (x : ℕ). replicate x 0) w in
-      let u : A ++ ((R ++ B) ++ drop 40 Z) ≡ M ++ replicate (20480 - length M) 0 = rw (z, append-assoc A (R ++ B) (replicate (20480 - length M) 0)) in
-      let v : two (length l + 1) ++ (0 ∷ 0 ∷ (M ++ replicate (20480 - length M) 0)) ≡ indexBytes (take i l ++ (e ∷ drop i l)) = rw (m, q) in
+      let z : drop 40 Z ≡ replicate (40960 - length M) 0 = drop-replicate 40 (40960 - length (indexRows l)) 0 ∙ ap (λ (x : ℕ). replicate x 0) w in
+      let u : A ++ ((R ++ B) ++ drop 40 Z) ≡ M ++ replicate (40960 - length M) 0 = rw (z, append-assoc A (R ++ B) (replicate (40960 - length M) 0)) in
+      let v : two (length l + 1) ++ (0 ∷ 0 ∷ (M ++ replicate (40960 - length M) 0)) ≡ indexBytes (take i l ++ (e ∷ drop i l)) = rw (m, q) in
       ap (λ (x : List ℕ). two (length l + 1) ++ (0 ∷ 0 ∷ x)) u ∙ v
 
   -- a row put in at row i
@@ -142,7 +142,7 @@ module _ (l : List Entry) (long : All Long l) where
       rw (part-back i h, bytes-cut i, rows-written (length l) (length l + 1) A (B ++ Z) (R ++ B) (40 * i) (sym la), d)
       (more-bytes i e h n m)
 
-  less-bytes : (i : ℕ) → i < length l → length l ≤ 512 → length (take i l ++ drop (suc i) l) ≡ length l - 1
+  less-bytes : (i : ℕ) → i < length l → length l ≤ indexPlaces → length (take i l ++ drop (suc i) l) ≡ length l - 1
       → head (length l - 1) ++ (indexRows (take i l) ++ ((indexRows (drop (suc i) l) ++ replicate 40 0) ++ Z)) ≡ indexBytes (take i l ++ drop (suc i) l)
   unfolding indexBytes padded head Z
   less-bytes i h few m =
@@ -150,11 +150,11 @@ module _ (l : List Entry) (long : All Long l) where
       let C = indexRows (drop (suc i) l) in
       let M = A ++ C in
       let k : length M + 40 ≡ length (indexRows l) = omega (arith, length-append A C, front-long i (omega arith), back-long (suc i), rows-long l long) in
-      let w : 40 + (20480 - length (indexRows l)) ≡ 20480 - length M = omega (arith, rows-long l long) in
+      let w : 40 + (40960 - length (indexRows l)) ≡ 40960 - length M = omega (arith, rows-long l long) in
       let q : indexRows (take i l ++ drop (suc i) l) ≡ M = rows-append (take i l) (drop (suc i) l) in
-      let z : replicate 40 0 ++ Z ≡ replicate (20480 - length M) 0 = replicate-append-replicate {A = ℕ} 40 (20480 - length (indexRows l)) 0 ∙ ap (λ (x : ℕ). replicate x 0) w in
-      let u : A ++ ((C ++ replicate 40 0) ++ Z) ≡ M ++ replicate (20480 - length M) 0 = rw (append-assoc C (replicate 40 0) Z, z, append-assoc A C (replicate (20480 - length M) 0)) in
-      let v : two (length l - 1) ++ (0 ∷ 0 ∷ (M ++ replicate (20480 - length M) 0)) ≡ indexBytes (take i l ++ drop (suc i) l) = rw (m, q) in
+      let z : replicate 40 0 ++ Z ≡ replicate (40960 - length M) 0 = replicate-append-replicate {A = ℕ} 40 (40960 - length (indexRows l)) 0 ∙ ap (λ (x : ℕ). replicate x 0) w in
+      let u : A ++ ((C ++ replicate 40 0) ++ Z) ≡ M ++ replicate (40960 - length M) 0 = rw (append-assoc C (replicate 40 0) Z, z, append-assoc A C (replicate (40960 - length M) 0)) in
+      let v : two (length l - 1) ++ (0 ∷ 0 ∷ (M ++ replicate (40960 - length M) 0)) ≡ indexBytes (take i l ++ drop (suc i) l) = rw (m, q) in
       ap (λ (x : List ℕ). two (length l - 1) ++ (0 ∷ 0 ∷ x)) u ∙ v
 
   rows-from : (i : ℕ) (d : Entry) → i < length l → indexRows (drop i l) ≡ indexRow (getD l i d) ++ indexRows (drop (suc i) l)
@@ -162,7 +162,7 @@ module _ (l : List Entry) (long : All Long l) where
   rows-from i d h = ap indexRows (drop-cons l i d h)
 
   -- row i taken out
-  pub row-less : (i : ℕ) (d : Entry) → i < length l → length l ≤ 512 → takeRow (indexBytes l) (length l) i ≡ indexBytes (without i l)
+  pub row-less : (i : ℕ) (d : Entry) → i < length l → length l ≤ indexPlaces → takeRow (indexBytes l) (length l) i ≡ indexBytes (without i l)
   unfolding takeRow
   row-less i d h few =
       let A = indexRows (take i l) in
@@ -189,7 +189,7 @@ key-of : (x e : Entry) → keyBefore (folderKey (x .inside)) (x .label) (folderK
 unfolding entryBefore
 key-of x e = refl
 
-pub put-right : (l : List Entry) → length l < 512 → All Long l → Sorted l → (e d : Entry) → Long e
+pub put-right : (l : List Entry) → length l < indexPlaces → All Long l → Sorted l → (e d : Entry) → Long e
     → putIn (indexBytes l) (e .inside) (e .label) (e .made) ≡ indexBytes (placed e l)
 unfolding putIn
 put-right l few long sorted e d n =
@@ -200,4 +200,4 @@ put-right l few long sorted e d n =
     placed-at e l r d (w .to)
     (λ j h. sym (before-back l (omega arith) long j d (omega (arith, w .to)) k (e .label) ∙ key-of (getD l j d) e) ∙ w .before j (omega arith) h)
     (λ h. sym (before-back l (omega arith) long r d h k (e .label) ∙ key-of (getD l r d) e) ∙ w .at h) in
-    rw (rows-counted l (omega arith) long, lt-ltb (length l) 512 few, row-of e, row-more l long r e (w .to) n, p)
+    rw (rows-counted l (omega arith) long, lt-ltb (length l) indexPlaces few, row-of e, row-more l long r e (w .to) n, p)

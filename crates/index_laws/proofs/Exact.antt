@@ -18,7 +18,7 @@ use Rattle.model.specs.Replay.{Entry, Tree, labelKey, isPresent, isIn, sameLabe
 use Rattle.log_laws.proofs.Members.{All, all-at}
 use Rattle.tree_laws.specs.Replayed.{Has, Distinct, makers}
 use Rattle.tree_laws.proofs.Labels.{Apart, Named, holds-from, the-holder, holder-key, one-label}
-use Rattle.index_model.specs.Index.{comesBefore, folderKey, keyBefore, entryBefore, placed, ordered, indexBytes, indexOf, rowsIn, folderAt, labelAt, entryAt, rowBefore, rowIs, seek, findIn, firstIn, endIn, entriesIn, listIn, inFolder, madeOf}
+use Rattle.index_model.specs.Index.{indexPlaces, comesBefore, folderKey, keyBefore, entryBefore, placed, ordered, indexBytes, indexOf, rowsIn, folderAt, labelAt, entryAt, rowBefore, rowIs, seek, findIn, firstIn, endIn, entriesIn, listIn, inFolder, madeOf}
 use Rattle.index_laws.specs.Listed.{Rising, Listed}
 use Rattle.index_laws.proofs.Sorted.{Sorted, ordered-sorted, ordered-has, has-ordered, has-placed, Sought, key-same, key-not-self, key-instead}
 use Rattle.index_laws.proofs.Reading.{Long, rows-counted, folder-back, label-back, entry-back, before-back, entries-back, has-at, place-of, sorted-at, entry-keys, seek-finds, rows-rise, key-one, key-blank}
@@ -247,7 +247,7 @@ pub record There (l : List Entry) (f : ℕ) (t : List ℕ) (d : Entry) (r : ℕ)
   pub label : labelKey (getD l r d .label) ≡ labelKey t
 
 -- where an entry has the folder and the label, seeking finds a row that has them
-pub row-there : (l : List Entry) (few : length l ≤ 512) (long : All Long l) → Sorted l → ((x : Entry) → Has x l → Rowed x) → (f : ℕ) → f < 4294967296 → (d : Entry) (t : List ℕ)
+pub row-there : (l : List Entry) (few : length l ≤ indexPlaces) (long : All Long l) → Sorted l → ((x : Entry) → Has x l → Rowed x) → (f : ℕ) → f < 4294967296 → (d : Entry) (t : List ℕ)
     → (h : Entry) → Has h l → h .inside ≡ f → labelKey (h .label) ≡ labelKey t → There l f t d (seek (indexBytes l) (folderKey f) t)
 unfolding rowIs
 row-there l few long sorted rowed f fits d t h i p q =
@@ -277,11 +277,11 @@ row-there l few long sorted rowed f fits d t h i p q =
       label = o;
     }
 
-module _ (es : List Entry) (few : length (presentOnes es) ≤ 512) (rowed : All Rowed (presentOnes es)) where
+module _ (es : List Entry) (few : length (presentOnes es) ≤ indexPlaces) (rowed : All Rowed (presentOnes es)) where
   L : List Entry
   L = ordered (presentOnes es)
 
-  L-few : length L ≤ 512
+  L-few : length L ≤ indexPlaces
   unfolding L
   L-few = omega (arith, length-ordered (presentOnes es))
 

@@ -14,8 +14,9 @@ use Rattle.byte_slice.proofs.Parts.{part-length, drop-take}
 use Rattle.model.specs.Bytes.{part, putAt}
 use Rattle.model.specs.Replay.{Entry}
 use Rattle.log_laws.proofs.Members.{All, all-at}
-use Rattle.tree_table.specs.Rows.{entryIn, entriesFrom}
-use Rattle.index_model.specs.Index.{folderKey, keyBefore, entryBefore, placed, ordered, halve}
+use Rattle.model.specs.Table.{entryIn}
+use Rattle.tree_table.specs.Rows.{entriesFrom}
+use Rattle.index_model.specs.Index.{indexPlaces, folderKey, keyBefore, entryBefore, placed, ordered, halve}
 use Rattle.index_laws.specs.Copied.{entryRowAt, placedRow, orderedRows, orderBefore}
 use Rattle.index_laws.proofs.Sorted.{Sorted, ordered-sorted, Sought, sought}
 use Rattle.index_laws.proofs.Reading.{key-monotone, sorted-at}
@@ -109,16 +110,16 @@ row-placed b i (j ∷ o) zero h p q = rw (q (omega arith))
 row-placed b i (j ∷ o) (suc r) h p q =
     rw (p 0 (omega arith)) (ap (λ (l : List ℕ). j ∷ l) (row-placed b i o r (omega arith) (λ k x. p (suc k) (omega arith)) (λ x. q (omega arith))))
 
-module _ (b o : List ℕ) (n k : ℕ) (long : length o ≡ 512) (few : k < n) (room : n ≤ 512) (inv : take k o ≡ orderedRows b (n - k) k) where
+module _ (b o : List ℕ) (n k : ℕ) (long : length o ≡ indexPlaces) (few : k < n) (room : n ≤ indexPlaces) (inv : take k o ≡ orderedRows b (n - k) k) where
   same-at : (i : ℕ) → i < k → getD o i 0 ≡ getD (orderedRows b (n - k) k) i 0
   same-at i h = sym (getD-take k o i 0 h) ∙ rw inv
 
-  module _ (row at : ℕ) (e : at ≡ halve (orderBefore b o row) 10 0 k) where
+  module _ (row at : ℕ) (e : at ≡ halve (orderBefore b o row) 11 0 k) where
     place-sought : Sought (orderBefore b o row) 0 k at
     unfolding orderBefore
     place-sought =
         rw e
-        (sought (orderBefore b o row) 10 0 k
+        (sought (orderBefore b o row) 11 0 k
         (λ i j _ y z p. rw (same-at i (omega arith)) (order-rises b (n - k) k row i j y z (rw (same-at j z) at p)))
         (omega arith) (omega arith))
 

@@ -10,12 +10,12 @@ use Rattle.byte_slice.proofs.Parts.{part-front, part-behind, part-part, part-wh
 use Rattle.byte_slice.proofs.Words.{word-two}
 use Rattle.model.specs.Bytes.{word, two, part, padded}
 use Rattle.model.specs.Replay.{Entry, Aside, Tree, presentOnes}
-use Rattle.model.specs.Table.{identityBytes, entryRow, entryRows, asideRows, tableBytes}
+use Rattle.model.specs.Table.{identityBytes, entryRow, entryRows, asideRows, tableBytes, entryIn}
 use Rattle.log_laws.proofs.Members.{All}
-use Rattle.tree_table.specs.Rows.{entryIn, entriesFrom, flagOf, Proper, AllProper}
+use Rattle.tree_table.specs.Rows.{entriesFrom, flagOf, Proper, AllProper}
 use Rattle.tree_table.proofs.Rows.{rows-length, entries-back}
 use Rattle.tree_table.proofs.Writes.{rows-part}
-use Rattle.index_model.specs.Index.{ordered, indexRow, indexRows, indexBytes, indexOf}
+use Rattle.index_model.specs.Index.{indexPlaces, ordered, indexRow, indexRows, indexBytes, indexOf}
 use Rattle.index_laws.specs.Copied.{entryRowAt, orderedRows, copiedRow, copiedRows, indexFrom}
 use Rattle.index_laws.proofs.Exact.{length-ordered}
 use Rattle.index_laws.proofs.Fresh.{rowsOf, rows-ordered, ordered-below}
@@ -50,7 +50,7 @@ entries-at b j zero i d h = absurd (omega arith)
 entries-at b j (suc n) zero d h = rw (add-zero j)
 entries-at b j (suc n) (suc i) d h = let e : j + suc i ≡ suc j + i = omega arith in rw e (entries-at b (suc j) n i d (omega arith))
 
-module _ (t : Tree) (few : length (presentOnes (t .entries)) ≤ 512) (proper : AllProper (presentOnes (t .entries))) where
+module _ (t : Tree) (few : length (presentOnes (t .entries)) ≤ indexPlaces) (proper : AllProper (presentOnes (t .entries))) where
   ps : List Entry
   ps = presentOnes (t .entries)
 
@@ -60,13 +60,13 @@ module _ (t : Tree) (few : length (presentOnes (t .entries)) ≤ 512) (proper : 
       let s : List Aside = t .asides in
       let es : List Entry = presentOnes (t .entries) in
       let R = entryRows s es in
-      let z : List ℕ = replicate (36864 - length R) 0 in
-      let A : List ℕ = asideRows s ++ replicate (6144 - length (asideRows s)) 0 in
+      let z : List ℕ = replicate (73728 - length R) 0 in
+      let A : List ℕ = asideRows s ++ replicate (12288 - length (asideRows s)) 0 in
       rw (append-assoc R z A) (entries-back s es (two (length es) ++ two (length s)) (z ++ A) 0 refl proper)
 
   counted : word (tableBytes t) 0 ≡ length ps
   unfolding tableBytes ps
-  counted = word-two (length (presentOnes (t .entries))) (two (length (t .asides)) ++ (padded 36864 (entryRows (t .asides) (presentOnes (t .entries))) ++ padded 6144 (asideRows (t .asides))))
+  counted = word-two (length (presentOnes (t .entries))) (two (length (t .asides)) ++ (padded 73728 (entryRows (t .asides) (presentOnes (t .entries))) ++ padded 12288 (asideRows (t .asides))))
 
   module _ (d : Entry) where
     row-at : (i : ℕ) → i < length ps → part (tableBytes t) (4 + 72 * i) 72 ≡ entryRow (flagOf (t .asides) (getD ps i d)) (getD ps i d)
@@ -75,8 +75,8 @@ module _ (t : Tree) (few : length (presentOnes (t .entries)) ≤ 512) (proper : 
         let s : List Aside = t .asides in
         let es : List Entry = presentOnes (t .entries) in
         let R = entryRows s es in
-        let z : List ℕ = replicate (36864 - length R) 0 in
-        let A : List ℕ = asideRows s ++ replicate (6144 - length (asideRows s)) 0 in
+        let z : List ℕ = replicate (73728 - length R) 0 in
+        let A : List ℕ = asideRows s ++ replicate (12288 - length (asideRows s)) 0 in
         let n = rows-length s es proper in
         let m = length-append R z in
         part-behind (two (length es) ++ two (length s)) ((R ++ z) ++ A) (72 * i) 72
@@ -123,6 +123,6 @@ module _ (t : Tree) (few : length (presentOnes (t .entries)) ≤ 512) (proper : 
     unfolding indexOf ps
     made-fresh = rw counted made
 
-  pub count-few : word (tableBytes t) 0 ≤ 512
+  pub count-few : word (tableBytes t) 0 ≤ indexPlaces
   unfolding ps
   count-few = omega (arith, counted)

@@ -22,7 +22,7 @@ use Rattle.model.specs.Table.{identityBytes}
 use Rattle.log_laws.proofs.Members.{All, all-at}
 use Rattle.tree_laws.specs.Replayed.{Has, makers}
 use Rattle.tree_table.proofs.Rows.{identity-behind}
-use Rattle.index_model.specs.Index.{comesBefore, folderKey, keyBefore, entryBefore, indexRow, indexRows, indexBytes, halve, rowsIn, folderAt, labelAt, entryAt, rowBefore, seek, entriesIn}
+use Rattle.index_model.specs.Index.{indexPlaces, comesBefore, folderKey, keyBefore, entryBefore, indexRow, indexRows, indexBytes, halve, rowsIn, folderAt, labelAt, entryAt, rowBefore, seek, entriesIn}
 use Rattle.index_laws.proofs.Sorted.{Sorted, Sought, sought, key-trans, key-same, key-not-self, same-keys}
 
 -- ---- rows
@@ -98,15 +98,15 @@ rows-show (e ∷ l) q (suc i) d h a =
 
 -- ---- an index of entries
 
-module _ (l : List Entry) (few : length l ≤ 512) (long : All Long l) where
+module _ (l : List Entry) (few : length l ≤ indexPlaces) (long : All Long l) where
   pub rows-counted : rowsIn (indexBytes l) ≡ length l
   unfolding rowsIn indexBytes
-  rows-counted = omega (arith, word-two (length l) (0 ∷ 0 ∷ padded 20480 (indexRows l)))
+  rows-counted = omega (arith, word-two (length l) (0 ∷ 0 ∷ padded 40960 (indexRows l)))
 
   module _ (i : ℕ) (d : Entry) (h : i < length l) where
     shown : Shows (indexBytes l) (4 + 40 * i) (getD l i d)
     unfolding indexBytes padded
-    shown = shows-behind (two (length l) ++ (0 ∷ 0 ∷ [])) (indexRows l ++ replicate (20480 - length (indexRows l)) 0) (40 * i) (getD l i d) (rows-show l (replicate (20480 - length (indexRows l)) 0) i d h long)
+    shown = shows-behind (two (length l) ++ (0 ∷ 0 ∷ [])) (indexRows l ++ replicate (40960 - length (indexRows l)) 0) (40 * i) (getD l i d) (rows-show l (replicate (40960 - length (indexRows l)) 0) i d h long)
 
     pub folder-back : folderAt (indexBytes l) i ≡ getD l i d .inside
     unfolding folderAt
@@ -171,7 +171,7 @@ key-monotone g s f t h r p q =
     (bool-cases (keyBefore f t h r))))
     (bool-cases (keyBefore h r f t))
 
-module _ (l : List Entry) (few : length l ≤ 512) (long : All Long l) (sorted : Sorted l) (d : Entry) where
+module _ (l : List Entry) (few : length l ≤ indexPlaces) (long : All Long l) (sorted : Sorted l) (d : Entry) where
   pub rows-rise : (f : ℕ) (t : List ℕ) (i j : ℕ) → i ≤ j → j < length l → rowBefore (indexBytes l) f t j ≡ true → rowBefore (indexBytes l) f t i ≡ true
   rows-rise f t i j h k p =
       let x = getD l i d in
@@ -186,7 +186,7 @@ module _ (l : List Entry) (few : length l ≤ 512) (long : All Long l) (sorted :
   unfolding seek
   seek-finds f t =
       rw (rows-counted l few long)
-      (sought (rowBefore (indexBytes l) f t) 10 0 (length l) (λ i j _ y z. rows-rise f t i j y z) (omega arith) (omega arith))
+      (sought (rowBefore (indexBytes l) f t) 11 0 (length l) (λ i j _ y z. rows-rise f t i j y z) (omega arith) (omega arith))
 
 -- ---- keys of folders
 

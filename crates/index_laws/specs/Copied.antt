@@ -4,10 +4,10 @@ use Prim.Native.Nat.{ℕ, zero, suc, _+_, _*_, _<_}
 use mathlib.Core.Bool.{Bool, cond}
 use mathlib.Core.List.{List, [], _∷_, _++_}
 use lib.ListN.{getD}
+use Rattle.model.specs.Table.{entryIn}
 use Rattle.model.specs.Bytes.{two, part, padded}
 use Rattle.model.specs.Replay.{Entry}
-use Rattle.tree_table.specs.Rows.{entryIn}
-use Rattle.index_model.specs.Index.{entryBefore}
+use Rattle.index_model.specs.Index.{indexPlaces, entryBefore}
 
 abbrev pub entryRowAt : List ℕ → ℕ → Entry
 entryRowAt b i = entryIn b (4 + 72 * i)
@@ -32,7 +32,7 @@ copiedRows b (i ∷ o) = copiedRow b i ++ copiedRows b o
 
 -- the index of the entries in the first n rows of a table
 unfoldable pub indexFrom : List ℕ → ℕ → List ℕ
-indexFrom b n = two n ++ (0 ∷ 0 ∷ padded 20480 (copiedRows b (orderedRows b 0 n)))
+indexFrom b n = two n ++ (0 ∷ 0 ∷ padded 40960 (copiedRows b (orderedRows b 0 n)))
 
 -- the row in place i of an order comes before a row
 unfoldable pub orderBefore : List ℕ → List ℕ → ℕ → ℕ → Bool
@@ -40,4 +40,4 @@ orderBefore b o row i = entryBefore (entryRowAt b (getD o i 0)) (entryRowAt b ro
 
 -- the first k numbers of an order are those of rows
 pub record Low (o : List ℕ) (k : ℕ) : Type 0 where
-  pub low : (i : ℕ) → i < k → getD o i 0 < 512
+  pub low : (i : ℕ) → i < k → getD o i 0 < indexPlaces

@@ -8,12 +8,12 @@ use mathlib.Core.Bool.{Bool, true, false}
 use mathlib.Core.List.{List, [], _∷_, _++_}
 use lib.ListN.{getD, length, take, drop, set}
 use lib.Seq.{getD-take}
+use Rattle.model.specs.Table.{entryIn}
 use Rattle.byte_slice.proofs.Parts.{part-is, part-none, part-length}
 use Rattle.byte_slice.proofs.PutAt.{put-nil, put-before, moved}
 use Rattle.model.specs.Bytes.{part, putAt}
 use Rattle.log_laws.proofs.Members.{All, all-at}
-use Rattle.tree_table.specs.Rows.{entryIn}
-use Rattle.index_model.specs.Index.{folderKey, keyBefore, entryBefore, halve}
+use Rattle.index_model.specs.Index.{indexPlaces, folderKey, keyBefore, entryBefore, halve}
 use Rattle.index_laws.specs.Copied.{entryRowAt, orderBefore, orderedRows, Low}
 use Rattle.index_laws.proofs.Fresh.{ordered-many, ordered-below, order-next}
 
@@ -56,12 +56,12 @@ pub order-none : (b o : List ℕ) (n : ℕ) → take 0 o ≡ orderedRows b (n - 
 unfolding orderedRows
 order-none b o n = refl
 
-pub order-low : (b o : List ℕ) (n k : ℕ) → k ≤ n → n ≤ 512 → take k o ≡ orderedRows b (n - k) k → Low o k
+pub order-low : (b o : List ℕ) (n k : ℕ) → k ≤ n → n ≤ indexPlaces → take k o ≡ orderedRows b (n - k) k → Low o k
 order-low b o n k h m e = record {
   low = λ i g.
       let r = orderedRows b (n - k) k in
       let q : getD o i 0 ≡ getD r i 0 = sym (getD-take k o i 0 g) ∙ rw e in
-      rw q (all-at (λ (j : ℕ). j < 512) r i 0 (omega (arith, ordered-many b (n - k) k)) (ordered-below b (n - k) k 512 (omega arith)));
+      rw q (all-at (λ (j : ℕ). j < indexPlaces) r i 0 (omega (arith, ordered-many b (n - k) k)) (ordered-below b (n - k) k indexPlaces (omega arith)));
 }
 
 pub order-end : (b o : List ℕ) (n k : ℕ) → k ≤ n → n ≤ k → take k o ≡ orderedRows b (n - k) k → take n o ≡ orderedRows b 0 n
@@ -69,12 +69,12 @@ order-end b o n k h g e =
     let q : k ≡ n = omega arith in
     rw (q, sub-self) at e
 
-pub order-all-low : (b o : List ℕ) (n : ℕ) → n ≤ 512 → take n o ≡ orderedRows b 0 n → Low o n
+pub order-all-low : (b o : List ℕ) (n : ℕ) → n ≤ indexPlaces → take n o ≡ orderedRows b 0 n → Low o n
 order-all-low b o n m e = let z : n - n ≡ 0 = omega arith in order-low b o n n (omega arith) m (rw z e)
 
 -- a number of an order is that of a row
-pub mid-low : (o : List ℕ) (k lo hi r : ℕ) → Low o k → lo < hi → hi ≤ k → r ≡ getD o (lo + (hi - lo) / 2) 0 → r < 512
+pub mid-low : (o : List ℕ) (k lo hi r : ℕ) → Low o k → lo < hi → hi ≤ k → r ≡ getD o (lo + (hi - lo) / 2) 0 → r < indexPlaces
 mid-low o k lo hi r w h g e = rw e (w .low (lo + (hi - lo) / 2) (omega arith))
 
-pub next-low : (o : List ℕ) (n j r : ℕ) → Low o n → j < n → r ≡ getD o j 0 → r < 512
+pub next-low : (o : List ℕ) (n j r : ℕ) → Low o n → j < n → r ≡ getD o j 0 → r < indexPlaces
 next-low o n j r w h e = rw e (w .low j h)

@@ -10,12 +10,14 @@ use lib.ListN.{getD, length, take, drop, replicate, length-append, replicate-app
 use lib.Seq.{take-suc}
 use Rattle.byte_slice.proofs.Parts.{part-is, part-length}
 use Rattle.byte_slice.proofs.PutAt.{put-nil, put-more, put-padded, padded-nil, put-in-front, put-in-back}
+use Rattle.model.specs.Lengths.{treeSize}
+use Rattle.index_model.specs.Index.{indexSize, indexPlaces}
 use Rattle.model.specs.Bytes.{word, two, part, putAt, padded}
 use Rattle.index_laws.specs.Copied.{orderedRows, copiedRow, copiedRows, indexFrom, Low}
 
 -- ---- one row
 
-pub row-copied : (b d x y z : List ℕ) (row j : ℕ) → length b ≡ 43012 → row < 512 → length d ≡ 20484 → j < 512
+pub row-copied : (b d x y z : List ℕ) (row j : ℕ) → length b ≡ treeSize → row < indexPlaces → length d ≡ indexSize → j < indexPlaces
     → x ≡ putAt d (4 + 40 * j) (part b (4 + 72 * row + 8) 4)
     → y ≡ putAt x (4 + 40 * j + 4) (part b (4 + 72 * row + 24) 32)
     → z ≡ putAt y (4 + 40 * j + 36) (part b (4 + 72 * row + 4) 4)
@@ -35,7 +37,7 @@ row-copied b d x y z row j lb h ld k p q r =
 
 -- ---- all rows
 
-row-long : (b : List ℕ) (i : ℕ) → length b ≡ 43012 → i < 512 → length (copiedRow b i) ≡ 40
+row-long : (b : List ℕ) (i : ℕ) → length b ≡ treeSize → i < indexPlaces → length (copiedRow b i) ≡ 40
 unfolding copiedRow
 row-long b i n h =
     let f = part b (4 + 72 * i + 8) 4 in
@@ -55,7 +57,7 @@ unfolding copiedRows
 copied-append b [] p = refl
 copied-append b (i ∷ o) p = rw (copied-append b o p, append-assoc (copiedRow b i) (copiedRows b o) (copiedRows b p))
 
-module _ (b o : List ℕ) (n : ℕ) (lb : length b ≡ 43012) (room : n ≤ 512) (lo : n ≤ length o) (w : Low o n) where
+module _ (b o : List ℕ) (n : ℕ) (lb : length b ≡ treeSize) (room : n ≤ indexPlaces) (lo : n ≤ length o) (w : Low o n) where
   copied-more : (j : ℕ) → j < n → copiedRows b (take (j + 1) o) ≡ copiedRows b (take j o) ++ copiedRow b (getD o j 0)
   unfolding copiedRows
   copied-more j h = rw (add-one j, take-suc o j 0 (omega arith), copied-append b (take j o) (getD o j 0 ∷ []), append-nil (copiedRow b (getD o j 0)))
@@ -71,7 +73,7 @@ module _ (b o : List ℕ) (n : ℕ) (lb : length b ≡ 43012) (room : n ≤ 512)
   unfolding copiedRows
   write-none d = sym (put-nil d 4)
 
-  pub write-next : (d x y : List ℕ) (j : ℕ) → length d ≡ 20484 → j < n → x ≡ putAt d 4 (copiedRows b (take j o)) → (r : ℕ) → r ≡ getD o j 0 → y ≡ putAt x (4 + 40 * j) (copiedRow b r)
+  pub write-next : (d x y : List ℕ) (j : ℕ) → length d ≡ indexSize → j < n → x ≡ putAt d 4 (copiedRows b (take j o)) → (r : ℕ) → r ≡ getD o j 0 → y ≡ putAt x (4 + 40 * j) (copiedRow b r)
       → y ≡ putAt d 4 (copiedRows b (take (j + 1) o))
   write-next d x y j ld h p r g q =
       let m = copied-long j (omega arith) in
@@ -92,14 +94,14 @@ two-in : (n : ℕ) → putAt head 0 (two n) ≡ two n ++ (0 ∷ 0 ∷ [])
 unfolding putAt head
 two-in n = refl
 
-pub index-made : (b d x y z o : List ℕ) (n : ℕ) → length d ≡ 20484 → x ≡ replicate (length d) 0 → take n o ≡ orderedRows b 0 n
+pub index-made : (b d x y z o : List ℕ) (n : ℕ) → length d ≡ indexSize → x ≡ replicate (length d) 0 → take n o ≡ orderedRows b 0 n
     → y ≡ putAt x 4 (copiedRows b (take n o)) → z ≡ putAt y 0 (two n) → z ≡ indexFrom b n
 unfolding indexFrom head
 index-made b d x y z o n ld p q r s =
     let R = copiedRows b (orderedRows b 0 n) in
-    let u : x ≡ head ++ padded 20480 [] = p ∙ rw (ld, padded-nil 20480) (sym (replicate-append-replicate {A = ℕ} 4 20480 0)) in
-    let v : y ≡ head ++ padded 20480 R = r ∙ rw (q, u) (put-in-back head (padded 20480 []) 0 R ∙ ap (λ (l : List ℕ). head ++ l) (put-padded 20480 [] R)) in
-    s ∙ rw v (put-in-front head (padded 20480 R) 0 (two n) (omega arith) ∙ ap (λ (l : List ℕ). l ++ padded 20480 R) (two-in n))
+    let u : x ≡ head ++ padded 40960 [] = p ∙ rw (ld, padded-nil 40960) (sym (replicate-append-replicate {A = ℕ} 4 40960 0)) in
+    let v : y ≡ head ++ padded 40960 R = r ∙ rw (q, u) (put-in-back head (padded 40960 []) 0 R ∙ ap (λ (l : List ℕ). head ++ l) (put-padded 40960 [] R)) in
+    s ∙ rw v (put-in-front head (padded 40960 R) 0 (two n) (omega arith) ∙ ap (λ (l : List ℕ). l ++ padded 40960 R) (two-in n))
 
 pub part-copied : (d x s : List ℕ) (at from n : ℕ) → x ≡ putAt d at (take (from + n - from) (drop from s)) → x ≡ putAt d at (part s from n)
 part-copied d x s at from n e = e ∙ rw (part-is s from n)

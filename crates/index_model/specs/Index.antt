@@ -1,6 +1,6 @@
--- The index: 20,484 bytes that list the entries of a tree by folder and label.
---   0-1 how many rows, 2-3 zero; from 4 on 512 rows of 40 bytes: 0-3 folder, 4-35 label, 36-39 entry. Rows that are not used are zero.
--- Document 02, K6 and K7.
+-- The index: 40,964 bytes that list the entries of a tree by folder and label.
+--   0-1 how many rows, 2-3 zero; from 4 on 1,024 rows of 40 bytes: 0-3 folder, 4-35 label, 36-39 entry. Rows that are not used are zero.
+-- Document 02, K6, K7 and K10.
 -- Assumes nothing.
 use Prim.Native.Nat.{ℕ, zero, suc, _+_, _-_, _*_, _/_, _%_, min}
 use mathlib.Core.Bool.{Bool, true, false, cond, _&&_, _||_}
@@ -14,13 +14,13 @@ use Rattle.model.specs.Record.{identityAt}
 use Rattle.model.specs.Replay.{Entry, Tree, labelKey, isIn, sameLabel, presentOnes}
 use Rattle.model.specs.Table.{identityBytes}
 
--- the length of an index: 4 bytes and 512 rows of 40
+-- the length of an index: 4 bytes and 1,024 rows of 40 [F150]
 abbrev pub indexSize : ℕ
-indexSize = 20484
+indexSize = 40964
 
 -- the most rows of an index
 abbrev pub indexPlaces : ℕ
-indexPlaces = 512
+indexPlaces = 1024
 
 -- ---- the order
 
@@ -63,7 +63,7 @@ indexRows (e ∷ l) = indexRow e ++ indexRows l
 
 -- how many rows, two zeros, the rows, zeros [F108]
 unfoldable pub indexBytes : List Entry → List ℕ
-indexBytes l = two (length l) ++ (0 ∷ 0 ∷ padded 20480 (indexRows l))
+indexBytes l = two (length l) ++ (0 ∷ 0 ∷ padded 40960 (indexRows l))
 
 -- the index made afresh from a tree: its entries, those removed left out [F109]
 unfoldable pub indexOf : Tree → List ℕ
@@ -81,7 +81,7 @@ halve p (suc n) lo hi =
 
 -- ---- looking up and listing, in any bytes
 
--- how many rows, at most 512
+-- how many rows, at most 1,024
 unfoldable pub rowsIn : List ℕ → ℕ
 rowsIn b = min indexPlaces (word b 0)
 
@@ -98,9 +98,9 @@ entryAt b i = identityAt b (4 + 40 * i + 36)
 unfoldable pub rowBefore : List ℕ → ℕ → List ℕ → ℕ → Bool
 rowBefore b f t i = keyBefore (folderKey (folderAt b i)) (labelAt b i) f t
 
--- the first row that does not come before the key: 512 rows are halved at most 10 times [F110]
+-- the first row that does not come before the key: 1,024 rows are halved at most 11 times [F110]
 unfoldable pub seek : List ℕ → ℕ → List ℕ → ℕ
-seek b f t = halve (rowBefore b f t) 10 0 (rowsIn b)
+seek b f t = halve (rowBefore b f t) 11 0 (rowsIn b)
 
 -- row i is one of the rows, of the folder f, and has the label t
 unfoldable pub rowIs : List ℕ → ℕ → List ℕ → ℕ → Bool

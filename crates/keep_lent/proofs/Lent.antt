@@ -2,14 +2,17 @@
 -- Assumes nothing.
 use Prim.Native.Nat.{ℕ}
 use mathlib.Core.Path.{_≡_, refl, sym, _∙_}
-use mathlib.Core.Bool.{Bool, true, false, cond, not}
-use mathlib.Core.List.{List, []}
+use mathlib.Core.Bool.{Bool, true, false, cond, not, _||_}
+use mathlib.Core.List.{List}
 use lib.Dec.{eqb}
 use lib.ListN.{length}
 use borrow.Author.Tests.{eqb-true, eq-eqb, ne-eqb, not-true, not-false}
-use Rattle.model.specs.Outcome.{Outcome, outcome}
+use Rattle.byte_slice.proofs.Numbers.{and-true}
+use Rattle.model.specs.Lengths.{treeSize}
+use Rattle.call_model.specs.Outcome.{Outcome, outcome}
 use Rattle.row_model.specs.Row.{RowTaken, rowTaken}
-use Rattle.index_model.specs.Kept.{indexOfLog, indexFits, ifLent, kept, keptOf, rowKept, rowKeptOf}
+use Rattle.index_model.specs.Index.{indexSize}
+use Rattle.index_model.specs.Kept.{indexOfLog, indexLent, indexFits, bothFit, ifLent, kept, keptOf, rowKept, rowKeptOf}
 
 -- ---- the two lengths
 
@@ -17,16 +20,48 @@ pub no-bytes : (i : List ℕ) → length i ≡ 0 → true ≡ indexFits i
 unfolding indexFits
 no-bytes i h = rw (eq-eqb (length i) 0 h)
 
-pub some-bytes : (i : List ℕ) → (length i ≡ 0 → ⊥) → eqb (length i) 20484 ≡ indexFits i
+pub some-bytes : (i : List ℕ) → (length i ≡ 0 → ⊥) → eqb (length i) indexSize ≡ indexFits i
 unfolding indexFits
 some-bytes i h = rw (ne-eqb (length i) 0 h)
 
-pub fits-by : (i : List ℕ) (b : Bool) → b ≡ indexFits i → not b ≡ false → indexFits i ≡ true
-fits-by i b e h = sym e ∙ not-false b h
+pub fits-by : {fit : Bool} (b : Bool) → b ≡ fit → not b ≡ false → fit ≡ true
+fits-by b e h = sym e ∙ not-false b h
 
-pub lent-long : (i : List ℕ) → indexFits i ≡ true → (length i ≡ 0 → ⊥) → length i ≡ 20484
+pub lent-long : (i : List ℕ) → indexFits i ≡ true → (length i ≡ 0 → ⊥) → length i ≡ indexSize
 unfolding indexFits
-lent-long i f h = eqb-true (length i) 20484 (rw (ne-eqb (length i) 0 h) at f)
+lent-long i f h = eqb-true (length i) indexSize (rw (ne-eqb (length i) 0 h) at f)
+
+-- ---- an index and memory to work in
+
+or-false : (b : Bool) → b ≡ (b || false)
+or-false true = refl
+or-false false = refl
+
+module _ (i work : List ℕ) where
+  pub both-none : length i ≡ 0 → eqb (length work) 0 ≡ bothFit i work
+  unfolding bothFit
+  both-none h = rw h (or-false (eqb (length work) 0))
+
+  pub lent-wrong : (length i ≡ indexSize → ⊥) → false ≡ indexLent i work
+  lent-wrong g = rw (ne-eqb (length i) indexSize g)
+
+  pub lent-some : length i ≡ indexSize → eqb (length work) treeSize ≡ indexLent i work
+  lent-some g = rw g
+
+  pub both-some : (length i ≡ 0 → ⊥) → (b : Bool) → b ≡ indexLent i work → b ≡ bothFit i work
+  unfolding bothFit
+  both-some h b e = rw (ne-eqb (length i) 0 h) e
+
+  module _ (f : bothFit i work ≡ true) (h : length i ≡ 0 → ⊥) where
+    pub both-lent : indexLent i work ≡ true
+    unfolding bothFit
+    both-lent = rw (ne-eqb (length i) 0 h) at f
+
+    pub both-index : length i ≡ indexSize
+    both-index = eqb-true (length i) indexSize (and-true (eqb (length i) indexSize) (eqb (length work) treeSize) both-lent .0)
+
+    pub both-work : length work ≡ treeSize
+    both-work = eqb-true (length work) treeSize (and-true (eqb (length i) indexSize) (eqb (length work) treeSize) both-lent .1)
 
 -- ---- what becomes of a lent index
 
@@ -48,40 +83,40 @@ lent-same i = same-cond (eqb (length i) 0) i
 
 -- ---- a call's ways out
 
-module _ (log i : List ℕ) where
-  pub wrong-index : (o : Outcome) (j : List ℕ) (b : Bool) → b ≡ indexFits i → not b ≡ true → kept 1 0 log i ≡ keptOf log i o j
+module _ (fit : Bool) (log lent i : List ℕ) (o : Outcome) (j : List ℕ) where
+  pub wrong-index : (b : Bool) → b ≡ fit → not b ≡ true → kept 1 0 log i lent ≡ keptOf fit log lent i o j
   unfolding keptOf
-  wrong-index o j b e h = rw (← e, not-true b h)
+  wrong-index b e h = rw (← e, not-true b h)
 
-  module _ (f : indexFits i ≡ true) (o : Outcome) (j : List ℕ) {n p : ℕ} {x : List ℕ} (e : outcome n p x [] 0 ≡ o) where
-    pub kept-accepted : n ≡ 0 → (y : List ℕ) → y ≡ ifLent i j → kept n p x y ≡ keptOf log i o j
+  module _ (f : fit ≡ true) {n p k : ℕ} {x z : List ℕ} (e : outcome n p x z k ≡ o) where
+    pub kept-accepted : n ≡ 0 → (y : List ℕ) → y ≡ ifLent i j → kept n p x y z ≡ keptOf fit log lent i o j
     unfolding keptOf
-    kept-accepted z y q = rw (f, ← e, z, q)
+    kept-accepted a y q = rw (f, ← e, a, q)
 
-    pub kept-refused : (n ≡ 0 → ⊥) → kept n p x i ≡ keptOf log i o j
+    pub kept-refused : (n ≡ 0 → ⊥) → kept n p x i z ≡ keptOf fit log lent i o j
     unfolding keptOf
-    kept-refused z = rw (f, ← e, ne-eqb n 0 z)
+    kept-refused a = rw (f, ← e, ne-eqb n 0 a)
 
-    pub kept-none : length i ≡ 0 → kept n p x i ≡ keptOf log i o j
+    pub kept-none : length i ≡ 0 → kept n p x i z ≡ keptOf fit log lent i o j
     unfolding keptOf
     kept-none h = rw (f, ← e, ← none-lent i j h, ← same-cond (eqb n 0) i)
 
 -- ---- and those of a row
 
-module _ (log i : List ℕ) where
-  pub wrong-index-row : (o : RowTaken) (b : Bool) → b ≡ indexFits i → not b ≡ true → rowKept 1 0 0 0 log i ≡ rowKeptOf log i o
+module _ (fit : Bool) (log base i : List ℕ) (o : RowTaken) where
+  pub wrong-index-row : (b : Bool) → b ≡ fit → not b ≡ true → rowKept 1 0 0 0 log i ≡ rowKeptOf fit log base i o
   unfolding rowKeptOf
-  wrong-index-row o b e h = rw (← e, not-true b h)
+  wrong-index-row b e h = rw (← e, not-true b h)
 
-  module _ (f : indexFits i ≡ true) (o : RowTaken) {n p k s : ℕ} {x : List ℕ} (e : rowTaken n p k s x ≡ o) where
-    pub row-renewed : (k ≡ 0 → ⊥) → (y : List ℕ) → y ≡ ifLent i (indexOfLog x) → rowKept n p k s x y ≡ rowKeptOf log i o
+  module _ (f : fit ≡ true) {n p k s : ℕ} {x : List ℕ} (e : rowTaken n p k s x ≡ o) where
+    pub row-renewed : (k ≡ 0 → ⊥) → (y : List ℕ) → y ≡ ifLent i (indexOfLog x base) → rowKept n p k s x y ≡ rowKeptOf fit log base i o
     unfolding rowKeptOf
     row-renewed z y q = rw (f, ← e, ne-eqb k 0 z, q)
 
-    pub row-left : k ≡ 0 → rowKept n p k s x i ≡ rowKeptOf log i o
+    pub row-left : k ≡ 0 → rowKept n p k s x i ≡ rowKeptOf fit log base i o
     unfolding rowKeptOf
     row-left z = rw (f, ← e, z)
 
-    pub row-none : length i ≡ 0 → rowKept n p k s x i ≡ rowKeptOf log i o
+    pub row-none : length i ≡ 0 → rowKept n p k s x i ≡ rowKeptOf fit log base i o
     unfolding rowKeptOf
-    row-none h = rw (f, ← e, ← none-lent i (indexOfLog x) h, ← same-cond (eqb k 0) i)
+    row-none h = rw (f, ← e, ← none-lent i (indexOfLog x base) h, ← same-cond (eqb k 0) i)

@@ -55,18 +55,18 @@ wrote-all-entries t a b at r i n w h l = let e : i ≡ n = omega arith in rw e a
 
 -- ---- aside lines
 
-aside-lines-grow : (t : List ℕ) (n : ℕ) → asideLines t (suc n) ≡ asideLines t n ++ asideLine (part t (36868 + 12 * n) 12)
+aside-lines-grow : (t : List ℕ) (n : ℕ) → asideLines t (suc n) ≡ asideLines t n ++ asideLine (part t (73732 + 12 * n) 12)
 unfolding asideLines
 aside-lines-grow t n = refl
 
 module _ (t a b : List ℕ) (at m i n : ℕ) (room : at + length (asideLines t n) ≤ length a) (so-far : Wrote a b at m (asideLines t i)) (lt : i < n) where
-  pub aside-line-fits : m + length (asideLine (take (36868 + 12 * i + 12 - (36868 + 12 * i)) (drop (36868 + 12 * i) t))) ≤ length b
+  pub aside-line-fits : m + length (asideLine (take (73732 + 12 * i + 12 - (73732 + 12 * i)) (drop (73732 + 12 * i) t))) ≤ length b
   aside-line-fits =
-      rw (part-is t (36868 + 12 * i) 12) (line-fits (asideLines t) (λ k. asideLine (part t (36868 + 12 * k) 12)) (aside-lines-grow t) a b at m i n room so-far lt)
+      rw (part-is t (73732 + 12 * i) 12) (line-fits (asideLines t) (λ k. asideLine (part t (73732 + 12 * k) 12)) (aside-lines-grow t) a b at m i n room so-far lt)
 
-  pub wrote-next-aside : {c : List ℕ} {r : ℕ} → Wrote b c m r (asideLine (take (36868 + 12 * i + 12 - (36868 + 12 * i)) (drop (36868 + 12 * i) t))) → Wrote a c at r (asideLines t (i + 1))
+  pub wrote-next-aside : {c : List ℕ} {r : ℕ} → Wrote b c m r (asideLine (take (73732 + 12 * i + 12 - (73732 + 12 * i)) (drop (73732 + 12 * i) t))) → Wrote a c at r (asideLines t (i + 1))
   wrote-next-aside x =
-      wrote-line (asideLines t) (λ k. asideLine (part t (36868 + 12 * k) 12)) (aside-lines-grow t) a b at m i n room so-far lt (rw (part-is t (36868 + 12 * i) 12) at x)
+      wrote-line (asideLines t) (λ k. asideLine (part t (73732 + 12 * k) 12)) (aside-lines-grow t) a b at m i n room so-far lt (rw (part-is t (73732 + 12 * i) 12) at x)
 
 pub wrote-all-asides : (t a b : List ℕ) (at r i n : ℕ) → Wrote a b at r (asideLines t i) → i ≤ n → n ≤ i → Wrote a b at r (asideLines t n)
 wrote-all-asides t a b at r i n w h l = let e : i ≡ n = omega arith in rw e at w

@@ -8,7 +8,7 @@ ghost use Rattle.line_text.specs.Written.{Wrote};
 
 // The first n entry lines.
 fn entry_lines(out: &mut [u8], at: usize, table: &[u8], n: usize) -> usize
-    requires { ⌜ (length (now table) ≡ 43012) × (n ≤ 512) × (at + length (entryLines (now table) n) ≤ length (now out)) ⌝ }
+    requires { ⌜ (length (now table) ≡ 86020) × (n ≤ 1024) × (at + length (entryLines (now table) n) ≤ length (now out)) ⌝ }
     ensures { λ r. ⌜ Wrote (now (out .entry)) (now (out .exit)) at r (entryLines (now (table .entry)) n) ⌝ }
 {
     let mut m = at;
@@ -23,13 +23,13 @@ fn entry_lines(out: &mut [u8], at: usize, table: &[u8], n: usize) -> usize
 
 // The first n aside lines.
 fn aside_lines(out: &mut [u8], at: usize, table: &[u8], n: usize) -> usize
-    requires { ⌜ (length (now table) ≡ 43012) × (n ≤ 512) × (at + length (asideLines (now table) n) ≤ length (now out)) ⌝ }
+    requires { ⌜ (length (now table) ≡ 86020) × (n ≤ 1024) × (at + length (asideLines (now table) n) ≤ length (now out)) ⌝ }
     ensures { λ r. ⌜ Wrote (now (out .entry)) (now (out .exit)) at r (asideLines (now (table .entry)) n) ⌝ }
 {
     let mut m = at;
     let mut i: usize = 0;
     while i < n {
-        let from = 36868 + 12 * i;
+        let from = 73732 + 12 * i;
         m = line_aside::aside_line(out, m, &table[from..from + 12]);
         i += 1;
     }
@@ -46,7 +46,7 @@ fn rows_at(table: &[u8], at: usize) -> usize
 
 // The entries by rank of their makers, then the asides by rank.
 pub fn tree_lines(out: &mut [u8], at: usize, table: &[u8]) -> usize
-    requires { ⌜ (length (now table) ≡ 43012) × (word (now table) 0 ≤ 512) × (word (now table) 2 ≤ 512)
+    requires { ⌜ (length (now table) ≡ 86020) × (word (now table) 0 ≤ 1024) × (word (now table) 2 ≤ 1024)
         × (at + length (treeLines (now table)) ≤ length (now out)) ⌝ }
     ensures { λ r. ⌜ Wrote (now (out .entry)) (now (out .exit)) at r (treeLines (now (table .entry))) ⌝ }
 {

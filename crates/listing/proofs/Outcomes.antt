@@ -13,14 +13,16 @@ use Rattle.model.specs.Bytes.{word, putAt}
 use Rattle.model.specs.Log.{recordsOf, soundLog}
 use Rattle.model.specs.Replay.{replay}
 use Rattle.model.specs.Table.{tableBytes}
-use Rattle.model.specs.File.{fileFault, checkedFault, recordsCounted, fileRecords, ReadBack, notRead, readBack, readOf}
-use Rattle.model.specs.Outcome.{guarded, showOf}
+use Rattle.model.specs.File.{fileFault, checkedFault, recordsCounted, fileRecords}
+use Rattle.base_model.specs.Base.{emptyBase}
+use Rattle.call_model.specs.Read.{ReadBack, notRead, readBack, readOf}
 use Rattle.model.specs.Listing.{headLine, seenLine, treeLines, refusedLine, acceptedLines, listingOf}
 use Rattle.byte_slice.proofs.Numbers.{bool-cases}
 use Rattle.log_laws.proofs.Tests.{sound-means}
 use Rattle.encoding_laws.proofs.Logs.{log-sound, length-logBytes, sound-proper, proper-sized, sound-records, sound-few}
-use Rattle.encoding_laws.proofs.Calls.{sound-back}
-use Rattle.encoding_laws.proofs.Reading.{file-records}
+use Rattle.call_laws.proofs.Calls.{sound-back}
+use Rattle.call_laws.proofs.Reading.{file-records}
+use Rattle.call_laws.proofs.States.{empty-length}
 use Rattle.file_laws.proofs.Records.{length-fileRecords}
 use Rattle.file_laws.proofs.Rewritten.{read-accepted}
 use Rattle.listing_laws.proofs.Rows.{entries-counted, asides-counted}
@@ -29,7 +31,7 @@ use Rattle.listing_laws.proofs.Claims.{rows-fit, log-lines-fit}
 use Rattle.line_text.specs.Written.{Wrote}
 use Rattle.listing_laws.proofs.Lines.{refused-line-length}
 use Rattle.read_file_check.specs.Outcome.{readBackOf}
-use Rattle.listing.specs.Left.{left, lentWell, treeLeft, listedOf, logLines, Lists}
+use Rattle.listing.specs.Left.{left, lentWell, readAlone, treeLeft, listedOf, logLines, Lists}
 
 -- ---- a lent length that is wrong
 
@@ -38,66 +40,55 @@ module _ (f log tree text : List ℕ) where
   unfolding listedOf lentWell
   wrong-log a = rw (ne-eqb (length log) 40960 a)
 
-  pub wrong-tree : length log ≡ 40960 → (length tree ≡ 43012 → ⊥) → left 1 0 0 log tree text ≡ listedOf f log tree text
+  pub wrong-tree : length log ≡ 40960 → (length tree ≡ 86020 → ⊥) → left 1 0 0 log tree text ≡ listedOf f log tree text
   unfolding listedOf lentWell
-  wrong-tree a b = rw (eq-eqb (length log) 40960 a, ne-eqb (length tree) 43012 b)
+  wrong-tree a b = rw (eq-eqb (length log) 40960 a, ne-eqb (length tree) 86020 b)
 
-  pub wrong-text : length log ≡ 40960 → length tree ≡ 43012 → (length text ≡ 76800 → ⊥) → left 1 0 0 log tree text ≡ listedOf f log tree text
+  pub wrong-text : length log ≡ 40960 → length tree ≡ 86020 → (length text ≡ 76800 → ⊥) → left 1 0 0 log tree text ≡ listedOf f log tree text
   unfolding listedOf lentWell
-  wrong-text a b c = rw (eq-eqb (length log) 40960 a, eq-eqb (length tree) 43012 b, ne-eqb (length text) 76800 c)
+  wrong-text a b c = rw (eq-eqb (length log) 40960 a, eq-eqb (length tree) 86020 b, ne-eqb (length text) 76800 c)
 
 -- ---- a refused file
 
-module _ (log f : List ℕ) (long : length log ≡ 40960) (no : readOf log f .number ≡ 0 → ⊥) where
-  refused-is : (listingOf f ≡ refusedLine (readOf log f .number) (readOf log f .place)) × (readOf log f .log ≡ log)
+module _ (log f : List ℕ) (long : length log ≡ 40960) (no : readAlone log f .number ≡ 0 → ⊥) where
+  refused-is : (listingOf f ≡ refusedLine (readAlone log f .number) (readAlone log f .place)) × (readAlone log f .log ≡ log)
   unfolding readOf readBack notRead listingOf
   refused-is =
       ⊎-elim
-      (λ (c : eqb (checkedFault f .number) 0 ≡ true). absurd (no (rw (eq-eqb (length log) 40960 long, c))))
-      (λ (c : eqb (checkedFault f .number) 0 ≡ false). rw (eq-eqb (length log) 40960 long, c) (refl, refl))
+      (λ (c : eqb (checkedFault f .number) 0 ≡ true). absurd (no (rw (eq-eqb (length log) 40960 long, eq-eqb (length emptyBase) 43032 empty-length, c))))
+      (λ (c : eqb (checkedFault f .number) 0 ≡ false). rw (eq-eqb (length log) 40960 long, eq-eqb (length emptyBase) 43032 empty-length, c) (refl, refl))
       (bool-cases (eqb (checkedFault f .number) 0))
 
 -- ---- an accepted file
 
-module _ (log f : List ℕ) (yes : readOf log f .number ≡ 0) where
-  place-none : readOf log f .place ≡ 0
+module _ (log f : List ℕ) (yes : readAlone log f .number ≡ 0) where
+  place-none : readAlone log f .place ≡ 0
   unfolding readBack
-  place-none = ap (λ (x : ReadBack). x .place) (read-accepted log f yes .2)
+  place-none = ap (λ (x : ReadBack). x .place) (read-accepted log emptyBase f yes .2)
 
-  log-good : soundLog (readOf log f .log) ≡ true
+  log-good : soundLog (readAlone log f .log) ≡ true
   unfolding readBack
   log-good =
-      let (a, b, c) = read-accepted log f yes in
+      let (a, b, c) = read-accepted log emptyBase f yes in
       let (t, few) = file-records f b in
       rw c (log-sound (fileRecords f) (sound-means (fileRecords f) t) few)
 
-  log-long : length (readOf log f .log) ≡ 40960
-  unfolding readBack
-  log-long =
-      let (a, b, c) = read-accepted log f yes in
-      let (t, few) = file-records f b in
-      rw c (length-logBytes (fileRecords f) (proper-sized (fileRecords f) (sound-proper (fileRecords f) (sound-means (fileRecords f) t))) few)
-
-  log-records : recordsOf (readOf log f .log) ≡ fileRecords f
+  log-records : recordsOf (readAlone log f .log) ≡ fileRecords f
   unfolding readBack
   log-records =
-      let (a, b, c) = read-accepted log f yes in
+      let (a, b, c) = read-accepted log emptyBase f yes in
       let (t, few) = file-records f b in
       rw c (sound-back (fileRecords f) (sound-means (fileRecords f) t) few)
 
-  count-is : readOf log f .records ≡ length (recordsOf (readOf log f .log))
+  count-is : readAlone log f .records ≡ length (recordsOf (readAlone log f .log))
   unfolding readBack fileRecords
   count-is =
-      let (a, b, c) = read-accepted log f yes in
+      let (a, b, c) = read-accepted log emptyBase f yes in
       rw (log-records, c) (sym (length-fileRecords f 0 (recordsCounted f)))
 
-  accepted-is : logLines (readOf log f .archive) (readOf log f .sender) (readOf log f .records) (readOf log f .vector) (readOf log f .log) ≡ listingOf f
+  accepted-is : logLines (readAlone log f .archive) (readAlone log f .sender) (readAlone log f .records) (readAlone log f .vector) (readAlone log f .log) ≡ listingOf f
   unfolding logLines listingOf acceptedLines readBack
-  accepted-is = let (a, b, c) = read-accepted log f yes in rw (log-records, c, a, eq-eqb (fileFault f .number) 0 b)
-
-  shown-is : (tree : List ℕ) → length tree ≡ 43012 → showOf (readOf log f .log) tree .lent ≡ tableBytes (replay (recordsOf (readOf log f .log)))
-  unfolding showOf guarded
-  shown-is tree h = rw (eq-eqb (length (readOf log f .log)) 40960 log-long, eq-eqb (length tree) 43012 h, log-good)
+  accepted-is = let (a, b, c) = read-accepted log emptyBase f yes in rw (log-records, c, a, eq-eqb (fileFault f .number) 0 b)
 
 -- ---- the lines of a sound log
 
@@ -132,22 +123,22 @@ refused-small n p w = omega (arith, refused-line-length n p, w .next)
 
 -- ---- listing a file
 
-module _ (f log tree text log′ v : List ℕ) (n p a u k : ℕ) (back : readBackOf n p a u k v log′ ≡ readOf log f) (long : length log ≡ 40960) (wide : length tree ≡ 43012) (room : length text ≡ 76800)
+module _ (f log tree text log′ v : List ℕ) (n p a u k : ℕ) (back : readBackOf n p a u k v log′ emptyBase ≡ readAlone log f) (long : length log ≡ 40960) (wide : length tree ≡ 86020) (room : length text ≡ 76800)
   where
     whole : lentWell log tree text ≡ true
     unfolding lentWell
-    whole = rw (eq-eqb (length log) 40960 long, eq-eqb (length tree) 43012 wide, eq-eqb (length text) 76800 room)
+    whole = rw (eq-eqb (length log) 40960 long, eq-eqb (length tree) 86020 wide, eq-eqb (length text) 76800 room)
 
-    number-is : n ≡ readOf log f .number
+    number-is : n ≡ readAlone log f .number
     number-is = ap (λ (x : ReadBack). x .number) back
 
     pub refused-left : {text′ : List ℕ} {r : ℕ} → (n ≡ 0 → ⊥) → Wrote text text′ 0 r (refusedLine n p) → left n p r log′ tree text′ ≡ listedOf f log tree text
     unfolding listedOf treeLeft
     refused-left {text′} {r} bad w =
-        let bad′ : readOf log f .number ≡ 0 → ⊥ = λ z. bad (number-is ∙ z) in
+        let bad′ : readAlone log f .number ≡ 0 → ⊥ = λ z. bad (number-is ∙ z) in
         let e : refusedLine n p ≡ listingOf f = ap₂ refusedLine number-is (ap (λ (x : ReadBack). x .place) back) ∙ sym (refused-is log f long bad′ .0) in
         let size : r ≡ length (listingOf f) = w .next ∙ rw e (omega arith) in
-        rw (whole, ne-eqb (readOf log f .number) 0 bad′, ← back, size, w .bytes, e)
+        rw (whole, ne-eqb (readAlone log f .number) 0 bad′, ← back, size, w .bytes, e)
 
     pub sound-left : n ≡ 0 → soundLog log′ ≡ true
     sound-left z = ap (λ (x : ReadBack). soundLog (x .log)) back ∙ log-good log f (sym number-is ∙ z)
@@ -158,8 +149,9 @@ module _ (f log tree text log′ v : List ℕ) (n p a u k : ℕ) (back : readBac
     pub accepted-left : {tree′ text′ : List ℕ} {r : ℕ} → n ≡ 0 → Lists a u k v log′ tree′ text text′ r → left 0 0 r log′ tree′ text′ ≡ listedOf f log tree text
     unfolding listedOf treeLeft
     accepted-left {tree′} {text′} {r} z w =
-        let yes : readOf log f .number ≡ 0 = sym number-is ∙ z in
+        let yes : readAlone log f .number ≡ 0 = sym number-is ∙ z in
         let e : logLines a u k v log′ ≡ listingOf f = ap (λ (x : ReadBack). logLines (x .archive) (x .sender) (x .records) (x .vector) (x .log)) back ∙ accepted-is log f yes in
         let size : r ≡ length (listingOf f) = w .lines .next ∙ rw e (omega arith) in
-        let t : tree′ ≡ showOf (readOf log f .log) tree .lent = w .table ∙ ap (λ (x : ReadBack). tableBytes (replay (recordsOf (x .log)))) back ∙ sym (shown-is log f yes tree wide) in
-        rw (whole, eq-eqb (readOf log f .number) 0 yes, yes, place-none log f yes, t, size, w .lines .bytes, e) (ap (λ (x : List ℕ). left 0 0 (length (listingOf f)) x (showOf (readOf log f .log) tree .lent) (putAt text 0 (listingOf f))) (ap (λ (x : ReadBack). x .log) back))
+        let t : tree′ ≡ tableBytes (replay (recordsOf (readAlone log f .log))) = w .table ∙ ap (λ (x : ReadBack). tableBytes (replay (recordsOf (x .log)))) back in
+        rw (whole, eq-eqb (readAlone log f .number) 0 yes, yes, place-none log f yes, t, size, w .lines .bytes, e)
+        (ap (λ (x : List ℕ). left 0 0 (length (listingOf f)) x (tableBytes (replay (recordsOf (readAlone log f .log)))) (putAt text 0 (listingOf f))) (ap (λ (x : ReadBack). x .log) back))

@@ -9,8 +9,8 @@ use lib.ListN.{length}
 use Rattle.model.specs.Lengths.{logSize, treeSize}
 use Rattle.model.specs.Numbers.{badBuffer}
 use Rattle.model.specs.Bytes.{putAt}
-use Rattle.model.specs.File.{readOf}
-use Rattle.model.specs.Outcome.{showOf}
+use Rattle.base_model.specs.Base.{emptyBase}
+use Rattle.call_model.specs.Read.{ReadBack, readOf}
 use Rattle.model.specs.Log.{recordsOf}
 use Rattle.model.specs.Replay.{replay}
 use Rattle.model.specs.Table.{tableBytes}
@@ -37,15 +37,19 @@ listingSize = 76800
 unfoldable pub lentWell : List ℕ → List ℕ → List ℕ → Bool
 lentWell log tree text = eqb (length log) logSize && (eqb (length tree) treeSize && eqb (length text) listingSize)
 
+-- the file read into the log: no base is lent, and none is left
+abbrev pub readAlone : List ℕ → List ℕ → ReadBack
+readAlone log f = readOf log emptyBase f
+
 -- the tree of an accepted file; a refused one leaves the table
 unfoldable pub treeLeft : List ℕ → List ℕ → List ℕ → List ℕ
-treeLeft f log tree = cond (eqb (readOf log f .number) 0) (showOf (readOf log f .log) tree .lent) tree
+treeLeft f log tree = cond (eqb (readAlone log f .number) 0) (tableBytes (replay (recordsOf (readAlone log f .log)))) tree
 
 -- the listing of a file at the beginning of the text, for a refused file its line; a lent length that is wrong leaves all
 unfoldable pub listedOf : List ℕ → List ℕ → List ℕ → List ℕ → Left
 listedOf f log tree text =
     cond (lentWell log tree text)
-    (left (readOf log f .number) (readOf log f .place) (length (listingOf f)) (readOf log f .log) (treeLeft f log tree) (putAt text 0 (listingOf f)))
+    (left (readAlone log f .number) (readAlone log f .place) (length (listingOf f)) (readAlone log f .log) (treeLeft f log tree) (putAt text 0 (listingOf f)))
     (left badBuffer 0 0 log tree text)
 
 -- the lines of a log behind a head and a vector

@@ -41,7 +41,7 @@ fn log_lines(
     requires { ⌜ (length (now text) ≡ listingSize) × (length (now log) ≡ logSize) × (soundLog (now log) ≡ true) × (records ≡ length (recordsOf (now log))) × (length (now tree) ≡ treeSize) ⌝ }
     ensures { λ r. ⌜ Lists archive unit records (v .counts) (now (log .entry)) (now (tree .exit)) (now (text .entry)) (now (text .exit)) r ⌝ }
 {
-    show_tree::lay_tree(log, records as usize, tree);
+    show_tree::lay_log(log, records as usize, tree);
     file_lines(text, tree, archive, unit, records, v) as u32
 }
 
@@ -86,7 +86,7 @@ pub fn listing(file: &[u8], log: &mut [u8], tree: &mut [u8], text: &mut [u8]) ->
             length: 0,
         };
     }
-    let r = read_file::read_file(log, file);
+    let r = read_file::read_log(log, file);
     if r.number != 0 {
         let n = refuse(text, r.number, r.place);
         return Listed {

@@ -16,7 +16,7 @@ use Rattle.model.specs.Listing.{headLine, seenLine, treeLines, refusedLine, acc
 use Rattle.vector.proofs.InBytes.{vectorAt-length}
 use Rattle.log_laws.specs.Sound.{Sound}
 use Rattle.log_laws.proofs.Tests.{sound-means}
-use Rattle.encoding_laws.proofs.Reading.{file-records, checked-right}
+use Rattle.call_laws.proofs.Reading.{file-records, checked-right}
 use Rattle.tree_laws.proofs.Steps.{cond-elim}
 use Rattle.listing_laws.proofs.Lines.{head-line-length, seen-line-length, refused-line-length, tree-lines-length}
 use Rattle.listing_laws.proofs.Rows.{sound-rows, sound-small, rows-within, entries-counted, asides-counted, row-lines}

@@ -15,9 +15,9 @@ use Rattle.model.specs.Examples as Examples
 use Rattle.listing_laws.specs.Example.{paperRecords, paperFile, paperText, damagedFile, damagedText}
 
 pub paper-example : Listing.listingOf paperFile ≡ paperText
-unfolding Bytes.word Bytes.long Bytes.blank Bytes.sameBytes Bytes.part Bytes.putAt Bytes.padded Bytes.joined Vector.coversTo Vector.covers Vector.compareOf Vector.countsAt Vector.vectorAt Vector.countBytes Vector.vectorBytes Date.isLeap Date.daysOf Date.isDate Record.identity Record.unit Record.op Record.num Record.seen Record.seenVector Record.identityAt Record.selfOf Record.objectOf Record.folderOf Record.dateBytes Record.labelOf Record.markOf Record.textLength Record.printable Record.isLabel Record.usesObject Record.usesFolder Record.usesLabel Record.usesMark Record.unused Record.names Record.objectFits Record.folderFits Record.labelFits Record.markFits Record.dateFits Record.headFits Record.wellFormed Log.rank Log.insert Log.count Log.countsTo Log.countsOnTo Log.vectorOn Log.vectorOf Log.byId Log.isNext Log.isWithin Log.allTo Log.nowhereAbove Log.isClosed Log.rises Log.recordFault Log.soundAfter Log.recordsIn Log.recordsOf Log.soundLog Log.logBytes Replay.emptyTree Replay.isPresent Replay.lower Replay.labelKey Replay.sameLabel Replay.entryOf Replay.isIn Replay.isHolder Replay.holderOf Replay.hasEntries Replay.standsAside Replay.unseen Replay.freeLabel Replay.andThen Replay.isFolder Replay.folderStands Replay.judgeMake Replay.judgeStore Replay.judgeRemove Replay.judgeRename Replay.comesTo Replay.isBelow Replay.judgePlace Replay.judgeMove Replay.judgeSettle Replay.judge Replay.newEntry Replay.stored Replay.renamed Replay.moved Replay.removed Replay.changed Replay.settled Replay.effect Replay.apply Replay.step Replay.replayFrom Replay.replay Replay.isDisputed Replay.presentOnes Table.identityBytes Table.entryRow Table.asideRow Table.entryRows Table.asideRows Table.tableBytes Block.firstTo Block.secondTo Block.headBytes Block.bodyBytes Block.sealed Block.blockOf Block.countIn Block.archiveIn Block.senderIn Block.placeIn Block.vectorIn Block.sumsHold Block.headerHolds Block.blockFault Block.recordAt Block.recordsFrom Block.blockRecords File.blockCount File.headerOf File.fileBlock File.fileTo File.fileOf File.fileLength File.blocksIn File.blockAt File.countFits File.agrees File.fileBlockFault File.fault File.blocksFault File.recordsCounted File.fileRecord File.fileRecordsFrom File.fileRecords File.recordsFault File.countsFault File.orElse File.fileFault File.notRead File.readBack File.readOf Listing.decimalTo Listing.decimal Listing.twoDigits Listing.fourDigits Listing.hexDigit Listing.hexText Listing.identityText Listing.escaped Listing.labelText Listing.dateText Listing.headLine Listing.countsText Listing.seenLine Listing.kindText Listing.markText Listing.disputedText Listing.entryLine Listing.markedText Listing.stateText Listing.asideLine Listing.entryLines Listing.asideLines Listing.treeLines Listing.refusedLine Listing.acceptedLines Listing.listingOf Examples.encode Examples.march paperRecords paperFile paperText
+unfolding Bytes.word Bytes.long Bytes.blank Bytes.sameBytes Bytes.part Bytes.putAt Bytes.padded Bytes.joined Vector.coversTo Vector.covers Vector.compareOf Vector.countsAt Vector.vectorAt Vector.countBytes Vector.vectorBytes Date.isLeap Date.daysOf Date.isDate Record.identity Record.unit Record.op Record.num Record.seen Record.seenVector Record.identityAt Record.selfOf Record.objectOf Record.folderOf Record.dateBytes Record.labelOf Record.markOf Record.textLength Record.printable Record.isLabel Record.usesObject Record.usesFolder Record.usesLabel Record.usesMark Record.unused Record.names Record.objectFits Record.folderFits Record.labelFits Record.markFits Record.dateFits Record.headFits Record.wellFormed Log.rank Log.insert Log.count Log.countsTo Log.countsOnTo Log.vectorOn Log.vectorOf Log.byId Log.isNext Log.isWithin Log.allTo Log.nowhereAbove Log.isClosed Log.rises Log.recordFault Log.soundAfter Log.recordsIn Log.recordsOf Log.soundLogOn Log.soundLog Log.logBytes Replay.emptyTree Replay.isPresent Replay.lower Replay.labelKey Replay.sameLabel Replay.entryOf Replay.isIn Replay.isHolder Replay.holderOf Replay.hasEntries Replay.standsAside Replay.unseen Replay.freeLabel Replay.andThen Replay.isFolder Replay.folderStands Replay.judgeMake Replay.judgeStore Replay.judgeRemove Replay.judgeRename Replay.comesTo Replay.isBelow Replay.judgePlace Replay.judgeMove Replay.judgeSettle Replay.judge Replay.newEntry Replay.stored Replay.renamed Replay.moved Replay.removed Replay.changed Replay.settled Replay.effect Replay.apply Replay.step Replay.replayFrom Replay.replay Replay.isDisputed Replay.presentOnes Table.identityBytes Table.entryRow Table.asideRow Table.entryRows Table.asideRows Table.tableBytes Block.firstTo Block.secondTo Block.headBytes Block.bodyBytes Block.sealed Block.blockOf Block.countIn Block.archiveIn Block.senderIn Block.placeIn Block.vectorIn Block.sumsHold Block.headerHolds Block.blockFault Block.recordAt Block.recordsFrom Block.blockRecords File.blockCount File.headerOf File.fileBlock File.fileTo File.fileOf File.fileLength File.blocksIn File.blockAt File.countFits File.agrees File.fileBlockFault File.fault File.blocksFault File.recordsCounted File.fileRecord File.fileRecordsFrom File.fileRecords File.recordsFault File.countsFault File.orElse File.fileFault Listing.decimalTo Listing.decimal Listing.twoDigits Listing.fourDigits Listing.hexDigit Listing.hexText Listing.identityText Listing.escaped Listing.labelText Listing.dateText Listing.headLine Listing.countsText Listing.seenLine Listing.kindText Listing.markText Listing.disputedText Listing.entryLine Listing.markedText Listing.stateText Listing.asideLine Listing.entryLines Listing.asideLines Listing.treeLines Listing.refusedLine Listing.acceptedLines Listing.listingOf Examples.encode Examples.march paperRecords paperFile paperText
 paper-example = refl
 
 pub damaged-example : Listing.listingOf damagedFile ≡ damagedText
-unfolding Bytes.word Bytes.long Bytes.blank Bytes.sameBytes Bytes.part Bytes.putAt Bytes.padded Bytes.joined Vector.coversTo Vector.covers Vector.compareOf Vector.countsAt Vector.vectorAt Vector.countBytes Vector.vectorBytes Date.isLeap Date.daysOf Date.isDate Record.identity Record.unit Record.op Record.num Record.seen Record.seenVector Record.identityAt Record.selfOf Record.objectOf Record.folderOf Record.dateBytes Record.labelOf Record.markOf Record.textLength Record.printable Record.isLabel Record.usesObject Record.usesFolder Record.usesLabel Record.usesMark Record.unused Record.names Record.objectFits Record.folderFits Record.labelFits Record.markFits Record.dateFits Record.headFits Record.wellFormed Log.rank Log.insert Log.count Log.countsTo Log.countsOnTo Log.vectorOn Log.vectorOf Log.byId Log.isNext Log.isWithin Log.allTo Log.nowhereAbove Log.isClosed Log.rises Log.recordFault Log.soundAfter Log.recordsIn Log.recordsOf Log.soundLog Log.logBytes Replay.emptyTree Replay.isPresent Replay.lower Replay.labelKey Replay.sameLabel Replay.entryOf Replay.isIn Replay.isHolder Replay.holderOf Replay.hasEntries Replay.standsAside Replay.unseen Replay.freeLabel Replay.andThen Replay.isFolder Replay.folderStands Replay.judgeMake Replay.judgeStore Replay.judgeRemove Replay.judgeRename Replay.comesTo Replay.isBelow Replay.judgePlace Replay.judgeMove Replay.judgeSettle Replay.judge Replay.newEntry Replay.stored Replay.renamed Replay.moved Replay.removed Replay.changed Replay.settled Replay.effect Replay.apply Replay.step Replay.replayFrom Replay.replay Replay.isDisputed Replay.presentOnes Table.identityBytes Table.entryRow Table.asideRow Table.entryRows Table.asideRows Table.tableBytes Block.firstTo Block.secondTo Block.headBytes Block.bodyBytes Block.sealed Block.blockOf Block.countIn Block.archiveIn Block.senderIn Block.placeIn Block.vectorIn Block.sumsHold Block.headerHolds Block.blockFault Block.recordAt Block.recordsFrom Block.blockRecords File.blockCount File.headerOf File.fileBlock File.fileTo File.fileOf File.fileLength File.blocksIn File.blockAt File.countFits File.agrees File.fileBlockFault File.fault File.blocksFault File.recordsCounted File.fileRecord File.fileRecordsFrom File.fileRecords File.recordsFault File.countsFault File.orElse File.fileFault File.notRead File.readBack File.readOf Listing.decimalTo Listing.decimal Listing.twoDigits Listing.fourDigits Listing.hexDigit Listing.hexText Listing.identityText Listing.escaped Listing.labelText Listing.dateText Listing.headLine Listing.countsText Listing.seenLine Listing.kindText Listing.markText Listing.disputedText Listing.entryLine Listing.markedText Listing.stateText Listing.asideLine Listing.entryLines Listing.asideLines Listing.treeLines Listing.refusedLine Listing.acceptedLines Listing.listingOf Examples.encode Examples.march paperRecords paperFile damagedFile damagedText
+unfolding Bytes.word Bytes.long Bytes.blank Bytes.sameBytes Bytes.part Bytes.putAt Bytes.padded Bytes.joined Vector.coversTo Vector.covers Vector.compareOf Vector.countsAt Vector.vectorAt Vector.countBytes Vector.vectorBytes Date.isLeap Date.daysOf Date.isDate Record.identity Record.unit Record.op Record.num Record.seen Record.seenVector Record.identityAt Record.selfOf Record.objectOf Record.folderOf Record.dateBytes Record.labelOf Record.markOf Record.textLength Record.printable Record.isLabel Record.usesObject Record.usesFolder Record.usesLabel Record.usesMark Record.unused Record.names Record.objectFits Record.folderFits Record.labelFits Record.markFits Record.dateFits Record.headFits Record.wellFormed Log.rank Log.insert Log.count Log.countsTo Log.countsOnTo Log.vectorOn Log.vectorOf Log.byId Log.isNext Log.isWithin Log.allTo Log.nowhereAbove Log.isClosed Log.rises Log.recordFault Log.soundAfter Log.recordsIn Log.recordsOf Log.soundLogOn Log.soundLog Log.logBytes Replay.emptyTree Replay.isPresent Replay.lower Replay.labelKey Replay.sameLabel Replay.entryOf Replay.isIn Replay.isHolder Replay.holderOf Replay.hasEntries Replay.standsAside Replay.unseen Replay.freeLabel Replay.andThen Replay.isFolder Replay.folderStands Replay.judgeMake Replay.judgeStore Replay.judgeRemove Replay.judgeRename Replay.comesTo Replay.isBelow Replay.judgePlace Replay.judgeMove Replay.judgeSettle Replay.judge Replay.newEntry Replay.stored Replay.renamed Replay.moved Replay.removed Replay.changed Replay.settled Replay.effect Replay.apply Replay.step Replay.replayFrom Replay.replay Replay.isDisputed Replay.presentOnes Table.identityBytes Table.entryRow Table.asideRow Table.entryRows Table.asideRows Table.tableBytes Block.firstTo Block.secondTo Block.headBytes Block.bodyBytes Block.sealed Block.blockOf Block.countIn Block.archiveIn Block.senderIn Block.placeIn Block.vectorIn Block.sumsHold Block.headerHolds Block.blockFault Block.recordAt Block.recordsFrom Block.blockRecords File.blockCount File.headerOf File.fileBlock File.fileTo File.fileOf File.fileLength File.blocksIn File.blockAt File.countFits File.agrees File.fileBlockFault File.fault File.blocksFault File.recordsCounted File.fileRecord File.fileRecordsFrom File.fileRecords File.recordsFault File.countsFault File.orElse File.fileFault Listing.decimalTo Listing.decimal Listing.twoDigits Listing.fourDigits Listing.hexDigit Listing.hexText Listing.identityText Listing.escaped Listing.labelText Listing.dateText Listing.headLine Listing.countsText Listing.seenLine Listing.kindText Listing.markText Listing.disputedText Listing.entryLine Listing.markedText Listing.stateText Listing.asideLine Listing.entryLines Listing.asideLines Listing.treeLines Listing.refusedLine Listing.acceptedLines Listing.listingOf Examples.encode Examples.march paperRecords paperFile damagedFile damagedText
 damaged-example = refl

@@ -94,7 +94,7 @@ pub aside-lines-length : (t : List ℕ) (n : ℕ) → length (asideLines t n) �
 unfolding asideLines
 aside-lines-length t zero = omega arith
 aside-lines-length t (suc n) =
-    let row = part t (36868 + 12 * n) 12 in
+    let row = part t (73732 + 12 * n) 12 in
     omega (arith, length-append (asideLines t n) (asideLine row), aside-lines-length t n, aside-line-length row)
 
 pub entry-lines-length : (t : List ℕ) (n : ℕ)

@@ -220,12 +220,12 @@ pub entries-counted : (t : Tree) → word (tableBytes t) 0 ≡ length (presentOn
 unfolding tableBytes
 entries-counted t =
     word-two (length (presentOnes (t .entries)))
-    (two (length (t .asides)) ++ (padded 36864 (entryRows (t .asides) (presentOnes (t .entries))) ++ padded 6144 (asideRows (t .asides))))
+    (two (length (t .asides)) ++ (padded 73728 (entryRows (t .asides) (presentOnes (t .entries))) ++ padded 12288 (asideRows (t .asides))))
 
 pub asides-counted : (t : Tree) → word (tableBytes t) 2 ≡ length (t .asides)
 unfolding tableBytes
 asides-counted t =
-    let rest : List ℕ = padded 36864 (entryRows (t .asides) (presentOnes (t .entries))) ++ padded 6144 (asideRows (t .asides)) in
+    let rest : List ℕ = padded 73728 (entryRows (t .asides) (presentOnes (t .entries))) ++ padded 12288 (asideRows (t .asides)) in
     word-behind (two (length (presentOnes (t .entries)))) (two (length (t .asides)) ++ rest) 0 ∙ word-two (length (t .asides)) rest
 
 module _ (t : Tree) (i : ℕ) (h : i < length (presentOnes (t .entries))) (few : length (presentOnes (t .entries)) ≤ 512) (a : AllProper (presentOnes (t .entries))) (e : Entry) where
@@ -235,8 +235,8 @@ module _ (t : Tree) (i : ℕ) (h : i < length (presentOnes (t .entries))) (few :
       let es : List Entry = presentOnes (t .entries) in
       let s : List Aside = t .asides in
       let rows : List ℕ = entryRows s es in
-      let zeros : List ℕ = replicate (36864 - length rows) 0 in
-      let behind : List ℕ = padded 6144 (asideRows s) in
+      let zeros : List ℕ = replicate (73728 - length rows) 0 in
+      let behind : List ℕ = padded 12288 (asideRows s) in
       let n = rows-length s es a in
       let m = length-append rows zeros in
       part-behind (two (length es) ++ two (length s)) ((rows ++ zeros) ++ behind) (72 * i) 72

@@ -13,7 +13,7 @@ use lib.Seq.{drop-drop, take-all}
 use borrow.Author.Tests.{eq-eqb, ne-eqb, eqb-true, not-false}
 use Rattle.model.specs.Bytes.{blank, part}
 use Rattle.model.specs.Record.{Rec}
-use Rattle.model.specs.Log.{vectorOf, noCounts, recordFault, soundAfter, recordsIn, recordsOf, soundLog}
+use Rattle.model.specs.Log.{vectorOf, noCounts, recordFault, soundAfter, recordsIn, recordsOf, soundLogOn, soundLog}
 use Rattle.byte_slice.proofs.Numbers.{cond-cases, eq-or-ne, and-true}
 use Rattle.byte_slice.proofs.Parts.{part-is}
 use Rattle.log_laws.proofs.Tests.{vectorOn-none}
@@ -22,7 +22,7 @@ use Rattle.log_closure.specs.Tables.{Indexed}
 use Rattle.log_check.specs.declared.Layout.the-variants.{Log}
 use Rattle.log_check.specs.Places.{offsetOf, laidAt, Laid}
 use Rattle.log_check.proofs.Scans.{fault-zeros}
-use Rattle.log_check.specs.InOrder.{listed, before, Found, firstFault, scanned, scanOf, ScanGives, soundLogOn, heldOf, Check, checked, checkOf}
+use Rattle.log_check.specs.InOrder.{listed, before, Found, firstFault, scanned, scanOf, ScanGives, heldOf, Check, checked, checkOf}
 
 -- ---- the records of a log, place by place
 
@@ -105,6 +105,7 @@ module _ (b : List ℕ) (n : ℕ) (e : n ≡ length (recordsOf b)) where
         ∙ ap (λ (x : Found). eqb (x .number) 0) (sym (g .first))
 
     pub fault-unsound : (number ≡ 0 → ⊥) → soundLogOn base b ≡ true → ⊥
+    unfolding soundLogOn
     fault-unsound z t = z (eqb-true number 0 (sym pass-is ∙ and-true (soundAfter base [] (recordsOf b)) (blank (drop (80 * length (recordsOf b)) b)) t .0))
 
     pub records-indexed : number ≡ 0 → Indexed base (laidAt Log b) n (recordsOf b) held places seens
@@ -112,13 +113,13 @@ module _ (b : List ℕ) (n : ℕ) (e : n ≡ length (recordsOf b)) where
 
     module _ (places₀ seens₀ : List ℕ) (o : scanned number place held places seens ≡ scanOf base (laidAt Log b) n places₀ seens₀) where
       pub fault-left : (number ≡ 0 → ⊥) → checked false n held places seens ≡ checkOf base b places₀ seens₀
-      unfolding checkOf heldOf
+      unfolding checkOf heldOf soundLogOn
       fault-left z =
           let h : held ≡ replicate 8 0 = fault-zeros base (laidAt Log b) n places₀ seens₀ (scanned number place held places seens) o z in
           rw (h, pass-is, ne-eqb number 0 z, ← e, ← o)
 
       pub records-left : length b ≡ 40960 → number ≡ 0 → (t : Bool) → t ≡ blank (take (40960 - 80 * n) (drop (80 * n) b)) → checked t n held places seens ≡ checkOf base b places₀ seens₀
-      unfolding checkOf heldOf
+      unfolding checkOf heldOf soundLogOn
       records-left k z t q =
           let d : take (40960 - 80 * n) (drop (80 * n) b) ≡ drop (80 * n) b = take-all (40960 - 80 * n) (drop (80 * n) b) (simp length-drop (omega arith)) in
           rw (q, d, pass-is, eq-eqb number 0 z, ← e, ← o, ← records-indexed z .counts)
@@ -149,5 +150,5 @@ module _ (b : List ℕ) {s : Bool} (judged : s ≡ soundLog b) (holds : not s �
   known-sound = sym judged ∙ not-false s holds
 
   pub known-held : {h : List ℕ} → h ≡ heldOf noCounts b → h ≡ vectorOf (recordsOf b)
-  unfolding heldOf soundLog
+  unfolding heldOf soundLog soundLogOn
   known-held e = e ∙ rw (and-true (soundAfter noCounts [] (recordsOf b)) (blank (drop (80 * length (recordsOf b)) b)) known-sound .0) (vectorOn-none (recordsOf b))

@@ -8,7 +8,7 @@ use lib.ListN.{length, drop, replicate}
 use lib.Dec.{eqb}
 use Rattle.model.specs.Bytes.{blank}
 use Rattle.model.specs.Record.{Rec}
-use Rattle.model.specs.Log.{recordFault, soundAfter, vectorOn, recordsOf}
+use Rattle.model.specs.Log.{recordFault, soundAfter, vectorOn, recordsOf, soundLogOn}
 use Rattle.log_closure.specs.Tables.{Noted, admitOf, Indexed}
 use Rattle.log_check.specs.declared.Layout.the-variants.{Log}
 use Rattle.log_check.specs.Places.{laidAt}
@@ -67,10 +67,6 @@ pub record ScanGives (base : List ℕ) (at : ℕ → Rec) (n number place : ℕ)
   pub holds : number ≡ 0 → Indexed base at n (listed at 0 n) held places seens
 
 -- ---- a log
-
--- sound behind the base vector; behind none, soundLog
-abbrev pub soundLogOn : List ℕ → List ℕ → Bool
-soundLogOn base log = soundAfter base [] (recordsOf log) && blank (drop (80 * length (recordsOf log)) log)
 
 -- the base vector with the records of a log counted, zeros if one has a fault
 unfoldable pub heldOf : List ℕ → List ℕ → List ℕ

@@ -1,3 +1,4 @@
 pub mod Ranked
 pub mod Rising
 pub mod Merged
+pub mod Ordered

@@ -10,18 +10,16 @@ use lib.ListN.{length, take, drop, replicate, take-append-drop, length-append, l
 use lib.Seq.{drop-drop, take-take}
 use Rattle.model.specs.Bytes.{blank, part, putAt, padded, joined}
 use Rattle.model.specs.Record.{Rec}
-use Rattle.model.specs.Log.{noCounts, rank, insert, soundAfter, recordsOf, soundLog, logBytes}
-use Rattle.byte_slice.proofs.Numbers.{and-true}
+use Rattle.model.specs.Log.{rank, insert, recordsOf, logBytes}
 use Rattle.byte_slice.proofs.Parts.{part-is, part-split, part-none, part-length, part-start, part-take}
 use Rattle.byte_slice.proofs.PutAt.{put-front, take-put, drop-put-at}
 use Rattle.byte_slice.proofs.Compare.{blank-eq, blank-drop}
 use Rattle.block_laws.proofs.Fields.{joined-append}
-use Rattle.encoding_laws.proofs.Logs.{sound-records}
 use Rattle.log_check.specs.declared.Layout.the-variants.{Log}
 use Rattle.log_check.specs.Places.{offsetOf, laidAt}
 use Rattle.log_check.specs.InOrder.{listed}
 use Rattle.log_check.proofs.Sound.{listed-records}
-use Rattle.log_insert.specs.Where.{placeBehind, Rising, insertTo}
+use Rattle.log_insert.specs.Where.{placeBehind, Rising, Ordered, insertTo}
 use Rattle.log_insert.proofs.Ranked.{place-at-most, place-same, insert-at}
 use Rattle.log_insert.proofs.Rising.{insertFrom, insert-front, either-way}
 
@@ -46,14 +44,12 @@ pub record Merging (log₀ recs : List ℕ) (n k : ℕ) (log : List ℕ) (end le
   pub front : take (80 * end) log ≡ take (80 * end) log₀
   pub back : drop (80 * (end + left)) log ≡ joined rest ++ replicate (40960 - 80 * (n + k)) 0
 
-module _ (log₀ recs : List ℕ) (n k : ℕ) (long : length log₀ ≡ 40960) (s : soundLog log₀ ≡ true) (e : n ≡ length (recordsOf log₀)) (room : n + k ≤ 512) (up : Rising (laidAt Log recs) k) where
-  -- behind the records of a sound log there are zeros
+module _ (log₀ recs : List ℕ) (n k : ℕ) (long : length log₀ ≡ 40960) (s : Ordered log₀ n) (e : n ≡ length (recordsOf log₀)) (room : n + k ≤ 512) (up : Rising (laidAt Log recs) k) where
+  -- behind the records of the log there are zeros
   rest-zero : drop (80 * (n + k)) log₀ ≡ replicate (40960 - 80 * (n + k)) 0
-  unfolding soundLog
   rest-zero =
-      let b : blank (drop (80 * n) log₀) ≡ true = rw (← e) at (and-true (soundAfter noCounts [] (recordsOf log₀)) (blank (drop (80 * length (recordsOf log₀)) log₀)) s .1) in
       let f : 80 * n + 80 * k ≡ 80 * (n + k) = omega arith in
-      let d : blank (drop (80 * (n + k)) log₀) ≡ true = rw (drop-drop (80 * k) (80 * n) log₀, f) at (blank-drop (80 * k) (drop (80 * n) log₀) b) in
+      let d : blank (drop (80 * (n + k)) log₀) ≡ true = rw (drop-drop (80 * k) (80 * n) log₀, f) at (blank-drop (80 * k) (drop (80 * n) log₀) (s .clear)) in
       let m : length (drop (80 * (n + k)) log₀) ≡ 40960 - 80 * (n + k) = simp length-drop (omega arith) in
       rw m at (blank-eq (drop (80 * (n + k)) log₀) d)
 
@@ -110,7 +106,7 @@ module _ (log₀ recs : List ℕ) (n k : ℕ) (long : length log₀ ≡ 40960) (
 
       put-in : insert r (listed (laidAt Log log₀) 0 end) ≡ listed (laidAt Log log₀) 0 p ++ r ∷ moved
       unfolding moved
-      put-in = rw (← place) at (insert-at (laidAt Log log₀) r n (rw (listed-records log₀ n e) (sound-records log₀ s)) end g)
+      put-in = rw (← place) at (insert-at (laidAt Log log₀) r n (s .rising) end g)
 
       -- what is moved up, in bytes
       bytes : part log (80 * p) (80 * end - 80 * p) ≡ joined moved

@@ -11,16 +11,16 @@ use lib.Dec.{leb}
 use lib.ListN.{take, drop}
 use borrow.Author.Tests.{lt-ltb, le-ltb, le-leb, lt-leb}
 use Rattle.model.specs.Record.{Rec}
-use Rattle.model.specs.Log.{noCounts, rank, insert}
+use Rattle.model.specs.Log.{rank, insert}
 use Rattle.byte_slice.proofs.Numbers.{lt-or-ge}
 use Rattle.byte_slice.proofs.Parts.{part-is}
 use Rattle.log_laws.specs.Members.{Has}
-use Rattle.log_laws.specs.Sound.{SoundAfter, Sound}
-use Rattle.log_laws.proofs.Counts.{above-all}
+use Rattle.log_laws.specs.Sound.{SoundAfter, SoundOn}
+use Rattle.log_laws.proofs.Counts.{above-all-on}
 use Rattle.log_check.specs.declared.Layout.the-variants.{Log}
 use Rattle.log_check.specs.Places.{offsetOf, laidAt}
 use Rattle.log_check.specs.InOrder.{listed}
-use Rattle.log_insert.specs.Where.{placeBehind}
+use Rattle.log_insert.specs.Where.{placeBehind, Rising}
 
 module _ (at : ℕ → Rec) where
   -- ---- a sound list rises
@@ -34,16 +34,28 @@ module _ (at : ℕ → Rec) where
       (λ k. let e : j ≡ i = omega arith in inl (ap at e))
       (lt-or-ge i j)
 
-  rises : (pre : List Rec) (i n : ℕ) → SoundAfter noCounts pre (listed at i n) → (j k : ℕ) → i ≤ j → j < k → k < i + n → rank (at j) < rank (at k)
+  sound-rises : (base : List ℕ) (pre : List Rec) (i n : ℕ) → SoundAfter base pre (listed at i n) → (j : ℕ) → i ≤ j → suc j < i + n → rank (at j) < rank (at (suc j))
   unfolding listed
-  rises pre i zero h j k a b c = absurd (omega arith)
-  rises pre i (suc n) h j k a b c =
+  sound-rises base pre i zero h j a c = absurd (omega arith)
+  sound-rises base pre i (suc n) h j a c =
       ⊎-elim
-      (λ (l : i < j). rises (at i ∷ pre) (suc i) n (h .1) j k l b (omega arith))
+      (λ (l : i < j). sound-rises base (at i ∷ pre) (suc i) n (h .1) j l (omega arith))
       (λ l.
       let e : j ≡ i = omega arith in
-      rw e (above-all (at i ∷ pre) (listed at (suc i) n) (at i) (at k) (h .1) (inl refl) (has-listed (suc i) n k (omega arith) (omega arith))))
+      rw e (above-all-on base (at i ∷ pre) (listed at (suc i) n) (at i) (at (suc i)) (h .1) (inl refl) (has-listed (suc i) n (suc i) (omega arith) (omega arith))))
       (lt-or-ge i j)
+
+  pub sound-rising : (base : List ℕ) (n : ℕ) → SoundOn base (listed at 0 n) → Rising at n
+  sound-rising base n h = record { rises = λ j l. sound-rises base [] 0 n h j (omega arith) (omega arith) }
+
+  -- records that rise from each to the next rise altogether
+  rises : (n : ℕ) → Rising at n → (j k : ℕ) → j < k → k < n → rank (at j) < rank (at k)
+  rises n h j zero b c = absurd (omega arith)
+  rises n h j (suc k) b c =
+      ⊎-elim
+      (λ (l : j < k). omega (arith, rises n h j k l (omega arith), h .rises k c))
+      (λ l. let e : j ≡ k = omega arith in rw e (h .rises k c))
+      (lt-or-ge j k)
 
   -- ---- the place
 
@@ -85,11 +97,11 @@ module _ (at : ℕ → Rec) where
       rw (le-leb (rank (at n)) k h, e) h)
       (lt-or-ge k (rank (at n)))
 
-  below : (n : ℕ) → Sound (listed at 0 n) → (m : ℕ) → m ≤ n → (k j : ℕ) → j < placeBehind at k m → rank (at j) ≤ k
+  below : (n : ℕ) → Rising at n → (m : ℕ) → m ≤ n → (k j : ℕ) → j < placeBehind at k m → rank (at j) ≤ k
   below n h m q k j a =
       let p = placeBehind at k m in
       ⊎-elim
-      (λ (l : j < p - 1). omega (arith, last-below k m (omega arith), rises [] 0 n h j (p - 1) (omega arith) l (omega (arith, place-at-most k m))))
+      (λ (l : j < p - 1). omega (arith, last-below k m (omega arith), rises n h j (p - 1) l (omega (arith, place-at-most k m))))
       (λ l. let e : j ≡ p - 1 = omega arith in rw e (last-below k m (omega arith)))
       (lt-or-ge j (p - 1))
 
@@ -107,8 +119,8 @@ module _ (at : ℕ → Rec) where
       let f : i + suc m ≡ suc i + m = omega arith in
       rw (e, le-ltb (rank r) (rank (at i)) (a i (omega arith) (omega arith)), f, put-in r (suc i) m n (λ j l h. a j (omega arith) (omega arith)) (λ j l h. b j (omega arith) (omega arith)))
 
-  -- among the first m records of a sound list a record goes to the place found from the end
-  pub insert-at : (r : Rec) (n : ℕ) → Sound (listed at 0 n) → (m : ℕ) → m ≤ n
+  -- among the first m of records that rise a record goes to the place found from the end
+  pub insert-at : (r : Rec) (n : ℕ) → Rising at n → (m : ℕ) → m ≤ n
       → insert r (listed at 0 m) ≡ listed at 0 (placeBehind at (rank r) m) ++ r ∷ listed at (placeBehind at (rank r) m) (m - placeBehind at (rank r) m)
   insert-at r n h m q =
       let p = placeBehind at (rank r) m in

@@ -7,8 +7,7 @@ use mathlib.Core.List.{List, []}
 use lib.ListN.{getD, length, take, length-take}
 use Rattle.model.specs.Vector.{lacksTo, lacksOf, handedCount}
 use Rattle.model.specs.Record.{Rec}
-use Rattle.model.specs.Log.{sumTo, count, vectorOf}
-use Rattle.model.specs.Outcome.{lacking}
+use Rattle.model.specs.Log.{sumTo, count, vectorOf, lacking}
 use Rattle.log_laws.specs.Sound.{Sound}
 use Rattle.log_laws.proofs.Sums.{sumTo-eq}
 use Rattle.log_laws.proofs.Counts.{count-nil, length-counts, unit-of}

@@ -9,8 +9,7 @@ use lib.Dec.{leb, eqb}
 use lib.ListN.{length}
 use borrow.Author.Tests.{eqb-true, leb-true}
 use Rattle.model.specs.Bytes.{word, blank}
-use Rattle.model.specs.Record.{Rec, unit, op, num, seen, headFits, objectFits, folderFits, dateFits, labelFits, markFits, wellFormed}
-use Rattle.model.specs.Outcome.{hasStroke}
+use Rattle.model.specs.Record.{Rec, unit, op, num, seen, headFits, objectFits, folderFits, dateFits, labelFits, markFits, wellFormed, hasStroke}
 use Rattle.byte_slice.proofs.Numbers.{and-true, test-false}
 use Rattle.byte_slice.proofs.Compare.{blank-getD}
 

@@ -8,8 +8,7 @@ use mathlib.Core.List.{List, [], _∷_}
 use lib.ListN.{getD, length}
 use borrow.Author.Tests.{lt-ltb, le-ltb}
 use Rattle.model.specs.Record.{Rec, unit, num}
-use Rattle.model.specs.Log.{sumTo, count, vectorOf, noCounts, countOn}
-use Rattle.model.specs.Outcome.{lacking}
+use Rattle.model.specs.Log.{sumTo, count, vectorOf, noCounts, countOn, lacking}
 use Rattle.byte_slice.proofs.Numbers.{lt-or-ge, eq-or-ne}
 use Rattle.log_laws.specs.Members.{Has, Sub}
 use Rattle.log_laws.specs.Sound.{SoundAfter, Sound}

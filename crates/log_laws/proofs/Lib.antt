@@ -7,8 +7,6 @@ pub mod Insert
 pub mod Same
 pub mod Ids
 pub mod Tests
-pub mod Act
-pub mod Take
 pub mod Lacking
 pub mod Seen
 pub mod Claims

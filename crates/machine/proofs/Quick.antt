@@ -9,30 +9,37 @@ use lib.ListN.{length}
 use borrow.Author.Tests.{ltb-true, leb-true}
 use Rattle.model.specs.Record.{Rec}
 use Rattle.model.specs.Log.{recordsOf}
-use Rattle.model.specs.Block.{blockRecords}
-use Rattle.model.specs.Bytes.{padded}
-use Rattle.model.specs.File.{blockCount, fileOf}
-use Rattle.model.specs.Outcome.{Outcome, outcome, guarded, actNumber, acted, actOf, handBlock, handOf, writeOf, takeAll, givenFault, tookAll, tookBlock, takeOf}
+use Rattle.model.specs.Block.{blockRecords, givenFault}
+use Rattle.base_model.specs.Base.{baseVector, baseIn}
+use Rattle.call_model.specs.Outcome.{Outcome, guarded, actNumber, acted, actLent, actOf, handed, handOf, written, writeOf, takeAll, tookAll, tookBlock, takeOf}
+use Rattle.call_model.specs.Fold.{foldBy, foldOf}
 use Rattle.log_laws.proofs.Members.{all-at}
-use Rattle.encoding_laws.proofs.Calls.{guarded-passes}
-use Rattle.machine.specs.Machine.{Call, starts, acts, handsOut, writes, takes, Bench, blockGiven, done, after, next, play, outcomes}
+use Rattle.call_laws.proofs.Calls.{guarded-passes}
+use Rattle.machine.specs.Machine.{Call, starts, acts, handsOut, writes, takes, folds, Bench, blockGiven, done, after, next, play, outcomes}
 use Rattle.machine.specs.Claim.{passes, passing, flowOf, flow}
 use Rattle.machine.proofs.Reach.{Given, Inv, inv-next}
 
--- the log is taken to be good, and a block that was given to have no fault
+-- log and base are taken to be good, and a block that was given to have no fault
 unfoldable pub quick : ℕ → Bench → Call → Outcome
 quick archive s (starts u) = done archive s (starts u)
-quick archive s (acts u w) =
-    cond (leb u 7 && eqb (length w) 80) (acted u (s .logs u) w (actNumber u (recordsOf (s .logs u)) w)) (done archive s (acts u w))
+quick archive s (acts u w work) =
+    let log : List ℕ = s .logs u in
+    let base : List ℕ = s .bases u in
+    cond (leb u 7 && actLent w work)
+    (acted u log (baseVector base) w (actNumber (baseIn base .list) u (baseVector base) (baseIn base .tree) (recordsOf log) w))
+    (done archive s (acts u w work))
 quick archive s (handsOut u v lent) =
-    cond (leb u 7 && eqb (length lent) 512) (outcome 0 0 (s .logs u) (handBlock archive u (recordsOf (s .logs u)) v) 0) (done archive s (handsOut u v lent))
+    cond (leb u 7 && eqb (length lent) 512) (handed archive u (s .logs u) (s .bases u) v lent) (done archive s (handsOut u v lent))
 quick archive s (writes u lent) =
-    cond (leb u 7 && eqb (length lent) 44032)
-    (outcome 0 0 (s .logs u) (padded 44032 (fileOf archive u (recordsOf (s .logs u)))) (blockCount (length (recordsOf (s .logs u)))))
-    (done archive s (writes u lent))
+    cond (leb u 7 && eqb (length lent) 44032) (written archive u (s .logs u) (s .bases u) lent) (done archive s (writes u lent))
 quick archive s (takes u n) =
-    cond (leb u 7 && ltb n (length (s .given))) (tookAll (s .logs u) (takeAll (recordsOf (s .logs u)) (blockRecords (blockGiven s n .bytes))))
+    let log : List ℕ = s .logs u in
+    let base : List ℕ = s .bases u in
+    cond (leb u 7 && ltb n (length (s .given)))
+    (tookAll log (takeAll (baseIn base .list) (baseVector base) (recordsOf log) (blockRecords (blockGiven s n .bytes))))
     (done archive s (takes u n))
+quick archive s (folds u m work) =
+    cond (leb u 7 && eqb (length work) 86020) (foldBy m u (s .logs u) (s .bases u)) (done archive s (folds u m work))
 
 -- a shortcut that is right where its test holds
 either : (a b : Bool) (x y : Outcome) → (a ≡ true → b ≡ true → x ≡ y) → cond (a && b) x y ≡ y
@@ -41,28 +48,30 @@ either true false x y h = refl
 either false b x y h = refl
 
 module _ (archive : ℕ) (s : Bench) (i : Inv archive s) where
-  past : (u : ℕ) (lent : List ℕ) (ok : Bool) (o : Outcome) → leb u 7 ≡ true → ok ≡ true → o ≡ guarded u (s .logs u) lent ok o
-  past u lent ok o a b = sym (guarded-passes u (s .logs u) lent ok o b (leb-true u 7 a) (i .good u))
+  past : (u : ℕ) (lent : List ℕ) (ok : Bool) (o : Outcome) → leb u 7 ≡ true → ok ≡ true → o ≡ guarded u (s .logs u) (s .bases u) lent ok o
+  past u lent ok o a b = sym (guarded-passes u (s .logs u) (s .bases u) lent ok o b (leb-true u 7 a) (i .good u))
 
   no-fault : (n : ℕ) → ltb n (length (s .given)) ≡ true → givenFault archive (blockGiven s n .bytes) ≡ 0
   unfolding blockGiven
   no-fault n b = all-at (Given archive (s .used)) (s .given) n (record { giver = 0; bytes = [] }) (ltb-true n (length (s .given)) b) (i .blocked) .0
 
   pub quick-is : (c : Call) → quick archive s c ≡ done archive s c
-  unfolding quick done actOf handOf writeOf takeOf tookBlock
+  unfolding quick done actOf handOf writeOf takeOf tookBlock foldOf
   quick-is (starts u) = refl
-  quick-is (acts u w) = either (leb u 7) (eqb (length w) 80) _ _ (past u [] (eqb (length w) 80) (acted u (s .logs u) w (actNumber u (recordsOf (s .logs u)) w)))
-  quick-is (handsOut u v lent) =
-      either (leb u 7) (eqb (length lent) 512) _ _ (past u lent (eqb (length lent) 512) (outcome 0 0 (s .logs u) (handBlock archive u (recordsOf (s .logs u)) v) 0))
-  quick-is (writes u lent) =
-      either (leb u 7) (eqb (length lent) 44032) _ _
-      (past u lent (eqb (length lent) 44032)
-      (outcome 0 0 (s .logs u) (padded 44032 (fileOf archive u (recordsOf (s .logs u)))) (blockCount (length (recordsOf (s .logs u))))))
+  quick-is (acts u w work) =
+      let log : List ℕ = s .logs u in
+      let base : List ℕ = s .bases u in
+      either (leb u 7) (actLent w work) _ _
+      (past u [] (actLent w work) (acted u log (baseVector base) w (actNumber (baseIn base .list) u (baseVector base) (baseIn base .tree) (recordsOf log) w)))
+  quick-is (handsOut u v lent) = either (leb u 7) (eqb (length lent) 512) _ _ (past u lent (eqb (length lent) 512) (handed archive u (s .logs u) (s .bases u) v lent))
+  quick-is (writes u lent) = either (leb u 7) (eqb (length lent) 44032) _ _ (past u lent (eqb (length lent) 44032) (written archive u (s .logs u) (s .bases u) lent))
   quick-is (takes u n) =
       let g : List ℕ = blockGiven s n .bytes in
       either (leb u 7) (ltb n (length (s .given))) _ _
       (λ a b.
-      ap (tookBlock (s .logs u) g) (sym (no-fault n b)) ∙ past u [] true (tookBlock (s .logs u) g (givenFault archive g)) a refl)
+      ap (tookBlock (s .logs u) (s .bases u) g) (sym (no-fault n b)) ∙ past u [] true (tookBlock (s .logs u) (s .bases u) g (givenFault archive g)) a refl)
+  quick-is (folds u m work) =
+      either (leb u 7) (eqb (length work) 86020) _ _ (past u (s .bases u) (eqb (length work) 86020) (foldBy m u (s .logs u) (s .bases u)))
 
   next-is : (c : Call) → after s c (quick archive s c) ≡ next archive s c
   unfolding next

@@ -1,64 +1,39 @@
--- Every reachable bench: the logs are good, and every record in a log or in a block given is one that an accepted act used.
+-- Every reachable bench: logs and bases are good and kept, and every record held or in a block given is one that an accepted act used.
 -- Assumes nothing.
 use Prim.Native.Nat.{ℕ, zero, suc, _*_, _<_}
 use native.Mathlib.Omega.{arith}
-use mathlib.Core.Path.{_≡_, refl, sym, ap, _∙_, subst}
+use mathlib.Core.Path.{_≡_, refl, sym, ap, subst}
 use mathlib.Core.Logic.{_⊎_, inl, inr, ⊎-elim}
 use mathlib.Core.Bool.{true}
 use mathlib.Core.List.{List, [], _∷_, _++_}
 use lib.Dec.{eqb}
 use lib.ListN.{length, take, drop, List·getD-eq-default}
-use borrow.Author.Tests.{eqb-true, eqb-false, eq-eqb, ne-eqb}
+use borrow.Author.Tests.{eqb-true, eqb-false}
 use Rattle.model.specs.Bytes.{padded}
 use Rattle.model.specs.Record.{Rec}
-use Rattle.model.specs.Log.{recordsOf}
-use Rattle.model.specs.Block.{countIn, recordsFrom, blockRecords}
+use Rattle.model.specs.Log.{recordsOf, lacking}
+use Rattle.model.specs.Block.{countIn, recordsFrom, blockRecords, givenFault}
 use Rattle.model.specs.File.{blockCount, fileOf, blockAt}
-use Rattle.model.specs.Outcome.{Outcome, outcome, stamped, actOf, lacking, handBlock, handOf, writeOf, givenFault, takeOf}
+use Rattle.base_model.specs.Base.{heldOn}
+use Rattle.call_model.specs.Outcome.{Outcome, outcome, actOf, handBlock, handOf, writeOf, takeOf}
+use Rattle.call_model.specs.Fold.{foldOf}
 use Rattle.byte_slice.proofs.Numbers.{lt-or-ge, eq-or-ne, cond-cases}
 use Rattle.log_laws.specs.Members.{Has, Sub, Agree}
-use Rattle.log_laws.proofs.Members.{All, all-map, all-append, all-at, has-append, append-has, has-take, has-drop}
+use Rattle.log_laws.proofs.Members.{All, all-map, all-append, all-at, append-has, has-take, has-drop}
 use Rattle.log_laws.proofs.Lacking.{has-lacking}
-use Rattle.log_laws.proofs.Take.{all-from}
-use Rattle.encoding_laws.specs.Keeps.{Good, Keeps}
-use Rattle.encoding_laws.proofs.Logs.{sound-records, empty-log}
-use Rattle.encoding_laws.proofs.Calls.{zeros-good, sound-back, start-keeps, act-keeps, hand-keeps, write-keeps, take-keeps, start-cases, act-cases, take-cases}
-use Rattle.encoding_laws.proofs.Given.{Holds, hand-cases, write-cases}
-use Rattle.machine.specs.Machine.{Call, starts, acts, handsOut, writes, takes, unitOf, Block, Bench, bare, held, blockGiven, done, ifAccepted, blocksTo, gives, uses, put, after, next, play}
+use Rattle.call_laws.specs.Keeps.{Good, Keeps}
+use Rattle.call_laws.proofs.Calls.{zeros-good, act-keeps, take-keeps}
+use Rattle.call_laws.proofs.Given.{Holds, hand-cases, write-cases}
+use Rattle.call_laws.proofs.Keeping.{fold-keeps}
+use Rattle.fold_laws.specs.Worlds as F
+use Rattle.fold_laws.proofs.Stores.{fresh-kept}
+use Rattle.fold_laws.proofs.Worlds.{inv-after}
+use Rattle.machine.specs.Machine.{Call, starts, acts, handsOut, writes, takes, folds, unitOf, Block, Bench, bare, held, blockGiven, done, blocksTo, gives, uses, baseLeft, put, after, next, play}
 use Rattle.machine.specs.Claim.{distinct}
 use Rattle.machine.proofs.Tests.{distinct-agree}
+use Rattle.machine.proofs.Stores.{start-cases, world, accepted-is, refused-is, hand-log, write-log, fresh-is, Moves, still, event, moves}
 
--- ---- what a call leaves of its log
-
--- the buffer lent for writing
-lentOf : Call → List ℕ
-lentOf (starts u) = []
-lentOf (acts u w) = []
-lentOf (handsOut u v lent) = lent
-lentOf (writes u lent) = lent
-lentOf (takes u n) = []
-
-call-keeps : (archive : ℕ) (s : Bench) (c : Call) → Keeps (s .logs (unitOf c)) (lentOf c) (done archive s c)
-unfolding done unitOf lentOf
-call-keeps archive s (starts u) = start-keeps u (s .logs u)
-call-keeps archive s (acts u w) = act-keeps u (s .logs u) w
-call-keeps archive s (handsOut u v lent) = hand-keeps archive u (s .logs u) v lent
-call-keeps archive s (writes u lent) = write-keeps archive u (s .logs u) lent
-call-keeps archive s (takes u n) = take-keeps archive u (s .logs u) _
-
-stays-good : (log lent : List ℕ) (o : Outcome) → Good log → Keeps log lent o → Good (o .log)
-stays-good log lent o g k = ⊎-elim (λ e. k .accepted e) (λ e. subst Good (sym (k .refused e .0)) g) (eq-or-ne (o .number) 0)
-
--- handing out and writing a file leave the log
-pub hand-log : (archive u : ℕ) (log v lent : List ℕ) → handOf archive u log v lent .log ≡ log
-hand-log archive u log v lent =
-    ⊎-elim (λ k. ap (λ (o : Outcome). o .log) (k .1)) (λ k. ap (λ (o : Outcome). o .log) (k .0)) (hand-cases archive u log v lent)
-
-pub write-log : (archive u : ℕ) (log lent : List ℕ) → writeOf archive u log lent .log ≡ log
-write-log archive u log lent =
-    ⊎-elim (λ k. ap (λ (o : Outcome). o .log) (k .1)) (λ k. ap (λ (o : Outcome). o .log) (k .0)) (write-cases archive u log lent)
-
--- ---- what a call gives comes from its unit's log
+-- ---- what a call gives comes from its unit's records
 
 -- a block of unit u with records of l in which no fault is found
 pub record Own (archive u : ℕ) (l : List Rec) (g : Block) : Type 0 where
@@ -75,41 +50,38 @@ own-blocks archive u l f zero h = tt
 own-blocks archive u l f (suc n) h =
     all-append (Own archive u l) (blocksTo u f n) (record { giver = u; bytes = blockAt f n } ∷ []) (own-blocks archive u l f n (λ k j. h k (omega arith))) (h n (omega arith), tt)
 
-pub accepted-is : {A : Type 0} (o : Outcome) (l : List A) → o .number ≡ 0 → ifAccepted o l ≡ l
-unfolding ifAccepted
-accepted-is o l e = rw (eq-eqb (o .number) 0 e)
-
-pub refused-is : {A : Type 0} (n : ℕ) (o : Outcome) (l : List A) → o .number ≡ suc n → ifAccepted o l ≡ []
-unfolding ifAccepted
-refused-is n o l e = rw (ne-eqb (o .number) 0 (λ z. omega arith))
-
 pub own : (archive : ℕ) (s : Bench) (c : Call) → All (Own archive (unitOf c) (held s (unitOf c))) (gives c (done archive s c))
 unfolding done gives unitOf held
 own archive s (starts u) = tt
-own archive s (acts u w) = tt
+own archive s (acts u w work) = tt
 own archive s (handsOut u v lent) =
     let l : List Rec = recordsOf (s .logs u) in
-    let o : Outcome = handOf archive u (s .logs u) v lent in
+    let h : List Rec = s .folded u ++ l in
+    let o : Outcome = handOf archive u (s .logs u) (s .bases u) v lent in
+    let b : List ℕ = handBlock archive u (heldOn (s .logs u) (s .bases u)) l v in
     ⊎-elim
     (λ k. rw (refused-is {A = Block} (k .0) o (record { giver = u; bytes = o .lent } ∷ []) (ap (λ (x : Outcome). x .number) (k .1))) tt)
     (λ k.
-    let here : Own archive u l (record { giver = u; bytes = handBlock archive u l v }) =
-    own-block archive u l (take 6 (lacking v l)) (handBlock archive u l v) (k .1) (λ r i. has-lacking v l r (has-take 6 (lacking v l) r i)) in
-    rw (k .0, accepted-is {A = Block} (outcome 0 0 (s .logs u) (handBlock archive u l v) 0) (record { giver = u; bytes = handBlock archive u l v } ∷ []) refl) (here, tt))
-    (hand-cases archive u (s .logs u) v lent)
+    let here : Own archive u h (record { giver = u; bytes = b }) =
+    own-block archive u h (take 6 (lacking v l)) b (k .1) (λ r i. append-has (s .folded u) l r (inr (has-lacking v l r (has-take 6 (lacking v l) r i)))) in
+    rw (k .0, accepted-is {A = Block} (outcome 0 0 (s .logs u) b 0) (record { giver = u; bytes = b } ∷ []) refl) (here, tt))
+    (hand-cases archive u (s .logs u) (s .bases u) v lent)
 own archive s (writes u lent) =
     let l : List Rec = recordsOf (s .logs u) in
+    let h : List Rec = s .folded u ++ l in
     let f : List ℕ = padded 44032 (fileOf archive u l) in
-    let o : Outcome = writeOf archive u (s .logs u) lent in
+    let o : Outcome = writeOf archive u (s .logs u) (s .bases u) lent in
     ⊎-elim
     (λ k. rw (refused-is (k .0) o (blocksTo u (o .lent) (o .blocks)) (ap (λ (x : Outcome). x .number) (k .1))) tt)
     (λ k.
-    let here : All (Own archive u l) (blocksTo u f (blockCount (length l))) =
-    own-blocks archive u l f (blockCount (length l)) (λ n j.
-    own-block archive u l (take 6 (drop (6 * n) l)) (blockAt f n) (k .1 n j) (λ r i. has-drop (6 * n) l r (has-take 6 (drop (6 * n) l) r i))) in
+    let here : All (Own archive u h) (blocksTo u f (blockCount (length l))) =
+    own-blocks archive u h f (blockCount (length l)) (λ n j.
+    own-block archive u h (take 6 (drop (6 * n) l)) (blockAt f n) (k .1 n j)
+    (λ r i. append-has (s .folded u) l r (inr (has-drop (6 * n) l r (has-take 6 (drop (6 * n) l) r i))))) in
     rw (k .0, accepted-is (outcome 0 0 (s .logs u) f (blockCount (length l))) (blocksTo u f (blockCount (length l))) refl) here)
-    (write-cases archive u (s .logs u) lent)
+    (write-cases archive u (s .logs u) (s .bases u) lent)
 own archive s (takes u n) = tt
+own archive s (folds u m work) = tt
 
 -- ---- the invariant
 
@@ -117,8 +89,8 @@ abbrev pub Given : ℕ → List Rec → Block → Type 0
 Given archive used g = (givenFault archive (g .bytes) ≡ 0) × Sub (blockRecords (g .bytes)) used
 
 pub record Inv (archive : ℕ) (s : Bench) : Type 0 where
-  pub good : (u : ℕ) → Good (s .logs u)
-  pub logged : (u : ℕ) → Sub (held s u) (s .used)
+  pub good : (u : ℕ) → Good (s .logs u) (s .bases u)
+  pub stored : F.Inv (world s)
   pub blocked : All (Given archive (s .used)) (s .given)
 
 -- a block that was not given holds nothing
@@ -126,79 +98,94 @@ not-given : Sub (blockRecords []) []
 unfolding blockRecords countIn recordsFrom
 not-given r h = h
 
-pub given-used : (archive : ℕ) (s : Bench) (n : ℕ) → Inv archive s → Sub (blockRecords (blockGiven s n .bytes)) (s .used)
+pub given-used : (archive : ℕ) (s : Bench) (n : ℕ) → All (Given archive (s .used)) (s .given) → Sub (blockRecords (blockGiven s n .bytes)) (s .used)
 unfolding blockGiven
 given-used archive s n i r h =
     let d : Block = record { giver = 0; bytes = [] } in
     ⊎-elim
-    (λ k. all-at (Given archive (s .used)) (s .given) n d k (i .blocked) .1 r h)
+    (λ k. all-at (Given archive (s .used)) (s .given) n d k i .1 r h)
     (λ k. absurd (not-given r (subst (λ (g : Block). Has r (blockRecords (g .bytes))) (List·getD-eq-default (s .given) d {n = n} k) h)))
     (lt-or-ge n (length (s .given)))
 
--- the records of the log that a take leaves were there or in the block
-logged-take : (archive u : ℕ) (log b : List ℕ) (used : List Rec) → Sub (recordsOf log) used → Sub (blockRecords b) used → Sub (recordsOf (takeOf archive u log b .log)) used
-logged-take archive u log b used f g r h =
-    ⊎-elim
-    (λ e. f r (subst (λ (x : List ℕ). Has r (recordsOf x)) e h))
-    (λ k.
-    let w = all-from (blockRecords b) (recordsOf log) (k .0) (sound-records log (k .3 .sound)) (k .1) in
-    ⊎-elim (f r) (g r) (w .from r (subst (Has r) (k .2) h)))
-    (take-cases archive u log b)
+-- what a call does to the world
+pub moves-of : (archive : ℕ) (s : Bench) (c : Call) → Inv archive s → Moves s c (done archive s c)
+moves-of archive s c i = moves archive s c (i .stored) (λ n. given-used archive s n (i .blocked))
 
--- the records of the log that a call leaves were there, or in the block taken, or are used by it
-logged-done : (archive : ℕ) (s : Bench) (c : Call) → Inv archive s → Sub (recordsOf (done archive s c .log)) (uses s c (done archive s c) ++ s .used)
-unfolding done uses held
-logged-done archive s (starts u) i r h =
+-- ---- what a call leaves is good
+
+stays-good : (log base lent : List ℕ) (o : Outcome) → Good log base → Keeps log base lent o → Good (o .log) base
+stays-good log base lent o g k = ⊎-elim (λ e. k .accepted e) (λ e. subst (λ (x : List ℕ). Good x base) (sym (k .refused e .0)) g) (eq-or-ne (o .number) 0)
+
+good-left : (archive : ℕ) (s : Bench) (c : Call) → ((u : ℕ) → Good (s .logs u) (s .bases u)) → Good (done archive s c .log) (baseLeft s c (done archive s c))
+unfolding done baseLeft
+good-left archive s (starts u) g =
     ⊎-elim
-    (λ e. i .logged u r (subst (λ (b : List ℕ). Has r (recordsOf b)) e h))
-    (λ e. absurd (subst (Has r) (sound-back [] tt (omega arith)) (subst (λ (b : List ℕ). Has r (recordsOf b)) (e ∙ sym empty-log) h)))
-    (start-cases u (s .logs u))
-logged-done archive s (acts u w) i r h =
-    let o : Outcome = actOf u (s .logs u) w in
-    let l : List Rec = recordsOf (s .logs u) in
-    let n : List Rec = stamped u l w ∷ [] in
+    (λ k. subst (λ (o : Outcome). Good (o .log) (o .lent)) (sym (k .1)) (g u))
+    (λ k. subst (λ (o : Outcome). Good (o .log) (o .lent)) (sym k) zeros-good)
+    (start-cases u (s .logs u) (s .bases u))
+good-left archive s (acts u w work) g =
+    stays-good (s .logs u) (s .bases u) [] (actOf u (s .logs u) (s .bases u) w work) (g u) (act-keeps u (s .logs u) (s .bases u) w work)
+good-left archive s (handsOut u v lent) g = subst (λ (x : List ℕ). Good x (s .bases u)) (sym (hand-log archive u (s .logs u) (s .bases u) v lent)) (g u)
+good-left archive s (writes u lent) g = subst (λ (x : List ℕ). Good x (s .bases u)) (sym (write-log archive u (s .logs u) (s .bases u) lent)) (g u)
+good-left archive s (takes u n) g =
+    let b : List ℕ = blockGiven s n .bytes in
+    stays-good (s .logs u) (s .bases u) [] (takeOf archive u (s .logs u) (s .bases u) b) (g u) (take-keeps archive u (s .logs u) (s .bases u) b)
+good-left archive s (folds u m work) g =
+    let k = fold-keeps u (s .logs u) (s .bases u) m work in
     ⊎-elim
-    (λ k.
-    append-has (ifAccepted o n) (s .used) r (inr (i .logged u r (subst (λ (b : List ℕ). Has r (recordsOf b)) (ap (λ (x : Outcome). x .log) (k .1)) h))))
-    (λ k.
-    ⊎-elim
-    (λ j. append-has (ifAccepted o n) (s .used) r (inr (i .logged u r j)))
-    (λ j. append-has (ifAccepted o n) (s .used) r (inl (subst (Has r) (sym (accepted-is o n (k .0))) j)))
-    (has-append l n r (subst (Has r) (k .1) h)))
-    (act-cases u (s .logs u) w)
-logged-done archive s (handsOut u v lent) i r h = i .logged u r (subst (λ (b : List ℕ). Has r (recordsOf b)) (hand-log archive u (s .logs u) v lent) h)
-logged-done archive s (writes u lent) i r h = i .logged u r (subst (λ (b : List ℕ). Has r (recordsOf b)) (write-log archive u (s .logs u) lent) h)
-logged-done archive s (takes u n) i r h = logged-take archive u (s .logs u) _ (s .used) (i .logged u) (given-used archive s _ i) r h
+    (λ e. k .accepted e)
+    (λ e. subst (λ (x : List ℕ). Good x (foldOf u (s .logs u) (s .bases u) m work .lent)) (sym (k .refused e .0)) (subst (Good (s .logs u)) (sym (k .refused e .1)) (g u)))
+    (eq-or-ne (foldOf u (s .logs u) (s .bases u) m work .number) 0)
 
 -- ---- the bench after a call
 
-abbrev pub Put : (ℕ → List ℕ) → ℕ → List ℕ → ℕ → Type 0
-Put f u l v = ((v ≡ u) × (put f u l v ≡ l)) ⊎ ((v ≡ u → ⊥) × (put f u l v ≡ f v))
+stored-next : (archive : ℕ) (s : Bench) (c : Call) → Inv archive s → F.Inv (world (next archive s c))
+unfolding next
+stored-next archive s c i = go (moves-of archive s c i)
+  where
+    go : Moves s c (done archive s c) → F.Inv (world (after s c (done archive s c)))
+    go (still e) = subst F.Inv (sym e) (i .stored)
+    go (event e a q names keeps) = subst F.Inv (sym q) (inv-after (world s) e (i .stored) a)
 
-pub put-cases : (f : ℕ → List ℕ) (u : ℕ) (l : List ℕ) (v : ℕ) → Put f u l v
+pub put-cases : {A : Type 0} (f : ℕ → A) (u : ℕ) (l : A) (v : ℕ) → ((v ≡ u) × (put f u l v ≡ l)) ⊎ ((v ≡ u → ⊥) × (put f u l v ≡ f v))
 unfolding put
 put-cases f u l v =
     ⊎-elim (λ a. inl (eqb-true v u (a .0), a .1)) (λ a. inr (eqb-false v u (a .0), a .1)) (cond-cases (eqb v u) l (f v))
 
-pub inv-next : (archive : ℕ) (s : Bench) (c : Call) → Inv archive s → Inv archive (next archive s c)
-unfolding next after held
-inv-next archive s c i =
+good-next : (archive : ℕ) (s : Bench) (c : Call) → Inv archive s → (v : ℕ) → Good (next archive s c .logs v) (next archive s c .bases v)
+unfolding next after
+good-next archive s c i v =
+    let o : Outcome = done archive s c in
     let u : ℕ = unitOf c in
+    ⊎-elim
+    (λ a.
+    ⊎-elim
+    (λ b. subst (λ (x : List ℕ). Good x (put (s .bases) u (baseLeft s c o) v)) (sym (a .1)) (subst (Good (o .log)) (sym (b .1)) (good-left archive s c (i .good))))
+    (λ b. absurd (b .0 (a .0)))
+    (put-cases (s .bases) u (baseLeft s c o) v))
+    (λ a.
+    ⊎-elim
+    (λ b. absurd (a .0 (b .0)))
+    (λ b. subst (λ (x : List ℕ). Good x (put (s .bases) u (baseLeft s c o) v)) (sym (a .1)) (subst (Good (s .logs v)) (sym (b .1)) (i .good v)))
+    (put-cases (s .bases) u (baseLeft s c o) v))
+    (put-cases (s .logs) u (o .log) v)
+
+pub held-used : (archive : ℕ) (s : Bench) → Inv archive s → (u : ℕ) → Sub (held s u) (s .used)
+unfolding held
+held-used archive s i u = i .stored .kept u .from
+
+blocked-next : (archive : ℕ) (s : Bench) (c : Call) → Inv archive s → All (Given archive (next archive s c .used)) (next archive s c .given)
+unfolding next after
+blocked-next archive s c i =
     let o : Outcome = done archive s c in
     let n : List Rec = uses s c o in
     let more : Sub (s .used) (n ++ s .used) = λ r h. append-has n (s .used) r (inr h) in
     let wide : (g : Block) → Given archive (s .used) g → Given archive (n ++ s .used) g = λ g f. (f .0, λ r h. more r (f .1 r h)) in
-    record {
-      good = λ v. ⊎-elim (λ a. subst Good (sym (a .1)) (stays-good (s .logs u) (lentOf c) o (i .good u) (call-keeps archive s c))) (λ a. subst Good (sym (a .1)) (i .good v)) (put-cases (s .logs) u (o .log) v);
-      logged = λ v r h.
-          ⊎-elim
-          (λ a. logged-done archive s c i r (subst (λ (b : List ℕ). Has r (recordsOf b)) (a .1) h))
-          (λ a. more r (i .logged v r (subst (λ (b : List ℕ). Has r (recordsOf b)) (a .1) h)))
-          (put-cases (s .logs) u (o .log) v);
-      blocked =
-          all-append (Given archive (n ++ s .used)) (s .given) (gives c o) (all-map wide (s .given) (i .blocked))
-          (all-map (λ g f. (f .faultless, λ r h. more r (i .logged u r (f .part r h)))) (gives c o) (own archive s c));
-    }
+    all-append (Given archive (n ++ s .used)) (s .given) (gives c o) (all-map wide (s .given) (i .blocked))
+    (all-map (λ g f. (f .faultless, λ r h. more r (held-used archive s i (unitOf c) r (f .part r h)))) (gives c o) (own archive s c))
+
+pub inv-next : (archive : ℕ) (s : Bench) (c : Call) → Inv archive s → Inv archive (next archive s c)
+inv-next archive s c i = record { good = good-next archive s c i; stored = stored-next archive s c i; blocked = blocked-next archive s c i }
 
 pub inv-play : (archive : ℕ) (cs : List Call) (s : Bench) → Inv archive s → Inv archive (play archive s cs)
 unfolding play
@@ -206,11 +193,10 @@ inv-play archive [] s i = i
 inv-play archive (c ∷ cs) s i = inv-play archive cs (next archive s c) (inv-next archive s c i)
 
 pub inv-bare : (archive : ℕ) → Inv archive bare
-unfolding held
 inv-bare archive =
     record {
       good = λ u. zeros-good;
-      logged = λ u r h. subst (Has r) (ap recordsOf (sym empty-log) ∙ sound-back [] tt (omega arith)) h;
+      stored = record { kept = λ u. subst (F.Kept []) (sym fresh-is) (fresh-kept []); formed = λ r i. absurd i; made = λ r i. absurd i };
       blocked = tt;
     }
 

@@ -3,7 +3,7 @@
 use Prim.Native.Nat.{ℕ}
 use mathlib.Core.Path.{_≡_, refl, subst}
 use mathlib.Core.List.{List, [], _∷_}
-use Rattle.model.specs.Outcome.{Outcome}
+use Rattle.call_model.specs.Outcome.{Outcome}
 use Rattle.machine.specs.Machine.{Call, Bench, done, after, next, play, outcomes}
 use Rattle.machine.specs.Runs.{Runs}
 

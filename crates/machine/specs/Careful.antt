@@ -9,13 +9,13 @@ use mathlib.Core.List.{List, [], _∷_, _++_}
 use lib.ListN.{length, getD, set, replicate}
 use Rattle.model.specs.Numbers.{notClosed, otherBytes, fullLog}
 use Rattle.model.specs.Vector.{covers}
-use Rattle.model.specs.Record.{Rec, unit, num}
-use Rattle.model.specs.Log.{count, vectorOf, recordsOf}
+use Rattle.model.specs.Record.{Rec, unit, num, seenVector}
+use Rattle.model.specs.Log.{countOn, recordsOf, lacking}
 use Rattle.model.specs.Block.{blockRecords}
-use Rattle.model.specs.Outcome.{Outcome, lacking, handOf, taken, takeAll, takeOf}
+use Rattle.base_model.specs.Base.{isListed, baseVector, baseIn}
+use Rattle.call_model.specs.Outcome.{Outcome, handOf, taken, takeAll, takeOf}
 use Rattle.log_laws.specs.Members.{Has, Sub, Agree}
-use Rattle.encoding_laws.specs.Keeps.{Good}
-use Rattle.machine.specs.Meeting.{lackedBy}
+use Rattle.machine.specs.Meeting.{Store, withLog, heldBy, vectorBy, Whole, lackedBy}
 
 -- every count above 0 lowered by one
 unfoldable pub lowered : List ℕ → List ℕ
@@ -30,29 +30,32 @@ unfoldable pub raised : List ℕ → List Rec → List ℕ
 raised v [] = v
 raised v (r ∷ rs) = raised (raise v r) rs
 
--- the unit that asks: the counts asked with, and its log
+-- the unit that asks: the counts asked with, and its log and base
 pub record Asking : Type 0 where
   pub asked : List ℕ
-  pub log : List ℕ
+  pub store : Store
 
--- unit a, with the log la, hands out to the asked counts
-unfoldable pub brought : ℕ → ℕ → List ℕ → Asking → List ℕ
-brought archive a la s = handOf archive a la (s .asked) (replicate 512 0) .lent
+-- unit a hands out to the asked counts
+unfoldable pub brought : ℕ → ℕ → Store → Asking → List ℕ
+brought archive a sa s = handOf archive a (sa .log) (sa .base) (s .asked) (replicate 512 0) .lent
 
 -- unit b takes that block
-unfoldable pub answer : ℕ → ℕ → ℕ → List ℕ → Asking → Outcome
-answer archive a b la s = takeOf archive b (s .log) (brought archive a la s)
+unfoldable pub answer : ℕ → ℕ → ℕ → Store → Asking → Outcome
+answer archive a b sa s = takeOf archive b (s .store .log) (s .store .base) (brought archive a sa s)
 
--- unit b, with the log lb, asks: after n blocks
-unfoldable pub asking : ℕ → ℕ → ℕ → List ℕ → List ℕ → ℕ → Asking
-asking archive a b la lb zero = record { asked = lowered (vectorOf (recordsOf lb)); log = lb }
-asking archive a b la lb (suc n) =
-    let s : Asking = asking archive a b la lb n in
-    record { asked = raised (s .asked) (blockRecords (brought archive a la s)); log = answer archive a b la s .log }
+-- unit b asks: after n blocks
+unfoldable pub asking : ℕ → ℕ → ℕ → Store → Store → ℕ → Asking
+asking archive a b sa sb zero = record { asked = lowered (vectorBy sb); store = sb }
+asking archive a b sa sb (suc n) =
+    let s : Asking = asking archive a b sa sb n in
+    record {
+      asked = raised (s .asked) (blockRecords (brought archive a sa s));
+      store = withLog (s .store) (answer archive a b sa s .log);
+    }
 
 -- the answer of the take of block n, counted from 0
-unfoldable pub answered : ℕ → ℕ → ℕ → List ℕ → List ℕ → ℕ → ℕ
-answered archive a b la lb n = answer archive a b la (asking archive a b la lb n) .number
+unfoldable pub answered : ℕ → ℕ → ℕ → Store → Store → ℕ → ℕ
+answered archive a b sa sb n = answer archive a b sa (asking archive a b sa sb n) .number
 
 -- a number was used twice: the record r of A and the record s of B have one identity and other bytes
 pub record Twice (A B : List Rec) (r s : Rec) : Type 0 where
@@ -62,41 +65,53 @@ pub record Twice (A B : List Rec) (r s : Rec) : Type 0 where
   pub same-number : num r ≡ num s
   pub other-bytes : r ≡ s → ⊥
 
+-- what b asks for with lowered counts a has not folded, and neither side has folded anything that the other could object to: without this
+-- the hand-out is 27, or a record is refused with 26 or 27, and nothing is compared
+pub record Comparable (sa sb : Store) : Type 0 where
+  pub above : covers (lowered (vectorBy sb)) (baseVector (sa .base)) ≡ true
+  pub listed : (r : Rec) → Has r (lackedBy sa sb) → isListed (baseIn (sb .base) .list) (unit r) ≡ true
+  pub covering : (r : Rec) → Has r (lackedBy sa sb) → covers (seenVector r) (baseVector (sb .base)) ≡ true
+
 -- the meeting ends with a refusal: 10, or 9 or 11 before it came to that, 11 only if the two together do not fit
-pub record Noticed (archive a b : ℕ) (la lb : List ℕ) (r : Rec) : Type 0 where
+pub record Noticed (archive a b : ℕ) (sa sb : Store) (r : Rec) : Type 0 where
   pub block : ℕ
   pub few : block < 86
-  pub before : (n : ℕ) → n < block → answered archive a b la lb n ≡ 0
+  pub before : (n : ℕ) → n < block → answered archive a b sa sb n ≡ 0
   pub refusal :
-      (answered archive a b la lb block ≡ otherBytes)
-      ⊎ (answered archive a b la lb block ≡ notClosed)
-      ⊎ ((answered archive a b la lb block ≡ fullLog) × (512 < length (lackedBy la lb) + length (recordsOf lb)))
+      (answered archive a b sa sb block ≡ otherBytes)
+      ⊎ (answered archive a b sa sb block ≡ notClosed)
+      ⊎ ((answered archive a b sa sb block ≡ fullLog) × (512 < length (lackedBy sa sb) + length (recordsOf (sb .log))))
   -- 10 where the block has r and what stands before it is taken
-  pub ten : (front rest m : List Rec) → blockRecords (brought archive a la (asking archive a b la lb block)) ≡ front ++ (r ∷ rest)
-      → takeAll (recordsOf (asking archive a b la lb block .log)) front ≡ taken m → answered archive a b la lb block ≡ otherBytes
+  pub ten : (front rest m : List Rec) → blockRecords (brought archive a sa (asking archive a b sa sb block)) ≡ front ++ (r ∷ rest)
+      → takeAll (baseIn (sb .base) .list) (baseVector (sb .base)) (recordsOf (asking archive a b sa sb block .store .log)) front ≡ taken m
+      → answered archive a b sa sb block ≡ otherBytes
 
--- unit b asks unit a, and a holds the last record that b holds of some unit with other bytes
+-- unit b asks unit a, and a has in its log the last record that b has of some unit in its own, with other bytes
 abbrev pub CarefulAsking : Type 0
 CarefulAsking =
-    (archive a b : ℕ) (la lb : List ℕ) → a < 8 → b < 8 → Good la → Good lb
-    → (r s : Rec) → Twice (recordsOf la) (recordsOf lb) r s → num s ≡ count (unit s) (recordsOf lb) → Noticed archive a b la lb r
+    (archive a b : ℕ) (sa sb : Store) → a < 8 → b < 8 → Whole sa → Whole sb → Comparable sa sb
+    → (r s : Rec) → Twice (recordsOf (sa .log)) (recordsOf (sb .log)) r s
+    → num s ≡ countOn (baseVector (sb .base)) (unit s) (recordsOf (sb .log)) → Noticed archive a b sa sb r
 
 -- unit b asks unit a, then a asks b, whose log may have grown. The record u.c, where c is the lesser of the two counts of a unit u,
--- is held with other bytes: the one or the other is refused
+-- is in both logs with other bytes: the one or the other is refused
 abbrev pub CarefulMeeting : Type 0
 CarefulMeeting =
-    (archive a b : ℕ) (la lb : List ℕ) → a < 8 → b < 8 → Good la → Good lb
-    → (r s : Rec) → Twice (recordsOf la) (recordsOf lb) r s → num r ≡ min (count (unit r) (recordsOf la)) (count (unit r) (recordsOf lb))
-    → Noticed archive a b la lb r ⊎ ((grown : List ℕ) → Good grown → Sub (recordsOf lb) (recordsOf grown) → Noticed archive b a grown la s)
+    (archive a b : ℕ) (sa sb : Store) → a < 8 → b < 8 → Whole sa → Whole sb → Comparable sa sb
+    → (r s : Rec) → Twice (recordsOf (sa .log)) (recordsOf (sb .log)) r s
+    → num r ≡ min (getD (vectorBy sa) (unit r) 0) (getD (vectorBy sb) (unit r) 0)
+    → Noticed archive a b sa sb r
+    ⊎ ((grown : List ℕ) → Whole (withLog sb grown) → Sub (recordsOf (sb .log)) (recordsOf grown) → Comparable (withLog sb grown) sa
+    → Noticed archive b a (withLog sb grown) sa s)
 
--- no false alarm: two sound logs that share no identity with different records, whose union fits 512. Nothing is refused, and for
+-- no false alarm: two whole stores that share no identity with different records, whose union fits 512. Nothing is refused, and for
 -- k that the lowered counts lack, k divided by 6 and rounded up blocks pass all
-pub record Passes (archive a b : ℕ) (la lb : List ℕ) : Type 0 where
-  pub answers : (n : ℕ) → answered archive a b la lb n ≡ 0
-  pub covering : (n : ℕ) → (length (lacking (lowered (vectorOf (recordsOf lb))) (recordsOf la)) + 5) / 6 ≤ n
-      → covers (vectorOf (recordsOf (asking archive a b la lb n .log))) (vectorOf (recordsOf la)) ≡ true
+pub record Passes (archive a b : ℕ) (sa sb : Store) : Type 0 where
+  pub answers : (n : ℕ) → answered archive a b sa sb n ≡ 0
+  pub covering : (n : ℕ) → (length (lacking (lowered (vectorBy sb)) (recordsOf (sa .log))) + 5) / 6 ≤ n
+      → covers (vectorBy (asking archive a b sa sb n .store)) (vectorBy sa) ≡ true
 
 abbrev pub CarefulPassing : Type 0
 CarefulPassing =
-    (archive a b : ℕ) (la lb : List ℕ) → a < 8 → b < 8 → Good la → Good lb → Agree (recordsOf la) (recordsOf lb)
-    → length (lackedBy la lb) + length (recordsOf lb) ≤ 512 → Passes archive a b la lb
+    (archive a b : ℕ) (sa sb : Store) → a < 8 → b < 8 → Whole sa → Whole sb → Comparable sa sb → Agree (heldBy sa) (heldBy sb)
+    → length (lackedBy sa sb) + length (recordsOf (sb .log)) ≤ 512 → Passes archive a b sa sb

@@ -2,7 +2,7 @@
 -- Assumes nothing.
 use mathlib.Core.Path.{_≡_}
 use mathlib.Core.List.{List, [], _∷_}
-use Rattle.model.specs.Outcome.{Outcome}
+use Rattle.call_model.specs.Outcome.{Outcome}
 use Rattle.machine.specs.Machine.{Call, Bench, after}
 
 -- R says what outcome a run of a call may have on a bench; os are the outcomes of the calls, and t is the bench at the end

@@ -17,7 +17,7 @@ use Rattle.log_laws.specs.Members.{Has as Member}
 use Rattle.log_laws.proofs.Tests.{sound-means, means-sound}
 use Rattle.tree_laws.specs.Replayed.{Has, traceOf}
 use Rattle.tree_laws.proofs.Identities.{makers-distinct}
-use Rattle.tree_laws.proofs.Acting.{sound-distinct}
+use Rattle.tree_laws.proofs.Seen.{sound-distinct}
 use Rattle.mark_laws.specs.Marks.{SameButMark, OneMarkApart, StaysSmall, rowOf, hideMark}
 use Rattle.mark_laws.proofs.Entries.{distinct-made, one-differs}
 use Rattle.mark_laws.proofs.Logs.{small, stays-small}
@@ -74,4 +74,4 @@ removed-shown i l m s t a y =
     let w = two-logs i l m s t a in
     λ j. two (length (w .removed y j))
     ++ (two (length (w .one .asides j))
-    ++ (padded 36864 (entryRows (w .one .asides j) (w .removed y j)) ++ padded 6144 (asideRows (w .one .asides j))))
+    ++ (padded 73728 (entryRows (w .one .asides j) (w .removed y j)) ++ padded 12288 (asideRows (w .one .asides j))))

@@ -15,7 +15,7 @@ use Rattle.log_laws.specs.Sound.{Sound}
 use Rattle.tree_laws.specs.Replayed.{Distinct, makers, Pairs, traceOf}
 use Rattle.tree_laws.proofs.Steps.{step-aside}
 use Rattle.tree_laws.proofs.Identities.{makers-distinct}
-use Rattle.tree_laws.proofs.Acting.{sound-distinct}
+use Rattle.tree_laws.proofs.Seen.{sound-distinct}
 use Rattle.tree_laws.proofs.Dates.{kept}
 use Rattle.tree_laws.proofs.Blind.{SameRead, front-same, front-part, read-same, judge-same, blind, Alike, alike-self, replay-alike}
 use Rattle.mark_laws.specs.Marks.{markAt, SameButMark, OneMarkApart, markIf, markTree, StaysSmall}

@@ -19,7 +19,7 @@ use Rattle.log_laws.proofs.Formed.{well-length}
 use Rattle.log_laws.proofs.Counts.{formed}
 use Rattle.tree_laws.specs.Replayed.{Has, Distinct, makers, mapped, hideFrom}
 use Rattle.tree_laws.proofs.Identities.{makers-distinct}
-use Rattle.tree_laws.proofs.Acting.{sound-distinct}
+use Rattle.tree_laws.proofs.Seen.{sound-distinct}
 use Rattle.tree_laws.proofs.Dates.{kept}
 use Rattle.tree_laws.proofs.Blind.{blind}
 use Rattle.tree_laws.proofs.Tables.{Filled, Hides, Within, hide-append, hide-keeps, hide-all, row-length, hidden-table, filled-replay, entries-few}
@@ -35,14 +35,14 @@ elsewhere n i (inr h) = rw (le-ltb i (4 + 72 * n + markTo) h) (and-wrong (leb (4
 
 there : (n i : ℕ) → n < 512 → 4 + 72 * n + markFrom ≤ i → i < 4 + 72 * n + markTo → isMarkPlace n i ≡ true
 unfolding isMarkPlace
-there n i b h k = rw (le-leb (4 + 72 * n + markFrom) i h, lt-ltb i (4 + 72 * n + markTo) k, lt-ltb i 36868 (omega arith))
+there n i b h k = rw (le-leb (4 + 72 * n + markFrom) i h, lt-ltb i (4 + 72 * n + markTo) k, lt-ltb i 73732 (omega arith))
 
 mark-places : (n : ℕ) → Within (isMarkPlace n)
 unfolding isMarkPlace
 mark-places n =
     record {
       before = λ i h. elsewhere n i (inl (omega arith));
-      behind = λ i h. rw (le-ltb i 36868 h, and-wrong (ltb i (4 + 72 * n + markTo))) (and-wrong (leb (4 + 72 * n + markFrom) i));
+      behind = λ i h. rw (le-ltb i 73732 h, and-wrong (ltb i (4 + 72 * n + markTo))) (and-wrong (leb (4 + 72 * n + markFrom) i));
     }
 
 -- ---- rows

@@ -94,7 +94,7 @@ markTo = 72
 
 -- the places of the tree table that hold the mark of the row n
 unfoldable pub isMarkPlace : ℕ → ℕ → Bool
-isMarkPlace n i = leb (4 + 72 * n + markFrom) i && (ltb i (4 + 72 * n + markTo) && ltb i 36868)
+isMarkPlace n i = leb (4 + 72 * n + markFrom) i && (ltb i (4 + 72 * n + markTo) && ltb i 73732)
 
 -- a tree table with zeros for the mark of the row n
 unfoldable pub hideMark : ℕ → List ℕ → List ℕ

@@ -18,7 +18,7 @@ use Rattle.model.specs.Merge.{union, unionFault, merged, unless, unlessAny, joi
 use Rattle.log_laws.specs.Members.{Has}
 use Rattle.log_laws.proofs.Counts.{no-counts, formed}
 use Rattle.log_laws.proofs.Tests.{vectorOn-none}
-use Rattle.encoding_laws.proofs.Merging.{checked-both, file-sound, file-few}
+use Rattle.call_laws.proofs.Merging.{checked-both, file-sound, file-few}
 use Rattle.file_laws.proofs.Records.{length-fileRecords}
 use Rattle.file_laws.proofs.Rewritten.{vector-right}
 use Rattle.log_closure.specs.Tables.{Indexed}

@@ -10,7 +10,7 @@ use lib.ListN.{getD, length, take, drop, length-append}
 use borrow.Author.Tests.{not-true, not-false}
 use Rattle.model.specs.Bytes.{joined, putAt}
 use Rattle.model.specs.Record.{Rec, unit, num}
-use Rattle.model.specs.Outcome.{lacking}
+use Rattle.model.specs.Log.{lacking}
 use Rattle.byte_slice.proofs.Parts.{lent-length}
 use Rattle.byte_slice.proofs.PutAt.{put-nil, put-more}
 use Rattle.block_laws.proofs.Fields.{joined-append}

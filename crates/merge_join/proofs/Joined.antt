@@ -11,10 +11,9 @@ use lib.ListN.{getD, length, take, drop}
 use lib.Seq.{take-at}
 use Rattle.model.specs.Bytes.{joined, padded, putAt}
 use Rattle.model.specs.Record.{Rec}
-use Rattle.model.specs.Log.{insert, vectorOf, recordsOf, soundLog, logBytes}
+use Rattle.model.specs.Log.{noCounts, insert, vectorOf, recordsOf, soundLog, logBytes, lacking}
 use Rattle.model.specs.Block.{archiveIn, senderIn}
 use Rattle.model.specs.File.{blockAt, blockCount, fileOf, recordsCounted, fileRecordsFrom, fileRecords}
-use Rattle.model.specs.Outcome.{lacking}
 use Rattle.model.specs.Merge.{insertAll, union, unionFault, merged, joinedFile}
 use Rattle.block_laws.proofs.Fields.{Sized, length-joined, joined-at}
 use Rattle.vector.proofs.Higher.{eight}
@@ -25,12 +24,13 @@ use Rattle.log_laws.proofs.Tests.{vectorOf-getD, vectorOf-length}
 use Rattle.merge_laws.proofs.Union.{union-both}
 use Rattle.merge_laws.proofs.Counts.{union-longer, union-counts, lacking-rises}
 use Rattle.encoding_laws.proofs.Logs.{sound-proper, proper-sized, length-logBytes, records-back, log-sound}
-use Rattle.encoding_laws.proofs.Merging.{file-sound, file-few, files-agree, files-room}
+use Rattle.call_laws.proofs.Merging.{file-sound, file-few, files-agree, files-room}
 use Rattle.log_check.specs.declared.Layout.the-variants.{File, Log}
 use Rattle.log_check.specs.Places.{offsetOf, laidAt}
 use Rattle.log_check.specs.InOrder.{listed}
 use Rattle.log_check.proofs.Lists.{listed-more}
-use Rattle.log_insert.specs.Where.{Rising, insertTo}
+use Rattle.log_insert.specs.Where.{Rising, Ordered, insertTo}
+use Rattle.log_insert.proofs.Ordered.{sound-ordered}
 use Rattle.merge_check.specs.Tables.{Fine}
 use Rattle.merge_join.specs.Highest.{highest}
 
@@ -94,7 +94,7 @@ module _ (f g : List ℕ) (used total : ℕ) (a : Fine f used) (b : Fine g total
   pub copied-long : length log ≡ 40960
   copied-long = rw copied (length-logBytes (fileRecords f) (proper-sized (fileRecords f) (sound-proper (fileRecords f) (file-sound f (a .right)))) (file-few f (a .right)))
 
-  pub copied-sound : soundLog log ≡ true
+  copied-sound : soundLog log ≡ true
   copied-sound = rw copied (log-sound (fileRecords f) (file-sound f (a .right)) (file-few f (a .right)))
 
   copied-back : recordsOf log ≡ fileRecords f
@@ -102,6 +102,10 @@ module _ (f g : List ℕ) (used total : ℕ) (a : Fine f used) (b : Fine g total
 
   pub copied-used : used ≡ length (recordsOf log)
   copied-used = rw copied-back (a .counted)
+
+  pub copied-ordered : Ordered log used
+  unfolding soundLog
+  copied-ordered = sound-ordered noCounts log used copied-sound copied-used
 
   module _ (held : List ℕ) (eh : held ≡ vectorOf (fileRecords f)) (k : ℕ) (ek : k ≡ length (lacking held (listed (laidAt File g) 0 total))) where
     new-count : k ≡ length (lacking (vectorOf (fileRecords f)) (fileRecords g))

@@ -7,8 +7,7 @@ use mathlib.Core.Logic.{inl, inr, ⊎-elim}
 use mathlib.Core.List.{List, [], _∷_}
 use lib.ListN.{getD, length}
 use Rattle.model.specs.Record.{Rec}
-use Rattle.model.specs.Log.{rank, count, insert, vectorOf, noCounts}
-use Rattle.model.specs.Outcome.{lacking}
+use Rattle.model.specs.Log.{rank, count, insert, vectorOf, noCounts, lacking}
 use Rattle.model.specs.Merge.{insertAll, union}
 use Rattle.log_laws.specs.Members.{Has}
 use Rattle.log_laws.specs.Sound.{SoundAfter, Sound}

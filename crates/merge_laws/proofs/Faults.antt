@@ -11,9 +11,8 @@ use lib.ListN.{getD, length}
 use borrow.Author.Tests.{lt-ltb, le-ltb}
 use Rattle.model.specs.Bytes.{sameBytes}
 use Rattle.model.specs.Record.{Rec, unit, num}
-use Rattle.model.specs.Log.{byId}
+use Rattle.model.specs.Log.{byId, lacking}
 use Rattle.model.specs.File.{fault}
-use Rattle.model.specs.Outcome.{lacking}
 use Rattle.model.specs.Merge.{differs, bytesFault, roomFault}
 use Rattle.byte_slice.proofs.Numbers.{lt-or-ge, cond-cases}
 use Rattle.byte_slice.proofs.Compare.{same-eq, same-refl}

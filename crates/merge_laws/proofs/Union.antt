@@ -1,5 +1,4 @@
--- The records of two sound logs that agree, put together by rank, are sound, and they are all of both; taking the second's comes to the
--- same.
+-- The records of two sound logs that agree, put together by rank, are sound, and they are all of both.
 -- Assumes nothing.
 use Prim.Native.Nat.{ℕ, suc, _+_, _≤_, _<_}
 use native.Mathlib.Omega.{arith}
@@ -9,8 +8,7 @@ use mathlib.Core.Bool.{true}
 use mathlib.Core.List.{List, [], _∷_}
 use lib.ListN.{getD, length}
 use Rattle.model.specs.Record.{Rec, unit, num, seen, wellFormed}
-use Rattle.model.specs.Log.{rank, count, insert, vectorOf, noCounts}
-use Rattle.model.specs.Outcome.{lacking, taken, takeOne, takeAll}
+use Rattle.model.specs.Log.{rank, count, insert, vectorOf, noCounts, lacking}
 use Rattle.model.specs.Merge.{insertAll, union}
 use Rattle.byte_slice.proofs.Numbers.{lt-or-ge}
 use Rattle.log_laws.specs.Members.{Has, Sub, Agree}
@@ -22,26 +20,25 @@ use Rattle.log_laws.proofs.Ids.{held-byId, none-byId}
 use Rattle.log_laws.proofs.Insert.{insert-sound, has-insert, insert-has, length-insert}
 use Rattle.log_laws.proofs.Lacking.{lacking-cons, lacking-nil}
 use Rattle.log_laws.proofs.Seen.{saw}
-use Rattle.log_laws.proofs.Take.{take-new, take-held, takeAll-nil, takeAll-goes}
 use Rattle.log_laws.proofs.Tests.{vectorOf-getD}
 use Rattle.merge_laws.specs.Both.{Both}
 
 -- b: the second log; pre: what of it was looked at, last first; rs: what is still to come; acc: what is put together so far
-record Going (a b pre rs acc : List Rec) : Type 0 where
-  sound : Sound acc
-  rest : SoundAfter noCounts pre rs
-  inside : Sub rs b
-  past : Sub pre b
-  done : (s : Rec) → Has s b → Has s rs ⊎ Has s acc
-  from : (s : Rec) → Has s acc → Has s a ⊎ Has s pre
-  kept : Sub a acc
+pub record Going (a b pre rs acc : List Rec) : Type 0 where
+  pub sound : Sound acc
+  pub rest : SoundAfter noCounts pre rs
+  pub inside : Sub rs b
+  pub past : Sub pre b
+  pub done : (s : Rec) → Has s b → Has s rs ⊎ Has s acc
+  pub from : (s : Rec) → Has s acc → Has s a ⊎ Has s pre
+  pub kept : Sub a acc
 
 module _ (a b : List Rec) (sa : Sound a) (sb : Sound b) (agree : Agree a b) where
   module _ (pre : List Rec) (r : Rec) (rs acc : List Rec) (g : Going a b pre (r ∷ rs) acc) where
-    mine : Has r b
+    pub mine : Has r b
     mine = g .inside r (inl refl)
 
-    fr : wellFormed r ≡ true
+    pub fr : wellFormed r ≡ true
     fr = formed [] b r sb mine
 
     -- what r saw is there already
@@ -57,7 +54,7 @@ module _ (a b : List Rec) (sa : Sound a) (sb : Sound b) (agree : Agree a b) wher
         (g .done s i)
 
     module _ (new : getD (vectorOf a) (unit r) 0 < num r) where
-      fresh : (s : Rec) → Has s acc → unit s ≡ unit r → num s ≡ num r → ⊥
+      pub fresh : (s : Rec) → Has s acc → unit s ≡ unit r → num s ≡ num r → ⊥
       fresh s i u n =
           ⊎-elim
           (λ j.
@@ -100,7 +97,7 @@ module _ (a b : List Rec) (sa : Sound a) (sb : Sound b) (agree : Agree a b) wher
           let e : s ≡ w .it = unique [] acc (g .sound) s (w .it) i h (sym (w .of-unit)) (n ∙ sym (w .numbered)) in
           rw e (w .inside v k)
 
-      joins : Joins noCounts [] acc r
+      pub joins : Joins noCounts [] acc r
       joins =
           record {
             formed = fr;
@@ -109,7 +106,7 @@ module _ (a b : List Rec) (sa : Sound a) (sb : Sound b) (agree : Agree a b) wher
             closed = λ s i. ⊎-elim (λ x. absurd x) (λ x. closed s x) i;
           }
 
-      goes-new : Going a b (r ∷ pre) rs (insert r acc)
+      pub goes-new : Going a b (r ∷ pre) rs (insert r acc)
       goes-new =
           record {
             sound = insert-sound acc r (g .sound) joins;
@@ -125,19 +122,15 @@ module _ (a b : List Rec) (sa : Sound a) (sb : Sound b) (agree : Agree a b) wher
             kept = λ s i. insert-has r acc s (inr (g .kept s i));
           }
 
-      -- it is taken as a new one
-      takes-new : length acc < 512 → takeOne acc r ≡ taken (insert r acc)
-      takes-new k = take-new acc r (none-byId (unit r) (num r) acc fresh) joins k
-
     module _ (old : num r ≤ getD (vectorOf a) (unit r) 0) where
-      held : Has r acc
+      pub held : Has r acc
       held =
           let o = well-own r fr in
           let (x, i, u, n) = find-held a (unit r) (num r) sa (omega arith) (omega (arith, vectorOf-getD a (unit r) (well-unit r fr))) in
           let q : x ≡ r = agree x r i mine u n in
           g .kept r (rw (← q) i)
 
-      goes-held : Going a b (r ∷ pre) rs acc
+      pub goes-held : Going a b (r ∷ pre) rs acc
       goes-held =
           record {
             sound = g .sound;
@@ -148,10 +141,6 @@ module _ (a b : List Rec) (sa : Sound a) (sb : Sound b) (agree : Agree a b) wher
             from = λ s j. ⊎-elim (λ z. inl z) (λ z. inr (inr z)) (g .from s j);
             kept = g .kept;
           }
-
-      -- it is taken as one that is held
-      takes-held : takeOne acc r ≡ taken acc
-      takes-held = take-held acc r fr (held-byId acc r (g .sound) held)
 
   whole : (pre rs acc : List Rec) → Going a b pre rs acc → Both a b (insertAll acc (lacking (vectorOf a) rs))
   unfolding insertAll
@@ -169,33 +158,10 @@ module _ (a b : List Rec) (sa : Sound a) (sb : Sound b) (agree : Agree a b) wher
       (λ k. subst (λ (m : List Rec). Both a b (insertAll acc m)) (sym (k .1)) (whole (r ∷ pre) rs acc (goes-held pre r rs acc g (k .0))))
       (lacking-cons (vectorOf a) r rs)
 
-  takes : (pre rs acc : List Rec) → Going a b pre rs acc → length acc + length (lacking (vectorOf a) rs) ≤ 512
-      → takeAll acc rs ≡ taken (insertAll acc (lacking (vectorOf a) rs))
-  unfolding insertAll
-  takes pre [] acc g few = takeAll-nil acc ∙ rw (lacking-nil (vectorOf a))
-  takes pre (r ∷ rs) acc g few =
-      ⊎-elim
-      (λ k.
-      let n : length (lacking (vectorOf a) (r ∷ rs)) ≡ suc (length (lacking (vectorOf a) rs)) = ap (λ (m : List Rec). length m) (k .1) in
-      takeAll-goes acc r rs (insert r acc) (takes-new pre r rs acc g (k .0) (omega arith))
-      ∙ takes (r ∷ pre) rs (insert r acc) (goes-new pre r rs acc g (k .0)) (omega (arith, length-insert r acc))
-      ∙ ap (λ (m : List Rec). taken (insertAll acc m)) (sym (k .1)))
-      (λ k.
-      let n : length (lacking (vectorOf a) (r ∷ rs)) ≡ length (lacking (vectorOf a) rs) = ap (λ (m : List Rec). length m) (k .1) in
-      takeAll-goes acc r rs acc (takes-held pre r rs acc g (k .0))
-      ∙ takes (r ∷ pre) rs acc (goes-held pre r rs acc g (k .0)) (omega arith)
-      ∙ ap (λ (m : List Rec). taken (insertAll acc m)) (sym (k .1)))
-      (lacking-cons (vectorOf a) r rs)
-
-  begins : Going a b [] b a
+  pub begins : Going a b [] b a
   begins = record { sound = sa; rest = sb; inside = λ s i. i; past = λ s i. absurd i; done = λ s i. inl i; from = λ s i. inl i; kept = λ s i. i }
 
   -- the union of two sound logs that agree is sound, and has the records of both and no others
   pub union-both : Both a b (union a b)
   unfolding union
   union-both = whole [] b a begins
-
-  -- taking the records of the second log, one after another, gives the union
-  pub union-taken : length a + length (lacking (vectorOf a) b) ≤ 512 → takeAll a b ≡ taken (union a b)
-  unfolding union
-  union-taken few = takes [] b a begins few

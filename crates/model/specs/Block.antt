@@ -6,7 +6,8 @@ use mathlib.Core.Bool.{Bool, true, false, cond, _&&_}
 use mathlib.Core.List.{List, [], _∷_, _++_}
 use lib.Dec.{leb, eqb}
 use lib.ListN.{getD, length, take}
-use Rattle.model.specs.Numbers.{badLetters, badSum, badHeader}
+use Rattle.model.specs.Numbers.{badLength, badLetters, badSum, badHeader, otherArchive}
+use Rattle.model.specs.Lengths.{blockSize}
 use Rattle.model.specs.Bytes.{word, long, two, four, blank, sameBytes, part, padded, joined}
 use Rattle.model.specs.Vector.{vectorAt, vectorBytes}
 use Rattle.model.specs.Record.{Rec}
@@ -97,3 +98,10 @@ recordsFrom b i (suc n) = recordAt b i ∷ recordsFrom b (suc i) n
 -- the records of a block
 unfoldable pub blockRecords : List ℕ → List Rec
 blockRecords b = recordsFrom b 0 (countIn b)
+
+-- the first of 2 to 6 that holds of a block, or 0 [F69]
+unfoldable pub givenFault : ℕ → List ℕ → ℕ
+givenFault archive b =
+    cond (eqb (length b) blockSize)
+    (cond (eqb (blockFault b) 0) (cond (eqb (archiveIn b) archive) 0 otherArchive) (blockFault b))  -- 6; 3, 4, 5
+    badLength  -- 2

@@ -9,13 +9,12 @@ use lib.ListN.{length, take, drop, replicate}
 use Rattle.model.specs.Bytes.{two, sameBytes, padded, joined}
 use Rattle.model.specs.Vector.{Compared, compareOf, comparisonOf, handedCount, blocksFor, vectorBytes}
 use Rattle.model.specs.Date.{isDate}
-use Rattle.model.specs.Record.{Rec, identity, unitOf, numberOf, root, wellFormed}
-use Rattle.model.specs.Log.{recordFault, soundAfter, vectorOf, noCounts}
-use Rattle.model.specs.Replay.{Entry, Aside, Tree, labelKey, replay, presentOnes, isDisputed}
+use Rattle.model.specs.Record.{Rec, identity, unitOf, numberOf, root, hasStroke, wellFormed}
+use Rattle.model.specs.Log.{recordFault, soundAfter, vectorOf, noCounts, lacking}
+use Rattle.model.specs.Replay.{Entry, Aside, Tree, labelKey, replay, presentOnes, isDisputed, trim}
 use Rattle.model.specs.Table.{identityBytes, entryRow, asideRow}
 use Rattle.model.specs.Block.{bodyBytes, archiveIn, senderIn, vectorIn}
 use Rattle.model.specs.File.{Fault, fault, blockCount, headerOf, blockAt}
-use Rattle.model.specs.Outcome.{lacking, Took, refused, taken, takeAll, actNumber, acted, actOf}
 use Rattle.model.specs.Merge.{Merged, merged, union, recordsClash, unlessAny, mergeFiles, mergeOf}
 use Rattle.model.specs.Listing.{decimal, labelText, headLine, seenLine, asideLine}
 
@@ -161,16 +160,6 @@ pub data Row : Type 0 where
   tree : List Rec → List Shown → List Standing → Row
   -- the records of a log, the entries that it shows in every field, each with whether it is disputed, and its asides
   whole : List Rec → List (Entry × Bool) → List Standing → Row
-  -- the records of a log, those of a block that it takes, and what it shows afterwards
-  takes : List Rec → List Rec → List Shown → List Standing → Row
-  -- the records of a log, those of a block, and the number under which the block is refused
-  refuses : List Rec → List Rec → ℕ → Row
-  -- the own unit, the records of a log, a wish, and the number that the act answers
-  wishes : ℕ → List Rec → List ℕ → ℕ → Row
-  -- the length of a log of zeros, the own unit, a wish, and the number that is answered before the log is judged
-  guards : ℕ → ℕ → List ℕ → ℕ → Row
-  -- a number with which a wish is refused: at place 0, and the log is left
-  turnsAway : ℕ → Row
   -- how many records, and how many blocks their file has
   blocks : ℕ → ℕ → Row
   -- the records of a file before a record, last first, that record, and its fault
@@ -193,14 +182,10 @@ pub data Row : Type 0 where
   joins : ℕ → List Rec → ℕ → List Rec → ℕ → List Rec → Row
   -- two files, the fault that is answered, and the file at fault
   checks : List ℕ → List ℕ → Fault → ℕ → Row
-
-unfoldable pub showsTaken : Took → List Shown → List Standing → Bool
-showsTaken (refused n) es ss = false
-showsTaken (taken m) es ss = shows m es ss
-
-unfoldable pub isRefused : Took → ℕ → Bool
-isRefused (refused n) k = eqb n k
-isRefused (taken m) k = false
+  -- a text, and whether it has a stroke
+  strokes : List ℕ → Bool → Row
+  -- the records of a log, and how many entries their tree has without removed ones
+  leaves : List Rec → ℕ → Row
 
 unfoldable pub says : Compared → ℕ → ℕ → ℕ → Bool
 says c n a b = eqb (c .answer) n && (eqb (c .first) a && eqb (c .second) b)
@@ -218,8 +203,8 @@ sameFault a b = eqb (a .number) (b .number) && eqb (a .place) (b .place)
 -- a file of one block or two, its sums left out
 unfoldable pub unsealed : ℕ → ℕ → List Rec → List ℕ
 unsealed archive u l =
-    padded 512 (bodyBytes (headerOf archive u 0 l) (take 6 l))
-    ++ cond (leb (length l) 6) [] (padded 512 (bodyBytes (headerOf archive u 1 l) (drop 6 l)))
+    padded 512 (bodyBytes (headerOf archive u 0 (vectorOf l)) (take 6 l))
+    ++ cond (leb (length l) 6) [] (padded 512 (bodyBytes (headerOf archive u 1 (vectorOf l)) (drop 6 l)))
 
 -- the labels "A", "B" and "C"
 abbrev pub A : List ℕ
@@ -259,14 +244,10 @@ right (whole l es ss) =
     && (showsWhole (replay l .asides) (presentOnes (replay l .entries)) es && showsAsides (replay l .asides) ss)
 right (date y m d b) = sameFlag (isDate y m d) b
 right (formed r b) = sameFlag (wellFormed r) b
+right (strokes t b) = sameFlag (hasStroke t) b
+right (leaves l n) = eqb (length (trim (replay l) .entries)) n
 right (counts t k) = sameBytes (labelKey t) k
 right (tree l es ss) = shows l es ss
-right (takes l rs es ss) = soundAfter noCounts [] l && showsTaken (takeAll l rs) es ss
-right (refuses l rs n) = soundAfter noCounts [] l && isRefused (takeAll l rs) n
-right (wishes u l w n) = eqb (actNumber u l w) n
-right (guards n u w e) = eqb (actOf u (replicate n 0) w .number) e
-right (turnsAway n) =
-    eqb (acted 0 A A n .number) n && (eqb (acted 0 A A n .place) 0 && sameBytes (acted 0 A A n .log) A)
 right (blocks n k) = eqb (blockCount n) k
 right (faulty l r n) = eqb (recordFault noCounts l r) n
 right (follows v l r n) = eqb (recordFault v l r) n
@@ -324,9 +305,6 @@ starred =
     ((1 · 1, 16, 0 · 1, true) ∷ [])
     -- unit 1 alone made 1.1 "A"; it takes 0.1 "A", of a later day, and now 1.1 stands aside
     ∷ tree (makesTrace 3 (1 · 1) [] root A ∷ []) ((1 · 1, A, 1 · 1, 1 · 1, false) ∷ []) []
-    ∷ takes (makesTrace 3 (1 · 1) [] root A ∷ []) (makesTrace 9 (0 · 1) [] root A ∷ [])
-    ((0 · 1, A, 0 · 1, 0 · 1, true) ∷ [])
-    ((1 · 1, 15, 0 · 1, true) ∷ [])
     ∷ []
 
 -- more of the rules, one by one
@@ -457,10 +435,6 @@ further =
     ∷ tree (makesTrace 3 (0 · 1) [] root A ∷ removes 3 (0 · 2) (1 ∷ []) (0 · 1) ∷ makesTrace 3 (0 · 3) (2 ∷ []) root (97 ∷ []) ∷ []) ((0 · 3, 97 ∷ [], 0 · 3, 0 · 3, false) ∷ []) []
     -- all 32 bytes count
     ∷ tree (makesTrace 3 (0 · 1) [] root A ∷ makesTrace 3 (0 · 2) (1 ∷ []) root (65 ∷ 66 ∷ []) ∷ makesTrace 3 (0 · 3) (2 ∷ []) root (replicate 31 65 ++ B) ∷ makesTrace 3 (0 · 4) (3 ∷ []) root (replicate 31 65 ++ C) ∷ makesTrace 3 (0 · 5) (4 ∷ []) root (replicate 31 97 ++ (98 ∷ [])) ∷ []) ((0 · 1, A, 0 · 1, 0 · 1, false) ∷ (0 · 2, 65 ∷ 66 ∷ [], 0 · 2, 0 · 2, false) ∷ (0 · 3, replicate 31 65 ++ B, 0 · 3, 0 · 3, true) ∷ (0 · 4, replicate 31 65 ++ C, 0 · 4, 0 · 4, false) ∷ []) ((0 · 5, 15, 0 · 3, true) ∷ [])
-    -- the same of wishes
-    ∷ wishes 0 (makesTrace 3 (0 · 1) [] root A ∷ []) (makesTrace 3 (0 · 0) [] root (97 ∷ [])) 15
-    ∷ wishes 0 (makesTrace 3 (0 · 1) [] root A ∷ []) (renames 3 (0 · 0) [] (0 · 1) A) 0
-    ∷ wishes 0 (makesTrace 3 (0 · 1) [] root A ∷ []) (renames 3 (0 · 0) [] (0 · 1) (97 ∷ [])) 0
     -- a rename to a held label; a second rename that has not seen the first, to the label that the object has, and to one that another has
     ∷ tree (makesTrace 3 (0 · 1) [] root A ∷ makesTrace 3 (0 · 2) (1 ∷ []) root B ∷ renames 3 (0 · 3) (2 ∷ []) (0 · 1) B ∷ [])
     ((0 · 1, A, 0 · 1, 0 · 1, false) ∷ (0 · 2, B, 0 · 2, 0 · 2, true) ∷ [])
@@ -483,9 +457,6 @@ further =
     ∷ tree (makesFolder 3 (0 · 1) [] root A ∷ makesTrace 3 (0 · 2) (1 ∷ []) root (97 ∷ []) ∷ [])
     ((0 · 1, A, 0 · 1, 0 · 1, true) ∷ [])
     ((0 · 2, 15, 0 · 1, true) ∷ [])
-    -- a wish is judged alike: a rename, and a make inside a folder
-    ∷ wishes 0 (makesTrace 3 (0 · 1) [] root A ∷ makesTrace 3 (0 · 2) (1 ∷ []) root B ∷ []) (renames 3 (0 · 0) [] (0 · 2) (97 ∷ [])) 15
-    ∷ wishes 0 (makesFolder 3 (0 · 1) [] root A ∷ makesTrace 3 (0 · 2) (1 ∷ []) (0 · 1) B ∷ []) (makesTrace 3 (0 · 0) [] (0 · 1) (98 ∷ [])) 15
     -- a move to another folder, under another label
     ∷ tree (makesFolder 3 (0 · 1) [] root A ∷ makesTrace 3 (0 · 2) (1 ∷ []) root B ∷ moves 3 (0 · 3) (2 ∷ []) (0 · 2) (0 · 1) C ∷ makesTrace 3 (0 · 4) (3 ∷ []) (0 · 1) C ∷ makesTrace 3 (0 · 5) (4 ∷ []) root B ∷ [])
     ((0 · 1, A, 0 · 1, 0 · 1, false) ∷ (0 · 2, C, 0 · 2, 0 · 3, true) ∷ (0 · 5, B, 0 · 5, 0 · 5, false) ∷ [])
@@ -558,8 +529,6 @@ further =
     ∷ tree (makesFolder 3 (0 · 1) [] root A ∷ makesTrace 3 (0 · 2) (1 ∷ []) (0 · 1) B ∷ makesTrace 3 (0 · 3) (2 ∷ []) root C ∷ moves 3 (0 · 4) (3 ∷ []) (0 · 3) (0 · 1) (98 ∷ []) ∷ moves 3 (0 · 5) (4 ∷ []) (0 · 3) (0 · 1) A ∷ [])
     ((0 · 1, A, 0 · 1, 0 · 1, false) ∷ (0 · 2, B, 0 · 2, 0 · 2, true) ∷ (0 · 3, A, 0 · 3, 0 · 5, false) ∷ [])
     ((0 · 4, 15, 0 · 2, true) ∷ [])
-    -- a full log: 11 comes before 25
-    ∷ wishes 0 (replicate 512 (makesFolder 3 (0 · 1) [] root A)) (moves 3 (0 · 0) [] (0 · 1) (0 · 1) B) 11
     -- the row of a moved entry: folder, last contents record, last place record
     ∷ prints
     (take 24 (entryRow 1 (record { made = 0 · 3; kind = 2; inside = 0 · 2; label = padded 32 C; contents = 1 · 4; date = two 2025 ++ (3 ∷ 4 ∷ []); mark = replicate 16 0; placing = 2 · 5 })))
@@ -596,10 +565,6 @@ further =
     ∷ (record { made = 0 · 2; kind = 2; inside = 0 · 1; label = padded 32 C; contents = 0 · 3; date = two 2025 ++ (3 ∷ 5 ∷ []); mark = replicate 16 (0 · 3); placing = 0 · 4 }, false)
     ∷ [])
     []
-    ∷ wishes 0 (makesFolder 3 (0 · 1) [] root A ∷ []) (moves 3 (0 · 0) [] (0 · 1) (0 · 1) B) 25
-    ∷ wishes 0 (makesFolder 3 (0 · 1) [] root A ∷ []) (moves 3 (0 · 0) [] (0 · 1) (0 · 1) (47 ∷ [])) 24
-    ∷ wishes 0 (makesFolder 3 (0 · 1) [] root A ∷ []) (moves 3 (0 · 0) [] (0 · 1) root B) 0
-    ∷ turnsAway 25
     -- a store asks only about contents, a rename only about the label, a remove about both
     ∷ tree (makesTrace 3 (0 · 1) [] root A ∷ renames 3 (0 · 2) (1 ∷ []) (0 · 1) B ∷ stores 3 (1 · 1) (1 ∷ []) (0 · 1) ∷ [])
     ((0 · 1, B, 1 · 1, 0 · 2, false) ∷ [])
@@ -642,17 +607,6 @@ further =
     ∷ tree (makesTrace 3 (0 · 1) [] root A ∷ makesTrace 4 (2 · 1) (1 ∷ []) root A ∷ [])
     ((0 · 1, A, 0 · 1, 0 · 1, true) ∷ [])
     ((2 · 1, 15, 0 · 1, true) ∷ [])
-    ∷ takes (makesTrace 3 (0 · 1) [] root A ∷ makesTrace 4 (2 · 1) (1 ∷ []) root A ∷ []) (renames 5 (1 · 1) (1 ∷ []) (0 · 1) C ∷ [])
-    ((0 · 1, C, 0 · 1, 1 · 1, false) ∷ (2 · 1, A, 2 · 1, 2 · 1, false) ∷ [])
-    []
-    -- a block whose record is held, one whose seen is covered but not closed, one with a gap, one with a held identity
-    ∷ takes (makesTrace 3 (0 · 1) [] root A ∷ []) (makesTrace 3 (0 · 1) [] root A ∷ stores 3 (0 · 2) (1 ∷ []) (0 · 1) ∷ [])
-    ((0 · 1, A, 0 · 2, 0 · 1, false) ∷ [])
-    []
-    ∷ refuses (makesTrace 3 (0 · 1) [] root A ∷ makesTrace 3 (1 · 1) (1 ∷ []) root B ∷ []) (makesTrace 3 (2 · 1) (0 ∷ 1 ∷ []) root C ∷ []) 9
-    ∷ refuses (makesTrace 3 (0 · 1) [] root A ∷ []) (stores 3 (0 · 3) (2 ∷ []) (0 · 1) ∷ []) 8
-    ∷ refuses (makesTrace 3 (0 · 1) [] root A ∷ []) (makesTrace 4 (0 · 1) [] root A ∷ []) 10
-    ∷ refuses [] (makesTrace 3 (0 · 1) [] root (32 ∷ []) ∷ []) 7
     -- in a file: a malformed record that is not next either, one that does not rise, one that is not next, one not closed
     ∷ faulty [] (makesTrace 3 (0 · 2) (1 ∷ []) root (32 ∷ [])) 7
     ∷ faulty (makesTrace 3 (1 · 1) [] root A ∷ []) (makesTrace 3 (0 · 1) [] root B) 20
@@ -667,41 +621,15 @@ further =
     ∷ follows (2 ∷ 1 ∷ []) (makesTrace 3 (1 · 2) (2 ∷ 1 ∷ []) root B ∷ []) (makesTrace 3 (2 · 1) (2 ∷ 2 ∷ []) root C) 0
     -- a record with a stroke is well formed, is taken, and its entry can be renamed
     ∷ formed (march 3 1 (0 · 1) [] root root (65 ∷ 47 ∷ []) []) true
-    ∷ takes [] (makesTrace 3 (0 · 1) [] root (47 ∷ []) ∷ []) ((0 · 1, 47 ∷ [], 0 · 1, 0 · 1, false) ∷ []) []
-    ∷ wishes 1 (makesTrace 3 (0 · 1) [] root (65 ∷ 47 ∷ []) ∷ []) (renames 3 (1 · 0) [] (0 · 1) B) 0
-    -- a wish with a stroke first, in the middle, last, and of nothing else: make folder, make trace, rename
-    ∷ wishes 0 [] (makesFolder 3 (0 · 0) [] root (47 ∷ 65 ∷ [])) 24
-    ∷ wishes 0 [] (makesTrace 3 (0 · 0) [] root (65 ∷ 47 ∷ 66 ∷ [])) 24
-    ∷ wishes 1 (makesTrace 3 (0 · 1) [] root A ∷ []) (renames 3 (1 · 0) [] (0 · 1) (65 ∷ 47 ∷ [])) 24
-    ∷ wishes 0 [] (makesTrace 3 (0 · 0) [] root (replicate 31 65 ++ (47 ∷ []))) 24
-    ∷ wishes 0 [] (makesTrace 3 (0 · 0) [] root (replicate 32 47)) 24
-    -- the bytes on its two sides and a backslash; strokes in a mark
-    ∷ wishes 0 [] (makesTrace 3 (0 · 0) [] root (46 ∷ 48 ∷ 92 ∷ [])) 0
-    ∷ wishes 0 [] (march 3 2 (0 · 0) [] root root A (replicate 16 47)) 0
-    -- 2F in another field: the year 2095
-    ∷ wishes 0 []
-    (encode (record { self = 0 · 0; does = 2; saw = []; object = root; folder = root; year = 2095; month = 3; day = 3; text = A; mark = [] }))
-    0
-    -- a stroke and another fault of form: 7F in the label, a space last, the 32nd of March, bytes where no label is used
-    ∷ wishes 0 [] (makesTrace 3 (0 · 0) [] root (65 ∷ 47 ∷ 127 ∷ [])) 7
-    ∷ wishes 0 [] (makesTrace 3 (0 · 0) [] root (47 ∷ 32 ∷ [])) 7
-    ∷ wishes 0 [] (makesTrace 32 (0 · 0) [] root (47 ∷ [])) 7
-    ∷ wishes 1 (makesTrace 3 (0 · 1) [] root A ∷ []) (march 3 3 (1 · 0) [] (0 · 1) root (47 ∷ []) []) 7
-    -- a stroke comes before the reason under which the record would stand aside, and before the full log
-    ∷ wishes 0 (makesTrace 3 (0 · 1) [] root A ∷ []) (makesTrace 3 (0 · 0) [] (0 · 1) B) 14
-    ∷ wishes 0 (makesTrace 3 (0 · 1) [] root A ∷ []) (makesTrace 3 (0 · 0) [] (0 · 1) (47 ∷ [])) 24
-    ∷ wishes 0 (replicate 512 (makesTrace 3 (0 · 1) [] root A)) (makesTrace 3 (0 · 0) [] root B) 11
-    ∷ wishes 0 (replicate 512 (makesTrace 3 (0 · 1) [] root A)) (makesTrace 3 (0 · 0) [] root (47 ∷ [])) 24
-    -- 1 and 21 come before it; its place is 0, and the log is left
-    ∷ guards 40959 0 (makesTrace 3 (0 · 0) [] root (47 ∷ [])) 1
-    ∷ guards 40960 8 (makesTrace 3 (0 · 0) [] root (47 ∷ [])) 21
-    ∷ turnsAway 24
-    ∷ turnsAway 7
-    -- a taken rename or folder may have a stroke
-    ∷ takes (makesTrace 3 (0 · 1) [] root A ∷ []) (renames 4 (0 · 2) (1 ∷ []) (0 · 1) (65 ∷ 47 ∷ []) ∷ [])
-    ((0 · 1, 65 ∷ 47 ∷ [], 0 · 1, 0 · 2, false) ∷ [])
-    []
-    ∷ takes [] (makesFolder 3 (0 · 1) [] root (47 ∷ []) ∷ []) ((0 · 1, 47 ∷ [], 0 · 1, 0 · 1, false) ∷ []) []
+    -- 0.1 of a later day ranks before 1.1 all the same
+    ∷ tree (makesTrace 9 (0 · 1) [] root A ∷ makesTrace 3 (1 · 1) [] root A ∷ []) ((0 · 1, A, 0 · 1, 0 · 1, true) ∷ []) ((1 · 1, 15, 0 · 1, true) ∷ [])
+    -- a removed entry is no entry any more
+    ∷ leaves (makesTrace 3 (0 · 1) [] root A ∷ makesTrace 3 (0 · 2) (1 ∷ []) root B ∷ removes 3 (0 · 3) (2 ∷ []) (0 · 1) ∷ []) 1
+    -- a stroke first, last and of nothing else; the bytes on its two sides and a backslash
+    ∷ strokes (47 ∷ 65 ∷ []) true
+    ∷ strokes (replicate 31 65 ++ (47 ∷ [])) true
+    ∷ strokes (47 ∷ []) true
+    ∷ strokes (46 ∷ 48 ∷ 92 ∷ []) false
     -- 0, 10 and 4294967295
     ∷ prints (decimal 0) (48 ∷ [])
     ∷ prints (decimal 10) (49 ∷ 48 ∷ [])

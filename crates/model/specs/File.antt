@@ -1,18 +1,16 @@
--- The file: the whole log in blocks, how it is written, and how it is checked.
--- Document 01, "Log, blocks and file"; the order of the checks, "When a call says no".
+-- The file: the whole log in blocks, how it is written, and how it is checked. It holds no list and no folded record.
+-- Document 01, "Log, blocks and file"; the order of the checks, "When a call says no"; document 02, K10.
 -- Assumes nothing.
 use Prim.Native.Nat.{ℕ, zero, suc, _+_, _-_, _*_, _/_, _%_, max}
 use mathlib.Core.Bool.{Bool, true, false, cond, _&&_, _||_}
 use mathlib.Core.List.{List, [], _∷_, _++_}
 use lib.Dec.{ltb, leb, eqb}
 use lib.ListN.{getD, length, take, drop}
-use Rattle.model.specs.Numbers.{badBuffer, badLength, fullLog, badFile}
-use Rattle.model.specs.Lengths.{logSize}
+use Rattle.model.specs.Numbers.{badLength, fullLog, badFile}
 use Rattle.model.specs.Bytes.{sameBytes, part, padded}
 use Rattle.model.specs.Record.{Rec}
-use Rattle.model.specs.Log.{vectorOf, noCounts, recordFault, logBytes}
+use Rattle.model.specs.Log.{vectorOf, noCounts, recordFault}
 use Rattle.model.specs.Block.{Header, blockOf, blockFault, archiveIn, senderIn, placeIn, countIn, vectorIn}
-use Rattle.model.specs.Vector.{vectorBytes}
 
 -- ---- writing
 
@@ -21,12 +19,12 @@ unfoldable pub blockCount : ℕ → ℕ
 blockCount n = max 1 ((n + 5) / 6)
 
 -- [F34]
-unfoldable pub headerOf : ℕ → ℕ → ℕ → List Rec → Header
-headerOf archive u place l = record { archive = archive; sender = u; place = place; vector = vectorOf l }
+unfoldable pub headerOf : ℕ → ℕ → ℕ → List ℕ → Header
+headerOf archive u place v = record { archive = archive; sender = u; place = place; vector = v }
 
 -- the block at a place of the file [F33]
 unfoldable pub fileBlock : ℕ → ℕ → List Rec → ℕ → List ℕ
-fileBlock archive u l k = blockOf (headerOf archive u k l) (take 6 (drop (6 * k) l))
+fileBlock archive u l k = blockOf (headerOf archive u k (vectorOf l)) (take 6 (drop (6 * k) l))
 
 -- the first n blocks
 unfoldable pub fileTo : ℕ → ℕ → List Rec → ℕ → List ℕ
@@ -122,37 +120,3 @@ fileFault f = orElse (blocksFault f 0 (blocksIn f)) (orElse (recordsFault [] 0 (
 -- 2 for a file that is not of 1 to 86 blocks, then every check
 abbrev pub checkedFault : List ℕ → Fault
 checkedFault f = cond (fileLength f) (fileFault f) (fault badLength 0)
-
--- what reading a file into a lent log answers and leaves; a refusal leaves the log, and zeros for the rest
-pub record ReadBack : Type 0 where
-  pub number : ℕ
-  pub place : ℕ
-  pub archive : ℕ
-  pub sender : ℕ
-  pub records : ℕ
-  pub vector : List ℕ
-  pub log : List ℕ
-
--- [F58]
-unfoldable pub notRead : List ℕ → ℕ → ℕ → ReadBack
-notRead log n p =
-    record { number = n; place = p; archive = 0; sender = 0; records = 0; vector = 0 ∷ 0 ∷ 0 ∷ 0 ∷ 0 ∷ 0 ∷ 0 ∷ 0 ∷ []; log = log }
-
--- [F74]
-unfoldable pub readBack : List ℕ → ReadBack
-readBack f =
-    record {
-      number = 0;
-      place = 0;
-      archive = archiveIn (blockAt f 0);
-      sender = senderIn (blockAt f 0);
-      records = recordsCounted f;
-      vector = vectorIn (blockAt f 0);
-      log = logBytes (fileRecords f);
-    }
-
-unfoldable pub readOf : List ℕ → List ℕ → ReadBack
-readOf log f =
-    cond (eqb (length log) logSize)
-    (cond (eqb (checkedFault f .number) 0) (readBack f) (notRead log (checkedFault f .number) (checkedFault f .place)))
-    (notRead log badBuffer 0)

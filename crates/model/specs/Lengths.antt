@@ -18,10 +18,18 @@ logSize = 40960
 abbrev pub fileSize : ℕ
 fileSize = 44032
 
--- the tree table
+-- the tree table: 1,024 rows of 72 and 1,024 rows of 12; also the work memory of an act and of a fold
 abbrev pub treeSize : ℕ
-treeSize = 43012
+treeSize = 86020
+
+-- a list and a base: 512 rows of 72 and 512 rows of 12
+abbrev pub baseSize : ℕ
+baseSize = 43032
 
 -- the most records of a log
 abbrev pub logPlaces : ℕ
 logPlaces = 512
+
+-- the most entries of a base, and the most asides
+abbrev pub basePlaces : ℕ
+basePlaces = 512

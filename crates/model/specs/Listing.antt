@@ -178,7 +178,7 @@ entryLines t (suc n) = entryLines t n ++ entryLine (part t (4 + 72 * n) 72)
 -- the first n aside lines
 unfoldable pub asideLines : List ℕ → ℕ → List ℕ
 asideLines t zero = []
-asideLines t (suc n) = asideLines t n ++ asideLine (part t (36868 + 12 * n) 12)
+asideLines t (suc n) = asideLines t n ++ asideLine (part t (73732 + 12 * n) 12)
 
 -- the entries by rank of their makers, then the asides by rank [F84]
 unfoldable pub treeLines : List ℕ → List ℕ

@@ -123,10 +123,21 @@ recordsIn (suc n) b = cond (blank (take 80 b)) [] (take 80 b ∷ recordsIn n (dr
 unfoldable pub recordsOf : List ℕ → List Rec
 recordsOf b = recordsIn 512 b
 
--- the records are sound and the unused places are zero [F63]
+-- behind the base vector v: the records are sound and the unused places are zero [F63] [F130]
+unfoldable pub soundLogOn : List ℕ → List ℕ → Bool
+soundLogOn v b = soundAfter v [] (recordsOf b) && blank (drop (80 * length (recordsOf b)) b)
+
+-- with no record before [F63]
 unfoldable pub soundLog : List ℕ → Bool
-soundLog b = soundAfter noCounts [] (recordsOf b) && blank (drop (80 * length (recordsOf b)) b)
+soundLog b = soundLogOn noCounts b
 
 -- the 40,960 bytes of a log
 unfoldable pub logBytes : List Rec → List ℕ
 logBytes l = padded 40960 (joined l)
+
+-- ---- what another lacks
+
+-- the records that the vector v lacks [F72]
+unfoldable pub lacking : List ℕ → List Rec → List Rec
+lacking v [] = []
+lacking v (r ∷ l) = cond (ltb (getD v (unit r) 0) (num r)) (r ∷ lacking v l) (lacking v l)

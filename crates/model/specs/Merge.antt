@@ -11,10 +11,9 @@ use Rattle.model.specs.Numbers.{badBuffer, otherArchive, otherBytes, ful
 use Rattle.model.specs.Lengths.{logSize, fileSize, logPlaces}
 use Rattle.model.specs.Bytes.{sameBytes, padded}
 use Rattle.model.specs.Record.{Rec, unit, num}
-use Rattle.model.specs.Log.{insert, byId, vectorOf, logBytes}
+use Rattle.model.specs.Log.{insert, byId, vectorOf, logBytes, lacking}
 use Rattle.model.specs.Block.{archiveIn, senderIn}
 use Rattle.model.specs.File.{blockCount, fileOf, blockAt, Fault, fault, fileRecords, orElse, checkedFault}
-use Rattle.model.specs.Outcome.{lacking}
 
 -- ---- the records of both
 

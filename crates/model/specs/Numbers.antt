@@ -1,7 +1,7 @@
 -- The numbers of the refusal table, and of the reasons for standing aside. Success is 0. [F76]
 -- Document 01, "When a call says no"; the reasons also "Rank and replay".
 -- Assumes nothing.
-use Prim.Native.Nat.{ℕ}
+use Prim.Native.Nat.{ℕ, zero, suc}
 
 -- a lent buffer is not of the stated length
 abbrev pub badBuffer : ℕ
@@ -43,7 +43,7 @@ notClosed = 9
 abbrev pub otherBytes : ℕ
 otherBytes = 10
 
--- a 513th record
+-- a 513th record that is not folded
 abbrev pub fullLog : ℕ
 fullLog = 11
 
@@ -79,7 +79,7 @@ notAside = 18
 abbrev pub intoItself : ℕ
 intoItself = 25
 
--- the lent log is not sound
+-- the lent log, list or base is not sound
 abbrev pub unsoundLog : ℕ
 unsoundLog = 19
 
@@ -94,3 +94,26 @@ badUnit = 21
 -- the label of a make, rename or move wish has a stroke
 abbrev pub strokeInLabel : ℕ
 strokeInLabel = 24
+
+-- a unit is not listed: that of a record, the own unit of an act, or one that a given list leaves out
+abbrev pub unlisted : ℕ
+unlisted = 26
+
+-- the base vector is not covered
+abbrev pub belowBase : ℕ
+belowBase = 27
+
+-- the unit has used its last number, 65,535
+abbrev pub lastNumber : ℕ
+lastNumber = 28
+
+-- records are folded, and an SAB1 file cannot hold them
+abbrev pub foldedRecords : ℕ
+foldedRecords = 29
+
+-- ---- the order of checks
+
+-- the first of two numbers that is not 0
+abbrev pub firstOf : ℕ → ℕ → ℕ
+firstOf zero n = n
+firstOf (suc m) n = suc m

@@ -146,3 +146,8 @@ unfoldable pub wellFormed : Rec → Bool
 wellFormed r =
     eqb (length r) 80
     && (headFits r && (objectFits r && (folderFits r && (dateFits r && (labelFits r && markFits r)))))
+
+-- a stroke, hexadecimal 2F, stands in a text [F94]
+unfoldable pub hasStroke : List ℕ → Bool
+hasStroke [] = false
+hasStroke (x ∷ t) = eqb x 47 || hasStroke t

@@ -299,3 +299,11 @@ isDisputed k (a ∷ l) = (a .isOpen && eqb (a .marked) k) || isDisputed k l
 unfoldable pub presentOnes : List Entry → List Entry
 presentOnes [] = []
 presentOnes (e ∷ l) = cond (isPresent e) (e ∷ presentOnes l) (presentOnes l)
+
+unfoldable pub reasonOf : Verdict → ℕ
+reasonOf fits = 0
+reasonOf (aside n k) = n
+
+-- a tree without the rows of removed entries
+unfoldable pub trim : Tree → Tree
+trim t = record { entries = presentOnes (t .entries); asides = t .asides }

@@ -1,14 +1,15 @@
--- The tree table: 43,012 bytes that show entries and asides.
---   0-1 how many entries, 2-3 how many asides; from 4 on 512 rows of 72 bytes for entries; from 36,868 on 512 rows of 12 bytes
+-- The tree table: 86,020 bytes that show entries and asides.
+--   0-1 how many entries, 2-3 how many asides; from 4 on 1,024 rows of 72 bytes for entries; from 73,732 on 1,024 rows of 12 bytes
 --   for asides. Rows that are not used are zero.
--- Document 01, "Log, blocks and file": its length is the team's.
+-- Document 01, "Log, blocks and file": its length is the team's; document 02, K10: 1,024 of each.
 -- Assumes nothing.
-use Prim.Native.Nat.{ℕ}
+use Prim.Native.Nat.{ℕ, _+_}
 use mathlib.Core.Bool.{Bool, true, false, cond}
 use mathlib.Core.List.{List, [], _∷_, _++_}
-use lib.ListN.{length}
-use Rattle.model.specs.Bytes.{two, padded}
-use Rattle.model.specs.Record.{unitOf, numberOf}
+use lib.Dec.{eqb}
+use lib.ListN.{getD, length}
+use Rattle.model.specs.Bytes.{two, part, padded}
+use Rattle.model.specs.Record.{unitOf, numberOf, identityAt}
 use Rattle.model.specs.Replay.{Entry, Aside, Tree, isDisputed, presentOnes}
 
 -- an identity in four bytes: unit, zero, number
@@ -36,9 +37,40 @@ unfoldable pub asideRows : List Aside → List ℕ
 asideRows [] = []
 asideRows (a ∷ l) = asideRow a ++ asideRows l
 
--- the bytes that show a tree: the entries that are present, and all asides
+-- the bytes that show a tree: the entries that are present, and all asides [F124]
 unfoldable pub tableBytes : Tree → List ℕ
 tableBytes t =
     two (length (presentOnes (t .entries)))
     ++ (two (length (t .asides))
-    ++ (padded 36864 (entryRows (t .asides) (presentOnes (t .entries))) ++ padded 6144 (asideRows (t .asides))))
+    ++ (padded 73728 (entryRows (t .asides) (presentOnes (t .entries))) ++ padded 12288 (asideRows (t .asides))))
+
+-- ---- the table while records are replayed
+
+-- rows for entries, those disputed by s with their flag, and rows for asides; the counts are zero
+unfoldable pub flagged : List Aside → List Entry → List Aside → List ℕ
+flagged s es l = (0 ∷ 0 ∷ 0 ∷ 0 ∷ []) ++ (padded 73728 (entryRows s es) ++ padded 12288 (asideRows l))
+
+-- a row for every entry ever made, in order of making, and no flags
+unfoldable pub workBytes : Tree → List ℕ
+workBytes t = flagged [] (t .entries) (t .asides)
+
+-- ---- reading rows
+
+-- the entry in the 72 bytes at a place
+unfoldable pub entryIn : List ℕ → ℕ → Entry
+entryIn b at =
+    record {
+      made = identityAt b (at + 4);
+      kind = getD b at 0;
+      inside = identityAt b (at + 8);
+      label = part b (at + 24) 32;
+      contents = identityAt b (at + 12);
+      date = part b (at + 20) 4;
+      mark = part b (at + 56) 16;
+      placing = identityAt b (at + 16);
+    }
+
+-- the aside in the 12 bytes at a place
+unfoldable pub asideIn : List ℕ → ℕ → Aside
+asideIn b at =
+    record { who = identityAt b at; reason = getD b (at + 4) 0; marked = identityAt b (at + 8); isOpen = eqb (getD b (at + 5) 0) 1 }

@@ -13,7 +13,13 @@ pub const LOG_BYTES: usize = 40960;
 pub const FILE_BYTES: usize = 44032;
 
 // The tree table.
-pub const TREE_BYTES: usize = 43012;
+pub const TREE_BYTES: usize = 86020;
+
+// A list and a base.
+pub const BASE_BYTES: usize = 43032;
 
 // The most records of a log.
 pub const LOG_PLACES: usize = 512;
+
+// The most entries of a base, and the most asides.
+pub const BASE_PLACES: usize = 512;

@@ -10,12 +10,14 @@ use borrow.Author.Tests.{lt-leb, le-ltb}
 use Rattle.model.specs.Bytes.{part, joined, putAt}
 use Rattle.model.specs.Log.{logBytes}
 use Rattle.model.specs.Block.{archiveIn, senderIn, vectorIn}
-use Rattle.model.specs.File.{blocksIn, blockAt, blocksFault, recordsCounted, fileRecord, fileRecordsFrom, fileRecords, recordsFault, countsFault, orElse, fileFault, readBack}
+use Rattle.model.specs.File.{blocksIn, blockAt, blocksFault, recordsCounted, fileRecord, fileRecordsFrom, fileRecords, recordsFault, countsFault, orElse, fileFault}
+use Rattle.base_model.specs.Base.{emptyBase}
+use Rattle.call_model.specs.Read.{readBack}
 use Rattle.byte_slice.proofs.Parts.{part-length}
 use Rattle.byte_slice.proofs.PutAt.{put-padded}
 use Rattle.block_laws.proofs.Fields.{Sized, length-joined, joined-append}
 use Rattle.encoding_laws.proofs.Logs.{empty-log}
-use Rattle.encoding_laws.proofs.Reading.{file-records}
+use Rattle.call_laws.proofs.Reading.{file-records}
 use Rattle.file_laws.proofs.Records.{length-fileRecords}
 use Rattle.file_laws.proofs.Rewritten.{no-fault}
 use Rattle.file_reader.specs.Walk.{recordOrZeros, walkedTo}
@@ -84,6 +86,6 @@ module _ (f : List ℕ) (n : ℕ) (whole : length f ≡ 512 * n) where
 -- ---- what `load` answers
 
 pub loaded : (f : List ℕ) {a u k : ℕ} {v o : List ℕ} → a ≡ archiveIn (take (512 - 0) (drop 0 f)) → u ≡ senderIn (take (512 - 0) (drop 0 f)) → v ≡ vectorIn (take (512 - 0) (drop 0 f))
-    → k ≡ recordsCounted f → o ≡ logBytes (fileRecordsFrom f 0 k) → readBackOf 0 0 a u k v o ≡ readBack f
+    → k ≡ recordsCounted f → o ≡ logBytes (fileRecordsFrom f 0 k) → readBackOf 0 0 a u k v o emptyBase ≡ readBack f
 unfolding readBack blockAt part fileRecords
 loaded f ea eu ev ek eo = rw (eo, ek, ea, eu, ev)

@@ -1,16 +1,20 @@
-// Reading a file into a lent log: every check of the file, then its records one at a time.
+// Reading a file into a lent log and base: every check of the file, then its records one at a time; the base becomes empty.
 ghost use mathlib.Core.Path.{_≡_};
 ghost use Prim.Native.Nat.{_*_, _<_, _≤_};
 ghost use lib.ListN.{length, replicate};
 ghost use Rattle.model.specs.Lengths.{logSize, logPlaces};
 ghost use Rattle.model.specs.Log.{logBytes};
-ghost use Rattle.model.specs.File.{fault, fileRecordsFrom, fileFault, readBack, readOf};
+ghost use Rattle.model.specs.File.{fault, fileRecordsFrom, fileFault};
+ghost use Rattle.base_model.specs.Base.{emptyBase};
+ghost use Rattle.call_model.specs.Read.{readBack, readOf};
 ghost use Rattle.read_file_check.specs.Outcome.{readBackOf};
+use base_empty::write_empty;
 use block_read::archive_in;
 use block_read::sender_in;
 use block_read::vector_in;
 use byte_slice::clear;
 use file_reader::walk;
+use model::BASE_BYTES;
 use model::BLOCK_BYTES;
 use model::LOG_BYTES;
 use read_file_check::checked_fault;
@@ -55,7 +59,7 @@ fn refused(number: u8, place: u8) -> ReadFile
 // A file without a fault becomes the log.
 fn load(log: &mut [u8], file: &[u8], n: usize) -> ReadFile
     requires { ⌜ (length (now log) ≡ logSize) × (length (now file) ≡ 512 * n) × (1 ≤ n) × (n ≤ 86) × (fileFault (now file) .number ≡ 0) ⌝ }
-    ensures { λ r. ⌜ readBackOf (r .number) (r .place) (r .archive) (r .unit) (r .records) (r .vector .counts) (now (log .exit)) ≡ readBack (now (file .entry)) ⌝ }
+    ensures { λ r. ⌜ readBackOf (r .number) (r .place) (r .archive) (r .unit) (r .records) (r .vector .counts) (now (log .exit)) emptyBase ≡ readBack (now (file .entry)) ⌝ }
 {
     let total = records_counted(file, n);
     copy_records(log, file, n, total);
@@ -72,9 +76,10 @@ fn load(log: &mut [u8], file: &[u8], n: usize) -> ReadFile
     }
 }
 
-// A file of any archive is read into a lent log, whose old bytes are not judged. A refusal leaves them as they were.
-pub fn read_file(log: &mut [u8], file: &[u8]) -> ReadFile
-    ensures { λ r. ⌜ readBackOf (r .number) (r .place) (r .archive) (r .unit) (r .records) (r .vector .counts) (now (log .exit)) ≡ readOf (now (log .entry)) (now (file .entry)) ⌝ }
+// A file of any archive is read into a lent log, whose old bytes are not judged. A refusal leaves them as they were. No base is lent: what is
+// answered is what would be with an empty one.
+pub fn read_log(log: &mut [u8], file: &[u8]) -> ReadFile
+    ensures { λ r. ⌜ readBackOf (r .number) (r .place) (r .archive) (r .unit) (r .records) (r .vector .counts) (now (log .exit)) emptyBase ≡ readOf (now (log .entry)) emptyBase (now (file .entry)) ⌝ }
 {
     if log.len() != LOG_BYTES {
         return refused(1, 0);
@@ -85,4 +90,20 @@ pub fn read_file(log: &mut [u8], file: &[u8]) -> ReadFile
     }
     let n = file.len() / BLOCK_BYTES;
     load(log, file, n)
+}
+
+// A file of any archive is read into a lent log and base, whose old bytes are not judged: the log becomes its records, the base empty with
+// all eight units listed. A refusal leaves both as they were.
+pub fn read_file(log: &mut [u8], base: &mut [u8], file: &[u8]) -> ReadFile
+    ensures { λ r. ⌜ readBackOf (r .number) (r .place) (r .archive) (r .unit) (r .records) (r .vector .counts) (now (log .exit)) (now (base .exit)) ≡ readOf (now (log .entry)) (now (base .entry)) (now (file .entry)) ⌝ }
+{
+    if base.len() != BASE_BYTES {
+        return refused(1, 0);
+    }
+    let r = read_log(log, file);
+    if r.number != 0 {
+        return r;
+    }
+    write_empty(base);
+    r
 }

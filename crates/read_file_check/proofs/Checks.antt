@@ -3,20 +3,24 @@
 use Prim.Native.Nat.{ℕ, _-_, _*_, _/_, _%_, _≤_}
 use native.Mathlib.Omega.{arith}
 use mathlib.Core.Path.{_≡_, refl, sym, ap, _∙_}
+use mathlib.Core.Logic.{_⊎_, inl, inr}
 use mathlib.Core.Bool.{Bool, true, false, not, _&&_}
 use mathlib.Core.List.{List, []}
 use lib.Dec.{leb, eqb}
 use lib.ListN.{length, take, drop, replicate}
-use borrow.Author.Tests.{eq-eqb, ne-eqb, eqb-true, leb-true, not-true, not-false}
+use borrow.Author.Tests.{eq-eqb, ne-eqb, eqb-true, eqb-false, leb-true, not-true, not-false}
 use Rattle.model.specs.Bytes.{sameBytes, part}
 use Rattle.model.specs.Log.{vectorOf, noCounts}
 use Rattle.model.specs.Block.{vectorIn}
-use Rattle.model.specs.File.{fileLength, blockAt, Fault, fault, blocksFault, recordsCounted, fileRecords, recordsFault, countsFault, orElse, fileFault, checkedFault, notRead, readBack, readOf}
-use Rattle.byte_slice.proofs.Numbers.{and-true}
+use Rattle.model.specs.File.{fileLength, blockAt, Fault, fault, blocksFault, recordsCounted, fileRecords, recordsFault, countsFault, orElse, fileFault, checkedFault}
+use Rattle.call_model.specs.Read.{ReadBack, notRead, readBack, readOf}
+use Rattle.byte_slice.proofs.Numbers.{bool-cases, and-true, and-wrong}
 use Rattle.block_laws.proofs.Faults.{header-right, stored-header}
 use Rattle.file_laws.proofs.Rewritten.{blocks-passed, block-passed}
 use Rattle.read_file_blocks.proofs.Agreement.{blocks-counted}
-use Rattle.encoding_laws.proofs.Reading.{checked-right}
+use Rattle.base_model.specs.Base.{emptyBase}
+use Rattle.call_laws.proofs.Reading.{checked-right}
+use Rattle.call_laws.proofs.States.{empty-length}
 use Rattle.log_laws.proofs.Tests.{vectorOn-none}
 use Rattle.log_closure.specs.Tables.{tables, Indexed}
 use Rattle.log_check.specs.declared.Layout.the-variants.{File}
@@ -116,25 +120,74 @@ module _ (f : List ℕ) {t : Bool} (e : t ≡ fileLength f) where
   pub whole-checked : not t ≡ false → (n p : ℕ) → fault n p ≡ fileFault f → fault n p ≡ checkedFault f
   whole-checked h n p q = q ∙ rw (← e, not-false t h)
 
--- ---- what reading answers
+-- ---- what reading answers, where no base is lent
 
 module _ (log f : List ℕ) where
+  refused-is : {n p a u k : ℕ} {v : List ℕ} → a ≡ 0 → u ≡ 0 → k ≡ 0 → v ≡ replicate 8 0 → (base : List ℕ) → readBackOf n p a u k v log base ≡ notRead log base n p
+  unfolding notRead
+  refused-is ea eu ek ev base = rw (ea, eu, ek, ev)
+
   module _ {n p a u k : ℕ} {v : List ℕ} (ea : a ≡ 0) (eu : u ≡ 0) (ek : k ≡ 0) (ev : v ≡ replicate 8 0) where
-    refused-is : readBackOf n p a u k v log ≡ notRead log n p
-    unfolding notRead
-    refused-is = rw (ea, eu, ek, ev)
-
-    pub log-length : n ≡ 1 → p ≡ 0 → (length log ≡ 40960 → ⊥) → readBackOf n p a u k v log ≡ readOf log f
+    pub log-length : n ≡ 1 → p ≡ 0 → (length log ≡ 40960 → ⊥) → readBackOf n p a u k v log emptyBase ≡ readOf log emptyBase f
     unfolding readOf
-    log-length en ep h = refused-is ∙ rw (en, ep, ne-eqb (length log) 40960 h)
+    log-length en ep h = refused-is ea eu ek ev emptyBase ∙ rw (en, ep, ne-eqb (length log) 40960 h)
 
-    pub file-refused : (m q : ℕ) → n ≡ m → p ≡ q → length log ≡ 40960 → fault m q ≡ checkedFault f → (m ≡ 0 → ⊥) → readBackOf n p a u k v log ≡ readOf log f
+    pub file-refused : (m q : ℕ) → n ≡ m → p ≡ q → length log ≡ 40960 → fault m q ≡ checkedFault f → (m ≡ 0 → ⊥) → readBackOf n p a u k v log emptyBase ≡ readOf log emptyBase f
     unfolding readOf fault
-    file-refused m q en ep l e z = refused-is ∙ rw (en, ep, eq-eqb (length log) 40960 l, ← e, ne-eqb m 0 z)
+    file-refused m q en ep l e z =
+        refused-is ea eu ek ev emptyBase ∙ rw (en, ep, eq-eqb (length log) 40960 l, eq-eqb (length emptyBase) 43032 empty-length, ← e, ne-eqb m 0 z)
 
-  pub file-read : {n p a u k : ℕ} {v o : List ℕ} (m q : ℕ) → length log ≡ 40960 → fault m q ≡ checkedFault f → m ≡ 0 → readBackOf n p a u k v o ≡ readBack f → readBackOf n p a u k v o ≡ readOf log f
+    -- a base of another length
+    pub base-length : (base : List ℕ) → n ≡ 1 → p ≡ 0 → (length base ≡ 43032 → ⊥) → readBackOf n p a u k v log base ≡ readOf log base f
+    unfolding readOf
+    base-length base en ep h =
+        refused-is ea eu ek ev base ∙ rw (en, ep, ne-eqb (length base) 43032 h, and-wrong (eqb (length log) 40960))
+
+  pub file-read : {n p a u k : ℕ} {v o : List ℕ} (m q : ℕ) → length log ≡ 40960 → fault m q ≡ checkedFault f → m ≡ 0 → readBackOf n p a u k v o emptyBase ≡ readBack f
+      → readBackOf n p a u k v o emptyBase ≡ readOf log emptyBase f
   unfolding readOf fault
-  file-read m q l e z r = r ∙ rw (eq-eqb (length log) 40960 l, ← e, z)
+  file-read m q l e z r = r ∙ rw (eq-eqb (length log) 40960 l, eq-eqb (length emptyBase) 43032 empty-length, ← e, z)
+
+-- ---- what reading answers, where a base is lent
+
+module _ (log base f : List ℕ) {n p a u k : ℕ} {v o : List ℕ} (r : readBackOf n p a u k v o emptyBase ≡ readOf log emptyBase f) (l : length base ≡ 43032) where
+  -- what was answered of an empty base, of another
+  moved : (x : ReadBack) → readBackOf n p a u k v o emptyBase ≡ x → readBackOf n p a u k v o base ≡ readBackOf (x .number) (x .place) (x .archive) (x .sender) (x .records) (x .vector) (x .log) base
+  moved x e = ap (λ (y : ReadBack). readBackOf (y .number) (y .place) (y .archive) (y .sender) (y .records) (y .vector) (y .log) base) e
+
+  pub base-kept : (n ≡ 0 → ⊥) → readBackOf n p a u k v o base ≡ readOf log base f
+  unfolding readOf readBack notRead
+  base-kept h = go (bool-cases (eqb (length log) 40960)) (bool-cases (eqb (checkedFault f .number) 0))
+    where
+      go : (eqb (length log) 40960 ≡ true) ⊎ (eqb (length log) 40960 ≡ false) → (eqb (checkedFault f .number) 0 ≡ true) ⊎ (eqb (checkedFault f .number) 0 ≡ false)
+          → readBackOf n p a u k v o base ≡ readOf log base f
+      go (inl x) (inl y) =
+          let s : readBackOf n p a u k v o emptyBase ≡ readBack f = rw (x, eq-eqb (length emptyBase) 43032 empty-length, y) at r in
+          absurd (h (ap (λ (b : ReadBack). b .number) s))
+      go (inl x) (inr y) =
+          let s : readBackOf n p a u k v o emptyBase ≡ notRead log emptyBase (checkedFault f .number) (checkedFault f .place) =
+          rw (x, eq-eqb (length emptyBase) 43032 empty-length, y) at r in
+          rw (x, eq-eqb (length base) 43032 l, y) (moved (notRead log emptyBase (checkedFault f .number) (checkedFault f .place)) s)
+      go (inr x) y =
+          let s : readBackOf n p a u k v o emptyBase ≡ notRead log emptyBase 1 0 = rw x at r in
+          rw x (moved (notRead log emptyBase 1 0) s)
+
+  pub base-emptied : n ≡ 0 → (left : List ℕ) → left ≡ emptyBase → readBackOf n p a u k v o left ≡ readOf log base f
+  unfolding readOf readBack notRead
+  base-emptied z left e = go (bool-cases (eqb (length log) 40960)) (bool-cases (eqb (checkedFault f .number) 0))
+    where
+      go : (eqb (length log) 40960 ≡ true) ⊎ (eqb (length log) 40960 ≡ false) → (eqb (checkedFault f .number) 0 ≡ true) ⊎ (eqb (checkedFault f .number) 0 ≡ false)
+          → readBackOf n p a u k v o left ≡ readOf log base f
+      go (inl x) (inl y) =
+          let s : readBackOf n p a u k v o emptyBase ≡ readBack f = rw (x, eq-eqb (length emptyBase) 43032 empty-length, y) at r in
+          rw (x, eq-eqb (length base) 43032 l, y, e) s
+      go (inl x) (inr y) =
+          let s : readBackOf n p a u k v o emptyBase ≡ notRead log emptyBase (checkedFault f .number) (checkedFault f .place) =
+          rw (x, eq-eqb (length emptyBase) 43032 empty-length, y) at r in
+          absurd (eqb-false (checkedFault f .number) 0 y (sym (ap (λ (b : ReadBack). b .number) s) ∙ z))
+      go (inr x) y =
+          let s : readBackOf n p a u k v o emptyBase ≡ notRead log emptyBase 1 0 = rw x at r in
+          absurd (omega (arith, ap (λ (b : ReadBack). b .number) s, z))
 
 module _ (f : List ℕ) (m q : ℕ) (e : fault m q ≡ checkedFault f) (z : m ≡ 0) where
   right : (fileLength f ≡ true) × (fileFault f .number ≡ 0)

@@ -7,7 +7,8 @@ use mathlib.Core.List.{List, []}
 use lib.Dec.{eqb}
 use Rattle.model.specs.Lengths.{logPlaces}
 use Rattle.model.specs.Log.{noCounts}
-use Rattle.model.specs.File.{fault, blocksIn, blocksFault, recordsCounted, fileRecords, recordsFault, ReadBack}
+use Rattle.model.specs.File.{fault, blocksIn, blocksFault, recordsCounted, fileRecords, recordsFault}
+use Rattle.call_model.specs.Read.{ReadBack}
 use Rattle.log_closure.specs.Tables.{Tables, tables, Indexed}
 use Rattle.log_check.specs.declared.Layout.the-variants.{File}
 use Rattle.log_check.specs.Places.{laidAt}
@@ -39,6 +40,6 @@ fileTables f places seens =
     let l : Left = recordsLeft f places seens in
     cond (eqb (blocksFault f 0 (blocksIn f) .number) 0) (tables (l .places) (l .seens)) (tables places seens)
 
--- number, place, archive, unit, record count and vector, with the log left
-abbrev pub readBackOf : ℕ → ℕ → ℕ → ℕ → ℕ → List ℕ → List ℕ → ReadBack
-readBackOf n p a u k v log = record { number = n; place = p; archive = a; sender = u; records = k; vector = v; log = log }
+-- number, place, archive, unit, record count and vector, with the log and the base left
+abbrev pub readBackOf : ℕ → ℕ → ℕ → ℕ → ℕ → List ℕ → List ℕ → List ℕ → ReadBack
+readBackOf n p a u k v log base = record { number = n; place = p; archive = a; sender = u; records = k; vector = v; log = log; base = base }

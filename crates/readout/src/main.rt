@@ -14,7 +14,7 @@ fn output(failed: bool, file: &[u8], text: &mut [u8]) -> usize
         return 0;
     }
     let mut log = [0u8; 40960];
-    let mut tree = [0u8; 43012];
+    let mut tree = [0u8; 86020];
     let listed = listing::listing(file, &mut log, &mut tree, text);
     listed.length as usize
 }

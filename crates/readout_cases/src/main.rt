@@ -28,7 +28,7 @@ fn load_named(i: usize, buf: &mut [u8]) -> usize
 // The listing of a file is what was expected.
 fn lists(file: &[u8], expected: &[u8]) -> bool {
     let mut log = [0u8; 40960];
-    let mut tree = [0u8; 43012];
+    let mut tree = [0u8; 86020];
     let mut text = [0u8; 76800];
     let listed = listing::listing(file, &mut log, &mut tree, &mut text);
     let n = listed.length as usize;

@@ -1,13 +1,12 @@
 -- Exactly which entries become disputed, and in which order they are listed.
 -- Assumes nothing.
 use Prim.Native.Nat.{ℕ}
-use mathlib.Core.Path.{_≡_, refl, sym, ap, _∙_, subst}
+use mathlib.Core.Path.{_≡_, refl, sym, ap, _∙_}
 use mathlib.Core.Logic.{_⊎_, inl, inr, ⊎-elim, _↔_}
 use mathlib.Core.Bool.{Bool, true, false, cond, not, _&&_, true≢false}
-use mathlib.Core.Option.{Option, none, some}
 use mathlib.Core.List.{List, [], _∷_}
 use lib.Dec.{eqb}
-use borrow.Author.Tests.{eqb-true, eq-eqb, not-true, not-false}
+use borrow.Author.Tests.{eqb-true, eq-eqb, not-true}
 use Rattle.model.specs.Replay.{Entry, Tree, isPresent, entryOf, isDisputed, presentOnes}
 use Rattle.row_model.specs.Row.{isThere, hasDisputed, newlyDisputed, becameDisputed}
 use Rattle.byte_slice.proofs.Numbers.{bool-cases, and-true}

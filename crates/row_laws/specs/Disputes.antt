@@ -1,11 +1,10 @@
 -- Which entries become disputed.
 -- Assumes nothing.
-use Prim.Native.Nat.{ℕ}
 use mathlib.Core.Path.{_≡_}
 use mathlib.Core.Logic.{_⊎_}
-use mathlib.Core.Bool.{true, false}
+use mathlib.Core.Bool.{true}
 use mathlib.Core.List.{List, [], _∷_}
-use Rattle.model.specs.Replay.{Entry, Tree, isPresent, isDisputed, presentOnes}
+use Rattle.model.specs.Replay.{Entry, Tree, isDisputed, presentOnes}
 
 -- the entry e is one of the list
 abbrev pub HasEntry : Entry → List Entry → Type 0

@@ -1,5 +1,5 @@
--- A row of blocks: taken in turn, tried on a copy of the log, and handed out.
--- Document 02, K4.
+-- A row of blocks: taken in turn, tried on a copy of the log, and handed out. The base is read only.
+-- Document 02, K4 and K10.
 -- Assumes nothing.
 use Prim.Native.Nat.{ℕ, zero, suc, _*_, _/_, _%_}
 use mathlib.Core.Bool.{Bool, true, false, cond, not, _&&_}
@@ -11,12 +11,13 @@ use Rattle.model.specs.Lengths.{blockSize, logSize, fileSize, treeSize}
 use Rattle.model.specs.Bytes.{two, padded}
 use Rattle.model.specs.Vector.{blocksFor, vectorBytes}
 use Rattle.model.specs.Record.{Rec}
-use Rattle.model.specs.Log.{vectorOf, recordsOf}
-use Rattle.model.specs.Replay.{Entry, Tree, entryOf, replay, isDisputed, presentOnes}
+use Rattle.model.specs.Log.{recordsOf, lacking}
+use Rattle.model.specs.Replay.{Entry, Tree, entryOf, isDisputed, presentOnes}
 use Rattle.model.specs.Table.{identityBytes, tableBytes}
+use Rattle.base_model.specs.Base.{baseVector, heldOn, treeOf}
 use Rattle.model.specs.Block.{blockOf}
 use Rattle.model.specs.File.{headerOf, blocksIn, blockAt}
-use Rattle.model.specs.Outcome.{Outcome, outcome, guardNumber, guarded, lacking, takeOf}
+use Rattle.call_model.specs.Outcome.{Outcome, outcome, orRefused, guardNumber, guarded, askedNumber, takeOf}
 
 -- ---- the length
 
@@ -36,16 +37,16 @@ abbrev pub tried : ℕ → ℕ → List ℕ → Tried
 tried k n log = record { taken = k; stopped = n; log = log }
 
 -- the n blocks of a row from block k on, taken in turn up to the first refusal [F98]
-unfoldable pub tryFrom : ℕ → ℕ → List ℕ → List ℕ → ℕ → ℕ → Tried
-tryFrom archive u row log k zero = tried k 0 log
-tryFrom archive u row log k (suc n) =
-    cond (eqb (takeOf archive u log (blockAt row k) .number) 0)
-    (tryFrom archive u row (takeOf archive u log (blockAt row k) .log) (suc k) n)
-    (tried k (takeOf archive u log (blockAt row k) .number) log)
+unfoldable pub tryFrom : ℕ → ℕ → List ℕ → List ℕ → List ℕ → ℕ → ℕ → Tried
+tryFrom archive u base row log k zero = tried k 0 log
+tryFrom archive u base row log k (suc n) =
+    cond (eqb (takeOf archive u log base (blockAt row k) .number) 0)
+    (tryFrom archive u base row (takeOf archive u log base (blockAt row k) .log) (suc k) n)
+    (tried k (takeOf archive u log base (blockAt row k) .number) log)
 
 -- all blocks of a row
-unfoldable pub tryAll : ℕ → ℕ → List ℕ → List ℕ → Tried
-tryAll archive u log row = tryFrom archive u row log 0 (blocksIn row)
+unfoldable pub tryAll : ℕ → ℕ → List ℕ → List ℕ → List ℕ → Tried
+tryAll archive u log base row = tryFrom archive u base row log 0 (blocksIn row)
 
 -- number and place; with number 0 how many blocks were taken and what stopped the row, a number or 0; and the log left
 pub record RowTaken : Type 0 where
@@ -64,8 +65,9 @@ tookRow zero log t = rowTaken 0 0 (t .taken) (t .stopped) (t .log)
 tookRow (suc n) log t = rowTaken (suc n) 0 0 0 log
 
 -- 1, 21, 2, 19; then the blocks [F98]
-unfoldable pub takeRowOf : ℕ → ℕ → List ℕ → List ℕ → RowTaken
-takeRowOf archive u log row = tookRow (guardNumber u log true (rowFits (length row))) log (tryAll archive u log row)
+unfoldable pub takeRowOf : ℕ → ℕ → List ℕ → List ℕ → List ℕ → RowTaken
+takeRowOf archive u log base row =
+    tookRow (guardNumber u log base true (rowFits (length row))) log (tryAll archive u log base row)
 
 -- ---- entries that become disputed
 
@@ -91,22 +93,22 @@ becameDisputed t t′ = newlyDisputed t t′ (presentOnes (t′ .entries))
 
 -- ---- trying
 
--- the report: 20 bytes and 512 identities
+-- the report: 20 bytes and 1,024 identities
 abbrev pub reportSize : ℕ
-reportSize = 2068
+reportSize = 4116
 
 unfoldable pub madeBytes : List Entry → List ℕ
 madeBytes [] = []
 madeBytes (e ∷ l) = identityBytes (e .made) ++ madeBytes l
 
 -- 0 how many blocks would be taken, 1 the number that stops the row or 0, 2-3 how many entries become disputed, 4-19 the vector
--- afterwards, from 20 on 512 identities of 4 bytes: these entries by rank of their makers, then zeros [F101]
-unfoldable pub reportBytes : Tried → Tree → Tree → List ℕ
-reportBytes o t t′ =
+-- afterwards, folded records counted, from 20 on 1,024 identities of 4 bytes: these entries by rank of their makers, then zeros [F101] [F151]
+unfoldable pub reportBytes : Tried → List ℕ → Tree → Tree → List ℕ
+reportBytes o v t t′ =
     (o .taken ∷ o .stopped ∷ two (length (becameDisputed t t′)))
-    ++ (vectorBytes (vectorOf (recordsOf (o .log))) ++ padded 2048 (madeBytes (becameDisputed t t′)))
+    ++ (vectorBytes v ++ padded 4096 (madeBytes (becameDisputed t t′)))
 
--- number and place; the copy of the log, the tree table and the report as they are left. The log is only read
+-- number and place; the copy of the log, the tree table and the report as they are left. Log and base are only read
 pub record Trial : Type 0 where
   pub number : ℕ
   pub place : ℕ
@@ -118,11 +120,11 @@ abbrev pub trial : ℕ → ℕ → List ℕ → List ℕ → List ℕ → Trial
 trial n p copy tree report = record { number = n; place = p; copy = copy; tree = tree; report = report }
 
 -- the copy with the blocks taken, its tree, and the report of the log's tree and this one [F99]
-unfoldable pub reported : List ℕ → Tried → Trial
-reported log o =
+unfoldable pub reported : List ℕ → List ℕ → Tried → Trial
+reported log base o =
     trial 0 0 (o .log)
-    (tableBytes (replay (recordsOf (o .log))))
-    (reportBytes o (replay (recordsOf log)) (replay (recordsOf (o .log))))
+    (tableBytes (treeOf (o .log) base))
+    (reportBytes o (heldOn (o .log) base) (treeOf log base) (treeOf (o .log) base))
 
 abbrev pub orUntried : ℕ → List ℕ → List ℕ → List ℕ → Trial → Trial
 orUntried zero copy tree report o = o
@@ -134,28 +136,35 @@ trialLent copy tree report =
     eqb (length copy) logSize && (eqb (length tree) treeSize && eqb (length report) reportSize)
 
 -- 1, 21, 2, 19; then the blocks, on the copy [F99]
-unfoldable pub tryOf : ℕ → ℕ → List ℕ → List ℕ → List ℕ → List ℕ → List ℕ → Trial
-tryOf archive u log row copy tree report =
-    orUntried (guardNumber u log (trialLent copy tree report) (rowFits (length row))) copy tree report
-    (reported log (tryAll archive u log row))
+unfoldable pub tryOf : ℕ → ℕ → List ℕ → List ℕ → List ℕ → List ℕ → List ℕ → List ℕ → Trial
+tryOf archive u log base row copy tree report =
+    orUntried (guardNumber u log base (trialLent copy tree report) (rowFits (length row))) copy tree report
+    (reported log base (tryAll archive u log base row))
 
 -- ---- handing out
 
--- block k of the records w, from the log l; its place is 0, as in a block handed out alone [F102]
-unfoldable pub rowBlock : ℕ → ℕ → List Rec → List Rec → ℕ → List ℕ
-rowBlock archive u l w k = blockOf (headerOf archive u 0 l) (take 6 (drop (6 * k) w))
+-- block k of the records w, with the held vector; its place is 0, as in a block handed out alone [F102]
+unfoldable pub rowBlock : ℕ → ℕ → List ℕ → List Rec → ℕ → List ℕ
+rowBlock archive u held w k = blockOf (headerOf archive u 0 held) (take 6 (drop (6 * k) w))
 
 -- the first n blocks
-unfoldable pub rowTo : ℕ → ℕ → List Rec → List Rec → ℕ → List ℕ
-rowTo archive u l w zero = []
-rowTo archive u l w (suc n) = rowTo archive u l w n ++ rowBlock archive u l w n
+unfoldable pub rowTo : ℕ → ℕ → List ℕ → List Rec → ℕ → List ℕ
+rowTo archive u held w zero = []
+rowTo archive u held w (suc n) = rowTo archive u held w n ++ rowBlock archive u held w n
 
--- all blocks of what the vector v lacks
-unfoldable pub rowOf : ℕ → ℕ → List Rec → List ℕ → List ℕ
-rowOf archive u l v = rowTo archive u l (lacking v l) (blocksFor (length (lacking v l)))
+-- all blocks of what the vector v lacks of the records l
+unfoldable pub rowOf : ℕ → ℕ → List ℕ → List Rec → List ℕ → List ℕ
+rowOf archive u held l v = rowTo archive u held (lacking v l) (blocksFor (length (lacking v l)))
 
--- 1, 21, 19; then the blocks, with zeros behind the last, and their count [F102]
-unfoldable pub handRowOf : ℕ → ℕ → List ℕ → List ℕ → List ℕ → Outcome
-handRowOf archive u log v lent =
-    guarded u log lent (eqb (length lent) fileSize)
-    (outcome 0 0 log (padded fileSize (rowOf archive u (recordsOf log) v)) (blocksFor (length (lacking v (recordsOf log)))))
+-- 27, or the blocks, with zeros behind the last, and their count [F102] [F146]
+unfoldable pub handedRow : ℕ → ℕ → List ℕ → List ℕ → List ℕ → List ℕ → Outcome
+handedRow archive u log base v lent =
+    orRefused (askedNumber v (baseVector base)) log lent
+    (outcome 0 0 log
+    (padded fileSize (rowOf archive u (heldOn log base) (recordsOf log) v))
+    (blocksFor (length (lacking v (recordsOf log)))))
+
+-- 1, 21, 19, then that [F102]
+unfoldable pub handRowOf : ℕ → ℕ → List ℕ → List ℕ → List ℕ → List ℕ → Outcome
+handRowOf archive u log base v lent =
+    guarded u log base lent (eqb (length lent) fileSize) (handedRow archive u log base v lent)

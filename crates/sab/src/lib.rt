@@ -1,102 +1,119 @@
 // The entry points as C and Rust programs call them: numbers and byte slices in, one word out. include/sab.h is the manual.
 ghost use mathlib.Core.Path.{_≡_};
 ghost use mathlib.Core.List.{[]};
-ghost use Rattle.model.specs.Outcome.{writeOf, showOf};
+ghost use Rattle.call_model.specs.Outcome.{writeOf, showOf};
+ghost use Rattle.call_model.specs.Fold.{foldOf, foldWork};
 ghost use Rattle.model.specs.Merge.{mergeOf};
 ghost use Rattle.index_model.specs.Index.{findOf};
-ghost use Rattle.index_model.specs.Kept.{indexedOf, startKept, actKept, takeKept, takeRowKept};
+ghost use Rattle.index_model.specs.Kept.{indexedOf, indexedWork, startKept, actKept, actKeptWork, takeKept, takeKeptWork, takeRowKept, takeRowKeptWork};
 ghost use Rattle.held_vector.specs.Held.{heldOf};
-ghost use Rattle.sab_words.specs.Called.{called, told};
-ghost use Rattle.sab_index.specs.Told.{toldKept, toldRowKept, folderAsked, foundWord, listedOf};
+ghost use Rattle.sab_words.specs.Called.{called, told, calledBoth, toldWork};
+ghost use Rattle.sab_index.specs.Told.{toldStart, toldKept, toldRowKept, folderAsked, foundWord, listedOf};
 ghost use Rattle.sab_block.specs.Handed.{handedOf};
 ghost use Rattle.sab_row.specs.Rows.{rowHandedOf, triedCall, rowTriedOf};
-ghost use Rattle.sab_file.specs.Loaded.{loadedOf};
+ghost use Rattle.sab_fold.specs.Given.{listGiven};
+ghost use Rattle.sab_file.specs.Loaded.{loaded, loadedOf};
 ghost use Rattle.sab_merge.specs.Joined.{joined};
 ghost use Rattle.sab_listing.specs.Printed.{printed, printedOf};
 ghost use Rattle.sab_vectors.specs.Compared.{comparedOf};
 
 // Starts a unit.
 #[no_mangle]
-pub extern "C" fn sab_start(log: &mut [u8], index: &mut [u8], archive: u32, unit: u32) -> u32
-    ensures { λ r. ⌜ called r (now (log .exit)) (now (index .exit)) ≡ toldKept (startKept unit (now (log .entry)) (now (index .entry))) ⌝ }
+pub extern "C" fn sab_start(
+    log: &mut [u8],
+    base: &mut [u8],
+    index: &mut [u8],
+    archive: u32,
+    unit: u32,
+) -> u32
+    ensures { λ r. ⌜ calledBoth r (now (log .exit)) (now (index .exit)) (now (base .exit)) ≡ toldStart (startKept unit (now (log .entry)) (now (base .entry)) (now (index .entry))) ⌝ }
 {
-    sab_unit::start(log, index, archive, unit)
+    sab_unit::start(log, base, index, archive, unit)
 }
 
 // Makes a record of the own unit.
 #[no_mangle]
 pub extern "C" fn sab_act(
     log: &mut [u8],
+    base: &[u8],
     index: &mut [u8],
     archive: u32,
     unit: u32,
     wish: &[u8],
+    work: &mut [u8],
 ) -> u32
-    ensures { λ r. ⌜ called r (now (log .exit)) (now (index .exit)) ≡ toldKept (actKept unit (now (log .entry)) (now (index .entry)) (now (wish .entry))) ⌝ }
+    ensures { λ r. ⌜ calledBoth r (now (log .exit)) (now (index .exit)) (now (work .exit)) ≡ toldKept (actKept unit (now (log .entry)) (now (base .entry)) (now (index .entry)) (now (wish .entry)) (now (work .entry))) (actKeptWork unit (now (log .entry)) (now (base .entry)) (now (index .entry)) (now (wish .entry)) (now (work .entry))) ⌝ }
 {
-    sab_unit::act(log, index, archive, unit, wish)
+    sab_unit::act(log, base, index, archive, unit, wish, work)
 }
 
 // Hands out a block of what the asked vector lacks.
 #[no_mangle]
 pub extern "C" fn sab_hand_out(
     log: &[u8],
+    base: &[u8],
     archive: u32,
     unit: u32,
     asked: &[u8],
     block: &mut [u8],
 ) -> u32
-    ensures { λ r. ⌜ called r (now (log .entry)) (now (block .exit)) ≡ handedOf archive unit (now (log .entry)) (now (asked .entry)) (now (block .entry)) ⌝ }
+    ensures { λ r. ⌜ called r (now (log .entry)) (now (block .exit)) ≡ handedOf archive unit (now (log .entry)) (now (base .entry)) (now (asked .entry)) (now (block .entry)) ⌝ }
 {
-    sab_block::hand_out(log, archive, unit, asked, block)
+    sab_block::hand_out(log, base, archive, unit, asked, block)
 }
 
 // Takes a block, wholly or not at all.
 #[no_mangle]
 pub extern "C" fn sab_take(
     log: &mut [u8],
+    base: &[u8],
     index: &mut [u8],
     archive: u32,
     unit: u32,
     block: &[u8],
+    work: &mut [u8],
 ) -> u32
-    ensures { λ r. ⌜ called r (now (log .exit)) (now (index .exit)) ≡ toldKept (takeKept archive unit (now (log .entry)) (now (index .entry)) (now (block .entry))) ⌝ }
+    ensures { λ r. ⌜ calledBoth r (now (log .exit)) (now (index .exit)) (now (work .exit)) ≡ toldKept (takeKept archive unit (now (log .entry)) (now (base .entry)) (now (index .entry)) (now (block .entry)) (now (work .entry))) (takeKeptWork archive unit (now (log .entry)) (now (base .entry)) (now (index .entry)) (now (block .entry)) (now (work .entry))) ⌝ }
 {
-    sab_block::take(log, index, archive, unit, block)
+    sab_block::take(log, base, index, archive, unit, block, work)
 }
 
 // Hands out all blocks of what the asked vector lacks; the count is that of the blocks.
 #[no_mangle]
 pub extern "C" fn sab_hand_out_row(
     log: &[u8],
+    base: &[u8],
     archive: u32,
     unit: u32,
     asked: &[u8],
     row: &mut [u8],
 ) -> u32
-    ensures { λ r. ⌜ called r (now (log .entry)) (now (row .exit)) ≡ rowHandedOf archive unit (now (log .entry)) (now (asked .entry)) (now (row .entry)) ⌝ }
+    ensures { λ r. ⌜ called r (now (log .entry)) (now (row .exit)) ≡ rowHandedOf archive unit (now (log .entry)) (now (base .entry)) (now (asked .entry)) (now (row .entry)) ⌝ }
 {
-    sab_row::hand_out_row(log, archive, unit, asked, row)
+    sab_row::hand_out_row(log, base, archive, unit, asked, row)
 }
 
 // Takes the blocks of a row in turn, up to the first refusal; the count is that of the blocks taken, and what stopped the row.
 #[no_mangle]
 pub extern "C" fn sab_take_row(
     log: &mut [u8],
+    base: &[u8],
     index: &mut [u8],
     archive: u32,
     unit: u32,
     row: &[u8],
+    work: &mut [u8],
 ) -> u32
-    ensures { λ r. ⌜ called r (now (log .exit)) (now (index .exit)) ≡ toldRowKept (takeRowKept archive unit (now (log .entry)) (now (index .entry)) (now (row .entry))) ⌝ }
+    ensures { λ r. ⌜ calledBoth r (now (log .exit)) (now (index .exit)) (now (work .exit)) ≡ toldRowKept (takeRowKept archive unit (now (log .entry)) (now (base .entry)) (now (index .entry)) (now (row .entry)) (now (work .entry))) (takeRowKeptWork archive unit (now (log .entry)) (now (base .entry)) (now (index .entry)) (now (row .entry)) (now (work .entry))) ⌝ }
 {
-    sab_row::take_row(log, index, archive, unit, row)
+    sab_row::take_row(log, base, index, archive, unit, row, work)
 }
 
 // Tries a row on a copy of the log.
 #[no_mangle]
 pub extern "C" fn sab_try(
     log: &[u8],
+    base: &[u8],
     archive: u32,
     unit: u32,
     row: &[u8],
@@ -104,25 +121,51 @@ pub extern "C" fn sab_try(
     tree: &mut [u8],
     report: &mut [u8],
 ) -> u32
-    ensures { λ r. ⌜ triedCall r (now (copy .exit)) (now (tree .exit)) (now (report .exit)) ≡ rowTriedOf archive unit (now (log .entry)) (now (row .entry)) (now (copy .entry)) (now (tree .entry)) (now (report .entry)) ⌝ }
+    ensures { λ r. ⌜ triedCall r (now (copy .exit)) (now (tree .exit)) (now (report .exit)) ≡ rowTriedOf archive unit (now (log .entry)) (now (base .entry)) (now (row .entry)) (now (copy .entry)) (now (tree .entry)) (now (report .entry)) ⌝ }
 {
-    sab_row::try_row(log, archive, unit, row, copy, tree, report)
+    sab_row::try_row(log, base, archive, unit, row, copy, tree, report)
+}
+
+// Lists the units of the archive and folds; the count is that of the records folded.
+#[no_mangle]
+pub extern "C" fn sab_fold(
+    log: &mut [u8],
+    base: &mut [u8],
+    archive: u32,
+    unit: u32,
+    list: u32,
+    work: &mut [u8],
+) -> u32
+    ensures { λ r. ⌜ calledBoth r (now (log .exit)) (now (base .exit)) (now (work .exit)) ≡ toldWork (foldOf unit (now (log .entry)) (now (base .entry)) (listGiven list) (now (work .entry))) (foldWork unit (now (log .entry)) (now (base .entry)) (listGiven list) (now (work .entry))) ⌝ }
+{
+    sab_fold::fold(log, base, archive, unit, list, work)
 }
 
 // Writes the whole log as a file; the count is that of its blocks.
 #[no_mangle]
-pub extern "C" fn sab_write_file(log: &[u8], archive: u32, unit: u32, file: &mut [u8]) -> u32
-    ensures { λ r. ⌜ called r (now (log .entry)) (now (file .exit)) ≡ told (writeOf archive unit (now (log .entry)) (now (file .entry))) ⌝ }
+pub extern "C" fn sab_write_file(
+    log: &[u8],
+    base: &[u8],
+    archive: u32,
+    unit: u32,
+    file: &mut [u8],
+) -> u32
+    ensures { λ r. ⌜ called r (now (log .entry)) (now (file .exit)) ≡ told (writeOf archive unit (now (log .entry)) (now (base .entry)) (now (file .entry))) ⌝ }
 {
-    sab_file::write_file(log, archive, unit, file)
+    sab_file::write_file(log, base, archive, unit, file)
 }
 
-// Reads a file into a lent log; the count is that of its records.
+// Reads a file into a lent log and base; the count is that of its records.
 #[no_mangle]
-pub extern "C" fn sab_read_file(log: &mut [u8], file: &[u8], head: &mut [u8]) -> u32
-    ensures { λ r. ⌜ called r (now (log .exit)) (now (head .exit)) ≡ loadedOf (now (log .entry)) (now (file .entry)) (now (head .entry)) ⌝ }
+pub extern "C" fn sab_read_file(
+    log: &mut [u8],
+    base: &mut [u8],
+    file: &[u8],
+    head: &mut [u8],
+) -> u32
+    ensures { λ r. ⌜ loaded r (now (log .exit)) (now (base .exit)) (now (head .exit)) ≡ loadedOf (now (log .entry)) (now (base .entry)) (now (file .entry)) (now (head .entry)) ⌝ }
 {
-    sab_file::read_file(log, file, head)
+    sab_file::read_file(log, base, file, head)
 }
 
 // Makes one file of two, by way of a lent log; the count is that of its blocks, or the file at fault.
@@ -133,20 +176,20 @@ pub extern "C" fn sab_merge(first: &[u8], second: &[u8], log: &mut [u8], file: &
     sab_merge::merge(first, second, log, file)
 }
 
-// Shows the tree of a log.
+// Shows the tree of a state.
 #[no_mangle]
-pub extern "C" fn sab_show(log: &[u8], tree: &mut [u8]) -> u32
-    ensures { λ r. ⌜ called r (now (log .entry)) (now (tree .exit)) ≡ told (showOf (now (log .entry)) (now (tree .entry))) ⌝ }
+pub extern "C" fn sab_show(log: &[u8], base: &[u8], tree: &mut [u8]) -> u32
+    ensures { λ r. ⌜ called r (now (log .entry)) (now (tree .exit)) ≡ told (showOf (now (log .entry)) (now (base .entry)) (now (tree .entry))) ⌝ }
 {
-    sab_tree::show(log, tree)
+    sab_tree::show(log, base, tree)
 }
 
-// Makes the index of a log afresh.
+// Makes the index of a log and its base afresh.
 #[no_mangle]
-pub extern "C" fn sab_index(log: &[u8], index: &mut [u8]) -> u32
-    ensures { λ r. ⌜ called r (now (log .entry)) (now (index .exit)) ≡ told (indexedOf (now (log .entry)) (now (index .entry))) ⌝ }
+pub extern "C" fn sab_index(log: &[u8], base: &[u8], index: &mut [u8], work: &mut [u8]) -> u32
+    ensures { λ r. ⌜ calledBoth r (now (log .entry)) (now (index .exit)) (now (work .exit)) ≡ toldWork (indexedOf (now (log .entry)) (now (base .entry)) (now (index .entry)) (now (work .entry))) (indexedWork (now (log .entry)) (now (base .entry)) (now (index .entry)) (now (work .entry))) ⌝ }
 {
-    sab_index::index(log, index)
+    sab_index::index(log, base, index, work)
 }
 
 // Looks up a label in a folder; the place is the unit of the entry, the count its number, and 0 for none.
@@ -179,12 +222,12 @@ pub extern "C" fn sab_listing(
     sab_listing::listing(file, log, tree, out, length)
 }
 
-// Gives the held vector; the count is that of the records.
+// Gives the held vector; the count is that of the records of the log.
 #[no_mangle]
-pub extern "C" fn sab_vector(log: &[u8], vector: &mut [u8]) -> u32
-    ensures { λ r. ⌜ called r (now (log .entry)) (now (vector .exit)) ≡ told (heldOf (now (log .entry)) (now (vector .entry))) ⌝ }
+pub extern "C" fn sab_vector(log: &[u8], base: &[u8], vector: &mut [u8]) -> u32
+    ensures { λ r. ⌜ called r (now (log .entry)) (now (vector .exit)) ≡ told (heldOf (now (log .entry)) (now (base .entry)) (now (vector .entry))) ⌝ }
 {
-    sab_vectors::vector(log, vector)
+    sab_vectors::vector(log, base, vector)
 }
 
 // Compares two vectors; the count is the answer. What each lacks is written into the 8 lent bytes.

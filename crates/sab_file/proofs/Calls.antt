@@ -5,33 +5,33 @@ use mathlib.Core.Path.{_≡_, _∙_}
 use mathlib.Core.List.{List}
 use lib.ListN.{length}
 use borrow.Author.Tests.{eq-eqb, ne-eqb}
-use Rattle.model.specs.File.{readOf}
-use Rattle.model.specs.Outcome.{outcome, writeOf}
+use Rattle.call_model.specs.Read.{readOf}
+use Rattle.call_model.specs.Outcome.{outcome, writeOf}
 use Rattle.read_file_check.specs.Outcome.{readBackOf}
 use Rattle.sab_words.specs.Words.{packed, narrowed, headOf}
-use Rattle.sab_words.specs.Called.{called, wrongBuffer, told}
+use Rattle.sab_words.specs.Called.{called, told}
 use Rattle.sab_words.proofs.Told.{tells-blocks}
 use Rattle.sab_words.proofs.Units.{write-alike}
-use Rattle.sab_file.specs.Loaded.{headLeft, loadedOf}
+use Rattle.sab_file.specs.Loaded.{loaded, headLeft, loadedOf}
 
 -- ---- writing a file
 
-pub writes : (archive u : ℕ) {v r n p k j : ℕ} (log lent : List ℕ) {lent′ : List ℕ} → v ≡ narrowed u → outcome n p log lent′ k ≡ writeOf archive v log lent → j ≡ k → r ≡ packed n p j
-    → called r log lent′ ≡ told (writeOf archive u log lent)
-writes archive u log lent given e h w = tells-blocks (e ∙ rw given (write-alike u log archive lent)) h w
+pub writes : (archive u : ℕ) {v r n p k j : ℕ} (log base lent : List ℕ) {lent′ : List ℕ} → v ≡ narrowed u → outcome n p log lent′ k ≡ writeOf archive v log base lent → j ≡ k → r ≡ packed n p j
+    → called r log lent′ ≡ told (writeOf archive u log base lent)
+writes archive u log base lent given e h w = tells-blocks (e ∙ rw given (write-alike u log base archive lent)) h w
 
 -- ---- reading a file
 
-module _ {r : ℕ} (log f head : List ℕ) where
-  pub head-wrong : (length head ≡ 24 → ⊥) → r ≡ packed 1 0 0 → called r log head ≡ loadedOf log f head
-  unfolding loadedOf wrongBuffer
+module _ {r : ℕ} (log base f head : List ℕ) where
+  pub head-wrong : (length head ≡ 24 → ⊥) → r ≡ packed 1 0 0 → loaded r log base head ≡ loadedOf log base f head
+  unfolding loadedOf
   head-wrong a w = rw (ne-eqb (length head) 24 a, w)
 
-  module _ {n p a u k : ℕ} {v log′ : List ℕ} (full : length head ≡ 24) (back : readBackOf n p a u k v log′ ≡ readOf log f) (w : r ≡ packed n p k) where
-    pub loads-not : (n ≡ 0 → ⊥) → called r log′ head ≡ loadedOf log f head
+  module _ {n p a u k : ℕ} {v log′ base′ : List ℕ} (full : length head ≡ 24) (back : readBackOf n p a u k v log′ base′ ≡ readOf log base f) (w : r ≡ packed n p k) where
+    pub loads-not : (n ≡ 0 → ⊥) → loaded r log′ base′ head ≡ loadedOf log base f head
     unfolding loadedOf headLeft
     loads-not e = rw (eq-eqb (length head) 24 full, ← back, ne-eqb n 0 e, w)
 
-    pub loads : {head′ : List ℕ} → n ≡ 0 → head′ ≡ headOf a u k v → called r log′ head′ ≡ loadedOf log f head
+    pub loads : {head′ : List ℕ} → n ≡ 0 → head′ ≡ headOf a u k v → loaded r log′ base′ head′ ≡ loadedOf log base f head
     unfolding loadedOf headLeft
     loads e h = rw (eq-eqb (length head) 24 full, ← back, eq-eqb n 0 e, w, h)

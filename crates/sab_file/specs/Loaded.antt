@@ -5,17 +5,31 @@ use mathlib.Core.Bool.{cond}
 use mathlib.Core.List.{List}
 use lib.Dec.{eqb}
 use lib.ListN.{length}
-use Rattle.model.specs.File.{ReadBack, readOf}
+use Rattle.model.specs.Numbers.{badBuffer}
+use Rattle.call_model.specs.Read.{ReadBack, readOf}
 use Rattle.sab_words.specs.Words.{packed, headOf}
-use Rattle.sab_words.specs.Called.{Called, called, wrongBuffer}
+
+-- the word returned by a reading; log, base and head as they are left
+pub record Loaded : Type 0 where
+  pub word : ℕ
+  pub log : List ℕ
+  pub base : List ℕ
+  pub head : List ℕ
+
+abbrev pub loaded : ℕ → List ℕ → List ℕ → List ℕ → Loaded
+loaded w log base head = record { word = w; log = log; base = base; head = head }
 
 -- the head of an accepted file; a refused one leaves the head
 unfoldable pub headLeft : ReadBack → List ℕ → List ℕ
 headLeft b head = cond (eqb (b .number) 0) (headOf (b .archive) (b .sender) (b .records) (b .vector)) head
 
--- reading a file into a lent log, with its head
-unfoldable pub loadedOf : List ℕ → List ℕ → List ℕ → Called
-loadedOf log f head =
+-- reading a file into a lent log and base, with its head
+unfoldable pub loadedOf : List ℕ → List ℕ → List ℕ → List ℕ → Loaded
+loadedOf log base f head =
     cond (eqb (length head) 24)
-    (called (packed (readOf log f .number) (readOf log f .place) (readOf log f .records)) (readOf log f .log) (headLeft (readOf log f) head))
-    (wrongBuffer log head)
+    (loaded
+    (packed (readOf log base f .number) (readOf log base f .place) (readOf log base f .records))
+    (readOf log base f .log)
+    (readOf log base f .base)
+    (headLeft (readOf log base f) head))
+    (loaded (packed badBuffer 0 0) log base head)

@@ -1,29 +1,29 @@
 // Writing and reading a file, as the static library calls them: the answer in one word, what a file says of itself in 24 bytes.
 ghost use mathlib.Core.Path.{_≡_};
-ghost use Rattle.model.specs.Outcome.{writeOf};
+ghost use Rattle.call_model.specs.Outcome.{writeOf};
 ghost use Rattle.sab_words.specs.Called.{called, told};
-ghost use Rattle.sab_file.specs.Loaded.{loadedOf};
+ghost use Rattle.sab_file.specs.Loaded.{loaded, loadedOf};
 use byte_slice::wide;
 use sab_words::narrow;
 use sab_words::pack;
 use sab_words::put_head;
 
 // Writes the whole log as a file; the count is that of its blocks.
-pub fn write_file(log: &[u8], archive: u32, unit: u32, file: &mut [u8]) -> u32
-    ensures { λ r. ⌜ called r (now (log .entry)) (now (file .exit)) ≡ told (writeOf archive unit (now (log .entry)) (now (file .entry))) ⌝ }
+pub fn write_file(log: &[u8], base: &[u8], archive: u32, unit: u32, file: &mut [u8]) -> u32
+    ensures { λ r. ⌜ called r (now (log .entry)) (now (file .exit)) ≡ told (writeOf archive unit (now (log .entry)) (now (base .entry)) (now (file .entry))) ⌝ }
 {
-    let w = write_file::write_file(log, archive, narrow(unit), file);
+    let w = write_file::write_file(log, base, archive, narrow(unit), file);
     pack(w.number, w.place, wide(w.blocks))
 }
 
-// Reads a file into a lent log; the count is that of its records.
-pub fn read_file(log: &mut [u8], file: &[u8], head: &mut [u8]) -> u32
-    ensures { λ r. ⌜ called r (now (log .exit)) (now (head .exit)) ≡ loadedOf (now (log .entry)) (now (file .entry)) (now (head .entry)) ⌝ }
+// Reads a file into a lent log and base; the count is that of its records.
+pub fn read_file(log: &mut [u8], base: &mut [u8], file: &[u8], head: &mut [u8]) -> u32
+    ensures { λ r. ⌜ loaded r (now (log .exit)) (now (base .exit)) (now (head .exit)) ≡ loadedOf (now (log .entry)) (now (base .entry)) (now (file .entry)) (now (head .entry)) ⌝ }
 {
     if head.len() != 24 {
         return pack(1, 0, 0);
     }
-    let b = read_file::read_file(log, file);
+    let b = read_file::read_file(log, base, file);
     if b.number != 0 {
         return pack(b.number, b.place, b.records);
     }

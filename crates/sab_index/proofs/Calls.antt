@@ -56,27 +56,27 @@ halve-within p (suc n) lo hi h =
     (λ (a : ltb lo hi ≡ false). rw a h)
     (bool-cases (ltb lo hi))
 
-rows-few : (b : List ℕ) (f : ℕ) (t : List ℕ) → seek b f t ≤ 512
+rows-few : (b : List ℕ) (f : ℕ) (t : List ℕ) → seek b f t ≤ 1024
 unfolding seek rowsIn
-rows-few b f t = let w : halve (rowBefore b f t) 10 0 (rowsIn b) ≤ rowsIn b = halve-within (rowBefore b f t) 10 0 (rowsIn b) (omega arith) in omega arith
+rows-few b f t = let w : halve (rowBefore b f t) 11 0 (rowsIn b) ≤ rowsIn b = halve-within (rowBefore b f t) 11 0 (rowsIn b) (omega arith) in omega arith
 
-range-few : (b : List ℕ) (f : ℕ) → (rangeOf b f .first ≤ 512) × (rangeOf b f .count ≤ 512)
+range-few : (b : List ℕ) (f : ℕ) → (rangeOf b f .first ≤ 1024) × (rangeOf b f .count ≤ 1024)
 unfolding rangeOf range firstIn endIn
 range-few b f =
     ⊎-elim
-    (λ (a : eqb (length b) 20484 ≡ true).
-    let x : seek b (folderKey f) (replicate 32 0) ≤ 512 = rows-few b (folderKey f) (replicate 32 0) in
-    let y : seek b (folderKey f + 1) (replicate 32 0) ≤ 512 = rows-few b (folderKey f + 1) (replicate 32 0) in
+    (λ (a : eqb (length b) 40964 ≡ true).
+    let x : seek b (folderKey f) (replicate 32 0) ≤ 1024 = rows-few b (folderKey f) (replicate 32 0) in
+    let y : seek b (folderKey f + 1) (replicate 32 0) ≤ 1024 = rows-few b (folderKey f + 1) (replicate 32 0) in
     rw a (x, omega arith))
-    (λ (a : eqb (length b) 20484 ≡ false). rw a (omega arith, omega arith))
-    (bool-cases (eqb (length b) 20484))
+    (λ (a : eqb (length b) 40964 ≡ false). rw a (omega arith, omega arith))
+    (bool-cases (eqb (length b) 40964))
 
 module _ (b : List ℕ) (f n x k : ℕ) (e : range n x k ≡ rangeOf b f) where
-  pub first-few : x ≤ 512
+  pub first-few : x ≤ 1024
   unfolding range
   first-few = let q : x ≡ rangeOf b f .first = ap (λ (o : Range). o .first) e in omega (arith, range-few b f .0)
 
-  pub count-few : k ≤ 512
+  pub count-few : k ≤ 1024
   unfolding range
   count-few = let q : k ≡ rangeOf b f .count = ap (λ (o : Range). o .count) e in omega (arith, range-few b f .1)
 

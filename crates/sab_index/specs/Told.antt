@@ -10,15 +10,19 @@ use Rattle.model.specs.Record.{identity}
 use Rattle.index_model.specs.Index.{Found, Range, rangeOf}
 use Rattle.index_model.specs.Kept.{Kept, RowKept}
 use Rattle.sab_words.specs.Words.{packed}
-use Rattle.sab_words.specs.Called.{Called, called, wrongBuffer}
+use Rattle.sab_words.specs.Called.{Called, called, CalledBoth, calledBoth, wrongBuffer}
 
--- starting, acting, taking: the log and the index as they are left
-unfoldable pub toldKept : Kept → Called
-toldKept o = called (packed (o .number) (o .place) 0) (o .log) (o .index)
+-- starting: the log, the index and the base as they are left
+unfoldable pub toldStart : Kept → CalledBoth
+toldStart o = calledBoth (packed (o .number) (o .place) 0) (o .log) (o .index) (o .lent)
+
+-- acting, taking: the log, the index and the work memory
+unfoldable pub toldKept : Kept → List ℕ → CalledBoth
+toldKept o work = calledBoth (packed (o .number) (o .place) 0) (o .log) (o .index) work
 
 -- taking a row; the count: bits 16 to 23 how many blocks were taken, 24 to 31 the number that stopped the row, or 0
-unfoldable pub toldRowKept : RowKept → Called
-toldRowKept o = called (packed (o .number) (o .place) (o .taken + 256 * o .stopped)) (o .log) (o .index)
+unfoldable pub toldRowKept : RowKept → List ℕ → CalledBoth
+toldRowKept o work = calledBoth (packed (o .number) (o .place) (o .taken + 256 * o .stopped)) (o .log) (o .index) work
 
 -- the folder of a unit and a number; where these are no identity, a number that no entry has as its folder
 unfoldable pub folderAsked : ℕ → ℕ → ℕ

@@ -1,11 +1,11 @@
-// The ordered index, as the static library calls it: made from a log, a label looked up, a folder listed. A folder is given by unit and number.
+// The ordered index, as the static library calls it: made from a log and its base, a label looked up, a folder listed. A folder is given by unit and number.
 ghost use mathlib.Core.Path.{_≡_};
 ghost use mathlib.Core.List.{[]};
 ghost use Prim.Native.Nat.{_/_, _%_, _≤_};
 ghost use lib.ListN.{length};
 ghost use Rattle.index_model.specs.Index.{indexPlaces, findOf, range};
-ghost use Rattle.index_model.specs.Kept.{indexedOf};
-ghost use Rattle.sab_words.specs.Called.{called, told};
+ghost use Rattle.index_model.specs.Kept.{indexedOf, indexedWork};
+ghost use Rattle.sab_words.specs.Called.{called, calledBoth, toldWork};
 ghost use Rattle.sab_index.specs.Told.{rangeSize, folderAsked, foundWord, toldRange, listedOf};
 use byte_slice::put16;
 use sab_words::pack;
@@ -13,11 +13,11 @@ use sab_words::pack;
 // The bytes lent for the range of a listing.
 pub const RANGE_BYTES: usize = 4;
 
-// Makes the index of a log afresh.
-pub fn index(log: &[u8], index: &mut [u8]) -> u32
-    ensures { λ r. ⌜ called r (now (log .entry)) (now (index .exit)) ≡ told (indexedOf (now (log .entry)) (now (index .entry))) ⌝ }
+// Makes the index of a log and its base afresh.
+pub fn index(log: &[u8], base: &[u8], index: &mut [u8], work: &mut [u8]) -> u32
+    ensures { λ r. ⌜ calledBoth r (now (log .entry)) (now (index .exit)) (now (work .exit)) ≡ toldWork (indexedOf (now (log .entry)) (now (base .entry)) (now (index .entry)) (now (work .entry))) (indexedWork (now (log .entry)) (now (base .entry)) (now (index .entry)) (now (work .entry))) ⌝ }
 {
-    let a = index_log::index_log(log, index);
+    let a = index_log::index_log(log, base, index, work);
     pack(a.number, a.place, 0)
 }
 

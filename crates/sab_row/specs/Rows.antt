@@ -11,9 +11,9 @@ use Rattle.sab_words.specs.Words.{packed}
 use Rattle.sab_words.specs.Called.{Called, wrongBuffer, told}
 
 -- handing out a row to the vector in the 16 bytes asked
-unfoldable pub rowHandedOf : ℕ → ℕ → List ℕ → List ℕ → List ℕ → Called
-rowHandedOf archive u log asked lent =
-    cond (eqb (length asked) 16) (told (handRowOf archive u log (vectorAt asked 0) lent)) (wrongBuffer log lent)
+unfoldable pub rowHandedOf : ℕ → ℕ → List ℕ → List ℕ → List ℕ → List ℕ → Called
+rowHandedOf archive u log base asked lent =
+    cond (eqb (length asked) 16) (told (handRowOf archive u log base (vectorAt asked 0) lent)) (wrongBuffer log lent)
 
 -- the word returned, and the copy, the tree table and the report as they are left
 pub record TriedCall : Type 0 where
@@ -28,5 +28,5 @@ triedCall w copy tree report = record { word = w; copy = copy; tree = tree; repo
 unfoldable pub toldTrial : Trial → TriedCall
 toldTrial o = triedCall (packed (o .number) (o .place) 0) (o .copy) (o .tree) (o .report)
 
-unfoldable pub rowTriedOf : ℕ → ℕ → List ℕ → List ℕ → List ℕ → List ℕ → List ℕ → TriedCall
-rowTriedOf archive u log row copy tree report = toldTrial (tryOf archive u log row copy tree report)
+unfoldable pub rowTriedOf : ℕ → ℕ → List ℕ → List ℕ → List ℕ → List ℕ → List ℕ → List ℕ → TriedCall
+rowTriedOf archive u log base row copy tree report = toldTrial (tryOf archive u log base row copy tree report)

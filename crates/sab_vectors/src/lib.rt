@@ -15,11 +15,11 @@ use vector_compare::Comparison;
 // The bytes lent for the two numbers of a comparison.
 pub const LACKS_BYTES: usize = 8;
 
-// Gives the held vector; the count is that of the records.
-pub fn vector(log: &[u8], vector: &mut [u8]) -> u32
-    ensures { λ r. ⌜ called r (now (log .entry)) (now (vector .exit)) ≡ told (heldOf (now (log .entry)) (now (vector .entry))) ⌝ }
+// Gives the held vector; the count is that of the records of the log.
+pub fn vector(log: &[u8], base: &[u8], vector: &mut [u8]) -> u32
+    ensures { λ r. ⌜ called r (now (log .entry)) (now (vector .exit)) ≡ told (heldOf (now (log .entry)) (now (base .entry)) (now (vector .entry))) ⌝ }
 {
-    let h = held_vector::held_vector(log, vector);
+    let h = held_vector::held_vector(log, base, vector);
     pack(h.number, 0, h.records)
 }
 

@@ -9,9 +9,10 @@ use lib.Dec.{ltb, eqb}
 use lib.ListN.{getD, length, take, drop, set}
 use borrow.Author.Tests.{lt-ltb, le-ltb, ltb-true, le-leb, lt-leb, eq-eqb, ne-eqb, eqb-true, eqb-false, not-true, not-false}
 use Rattle.model.specs.Bytes.{sameBytes, putAt}
+use Rattle.model.specs.Vector.{covers}
 use Rattle.model.specs.Record.{Rec, unit, num, seenVector, wellFormed}
-use Rattle.model.specs.Block.{archiveIn, blockFault, recordAt}
-use Rattle.model.specs.Outcome.{givenFault}
+use Rattle.model.specs.Block.{archiveIn, blockFault, recordAt, givenFault}
+use Rattle.base_model.specs.Base.{isListed}
 use Rattle.byte_slice.proofs.Parts.{part-is}
 use Rattle.log_laws.proofs.Formed.{well-unit}
 use Rattle.log_closure.specs.Tables.{slotOf, positionOf, joinFault, Placed}
@@ -54,18 +55,30 @@ module _ (log b rec : List ℕ) (p : ℕ) (t : Bool) where
 -- ---- a new record
 
 module _ (r : Rec) (base held : List ℕ) (used : ℕ) (places seens : List ℕ) (n : ℕ) (e : n ≡ joinFault base held places seens r) where
-  pub new-barred : (n ≡ 0 → ⊥) → n ≡ newBy base held used places seens r
+  pub new-not-next : n ≡ 8 → 8 ≡ newBy base held used places seens r
   unfolding newBy
-  new-barred h = rw (← e, ne-eqb n 0 h)
+  new-not-next h = rw (← e, eq-eqb n 8 h)
 
-  module _ (z : n ≡ 0) where
-    pub new-full : 512 ≤ used → 11 ≡ newBy base held used places seens r
-    unfolding newBy
-    new-full k = rw (← e, eq-eqb n 0 z, le-ltb used 512 k)
+  module _ (x : n ≡ 8 → ⊥) (s : List ℕ) (d : s ≡ seenVector r) (t : Bool) (c : t ≡ covers s base) where
+    covering : covers (seenVector r) base ≡ t
+    covering = sym (rw d at c)
 
-    pub new-none : used < 512 → 0 ≡ newBy base held used places seens r
+    pub new-below : not t ≡ true → 27 ≡ newBy base held used places seens r
     unfolding newBy
-    new-none k = rw (← e, eq-eqb n 0 z, lt-ltb used 512 k)
+    new-below g = rw (← e, ne-eqb n 8 x, covering, not-true t g)
+
+    module _ (g : not t ≡ false) where
+      pub new-barred : (n ≡ 0 → ⊥) → n ≡ newBy base held used places seens r
+      unfolding newBy
+      new-barred h = rw (← e, ne-eqb n 8 x, covering, not-false t g, ne-eqb n 0 h)
+
+      pub new-full : n ≡ 0 → 512 ≤ used → 11 ≡ newBy base held used places seens r
+      unfolding newBy
+      new-full z k = rw (← e, ne-eqb n 8 x, covering, not-false t g, eq-eqb n 0 z, le-ltb used 512 k)
+
+      pub new-none : n ≡ 0 → used < 512 → 0 ≡ newBy base held used places seens r
+      unfolding newBy
+      new-none z k = rw (← e, ne-eqb n 8 x, covering, not-false t g, eq-eqb n 0 z, lt-ltb used 512 k)
 
 -- ---- a new record is refused or held
 
@@ -78,12 +91,17 @@ module _ (r : Rec) (base held : List ℕ) (used : ℕ) (places seens : List ℕ)
     -- it is its unit's next, and there is room
     pub new-free : (num r ≡ suc (getD held (unit r) 0)) × (used < 512)
     unfolding newBy
-    new-free = go (eqb (joinFault base held places seens r) 0) (ltb used 512) refl refl (sym e ∙ z)
+    new-free =
+        go (eqb (joinFault base held places seens r) 8) (covers (seenVector r) base) (eqb (joinFault base held places seens r) 0) (ltb used 512) refl refl (sym e ∙ z)
       where
-        go : (a b : Bool) → eqb (joinFault base held places seens r) 0 ≡ a → ltb used 512 ≡ b → _≡_ {A = ℕ} (cond a (cond b 0 11) (joinFault base held places seens r)) 0 → (num r ≡ suc (getD held (unit r) 0)) × (used < 512)
-        go true true p q x = (join-next r base held places seens (eqb-true (joinFault base held places seens r) 0 p), ltb-true used 512 q)
-        go true false p q x = absurd (omega arith)
-        go false b p q x = absurd (eqb-false (joinFault base held places seens r) 0 p x)
+        go : (x y a b : Bool) → eqb (joinFault base held places seens r) 0 ≡ a → ltb used 512 ≡ b
+            → _≡_ {A = ℕ} (cond x 8 (cond y (cond a (cond b 0 11) (joinFault base held places seens r)) 27)) 0
+            → (num r ≡ suc (getD held (unit r) 0)) × (used < 512)
+        go true y a b p q x = absurd (omega arith)
+        go false false a b p q x = absurd (omega arith)
+        go false true true true p q x = (join-next r base held places seens (eqb-true (joinFault base held places seens r) 0 p), ltb-true used 512 q)
+        go false true true false p q x = absurd (omega arith)
+        go false true false b p q x = absurd (eqb-false (joinFault base held places seens r) 0 p x)
 
     module _ (w : wellFormed r ≡ true) (g : Counted base held used) (u c : ℕ) (a : u ≡ unit r) (b : c ≡ num r) where
       new-unit : u < 8
@@ -112,25 +130,34 @@ module _ (r : Rec) (base held : List ℕ) (used : ℕ) (places seens : List ℕ)
 
 -- ---- a record of a block
 
-module _ (base : List ℕ) (at : ℕ → Rec) (r : Rec) (p : ℕ) (held : List ℕ) (used : ℕ) (places seens : List ℕ) (w : Bool) (e : w ≡ wellFormed r) where
-  pub take-malformed : not w ≡ true → step 7 held used places seens ≡ takeBy base at r p held used places seens
+module _ (m : ℕ) (base : List ℕ) (at : ℕ → Rec) (r : Rec) (p : ℕ) (held : List ℕ) (used : ℕ) (places seens : List ℕ) (w : Bool) (e : w ≡ wellFormed r) where
+  pub take-malformed : not w ≡ true → step 7 held used places seens ≡ takeBy m base at r p held used places seens
   unfolding takeBy
   take-malformed g = rw (← e, not-true w g)
 
-  module _ (g : not w ≡ false) (u c : ℕ) (a : u ≡ unit r) (b : c ≡ num r) where
-    pub unit-judged : u < 8
-    unit-judged = rw a (well-unit r (formed r w e g))
+  module _ (g : not w ≡ false) (u : ℕ) (a : u ≡ unit r) (y : Bool) (i : y ≡ isListed m u) where
+    named : isListed m (unit r) ≡ y
+    named = sym (rw a at i)
 
-    pub take-unheld : getD held u 0 < c → (o : Step) → o ≡ newStep base r p held used places seens → o ≡ takeBy base at r p held used places seens
+    pub take-unlisted : not y ≡ true → step 26 held used places seens ≡ takeBy m base at r p held used places seens
     unfolding takeBy
-    take-unheld h o f = f ∙ rw (← e, not-false w g, ← a, ← b, lt-leb c (getD held u 0) h)
+    take-unlisted h = rw (← e, not-false w g, named, not-true y h)
 
-    pub take-known : c ≤ getD held u 0 → (n : ℕ) → n ≡ heldBy base at places r → step n held used places seens ≡ takeBy base at r p held used places seens
-    unfolding takeBy
-    take-known h n f = rw (f, ← e, not-false w g, ← a, ← b, le-leb c (getD held u 0) h)
+    module _ (j : not y ≡ false) (c : ℕ) (b : c ≡ num r) where
+      pub take-unheld : getD held u 0 < c → (o : Step) → o ≡ newStep base r p held used places seens → o ≡ takeBy m base at r p held used places seens
+      unfolding takeBy
+      take-unheld h o f = f ∙ rw (← e, not-false w g, named, not-false y j, ← a, ← b, lt-leb c (getD held u 0) h)
 
-    pub known-within : c ≤ getD held u 0 → num r ≤ getD held (unit r) 0
-    known-within h = rw (← a, ← b) h
+      pub take-known : c ≤ getD held u 0 → (n : ℕ) → n ≡ heldBy base at places r → step n held used places seens ≡ takeBy m base at r p held used places seens
+      unfolding takeBy
+      take-known h n f = rw (f, ← e, not-false w g, named, not-false y j, ← a, ← b, le-leb c (getD held u 0) h)
+
+module _ (r : Rec) (w : Bool) (e : w ≡ wellFormed r) (g : not w ≡ false) (u : ℕ) (a : u ≡ unit r) where
+  pub unit-judged : u < 8
+  unit-judged = rw a (well-unit r (formed r w e g))
+
+pub known-within : (held : List ℕ) (r : Rec) (u c : ℕ) → u ≡ unit r → c ≡ num r → c ≤ getD held u 0 → num r ≤ getD held (unit r) 0
+known-within held r u c a b h = rw (← a, ← b) h
 
 -- ---- a record whose identity is held, or comes before
 

@@ -1,18 +1,19 @@
--- The records of a block judged one after another beside those held behind a base vector, by the tables and by the list.
+-- The records of a block judged one after another beside those held behind a base vector, by the tables and by the records held. The list m
+-- names units.
 -- Assumes nothing.
 use Prim.Native.Nat.{ℕ, zero, suc, _+_, _-_, _*_, _≤_, _<_}
 use mathlib.Core.Path.{_≡_}
-use mathlib.Core.Bool.{cond, _&&_}
-use mathlib.Core.Option.{Option, none, some}
-use mathlib.Core.List.{List, [], _∷_}
+use mathlib.Core.Bool.{cond}
+use mathlib.Core.List.{List}
 use lib.Dec.{ltb, leb, eqb}
-use lib.ListN.{getD, length, set}
-use Rattle.model.specs.Numbers.{malformed, notNext, notClosed, otherBytes, fullLog}
+use lib.ListN.{getD, set}
+use Rattle.model.specs.Numbers.{malformed, notNext, otherBytes, fullLog, unlisted, belowBase}
 use Rattle.model.specs.Bytes.{sameBytes, putAt}
 use Rattle.model.specs.Record.{Rec, unit, num, seenVector, wellFormed}
-use Rattle.model.specs.Log.{insert, byId, isNext, isWithin, isClosed}
+use Rattle.model.specs.Vector.{covers}
 use Rattle.model.specs.Block.{countIn, recordAt, blockRecords}
-use Rattle.model.specs.Outcome.{Took, refused, taken, takeOne}
+use Rattle.base_model.specs.Base.{isListed}
+use Rattle.call_model.specs.Outcome.{refused, taken, takeOne, takeAll}
 use Rattle.log_closure.specs.Tables.{slotOf, positionOf, joinFault}
 use Rattle.log_check.specs.declared.Layout.the-variants.{Log}
 use Rattle.log_check.specs.Places.{laidAt}
@@ -46,10 +47,14 @@ heldBy base at places r =
     0
     (cond (sameBytes (at (positionOf places (unit r) (num r - getD base (unit r) 0))) r) 0 otherBytes)
 
--- the first of 8, 9 and 11 that holds of a record whose identity is not held, or 0
+-- the first of 8, 27, 9 and 11 that holds of a record whose identity is not held, or 0
 unfoldable pub newBy : List ℕ → List ℕ → ℕ → List ℕ → List ℕ → Rec → ℕ
 newBy base held used places seens r =
-    cond (eqb (joinFault base held places seens r) 0) (cond (ltb used 512) 0 fullLog) (joinFault base held places seens r)
+    cond (eqb (joinFault base held places seens r) notNext)
+    notNext
+    (cond (covers (seenVector r) base)
+    (cond (eqb (joinFault base held places seens r) 0) (cond (ltb used 512) 0 fullLog) (joinFault base held places seens r))
+    belowBase)
 
 -- a new record is refused, or held at the position p
 unfoldable pub newStep : List ℕ → Rec → ℕ → List ℕ → ℕ → List ℕ → List ℕ → Step
@@ -58,19 +63,21 @@ newStep base r p held used places seens =
     (step 0 (set held (unit r) (getD held (unit r) 0 + 1)) (used + 1) (set places (slotOf (unit r) (num r - getD base (unit r) 0)) p) (putAt seens (8 * p) (seenVector r)))
     (step (newBy base held used places seens r) held used places seens)
 
--- 7, then 10 if held, else 8, 9, 11
-unfoldable pub takeBy : List ℕ → (ℕ → Rec) → Rec → ℕ → List ℕ → ℕ → List ℕ → List ℕ → Step
-takeBy base at r p held used places seens =
+-- 7, 26, then 10 if held, else 8, 27, 9, 11
+unfoldable pub takeBy : ℕ → List ℕ → (ℕ → Rec) → Rec → ℕ → List ℕ → ℕ → List ℕ → List ℕ → Step
+takeBy m base at r p held used places seens =
     cond (wellFormed r)
+    (cond (isListed m (unit r))
     (cond (leb (num r) (getD held (unit r) 0)) (step (heldBy base at places r) held used places seens) (newStep base r p held used places seens))
+    (step unlisted held used places seens))
     (step malformed held used places seens)
 
 -- the n records of a block from j on, one after another, up to the first that is refused
-unfoldable pub judgeFrom : List ℕ → List ℕ → List ℕ → ℕ → ℕ → List ℕ → ℕ → List ℕ → List ℕ → Step
-judgeFrom base log block j zero held used places seens = step 0 held used places seens
-judgeFrom base log block j (suc n) held used places seens =
-    let t : Step = takeBy base (heldAt log block) (recordAt block j) (512 + j) held used places seens in
-    cond (eqb (t .number) 0) (judgeFrom base log block (suc j) n (t .held) (t .used) (t .places) (t .seens)) t
+unfoldable pub judgeFrom : ℕ → List ℕ → List ℕ → List ℕ → ℕ → ℕ → List ℕ → ℕ → List ℕ → List ℕ → Step
+judgeFrom m base log block j zero held used places seens = step 0 held used places seens
+judgeFrom m base log block j (suc n) held used places seens =
+    let t : Step = takeBy m base (heldAt log block) (recordAt block j) (512 + j) held used places seens in
+    cond (eqb (t .number) 0) (judgeFrom m base log block (suc j) n (t .held) (t .used) (t .places) (t .seens)) t
 
 -- the number of a block, and the tables as judging it leaves them
 pub record Judgement : Type 0 where
@@ -81,64 +88,28 @@ pub record Judgement : Type 0 where
 abbrev pub judgement : ℕ → List ℕ → List ℕ → Judgement
 judgement n places seens = record { number = n; places = places; seens = seens }
 
-unfoldable pub judgeOf : List ℕ → List ℕ → List ℕ → ℕ → List ℕ → ℕ → List ℕ → List ℕ → Judgement
-judgeOf base log block n held used places seens =
-    let s : Step = judgeFrom base log block 0 n held used places seens in
+unfoldable pub judgeOf : ℕ → List ℕ → List ℕ → List ℕ → ℕ → List ℕ → ℕ → List ℕ → List ℕ → Judgement
+judgeOf m base log block n held used places seens =
+    let s : Step = judgeFrom m base log block 0 n held used places seens in
     judgement (s .number) (s .places) (s .seens)
 
 -- a block with a fault of its own is not judged further
-unfoldable pub judgeGiven : List ℕ → ℕ → List ℕ → List ℕ → List ℕ → ℕ → List ℕ → List ℕ → Judgement
-judgeGiven base fault log block held used places seens =
-    cond (eqb fault 0) (judgeOf base log block (countIn block) held used places seens) (judgement fault places seens)
+unfoldable pub judgeGiven : ℕ → List ℕ → ℕ → List ℕ → List ℕ → List ℕ → ℕ → List ℕ → List ℕ → Judgement
+judgeGiven m base fault log block held used places seens =
+    cond (eqb fault 0) (judgeOf m base log block (countIn block) held used places seens) (judgement fault places seens)
 
--- ---- by the list
-
--- a new record is taken or refused behind the base vector; behind none, takeNew
-unfoldable pub takeNewOn : List ℕ → List Rec → Rec → Took
-takeNewOn base l r =
-    cond (isNext base l r && isWithin base l r)
-    (cond (isClosed base l r)
-    (cond (ltb (length l) 512) (taken (insert r l)) (refused fullLog))  -- 11
-    (refused notClosed))  -- 9
-    (refused notNext)  -- 8
-
-unfoldable pub takeHeldOn : List ℕ → Option Rec → List Rec → Rec → Took
-takeHeldOn base none l r = takeNewOn base l r
-takeHeldOn base (some s) l r = cond (sameBytes s r) (taken l) (refused otherBytes)  -- 10
-
--- a record; one that comes before is passed over. Behind none, takeOne
-unfoldable pub takeOneOn : List ℕ → List Rec → Rec → Took
-takeOneOn base l r =
-    cond (wellFormed r)
-    (cond (leb (num r) (getD base (unit r) 0)) (taken l) (takeHeldOn base (byId (unit r) (num r) l) l r))
-    (refused malformed)  -- 7
-
--- one record after another
-unfoldable pub takeAllOn : List ℕ → List Rec → List Rec → Took
-takeAllOn base l [] = taken l
-takeAllOn base l (r ∷ rs) = elim (takeOneOn base l r) [ refused n ↦ refused n | taken m ↦ takeAllOn base m rs ]
+-- ---- by the records held
 
 -- the records held after a record; those held before if it is refused
-unfoldable pub afterOn : List ℕ → List Rec → Rec → List Rec
-afterOn base l r = elim (takeOneOn base l r) [ refused n ↦ l | taken m ↦ m ]
+unfoldable pub after : ℕ → List ℕ → List Rec → Rec → List Rec
+after m base l r = elim (takeOne m base l r) [ refused n ↦ l | taken k ↦ k ]
 
 -- the records held after the first n records of a block
-unfoldable pub afterToOn : List ℕ → List Rec → (ℕ → Rec) → ℕ → List Rec
-afterToOn base l at zero = l
-afterToOn base l at (suc n) = afterOn base (afterToOn base l at n) (at n)
+unfoldable pub afterTo : ℕ → List ℕ → List Rec → (ℕ → Rec) → ℕ → List Rec
+afterTo m base l at zero = l
+afterTo m base l at (suc n) = after m base (afterTo m base l at n) (at n)
 
 -- what judging a block gives: the number of its refusal, or 0 if it is taken
-pub record JudgeGives (base : List ℕ) (l : List Rec) (block : List ℕ) (count number : ℕ) : Type 0 where
-  pub refuses : (number ≡ 0 → ⊥) → takeAllOn base l (blockRecords block) ≡ refused number
-  pub accepts : number ≡ 0 → takeAllOn base l (blockRecords block) ≡ taken (afterToOn base l (recordAt block) count)
-
--- ---- by the list, with no record before
-
--- the records held after a record; those held before if it is refused
-unfoldable pub after : List Rec → Rec → List Rec
-after l r = elim (takeOne l r) [ refused n ↦ l | taken m ↦ m ]
-
--- the records held after the first n records of a block
-unfoldable pub afterTo : List Rec → (ℕ → Rec) → ℕ → List Rec
-afterTo l at zero = l
-afterTo l at (suc n) = after (afterTo l at n) (at n)
+pub record JudgeGives (m : ℕ) (base : List ℕ) (l : List Rec) (block : List ℕ) (count number : ℕ) : Type 0 where
+  pub refuses : (number ≡ 0 → ⊥) → takeAll m base l (blockRecords block) ≡ refused number
+  pub accepts : number ≡ 0 → takeAll m base l (blockRecords block) ≡ taken (afterTo m base l (recordAt block) count)

@@ -6,7 +6,7 @@ ghost use lib.ListN.{length};
 ghost use Rattle.model.specs.Lengths.{recordSize, blockSize, logSize, logPlaces};
 ghost use Rattle.model.specs.Bytes.{sameBytes};
 ghost use Rattle.model.specs.Record.{seenVector, wellFormed};
-ghost use Rattle.model.specs.Outcome.{givenFault};
+ghost use Rattle.model.specs.Block.{givenFault};
 ghost use Rattle.log_closure.specs.Tables.{placesSize, seensSize, Placed};
 ghost use Rattle.take_beside.specs.Judging.{Counted, heldAt, step, newBy, newStep};
 use model::BLOCK_BYTES;
@@ -50,7 +50,7 @@ pub fn same_held(rec: &[u8], p: usize, log: &[u8], b: &[u8]) -> bool
     byte_slice::same(&b[at..at + 80], rec)
 }
 
-// The first of 8, 9 and 11 that holds of a well-formed record whose identity is not held, or 0.
+// The first of 8, 27, 9 and 11 that holds of a well-formed record whose identity is not held, or 0.
 pub fn new_fault(
     base: Vector,
     rec: &[u8],
@@ -64,6 +64,12 @@ pub fn new_fault(
     ensures { λ r. ⌜ r ≡ newBy (base .counts) (held .counts) used (now (places .entry)) (now (seens .entry)) (now (rec .entry)) ⌝ }
 {
     let f = log_admit::join_fault(base, rec, s, held, places, seens);
+    if f == 8 {
+        return 8;
+    }
+    if !vector::covers(s, base) {
+        return 27;
+    }
     if f != 0 {
         return f;
     }

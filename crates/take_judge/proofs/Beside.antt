@@ -11,16 +11,18 @@ use lib.Dec.{ltb, eqb}
 use lib.ListN.{getD, length}
 use borrow.Author.Tests.{lt-ltb, le-ltb, le-leb, lt-leb, ne-eqb}
 use Rattle.model.specs.Bytes.{sameBytes}
-use Rattle.model.specs.Record.{Rec, unit, num, wellFormed}
+use Rattle.model.specs.Vector.{covers}
+use Rattle.model.specs.Record.{Rec, unit, num, seenVector, wellFormed}
 use Rattle.model.specs.Log.{rank, insert, countOn, byId, isNext, isWithin, isClosed}
-use Rattle.model.specs.Outcome.{Took, refused, taken}
+use Rattle.base_model.specs.Base.{isListed}
+use Rattle.call_model.specs.Outcome.{Took, refused, taken, takeNew, takeHeld, isFolded, takeOne}
 use Rattle.byte_slice.proofs.Numbers.{lt-or-ge, eq-or-ne, bool-cases}
 use Rattle.log_laws.proofs.Formed.{well-unit}
 use Rattle.log_laws.proofs.Insert.{length-insert}
 use Rattle.log_closure.specs.Tables.{positionOf, Indexed}
 use Rattle.log_admit.proofs.Counts.{Alike, alike-inside, count-few}
 use Rattle.log_admit.proofs.Tables.{held-at, join-is, indexed-note, indexed-alike, indexed-where}
-use Rattle.take_beside.specs.Judging.{Counted, Step, step, heldBy, newBy, newStep, takeBy, takeNewOn, takeHeldOn, takeOneOn, afterOn}
+use Rattle.take_beside.specs.Judging.{Counted, Step, step, heldBy, newBy, newStep, takeBy, after}
 use Rattle.take_beside.proofs.Checks.{new-free}
 
 -- ---- insertion puts the record somewhere
@@ -46,9 +48,9 @@ alike-insert r l e =
 
 -- ---- the list afterwards
 
-pub after-taken : (base : List ℕ) (l : List Rec) (r : Rec) (m : List Rec) → takeOneOn base l r ≡ taken m → afterOn base l r ≡ m
-unfolding afterOn
-after-taken base l r m e = rw (e, afterOn)
+pub after-taken : (g : ℕ) (base : List ℕ) (l : List Rec) (r : Rec) (m : List Rec) → takeOne g base l r ≡ taken m → after g base l r ≡ m
+unfolding after
+after-taken g base l r m e = rw (e, after)
 
 -- 0 takes, another number refuses
 tookNew : ℕ → List Rec → Took
@@ -64,32 +66,35 @@ module _ (base : List ℕ) (at : ℕ → Rec) (top : ℕ) (m : List Rec) (held p
       }
 
   -- a new record, by the tables and by the list
-  new-is : (r : Rec) → unit r < 8 → takeNewOn base m r ≡ tookNew (newBy base held used places seens r) (insert r m)
-  unfolding takeNewOn newBy tookNew
+  new-is : (r : Rec) → unit r < 8 → takeNew base m r ≡ tookNew (newBy base held used places seens r) (insert r m)
+  unfolding takeNew newBy tookNew
   new-is r u8 =
-      rw (join-is base at top m held places seens h r u8, e) (go (isNext base m r && isWithin base m r) (isClosed base m r) (ltb (length m) 512))
+      rw (join-is base at top m held places seens h r u8, e)
+      (go (isNext base m r && isWithin base m r) (covers (seenVector r) base) (isClosed base m r) (ltb (length m) 512))
     where
-      go : (a b c : Bool) → cond a (cond b (cond c (taken (insert r m)) (refused 11)) (refused 9)) (refused 8)
-          ≡ tookNew (cond (eqb (cond a (cond b 0 9) 8) 0) (cond c 0 11) (cond a (cond b 0 9) 8)) (insert r m)
-      go true true true = refl
-      go true true false = refl
-      go true false c = refl
-      go false b c = refl
+      go : (a d b c : Bool) → cond a (cond d (cond b (cond c (taken (insert r m)) (refused 11)) (refused 9)) (refused 27)) (refused 8)
+          ≡ tookNew (cond (eqb (cond a (cond b 0 9) 8) 8) 8 (cond d (cond (eqb (cond a (cond b 0 9) 8) 0) (cond c 0 11) (cond a (cond b 0 9) 8)) 27)) (insert r m)
+      go true true true true = refl
+      go true true true false = refl
+      go true true false c = refl
+      go true false true c = refl
+      go true false false c = refl
+      go false d b c = refl
 
-  module _ (r : Rec) (p : ℕ) (lo : top ≤ p) (hi : p < 518) (q : at p ≡ r) where
+  module _ (g : ℕ) (r : Rec) (p : ℕ) (lo : top ≤ p) (hi : p < 518) (q : at p ≡ r) where
     -- taken: the tables have the records held then
     pub record Accepts (o : Step) : Type 0 where
       pub zero-number : o .number ≡ 0
-      pub takes : takeOneOn base m r ≡ taken (afterOn base m r)
-      pub indexed : Indexed base at (suc p) (afterOn base m r) (o .held) (o .places) (o .seens)
-      pub counts : o .used ≡ length (afterOn base m r)
+      pub takes : takeOne g base m r ≡ taken (after g base m r)
+      pub indexed : Indexed base at (suc p) (after g base m r) (o .held) (o .places) (o .seens)
+      pub counts : o .used ≡ length (after g base m r)
 
     abbrev pub Refuses : Step → Type 0
-    Refuses o = (o .number ≡ 0 → ⊥) × (takeOneOn base m r ≡ refused (o .number))
+    Refuses o = (o .number ≡ 0 → ⊥) × (takeOne g base m r ≡ refused (o .number))
 
-    accepts : (o : Step) (l : List Rec) → o .number ≡ 0 → takeOneOn base m r ≡ taken l → Indexed base at (suc p) l (o .held) (o .places) (o .seens) → o .used ≡ length l → Accepts o
+    accepts : (o : Step) (l : List Rec) → o .number ≡ 0 → takeOne g base m r ≡ taken l → Indexed base at (suc p) l (o .held) (o .places) (o .seens) → o .used ≡ length l → Accepts o
     accepts o l z t i c =
-        let a : l ≡ afterOn base m r = sym (after-taken base m r l t) in
+        let a : l ≡ after g base m r = sym (after-taken g base m r l t) in
         record {
           zero-number = z;
           takes = t ∙ ap taken a;
@@ -97,29 +102,29 @@ module _ (base : List ℕ) (at : ℕ → Rec) (top : ℕ) (m : List Rec) (held p
           counts = c ∙ ap (λ (x : List Rec). length x) a;
         }
 
-    module _ (w : wellFormed r ≡ true) where
+    module _ (w : wellFormed r ≡ true) (y : isListed g (unit r) ≡ true) where
       u8 : unit r < 8
       u8 = well-unit r w
 
       -- it comes before
       beside-before : num r ≤ getD base (unit r) 0 → Accepts (step (heldBy base at places r) held used places seens)
-      unfolding takeOneOn heldBy
+      unfolding takeOne isFolded heldBy
       beside-before k =
           let z = le-leb (num r) (getD base (unit r) 0) k in
-          accepts (step (heldBy base at places r) held used places seens) m (rw z) (rw (w, z)) (indexed-where base at top m held places seens h at (suc p) (omega arith) hi (λ x y. refl)) e
+          accepts (step (heldBy base at places r) held used places seens) m (rw z) (rw (w, y, z)) (indexed-where base at top m held places seens h at (suc p) (omega arith) hi (λ x y. refl)) e
 
       -- its identity is held
       beside-here : num r ≤ getD held (unit r) 0 → getD base (unit r) 0 < num r → Refuses (step (heldBy base at places r) held used places seens) ⊎ Accepts (step (heldBy base at places r) held used places seens)
-      unfolding takeOneOn takeHeldOn heldBy
+      unfolding takeOne isFolded takeHeld heldBy
       beside-here k l =
           let d : ℕ = num r - getD base (unit r) 0 in
           let s = h .stands (unit r) d u8 (omega arith) (omega (arith, held-at base at top m held places seens h (unit r) u8)) in
           let c : getD base (unit r) 0 + d ≡ num r = omega arith in
           let f : byId (unit r) (num r) m ≡ some (at (positionOf places (unit r) d)) = rw c at (s .found) in
-          let y = lt-leb (num r) (getD base (unit r) 0) l in
+          let x = lt-leb (num r) (getD base (unit r) 0) l in
           ⊎-elim
-          (λ (z : sameBytes (at (positionOf places (unit r) d)) r ≡ true). inr (accepts (step (heldBy base at places r) held used places seens) m (rw (y, z)) (rw (w, y, f, z)) (indexed-where base at top m held places seens h at (suc p) (omega arith) hi (λ x y. refl)) e))
-          (λ (z : sameBytes (at (positionOf places (unit r) d)) r ≡ false). inl (rw (y, z) (λ x. omega (arith, x)), rw (w, y, f, z)))
+          (λ (z : sameBytes (at (positionOf places (unit r) d)) r ≡ true). inr (accepts (step (heldBy base at places r) held used places seens) m (rw (x, z)) (rw (w, y, x, f, z)) (indexed-where base at top m held places seens h at (suc p) (omega arith) hi (λ i j. refl)) e))
+          (λ (z : sameBytes (at (positionOf places (unit r) d)) r ≡ false). inl (rw (x, z) (λ i. omega (arith, i)), rw (w, y, x, f, z)))
           (bool-cases (sameBytes (at (positionOf places (unit r) d)) r))
 
       beside-held : num r ≤ getD held (unit r) 0 → Refuses (step (heldBy base at places r) held used places seens) ⊎ Accepts (step (heldBy base at places r) held used places seens)
@@ -129,11 +134,11 @@ module _ (base : List ℕ) (at : ℕ → Rec) (top : ℕ) (m : List Rec) (held p
       absent : getD held (unit r) 0 < num r → byId (unit r) (num r) m ≡ none
       absent k = h .beyond (unit r) (num r) (omega (arith, held-at base at top m held places seens h (unit r) u8))
 
-      one-new : getD held (unit r) 0 < num r → takeOneOn base m r ≡ tookNew (newBy base held used places seens r) (insert r m)
-      unfolding takeOneOn takeHeldOn
+      one-new : getD held (unit r) 0 < num r → takeOne g base m r ≡ tookNew (newBy base held used places seens r) (insert r m)
+      unfolding takeOne isFolded takeHeld
       one-new k =
           let l : getD base (unit r) 0 < num r = omega (arith, held-at base at top m held places seens h (unit r) u8) in
-          rw (w, lt-leb (num r) (getD base (unit r) 0) l, absent k) (new-is r u8)
+          rw (w, y, lt-leb (num r) (getD base (unit r) 0) l, absent k) (new-is r u8)
 
       indexed-insert : getD held (unit r) 0 < num r → newBy base held used places seens r ≡ 0 → (o : Step) → o ≡ newStep base r p held used places seens → Indexed base at (suc p) (insert r m) (o .held) (o .places) (o .seens)
       unfolding newStep
@@ -148,34 +153,46 @@ module _ (base : List ℕ) (at : ℕ → Rec) (top : ℕ) (m : List Rec) (held p
       beside-new k =
           ⊎-elim
           (λ (z : newBy base held used places seens r ≡ 0).
-          let t : takeOneOn base m r ≡ taken (insert r m) = rw z at (one-new k) in
+          let t : takeOne g base m r ≡ taken (insert r m) = rw z at (one-new k) in
           inr (accepts (newStep base r p held used places seens) (insert r m) (rw z) t (indexed-insert k z (newStep base r p held used places seens) refl) (rw z (omega (arith, length-insert r m)))))
           (λ (z : newBy base held used places seens r ≡ 0 → ⊥). inl (rw (ne-eqb (newBy base held used places seens r) 0 z) (z, one-new k ∙ refuses (newBy base held used places seens r) z)))
           (eq-or-ne (newBy base held used places seens r) 0)
         where
           refuses : (n : ℕ) → (n ≡ 0 → ⊥) → tookNew n (insert r m) ≡ refused n
-          refuses zero y = absurd (y refl)
-          refuses (suc n) y = refl
+          refuses zero i = absurd (i refl)
+          refuses (suc n) i = refl
 
-    refused-malformed : wellFormed r ≡ false → takeOneOn base m r ≡ refused 7
-    unfolding takeOneOn
+    refused-malformed : wellFormed r ≡ false → takeOne g base m r ≡ refused 7
+    unfolding takeOne
     refused-malformed w = rw w
 
+    refused-unlisted : wellFormed r ≡ true → isListed g (unit r) ≡ false → takeOne g base m r ≡ refused 26
+    unfolding takeOne
+    refused-unlisted w y = rw (w, y)
+
+    beside-listed : wellFormed r ≡ true → isListed g (unit r) ≡ true → (o : Step) → o ≡ takeBy g base at r p held used places seens → Refuses o ⊎ Accepts o
+    unfolding takeBy
+    beside-listed w y o f =
+        ⊎-elim
+        (λ (k : getD held (unit r) 0 < num r). rw (f, w, y, lt-leb (num r) (getD held (unit r) 0) k) (beside-new w y k))
+        (λ (k : num r ≤ getD held (unit r) 0). rw (f, w, y, le-leb (num r) (getD held (unit r) 0) k) (beside-held w y k))
+        (lt-or-ge (getD held (unit r) 0) (num r))
+
     -- the two ways of a record
-    pub beside : (o : Step) → o ≡ takeBy base at r p held used places seens → Refuses o ⊎ Accepts o
+    pub beside : (o : Step) → o ≡ takeBy g base at r p held used places seens → Refuses o ⊎ Accepts o
     unfolding takeBy
     beside o f =
         ⊎-elim
         (λ (w : wellFormed r ≡ true).
         ⊎-elim
-        (λ (k : getD held (unit r) 0 < num r). rw (f, w, lt-leb (num r) (getD held (unit r) 0) k) (beside-new w k))
-        (λ (k : num r ≤ getD held (unit r) 0). rw (f, w, le-leb (num r) (getD held (unit r) 0) k) (beside-held w k))
-        (lt-or-ge (getD held (unit r) 0) (num r)))
+        (λ (y : isListed g (unit r) ≡ true). beside-listed w y o f)
+        (λ (y : isListed g (unit r) ≡ false). rw (f, w, y) (inl ((λ x. omega (arith, x)), refused-unlisted w y)))
+        (bool-cases (isListed g (unit r))))
         (λ (w : wellFormed r ≡ false). rw (f, w) (inl ((λ x. omega (arith, x)), refused-malformed w)))
         (bool-cases (wellFormed r))
 
-    module _ (o : Step) (f : o ≡ takeBy base at r p held used places seens) where
-      pub beside-refused : (o .number ≡ 0 → ⊥) → takeOneOn base m r ≡ refused (o .number)
+    module _ (o : Step) (f : o ≡ takeBy g base at r p held used places seens) where
+      pub beside-refused : (o .number ≡ 0 → ⊥) → takeOne g base m r ≡ refused (o .number)
       beside-refused z = ⊎-elim (λ (x : Refuses o). x .1) (λ (x : Accepts o). absurd (z (x .zero-number))) (beside o f)
 
       pub beside-taken : o .number ≡ 0 → Accepts o

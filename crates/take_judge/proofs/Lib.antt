@@ -1,3 +1,2 @@
-pub mod OneByOne
 pub mod Beside
 pub mod Going

@@ -11,6 +11,7 @@ ghost use Rattle.log_closure.specs.Tables.{placesSize, seensSize, Placed, Index
 ghost use Rattle.log_check.specs.declared.Layout.the-variants.{Log};
 ghost use Rattle.log_check.specs.Places.{laidAt};
 ghost use Rattle.take_beside.specs.Judging.{Counted, heldAt, step, heldBy, takeBy, judgement, judgeOf, JudgeGives};
+use base_head::is_listed;
 use take_beside::Judged;
 use take_beside::same_held;
 use take_beside::take_new;
@@ -34,9 +35,10 @@ fn held_fault(base: Vector, rec: &[u8], held: Vector, log: &[u8], b: &[u8], plac
     0
 }
 
-// One record of a block: 7, then 10 if its identity is held, else 8, 9, 11. One that the base vector counts is passed over; a new one is
-// held at the position p.
+// One record of a block: 7, 26, then 10 if its identity is held, else 8, 27, 9, 11. One that the base vector counts is passed over; a new
+// one is held at the position p.
 pub fn take_record(
+    list: u8,
     base: Vector,
     rec: &[u8],
     p: usize,
@@ -48,7 +50,7 @@ pub fn take_record(
     seens: &mut [u16],
 ) -> Judged
     requires { ⌜ (length (now rec) ≡ recordSize) × (p < 518) × (used ≤ logPlaces) × (length (now log) ≡ logSize) × (length (now b) ≡ blockSize) × (length (now places) ≡ placesSize) × (length (now seens) ≡ seensSize) × Placed (base .counts) (held .counts) (now places) × Counted (base .counts) (held .counts) used ⌝ }
-    ensures { λ r. ⌜ step (r .number) (r .held .counts) (r .used) (now (places .exit)) (now (seens .exit)) ≡ takeBy (base .counts) (heldAt (now (log .entry)) (now (b .entry))) (now (rec .entry)) p (held .counts) used (now (places .entry)) (now (seens .entry)) ⌝ }
+    ensures { λ r. ⌜ step (r .number) (r .held .counts) (r .used) (now (places .exit)) (now (seens .exit)) ≡ takeBy list (base .counts) (heldAt (now (log .entry)) (now (b .entry))) (now (rec .entry)) p (held .counts) used (now (places .entry)) (now (seens .entry)) ⌝ }
 {
     if !record::well_formed(rec) {
         return Judged {
@@ -58,6 +60,13 @@ pub fn take_record(
         };
     }
     let u = record::unit_of(rec) as usize;
+    if !is_listed(list, u) {
+        return Judged {
+            number: 26,
+            held,
+            used,
+        };
+    }
     let c = record::number_of(rec);
     if held.counts[u] < c {
         return take_new(base, rec, p, held, used, places, seens);
@@ -68,6 +77,7 @@ pub fn take_record(
 
 // The n records of a block, one after another: the number of the first that is refused, or 0. Earlier ones count as held.
 pub fn judge_block(
+    list: u8,
     base: Vector,
     b: &[u8],
     n: usize,
@@ -78,8 +88,8 @@ pub fn judge_block(
     seens: &mut [u16],
 ) -> u8
     requires { ⌜ (length (now b) ≡ blockSize) × (n ≡ countIn (now b)) × (n ≤ 6) × (length (now log) ≡ logSize) × (m ≡ length (recordsOf (now log))) × (length (now places) ≡ placesSize) × (length (now seens) ≡ seensSize) × Indexed (base .counts) (laidAt Log (now log)) m (recordsOf (now log)) (v .counts) (now places) (now seens) ⌝ }
-    ensures outright { λ r. ⌜ judgement r (now (places .exit)) (now (seens .exit)) ≡ judgeOf (base .counts) (now (log .entry)) (now (b .entry)) n (v .counts) m (now (places .entry)) (now (seens .entry)) ⌝ }
-    ensures gives { λ r. ⌜ JudgeGives (base .counts) (recordsOf (now (log .entry))) (now (b .entry)) n r ⌝ }
+    ensures outright { λ r. ⌜ judgement r (now (places .exit)) (now (seens .exit)) ≡ judgeOf list (base .counts) (now (log .entry)) (now (b .entry)) n (v .counts) m (now (places .entry)) (now (seens .entry)) ⌝ }
+    ensures gives { λ r. ⌜ JudgeGives list (base .counts) (recordsOf (now (log .entry))) (now (b .entry)) n r ⌝ }
 {
     let mut held = v;
     let mut used = m;
@@ -87,6 +97,7 @@ pub fn judge_block(
     while j < n {
         let at = 28 + 80 * j;
         let t = take_record(
+            list,
             base,
             &b[at..at + 80],
             512 + j,

@@ -2,9 +2,10 @@
 ghost use mathlib.Core.Path.{_≡_};
 ghost use mathlib.Core.Bool.{true};
 ghost use Prim.Native.Nat.{_≤_};
-ghost use lib.ListN.{length};
-ghost use Rattle.model.specs.Lengths.{logSize, fileSize};
-ghost use Rattle.model.specs.Log.{vectorOf, noCounts, recordsOf, soundLog};
+ghost use lib.ListN.{length, getD};
+ghost use Rattle.model.specs.Lengths.{logSize, fileSize, baseSize};
+ghost use Rattle.model.specs.Log.{recordsOf};
+ghost use Rattle.base_model.specs.Base.{baseVector, heldOn, soundState};
 ghost use Rattle.row_model.specs.Row.{rowFits, tried, tryAll, rowTaken, takeRowOf};
 ghost use Rattle.log_closure.specs.Tables.{placesSize, seensSize, Indexed};
 ghost use Rattle.log_check.specs.declared.Layout.the-variants.{Log};
@@ -41,9 +42,12 @@ pub fn row_fits(n: usize) -> bool
     n / BLOCK_BYTES <= 86
 }
 
-// A row is taken into a sound log whose records the tables have, up to the first block that is refused. What work holds before does not
-// matter.
+// A row is taken into the log of a sound state whose records the tables have, up to the first block that is refused. List and base vector
+// are those of the base. What work holds before does not matter.
 pub fn take_blocks(
+    list: u8,
+    folded: Vector,
+    base: &[u8],
     log: &mut [u8],
     archive: u32,
     unit: u8,
@@ -54,24 +58,38 @@ pub fn take_blocks(
     places: &mut [u16],
     seens: &mut [u16],
 ) -> RowJudged
-    requires { ⌜ (length (now row) ≤ fileSize) × (unit ≤ 7) × (length (now log) ≡ logSize) × (soundLog (now log) ≡ true) × (used ≡ length (recordsOf (now log))) × (length (now work) ≡ workSize) × (length (now places) ≡ placesSize) × (length (now seens) ≡ seensSize) × Indexed noCounts (laidAt Log (now log)) used (recordsOf (now log)) (held .counts) (now places) (now seens) ⌝ }
-    ensures took { λ r. ⌜ tried (r .taken) (r .stopped) (now (log .exit)) ≡ tryAll archive unit (now (log .entry)) (now (row .entry)) ⌝ }
-    ensures counted { λ r. ⌜ (r .used ≡ length (recordsOf (now (log .exit)))) × (r .held .counts ≡ vectorOf (recordsOf (now (log .exit)))) ⌝ }
+    requires { ⌜ (length (now row) ≤ fileSize) × (unit ≤ 7) × (length (now log) ≡ logSize) × (length (now base) ≡ baseSize) × (soundState (now log) (now base) ≡ true) × (list ≡ getD (now base) 0 0) × (folded .counts ≡ baseVector (now base)) × (used ≡ length (recordsOf (now log))) × (length (now work) ≡ workSize) × (length (now places) ≡ placesSize) × (length (now seens) ≡ seensSize) × Indexed (baseVector (now base)) (laidAt Log (now log)) used (recordsOf (now log)) (held .counts) (now places) (now seens) ⌝ }
+    ensures took { λ r. ⌜ tried (r .taken) (r .stopped) (now (log .exit)) ≡ tryAll archive unit (now (log .entry)) (now (base .entry)) (now (row .entry)) ⌝ }
+    ensures counted { λ r. ⌜ (r .used ≡ length (recordsOf (now (log .exit)))) × (r .held .counts ≡ heldOn (now (log .exit)) (now (base .entry))) ⌝ }
 {
     byte_slice::put(work, 0, log);
-    let t = take_row_judge::judge_row(row, archive, unit, log, used, held, work, places, seens);
-    take_row_store::put_in(log, used, work, t.used);
+    let t = take_row_judge::judge_row(
+        list,
+        folded,
+        base,
+        row,
+        archive,
+        unit,
+        log,
+        used,
+        held,
+        work,
+        places,
+        seens,
+    );
+    take_row_store::put_in(folded, log, used, work, t.used);
     t
 }
 
-// The blocks of a row are taken in turn, up to the first refusal. Checked in this order: 1, 21, 2, 19; then the blocks.
-pub fn take_row(log: &mut [u8], archive: u32, unit: u8, row: &[u8]) -> RowTaken
-    ensures { λ r. ⌜ rowTaken (r .number) (r .place) (r .taken) (r .stopped) (now (log .exit)) ≡ takeRowOf archive unit (now (log .entry)) (now (row .entry)) ⌝ }
+// The blocks of a row are taken in turn, up to the first refusal. Checked in this order: 1, 21, 2, 19; then the blocks. The base is only read.
+pub fn take_row(log: &mut [u8], base: &[u8], archive: u32, unit: u8, row: &[u8]) -> RowTaken
+    ensures { λ r. ⌜ rowTaken (r .number) (r .place) (r .taken) (r .stopped) (now (log .exit)) ≡ takeRowOf archive unit (now (log .entry)) (now (base .entry)) (now (row .entry)) ⌝ }
 {
     let mut places = log_check::fresh_places();
     let mut seens = log_check::fresh_seens();
     let o = open_into(
         log,
+        base,
         unit,
         true,
         row_fits(row.len()),
@@ -86,9 +104,14 @@ pub fn take_row(log: &mut [u8], archive: u32, unit: u8, row: &[u8]) -> RowTaken
             stopped: 0,
         };
     }
+    let head = o.head;
+    let folded = head.folded;
     let held = o.held;
     let mut work = fresh_work();
     let t = take_blocks(
+        head.list,
+        folded,
+        base,
         log,
         archive,
         unit,

@@ -11,16 +11,16 @@ use mathlib.Core.List.{List}
 use lib.ListN.{length, take, drop}
 use Rattle.model.specs.Bytes.{part}
 use Rattle.model.specs.Record.{Rec}
-use Rattle.model.specs.Log.{rank, insert, recordsOf, soundLog, logBytes}
+use Rattle.model.specs.Log.{rank, insert, recordsOf, soundLogOn, logBytes}
 use Rattle.byte_slice.proofs.Numbers.{lt-or-ge}
 use Rattle.byte_slice.proofs.Parts.{part-is, part-part}
-use Rattle.log_laws.specs.Sound.{Sound}
+use Rattle.log_laws.specs.Sound.{SoundOn}
 use Rattle.log_laws.proofs.Insert.{length-insert}
-use Rattle.encoding_laws.proofs.Logs.{sound-bytes, log-sound}
-use Rattle.encoding_laws.proofs.Calls.{sound-back}
+use Rattle.encoding_laws.proofs.Logs.{sound-proper-on, records-back, sound-bytes-on, log-sound-on}
 use Rattle.log_check.specs.declared.Layout.the-variants.{Log}
 use Rattle.log_check.specs.Places.{offsetOf, laidAt}
-use Rattle.log_insert.specs.Where.{Rising, insertTo}
+use Rattle.log_insert.specs.Where.{Rising, Ordered, insertTo}
+use Rattle.log_insert.proofs.Ordered.{sound-ordered}
 use Rattle.take_row_store.specs.Grown.{newAt, heldIn, Grown, Run}
 
 -- ---- lists of records put in
@@ -43,32 +43,32 @@ length-inserted l a (suc n) = omega (arith, length-insert (a n) (insertTo l a n)
 
 -- ---- what is held
 
-pub held-none : (l : List Rec) (base : ℕ) (work : List ℕ) → heldIn l base work base ≡ l
+pub held-none : (l : List Rec) (start : ℕ) (work : List ℕ) → heldIn l start work start ≡ l
 unfolding heldIn insertTo
-held-none l base work = rw (sub-self base)
+held-none l start work = rw (sub-self start)
 
-pub held-alike : (l : List Rec) (base : ℕ) (work work′ : List ℕ) (used : ℕ) → ((p : ℕ) → p < used → laidAt Log work p ≡ laidAt Log work′ p)
-    → heldIn l base work used ≡ heldIn l base work′ used
+pub held-alike : (l : List Rec) (start : ℕ) (work work′ : List ℕ) (used : ℕ) → ((p : ℕ) → p < used → laidAt Log work p ≡ laidAt Log work′ p)
+    → heldIn l start work used ≡ heldIn l start work′ used
 unfolding heldIn newAt
-held-alike l base work work′ used h = insert-alike l (newAt base work) (newAt base work′) (used - base) (λ j k. h (base + j) (omega arith))
+held-alike l start work work′ used h = insert-alike l (newAt start work) (newAt start work′) (used - start) (λ j k. h (start + j) (omega arith))
 
-module _ (l : List Rec) (base : ℕ) (work : List ℕ) (used : ℕ) (g : Grown l base work used) where
-  pub held-long : used ≡ length (heldIn l base work used)
+module _ (v : List ℕ) (l : List Rec) (start : ℕ) (work : List ℕ) (used : ℕ) (g : Grown v l start work used) where
+  pub held-long : used ≡ length (heldIn l start work used)
   unfolding heldIn
-  held-long = omega (arith, length-inserted l (newAt base work) (used - base), g .from, g .first)
+  held-long = omega (arith, length-inserted l (newAt start work) (used - start), g .from, g .first)
 
-  pub held-sound : Sound (heldIn l base work used)
+  pub held-sound : SoundOn v (heldIn l start work used)
   unfolding heldIn
-  held-sound = g .sound (used - base) (omega arith)
+  held-sound = g .sound (used - start) (omega arith)
 
-  pub grown-alike : (work′ : List ℕ) → ((p : ℕ) → p < used → laidAt Log work p ≡ laidAt Log work′ p) → Grown l base work′ used
+  pub grown-alike : (work′ : List ℕ) → ((p : ℕ) → p < used → laidAt Log work p ≡ laidAt Log work′ p) → Grown v l start work′ used
   unfolding newAt
   grown-alike work′ h =
       record {
         from = g .from;
         few = g .few;
         first = g .first;
-        sound = λ j k. rw (← insert-alike l (newAt base work) (newAt base work′) j (λ i n. h (base + i) (omega arith))) (g .sound j k);
+        sound = λ j k. rw (← insert-alike l (newAt start work) (newAt start work′) j (λ i n. h (start + i) (omega arith))) (g .sound j k);
       }
 
 -- ---- a rising run
@@ -104,21 +104,21 @@ module _ (work : List ℕ) (from last : ℕ) where
 
 -- ---- run after run
 
-module _ (l : List Rec) (base : ℕ) (work : List ℕ) (used : ℕ) (g : Grown l base work used) (log : List ℕ) (done : ℕ) (lo : base ≤ done) (hi : done ≤ used) (e : log ≡ logBytes (heldIn l base work done)) where
-  until : Grown l base work done
+module _ (v : List ℕ) (l : List Rec) (start : ℕ) (work : List ℕ) (used : ℕ) (g : Grown v l start work used) (log : List ℕ) (done : ℕ) (lo : start ≤ done) (hi : done ≤ used) (e : log ≡ logBytes (heldIn l start work done)) where
+  until : Grown v l start work done
   until = record { from = lo; few = omega (arith, g .few); first = g .first; sound = λ j k. g .sound j (omega arith) }
 
-  small : length (heldIn l base work done) ≤ 512
-  small = omega (arith, held-long l base work done until, g .few)
+  small : length (heldIn l start work done) ≤ 512
+  small = omega (arith, held-long v l start work done until, g .few)
 
-  records : recordsOf log ≡ heldIn l base work done
-  records = rw e (sound-back (heldIn l base work done) (held-sound l base work done until) small)
-
-  pub puts-sound : soundLog log ≡ true
-  puts-sound = rw e (log-sound (heldIn l base work done) (held-sound l base work done until) small)
+  records : recordsOf log ≡ heldIn l start work done
+  records = rw e (records-back (heldIn l start work done) (sound-proper-on v (heldIn l start work done) (held-sound v l start work done until)) small)
 
   pub puts-used : done ≡ length (recordsOf log)
-  puts-used = rw records (held-long l base work done until)
+  puts-used = rw records (held-long v l start work done until)
+
+  pub puts-ordered : Ordered log done
+  puts-ordered = sound-ordered v log done (rw e (log-sound-on v (heldIn l start work done) (held-sound v l start work done until) small)) puts-used
 
   module _ (end : ℕ) (a : done < end) (b : end ≤ used) where
     pub puts-room : done + (end - done) ≤ 512
@@ -138,24 +138,24 @@ module _ (l : List Rec) (base : ℕ) (work : List ℕ) (used : ℕ) (g : Grown l
               rw (lent j (omega arith), lent (suc j) h, f) (r .rises (done + j) (omega arith) (omega arith));
         }
 
-    pub puts-next : (log′ : List ℕ) → log′ ≡ logBytes (insertTo (recordsOf log) (laidAt Log (take (80 * end - 80 * done) (drop (80 * done) work))) (end - done)) → log′ ≡ logBytes (heldIn l base work end)
+    pub puts-next : (log′ : List ℕ) → log′ ≡ logBytes (insertTo (recordsOf log) (laidAt Log (take (80 * end - 80 * done) (drop (80 * done) work))) (end - done)) → log′ ≡ logBytes (heldIn l start work end)
     unfolding heldIn newAt
     puts-next log′ q =
         let s : List ℕ = take (80 * end - 80 * done) (drop (80 * done) work) in
-        let p : ℕ = done - base in
-        let f : p + (end - done) ≡ end - base = omega arith in
-        let same : insertTo (recordsOf log) (laidAt Log s) (end - done) ≡ insertTo (recordsOf log) (λ j. newAt base work (p + j)) (end - done) =
-        insert-alike (recordsOf log) (laidAt Log s) (λ j. newAt base work (p + j)) (end - done) (λ j h. let w : done + j ≡ base + (p + j) = omega arith in lent j h ∙ ap (laidAt Log work) w) in
-        q ∙ ap logBytes (same ∙ rw records (insert-more l (newAt base work) p (end - done) ∙ ap (insertTo l (newAt base work)) f))
+        let p : ℕ = done - start in
+        let f : p + (end - done) ≡ end - start = omega arith in
+        let same : insertTo (recordsOf log) (laidAt Log s) (end - done) ≡ insertTo (recordsOf log) (λ j. newAt start work (p + j)) (end - done) =
+        insert-alike (recordsOf log) (laidAt Log s) (λ j. newAt start work (p + j)) (end - done) (λ j h. let w : done + j ≡ start + (p + j) = omega arith in lent j h ∙ ap (laidAt Log work) w) in
+        q ∙ ap logBytes (same ∙ rw records (insert-more l (newAt start work) p (end - done) ∙ ap (insertTo l (newAt start work)) f))
 
-pub puts-starts : (base : ℕ) (work log : List ℕ) → length log ≡ 40960 → soundLog log ≡ true → log ≡ logBytes (heldIn (recordsOf log) base work base)
-puts-starts base work log n s = rw (held-none (recordsOf log) base work) (sym (sound-bytes log n s))
+pub puts-starts : (v : List ℕ) (start : ℕ) (work log : List ℕ) → length log ≡ 40960 → soundLogOn v log ≡ true → log ≡ logBytes (heldIn (recordsOf log) start work start)
+puts-starts v start work log n s = rw (held-none (recordsOf log) start work) (sym (sound-bytes-on v log n s))
 
-pub puts-ends : (l : List Rec) (base : ℕ) (work log : List ℕ) (done used : ℕ) → done ≤ used → used ≤ done → log ≡ logBytes (heldIn l base work done) → log ≡ logBytes (heldIn l base work used)
-puts-ends l base work log done used a b e = let f : done ≡ used = omega arith in rw f at e
+pub puts-ends : (l : List Rec) (start : ℕ) (work log : List ℕ) (done used : ℕ) → done ≤ used → used ≤ done → log ≡ logBytes (heldIn l start work done) → log ≡ logBytes (heldIn l start work used)
+puts-ends l start work log done used a b e = let f : done ≡ used = omega arith in rw f at e
 
-pub grown-from : {l : List Rec} {base used : ℕ} {work : List ℕ} → Grown l base work used → base ≤ used
+pub grown-from : {v : List ℕ} {l : List Rec} {start used : ℕ} {work : List ℕ} → Grown v l start work used → start ≤ used
 grown-from g = g .from
 
-pub grown-few : {l : List Rec} {base used : ℕ} {work : List ℕ} → Grown l base work used → used ≤ 512
+pub grown-few : {v : List ℕ} {l : List Rec} {start used : ℕ} {work : List ℕ} → Grown v l start work used → used ≤ 512
 grown-few g = g .few

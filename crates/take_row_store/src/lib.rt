@@ -4,9 +4,10 @@ ghost use mathlib.Core.Bool.{true};
 ghost use Prim.Native.Nat.{_+_, _*_, _≤_, _<_};
 ghost use lib.ListN.{length};
 ghost use Rattle.model.specs.Lengths.{logSize, logPlaces};
-ghost use Rattle.model.specs.Log.{recordsOf, soundLog, logBytes};
+ghost use Rattle.model.specs.Log.{recordsOf, soundLogOn, logBytes};
 ghost use Rattle.take_row_store.specs.Grown.{workSize, heldIn, Grown, Run};
 use record::rank_of;
+use vector::Vector;
 
 // 518 places of 80 bytes: those of a log, and six for the block that is judged.
 pub const WORK_BYTES: usize = 41440;
@@ -31,13 +32,13 @@ fn run_end(work: &[u8], from: usize, to: usize) -> usize
     i
 }
 
-// The records that stand in work from the place base up to the place used are put in by rank among the records of a sound log, a rising
-// run at a time.
-pub fn put_in(log: &mut [u8], base: usize, work: &[u8], used: usize)
-    requires { ⌜ (length (now log) ≡ logSize) × (soundLog (now log) ≡ true) × (length (now work) ≡ workSize) × Grown (recordsOf (now log)) base (now work) used ⌝ }
-    ensures { λ _. ⌜ now (log .exit) ≡ logBytes (heldIn (recordsOf (now (log .entry))) base (now (work .entry)) used) ⌝ }
+// The records that stand in work from the place start up to the place used are put in by rank among the records of a log, a rising run at a
+// time. The base vector only says behind which records the log is sound.
+pub fn put_in(base: Vector, log: &mut [u8], start: usize, work: &[u8], used: usize)
+    requires { ⌜ (length (now log) ≡ logSize) × (soundLogOn (base .counts) (now log) ≡ true) × (length (now work) ≡ workSize) × Grown (base .counts) (recordsOf (now log)) start (now work) used ⌝ }
+    ensures { λ _. ⌜ now (log .exit) ≡ logBytes (heldIn (recordsOf (now (log .entry))) start (now (work .entry)) used) ⌝ }
 {
-    let mut done = base;
+    let mut done = start;
     while done < used {
         let end = run_end(work, done, used);
         log_insert::insert_records(log, done, &work[80 * done..80 * end], end - done);

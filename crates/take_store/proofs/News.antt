@@ -12,22 +12,21 @@ use lib.Dec.{ltb, leb}
 use lib.ListN.{length, getD, take, drop}
 use borrow.Author.Tests.{lt-leb, le-leb, ltb-true, leb-true, not-true, not-false}
 use Rattle.model.specs.Record.{Rec, unit, num}
-use Rattle.model.specs.Log.{rank, insert, count, vectorOf, noCounts, logBytes}
+use Rattle.model.specs.Log.{rank, insert, countOn, vectorOn, logBytes}
 use Rattle.model.specs.Block.{recordAt, recordsFrom}
-use Rattle.model.specs.Outcome.{Took, refused, taken, takeOne, takeAll}
+use Rattle.call_model.specs.Outcome.{Took, refused, taken, isFolded, takeOne, takeAll}
 use Rattle.byte_slice.proofs.Numbers.{and-true, lt-or-ge}
 use Rattle.byte_slice.proofs.Parts.{part-is, part-part}
 use Rattle.log_laws.specs.Members.{Has}
-use Rattle.log_laws.specs.Sound.{Sound}
+use Rattle.log_laws.specs.Sound.{SoundOn}
 use Rattle.log_laws.proofs.Formed.{well-unit}
-use Rattle.log_laws.proofs.Counts.{formed, number-held}
-use Rattle.log_laws.proofs.Insert.{has-insert, length-insert, insert-sound}
-use Rattle.log_laws.proofs.Take.{New, one-from, refused-taken, takeAll-goes, takeAll-stops, all-from}
-use Rattle.log_laws.proofs.Tests.{vectorOf-getD}
+use Rattle.log_laws.proofs.Counts.{number-held-on}
+use Rattle.log_laws.proofs.Insert.{has-insert, length-insert, insert-sound-on}
+use Rattle.take_laws.proofs.Take.{New, Known, folded-within, one-from, refused-taken, takeAll-goes, takeAll-stops, all-from}
+use Rattle.log_laws.proofs.Tests.{vectorOn-getD}
 use Rattle.log_check.specs.declared.Layout.the-variants.{Log}
 use Rattle.log_check.specs.Places.{offsetOf, laidAt}
 use Rattle.take_beside.specs.Judging.{after, afterTo}
-use Rattle.take_judge.proofs.OneByOne.{one-none, after-none}
 use Rattle.take_judge.proofs.Beside.{after-taken}
 use Rattle.log_insert.specs.Where.{Rising, insertTo}
 use Rattle.take_store.specs.New.{Units, isNew, newFrom}
@@ -114,30 +113,30 @@ module _ (held : List ℕ) (at : ℕ → Rec) where
 
 -- ---- a block that is taken has each of its records taken
 
-first-taken : (l : List Rec) (r : Rec) (rs m : List Rec) → takeAll l (r ∷ rs) ≡ taken m → (takeOne l r ≡ taken (after l r)) × (takeAll (after l r) rs ≡ taken m)
-first-taken l r rs m e = go (takeOne l r) refl
+first-taken : (g : ℕ) (v : List ℕ) (l : List Rec) (r : Rec) (rs m : List Rec) → takeAll g v l (r ∷ rs) ≡ taken m → (takeOne g v l r ≡ taken (after g v l r)) × (takeAll g v (after g v l r) rs ≡ taken m)
+first-taken g v l r rs m e = go (takeOne g v l r) refl
   where
-    go : (o : Took) → takeOne l r ≡ o → (takeOne l r ≡ taken (after l r)) × (takeAll (after l r) rs ≡ taken m)
-    go (refused n) q = refused-taken (sym (takeAll-stops l r rs n q) ∙ e)
+    go : (o : Took) → takeOne g v l r ≡ o → (takeOne g v l r ≡ taken (after g v l r)) × (takeAll g v (after g v l r) rs ≡ taken m)
+    go (refused n) q = refused-taken (sym (takeAll-stops g v l r rs n q) ∙ e)
     go (taken k) q =
-        let a = (sym (after-none l r) ∙ after-taken noCounts l r k (one-none l r ∙ q)) in
-        (q ∙ ap taken (sym a), ap (λ (x : List Rec). takeAll x rs) a ∙ sym (takeAll-goes l r rs k q) ∙ e)
+        let a = after-taken g v l r k q in
+        (q ∙ ap taken (sym a), ap (λ (x : List Rec). takeAll g v x rs) a ∙ sym (takeAll-goes g v l r rs k q) ∙ e)
 
-module _ (l : List Rec) (b : List ℕ) (n : ℕ) (t : takeAll l (recordsFrom b 0 n) ≡ taken (afterTo l (recordAt b) n)) where
-  rest-taken : (j : ℕ) → j ≤ n → takeAll (afterTo l (recordAt b) j) (recordsFrom b j (n - j)) ≡ taken (afterTo l (recordAt b) n)
+module _ (g : ℕ) (v : List ℕ) (l : List Rec) (b : List ℕ) (n : ℕ) (t : takeAll g v l (recordsFrom b 0 n) ≡ taken (afterTo g v l (recordAt b) n)) where
+  rest-taken : (j : ℕ) → j ≤ n → takeAll g v (afterTo g v l (recordAt b) j) (recordsFrom b j (n - j)) ≡ taken (afterTo g v l (recordAt b) n)
   unfolding afterTo recordsFrom
   rest-taken zero h = rw (sub-zero n) t
   rest-taken (suc j) h =
       let f : n - j ≡ suc (n - suc j) = omega arith in
-      first-taken (afterTo l (recordAt b) j) (recordAt b j) (recordsFrom b (suc j) (n - suc j)) (afterTo l (recordAt b) n) (rw f at (rest-taken j (omega arith))) .1
+      first-taken g v (afterTo g v l (recordAt b) j) (recordAt b j) (recordsFrom b (suc j) (n - suc j)) (afterTo g v l (recordAt b) n) (rw f at (rest-taken j (omega arith))) .1
 
-  pub each-taken : (j : ℕ) → j < n → takeOne (afterTo l (recordAt b) j) (recordAt b j) ≡ taken (after (afterTo l (recordAt b) j) (recordAt b j))
+  pub each-taken : (j : ℕ) → j < n → takeOne g v (afterTo g v l (recordAt b) j) (recordAt b j) ≡ taken (after g v (afterTo g v l (recordAt b) j) (recordAt b j))
   unfolding recordsFrom
   each-taken j h =
       let f : n - j ≡ suc (n - suc j) = omega arith in
-      first-taken (afterTo l (recordAt b) j) (recordAt b j) (recordsFrom b (suc j) (n - suc j)) (afterTo l (recordAt b) n) (rw f at (rest-taken j (omega arith))) .0
+      first-taken g v (afterTo g v l (recordAt b) j) (recordAt b j) (recordsFrom b (suc j) (n - suc j)) (afterTo g v l (recordAt b) n) (rw f at (rest-taken j (omega arith))) .0
 
-  module _ (s : Sound l) where
+  module _ (s : SoundOn v l) where
     has-from : (i m j : ℕ) → i ≤ j → j < i + m → Has (recordAt b j) (recordsFrom b i m)
     unfolding recordsFrom
     has-from i zero j a h = absurd (omega arith)
@@ -149,12 +148,12 @@ module _ (l : List Rec) (b : List ℕ) (n : ℕ) (t : takeAll l (recordsFrom b 0
 
     pub taken-units : Units (recordAt b) n
     taken-units =
-        let g = all-from (recordsFrom b 0 n) l (afterTo l (recordAt b) n) s t in
-        record { below = λ j h. well-unit (recordAt b j) (formed [] (afterTo l (recordAt b) n) (recordAt b j) (g .sound) (g .got (recordAt b j) (has-from 0 n j (omega arith) (omega arith)))) }
+        let d = all-from g v (recordsFrom b 0 n) l (afterTo g v l (recordAt b) n) s t in
+        record { below = λ j h. well-unit (recordAt b j) (d .fit (recordAt b j) (has-from 0 n j (omega arith) (omega arith)) .0) }
 
     -- ---- new records that rise are put in one after another
 
-    module _ (held : List ℕ) (c : held ≡ vectorOf l) (y : Bool) (q : y ≡ newFrom held (recordAt b) 0 0 n) (z : y ≡ true) where
+    module _ (held : List ℕ) (c : held ≡ vectorOn v l) (y : Bool) (q : y ≡ newFrom held (recordAt b) 0 0 n) (z : y ≡ true) where
       w : newFrom held (recordAt b) 0 0 n ≡ true
       w = sym q ∙ z
 
@@ -177,23 +176,34 @@ module _ (l : List Rec) (b : List ℕ) (n : ℕ) (t : takeAll l (recordsFrom b 0
           ⊎-elim
           (λ (x : Has (recordAt b j) l).
           let u : unit (recordAt b j) < 8 = taken-units .below j h in
-          let e : getD held (unit (recordAt b j)) 0 ≡ count (unit (recordAt b j)) l = rw c (vectorOf-getD l (unit (recordAt b j)) u) in
-          omega (arith, number-held l (recordAt b j) s x, new-each held (recordAt b) 0 0 n w j (omega arith) (omega arith)))
+          let e : getD held (unit (recordAt b j)) 0 ≡ countOn v (unit (recordAt b j)) l = rw c (vectorOn-getD v l (unit (recordAt b j)) u) in
+          omega (arith, number-held-on v l (recordAt b j) s x, new-each held (recordAt b) 0 0 n w j (omega arith) (omega arith)))
           (λ (x : (i : ℕ) × (i < j) × (recordAt b j ≡ recordAt b i)).
           let e : rank (recordAt b j) ≡ rank (recordAt b (x .0)) = ap rank (x .2) in
           omega (arith, new-rises held (recordAt b) 0 0 n w (x .0) j (omega arith) (x .1) (omega arith)))
           (has-inserted j (recordAt b j) i)
 
-      inserted : (j : ℕ) → j ≤ n → (afterTo l (recordAt b) j ≡ insertTo l (recordAt b) j) × Sound (afterTo l (recordAt b) j)
+      -- nor is it folded
+      not-folded : (j : ℕ) → j < n → isFolded v (recordAt b j) ≡ true → ⊥
+      not-folded j h i =
+          let u : unit (recordAt b j) < 8 = taken-units .below j h in
+          let e : getD held (unit (recordAt b j)) 0 ≡ countOn v (unit (recordAt b j)) l = rw c (vectorOn-getD v l (unit (recordAt b j)) u) in
+          omega (arith, folded-within v (recordAt b j) i, new-each held (recordAt b) 0 0 n w j (omega arith) (omega arith))
+
+      inserted : (j : ℕ) → j ≤ n → (afterTo g v l (recordAt b) j ≡ insertTo l (recordAt b) j) × SoundOn v (afterTo g v l (recordAt b) j)
       unfolding afterTo insertTo
       inserted zero h = (refl, s)
       inserted (suc j) h =
           let q = inserted j (omega arith) in
-          let m = afterTo l (recordAt b) j in
+          let m = afterTo g v l (recordAt b) j in
           ⊎-elim
-          (λ (x : (after m (recordAt b j) ≡ m) × Has (recordAt b j) m). absurd (not-among j (omega arith) (rw (q .0) at (x .1))))
-          (λ (x : New m (recordAt b j) (after m (recordAt b j))). (x .inserted ∙ ap (insert (recordAt b j)) (q .0), rw (x .inserted) (insert-sound m (recordAt b j) (q .1) (x .joins))))
-          (one-from m (recordAt b j) (after m (recordAt b j)) (q .1) (each-taken j (omega arith)))
+          (λ (x : Known v m (recordAt b j) (after g v m (recordAt b j))).
+          ⊎-elim
+          (λ (y : isFolded v (recordAt b j) ≡ true). absurd (not-folded j (omega arith) y))
+          (λ (y : Has (recordAt b j) m). absurd (not-among j (omega arith) (rw (q .0) at y)))
+          (x .1))
+          (λ (x : New v m (recordAt b j) (after g v m (recordAt b j))). (x .inserted ∙ ap (insert (recordAt b j)) (q .0), rw (x .inserted) (insert-sound-on v m (recordAt b j) (q .1) (x .joins))))
+          (one-from g v m (recordAt b j) (after g v m (recordAt b j)) (q .1) (each-taken j (omega arith)))
 
       length-inserted : (j : ℕ) → length (insertTo l (recordAt b) j) ≡ length l + j
       unfolding insertTo
@@ -202,8 +212,8 @@ module _ (l : List Rec) (b : List ℕ) (n : ℕ) (t : takeAll l (recordsFrom b 0
 
       pub all-room : length l ≤ 512 → (used : ℕ) → used ≡ length l → used + n ≤ 512
       all-room f used e =
-          let g = all-from (recordsFrom b 0 n) l (afterTo l (recordAt b) n) s t in
-          omega (arith, g .room f, ap length (inserted n (omega arith) .0), length-inserted n)
+          let d = all-from g v (recordsFrom b 0 n) l (afterTo g v l (recordAt b) n) s t in
+          omega (arith, d .room f, ap length (inserted n (omega arith) .0), length-inserted n)
 
       -- ---- the records lent from the block
 
@@ -223,6 +233,6 @@ module _ (l : List Rec) (b : List ℕ) (n : ℕ) (t : takeAll l (recordsFrom b 0
       insert-same zero h = refl
       insert-same (suc j) h = rw (lent-record j h, insert-same j (omega arith))
 
-      pub all-stored : (m : List ℕ) → m ≡ logBytes (insertTo l (laidAt Log (take (28 + 80 * n - 28) (drop 28 b))) n) → m ≡ logBytes (afterTo l (recordAt b) n)
+      pub all-stored : (m : List ℕ) → m ≡ logBytes (insertTo l (laidAt Log (take (28 + 80 * n - 28) (drop 28 b))) n) → m ≡ logBytes (afterTo g v l (recordAt b) n)
       unfolding lent
       all-stored m e = e ∙ ap logBytes (insert-same n (omega arith) ∙ sym (inserted n (omega arith) .0))

@@ -15,11 +15,11 @@ use borrow.Rule.Slice.PartMut.{putMid}
 use Rattle.model.specs.Bytes.{part}
 use Rattle.model.specs.Record.{Rec, objectOf, folderOf, labelOf}
 use Rattle.model.specs.Replay.{Entry, isPresent, isIn, entryOf, changed, settled, stored, renamed, moved, removed}
-use Rattle.model.specs.Table.{entryRow, asideRow}
+use Rattle.model.specs.Table.{entryRow, asideRow, entryIn}
 use Rattle.byte_slice.proofs.Numbers.{and-true}
 use Rattle.byte_slice.proofs.Parts.{part-is}
 use Rattle.byte_slice.proofs.PutAt.{mid-put}
-use Rattle.tree_table.specs.Rows.{entryIn, entriesFrom, asidesFrom, treeIn, rowIn, storedRow, renamedRow, movedRow, InRange, Proper}
+use Rattle.tree_table.specs.Rows.{entriesFrom, asidesFrom, treeIn, rowIn, storedRow, renamedRow, movedRow, InRange, Proper}
 use Rattle.tree_table.proofs.Rows.{row-length, aside-row-length}
 use Rattle.tree_table.proofs.Fields.{settledOne, store-entry, rename-entry, move-entry, remove-entry, settle-aside, stored-proper, renamed-proper, moved-proper, removed-proper}
 use Rattle.tree_lookup.specs.Roles.{rowFrom, rowOf, noteOf, roleOf, Home, Works, Holds}
@@ -127,21 +127,21 @@ removed-writes = record { row = λ e p. remove-entry 0 e; made = λ e. refl; fit
 -- ---- a settle
 
 module _ (b register : List ℕ) (n m : ℕ) (w : Holds b register n m) (k role : ℕ) (e : role ≡ roleOf k (treeIn b n m)) where
-  none-settled : role ≤ 512 → Works b register n m (withAsides (treeIn b n m) (settled k (asidesFrom b 0 m)))
+  none-settled : role ≤ 1024 → Works b register n m (withAsides (treeIn b n m) (settled k (asidesFrom b 0 m)))
   unfolding withAsides treeIn noteOf
   none-settled h = rw (not-settled k 0 (asidesFrom b 0 m) (role-no-note b register n m (treeIn b n m) w k role e h)) w
 
-  pub note-inside : 512 < role → role - 513 < m
+  pub note-inside : 1024 < role → role - 1025 < m
   unfolding treeIn noteOf
   note-inside h =
-      let a = note-at k 0 (asidesFrom b 0 m) (role - 513) blankAside (role-note b register n m (treeIn b n m) w k role e h) in
+      let a = note-at k 0 (asidesFrom b 0 m) (role - 1025) blankAside (role-note b register n m (treeIn b n m) w k role e h) in
       let notes = w .notes in
       omega (arith, a .inside)
 
-  one-settled : 512 < role → (ys : List ℕ)
-      → ys ≡ set (take (36868 + 12 * (role - 513) + 12 - (36868 + 12 * (role - 513))) (drop (36868 + 12 * (role - 513)) b)) 5 2
+  one-settled : 1024 < role → (ys : List ℕ)
+      → ys ≡ set (take (73732 + 12 * (role - 1025) + 12 - (73732 + 12 * (role - 1025))) (drop (73732 + 12 * (role - 1025)) b)) 5 2
       → Works
-      (putMid (36868 + 12 * (role - 513)) (36868 + 12 * (role - 513) + 12 - (36868 + 12 * (role - 513))) b ys)
+      (putMid (73732 + 12 * (role - 1025)) (73732 + 12 * (role - 1025) + 12 - (73732 + 12 * (role - 1025))) b ys)
       register
       n
       m
@@ -150,23 +150,23 @@ module _ (b register : List ℕ) (n m : ℕ) (w : Holds b register n m) (k role 
   one-settled h ys y =
       let t = treeIn b n m in
       let l = asidesFrom b 0 m in
-      let i = role - 513 in
+      let i = role - 1025 in
       let x = settledOne (getD l i blankAside) in
       let a = note-at k 0 l i blankAside (role-note b register n m t w k role e h) in
       let a1 : settled k l ≡ set l i x = rw sub-zero at (a .settles) in
-      let s : part b (36868 + 12 * i) 12 ≡ asideRow (getD l i blankAside) = works-part-aside b register n m t w i (note-inside h) in
-      let z : ys ≡ asideRow x = y ∙ rw (part-is b (36868 + 12 * i) 12, s) (settle-aside (getD l i blankAside)) in
+      let s : part b (73732 + 12 * i) 12 ≡ asideRow (getD l i blankAside) = works-part-aside b register n m t w i (note-inside h) in
+      let z : ys ≡ asideRow x = y ∙ rw (part-is b (73732 + 12 * i) 12, s) (settle-aside (getD l i blankAside)) in
       let v = works-settle b register n m t w i (note-inside h) in
-      rw (mid-put (36868 + 12 * i) 12 b ys (ap (λ (q : List ℕ). length q) z ∙ aside-row-length x), z, a1) v
+      rw (mid-put (73732 + 12 * i) 12 b ys (ap (λ (q : List ℕ). length q) z ∙ aside-row-length x), z, a1) v
 
   module _ (r : Rec) (g : k ≡ objectOf r) where
-    pub nothing-settled : role ≤ 512 → Works b register n m (withAsides (treeIn b n m) (settled (objectOf r) (asidesFrom b 0 m)))
+    pub nothing-settled : role ≤ 1024 → Works b register n m (withAsides (treeIn b n m) (settled (objectOf r) (asidesFrom b 0 m)))
     nothing-settled h = rw (← g) (none-settled h)
 
-    pub aside-settled : 512 < role → (ys : List ℕ)
-        → ys ≡ set (take (36868 + 12 * (role - 513) + 12 - (36868 + 12 * (role - 513))) (drop (36868 + 12 * (role - 513)) b)) 5 2
+    pub aside-settled : 1024 < role → (ys : List ℕ)
+        → ys ≡ set (take (73732 + 12 * (role - 1025) + 12 - (73732 + 12 * (role - 1025))) (drop (73732 + 12 * (role - 1025)) b)) 5 2
         → Works
-        (putMid (36868 + 12 * (role - 513)) (36868 + 12 * (role - 513) + 12 - (36868 + 12 * (role - 513))) b ys)
+        (putMid (73732 + 12 * (role - 1025)) (73732 + 12 * (role - 1025) + 12 - (73732 + 12 * (role - 1025))) b ys)
         register
         n
         m

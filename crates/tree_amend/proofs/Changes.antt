@@ -7,8 +7,8 @@ use mathlib.Core.List.{List, [], _∷_}
 use lib.ListN.{getD, length, set, length-set}
 use Rattle.model.specs.Bytes.{part, putAt}
 use Rattle.model.specs.Replay.{Entry, Aside, Tree, isDisputed}
-use Rattle.model.specs.Table.{entryRow, asideRow}
-use Rattle.tree_table.specs.Rows.{workBytes, Proper, AllProper}
+use Rattle.model.specs.Table.{entryRow, asideRow, workBytes}
+use Rattle.tree_table.specs.Rows.{Proper, AllProper}
 use Rattle.tree_table.proofs.Writes.{set-entry, part-entry, set-aside, part-aside}
 use Rattle.tree_table.proofs.Fields.{settledOne}
 use Rattle.tree_lookup.specs.Roles.{rowFrom, noteFrom, rowOf, noteOf, roleOf, nameOf, MarksFit, Home, Works}
@@ -42,7 +42,7 @@ module _ (b register : List ℕ) (n m : ℕ) (t : Tree) (w : Works b register n 
       let fit = w .rows-fit in
       rw (w .bytes) (part-entry [] (t .entries) (t .asides) (w .proper) (omega arith) i blankEntry (omega arith))
 
-  pub works-part-aside : (i : ℕ) → i < m → part b (36868 + 12 * i) 12 ≡ asideRow (getD (t .asides) i blankAside)
+  pub works-part-aside : (i : ℕ) → i < m → part b (73732 + 12 * i) 12 ≡ asideRow (getD (t .asides) i blankAside)
   unfolding workBytes
   works-part-aside i h =
       let rows = w .rows in
@@ -81,7 +81,7 @@ module _ (b register : List ℕ) (n m : ℕ) (t : Tree) (w : Works b register n 
   -- an aside is settled
   pub works-settle : (i : ℕ) → i < m
       → Works
-      (putAt b (36868 + 12 * i) (asideRow (settledOne (getD (t .asides) i blankAside))))
+      (putAt b (73732 + 12 * i) (asideRow (settledOne (getD (t .asides) i blankAside))))
       register
       n
       m
@@ -108,6 +108,6 @@ module _ (b register : List ℕ) (n m : ℕ) (t : Tree) (w : Works b register n 
         housed = w .housed;
         named =
             named-same register t (withAsides t (set l i a)) (w .named) refl (length-set l i a) (λ k. rw (same k))
-            (λ r. rw (who-set l i a blankAside refl (r - 513)));
+            (λ r. rw (who-set l i a blankAside refl (r - 1025)));
         keyed = w .keyed;
       }

@@ -9,7 +9,8 @@ use lib.ListN.{length, take, drop}
 use Rattle.model.specs.Bytes.{part}
 use Rattle.model.specs.Record.{Rec, objectOf, folderOf, labelOf}
 use Rattle.model.specs.Replay.{Entry, entryOf}
-use Rattle.tree_table.specs.Rows.{entryIn, entriesFrom, treeIn, rowIn}
+use Rattle.model.specs.Table.{entryIn}
+use Rattle.tree_table.specs.Rows.{entriesFrom, treeIn, rowIn}
 use Rattle.tree_maps.specs.Keys.{relabelled, left, shifted}
 use Rattle.tree_lookup.specs.Roles.{rowOf, Holds}
 use Rattle.tree_lookup.specs.Lookup.{rowAmong}

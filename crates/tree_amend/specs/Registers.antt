@@ -51,4 +51,4 @@ effectOn r t l =
 
 -- a record that stands aside: its role
 unfoldable pub asideOn : Rec → Tree → List ℕ → List ℕ
-asideOn r t l = named l (selfOf r) (513 + length (t .asides))
+asideOn r t l = named l (selfOf r) (1025 + length (t .asides))

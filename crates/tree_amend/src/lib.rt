@@ -5,7 +5,8 @@ ghost use Prim.Native.Nat.{_+_, _*_, _≤_, _<_};
 ghost use lib.ListN.{length, getD, set};
 ghost use Rattle.model.specs.Record.{objectOf, folderOf};
 ghost use Rattle.model.specs.Replay.{isPresent, stored, renamed, moved, removed, changed, settled};
-ghost use Rattle.tree_table.specs.Rows.{entryIn, entriesFrom, asidesFrom, treeIn};
+ghost use Rattle.model.specs.Table.{entryIn};
+ghost use Rattle.tree_table.specs.Rows.{entriesFrom, asidesFrom, treeIn};
 ghost use Rattle.hash_chains.specs.Chains.{nodesIn};
 ghost use Rattle.tree_lookup.specs.Roles.{Home, Works, Holds};
 ghost use Rattle.tree_amend.specs.Effects.{withEntries, withAsides, Takes};
@@ -119,9 +120,9 @@ pub fn settle(rec: &[u8], table: &mut [u8], register: &[u16], size: Size)
     ensures { λ _. ⌜ Works (now (table .exit)) (now (register .entry)) (size .entries) (size .asides) (withAsides (treeIn (now (table .entry)) (size .entries) (size .asides)) (settled (objectOf (now (rec .entry))) (asidesFrom (now (table .entry)) 0 (size .asides)))) ⌝ }
 {
     let role = tree_lookup::role_of(table, register, size, tree_table::object_of(rec));
-    if role <= 512 {
+    if role <= 1024 {
         return;
     }
-    let at = 36868 + 12 * (role - 513);
+    let at = 73732 + 12 * (role - 1025);
     settle_row(&mut table[at..at + 12]);
 }

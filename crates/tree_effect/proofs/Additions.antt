@@ -9,11 +9,11 @@ use mathlib.Core.List.{List, [], _∷_, _++_}
 use lib.ListN.{length, length-append}
 use Rattle.model.specs.Bytes.{putAt}
 use Rattle.model.specs.Replay.{Entry, Aside, Tree, isPresent, isDisputed}
-use Rattle.model.specs.Table.{entryRow, asideRow}
+use Rattle.model.specs.Table.{entryRow, asideRow, flagged, workBytes}
 use Rattle.byte_slice.proofs.Numbers.{eq-or-ne}
-use Rattle.tree_table.specs.Rows.{flagged, workBytes, InRange, Proper, AllProper}
+use Rattle.tree_table.specs.Rows.{InRange, Proper, AllProper}
 use Rattle.tree_table.proofs.Writes.{add-entry, add-aside}
-use Rattle.tree_lookup.specs.Roles.{rowFrom, noteFrom, rowOf, noteOf, behindRows, roleOf, nameOf, HasRole, MarksFit, Home, Works}
+use Rattle.tree_lookup.specs.Roles.{rowFrom, noteFrom, rowOf, noteOf, behindRows, roleOf, nameOf, HasRole, Named, MarksFit, Home, Works}
 use Rattle.hash_chains.specs.Chains.{nodesIn}
 use Rattle.tree_maps.specs.Keys.{folderAt, named, entered}
 use Rattle.tree_maps.proofs.Counts.{made-more, made-new}
@@ -45,14 +45,63 @@ module _ (k : ℕ) (t : Tree) (fresh : roleOf k t ≡ 0) where
   unfolding roleOf
   fresh-note =
       ⊎-elim (λ (y : (noteOf k t ≡ 0) × (behindRows (noteOf k t) ≡ 0)). y .0)
-      (λ (y : (1 ≤ noteOf k t) × (behindRows (noteOf k t) ≡ 512 + noteOf k t)). absurd (omega (arith, y .1)))
+      (λ (y : (1 ≤ noteOf k t) × (behindRows (noteOf k t) ≡ 1024 + noteOf k t)). absurd (omega (arith, y .1)))
       (behind-cases (noteOf k t))
+
+-- ---- the roles
+
+module _ (register : List ℕ) (t : Tree) (w : Named register t) (fit : length (t .entries) ≤ 1024) (apart : (k : ℕ) → (rowOf k t ≡ 0) ⊎ (noteOf k t ≡ 0)) (both : length (t .entries) + length (t .asides) < 1536) where
+  -- a new entry is found by its role
+  pub named-make : (e : Entry) → length (t .entries) < 1024 → roleOf (e .made) t ≡ 0
+      → Named (named register (e .made) (length (t .entries) + 1)) (withEntries t (t .entries ++ (e ∷ [])))
+  unfolding withEntries rowOf noteOf roleOf behindRows
+  named-make e h fresh =
+      let es = t .entries in
+      let n = length es in
+      let k = e .made in
+      let nr : rowFrom k 0 es ≡ 0 = fresh-row k t fresh in
+      let nn : noteFrom k 0 (t .asides) ≡ 0 = fresh-note k t fresh in
+      let u = withEntries t (es ++ (e ∷ [])) in
+      let more : length (es ++ (e ∷ [])) ≡ n + 1 = length-append es (e ∷ []) in
+      let new : roleOf k u ≡ n + 1 = rw (row-new k 0 es e nr refl, nn) (omega arith) in
+      let is : nameOf u (n + 1) ≡ k = name-row u (n + 1) (omega arith) ∙ (let z : n + 1 - 1 ≡ length es = omega arith in rw z (made-new es e)) in
+      let others : (j : ℕ) → (j ≡ k → ⊥) → roleOf j u ≡ roleOf j t = λ j q. rw (row-more j 0 es e (λ (z : k ≡ j). q (sym z))) in
+      let names : (r : ℕ) → HasRole t r → nameOf u r ≡ nameOf t r =
+      λ r q.
+      ⊎-elim
+      (λ (z : r ≤ length es). name-row u r (omega arith) ∙ made-more es e (r - 1) (omega (arith, q .0)) ∙ sym (name-row t r (omega arith)))
+      (λ (z : 1024 < r). name-note u r z ∙ sym (name-note t r z))
+      (role-within t fit apart r q .within) in
+      named-more register t u k (n + 1) w (omega (arith, w .count)) fresh new (omega arith) is others names (omega arith)
+
+  -- and so is a new aside
+  pub named-aside : (a : Aside) → roleOf (a .who) t ≡ 0
+      → Named (named register (a .who) (1025 + length (t .asides))) (withAsides t (t .asides ++ (a ∷ [])))
+  unfolding withAsides rowOf noteOf roleOf behindRows
+  named-aside a fresh =
+      let es = t .entries in
+      let l = t .asides in
+      let m = length l in
+      let k = a .who in
+      let nr : rowFrom k 0 es ≡ 0 = fresh-row k t fresh in
+      let nn : noteFrom k 0 l ≡ 0 = fresh-note k t fresh in
+      let u = withAsides t (l ++ (a ∷ [])) in
+      let more : length (l ++ (a ∷ [])) ≡ m + 1 = length-append l (a ∷ []) in
+      let new : roleOf k u ≡ 1025 + m = rw (nr, note-new k 0 l a nn refl) (omega arith) in
+      let is : nameOf u (1025 + m) ≡ k = name-note u (1025 + m) (omega arith) ∙ (let z : 1025 + m - 1025 ≡ length l = omega arith in rw z (who-new l a)) in
+      let others : (j : ℕ) → (j ≡ k → ⊥) → roleOf j u ≡ roleOf j t = λ j q. rw (note-more j 0 l a (λ (z : k ≡ j). q (sym z))) in
+      let names : (r : ℕ) → HasRole t r → nameOf u r ≡ nameOf t r =
+      λ r q.
+      ⊎-elim (λ (z : r ≤ length es). name-row u r (omega arith) ∙ sym (name-row t r (omega arith)))
+      (λ (z : 1024 < r). name-note u r z ∙ who-more l a (r - 1025) (omega (arith, role-within t fit apart r q .most)) ∙ sym (name-note t r z))
+      (role-within t fit apart r q .within) in
+      named-more register t u k (1025 + m) w (omega (arith, w .count)) fresh new (omega arith) is others names (omega arith)
 
 -- ---- the rows
 
 module _ (b register : List ℕ) (n m : ℕ) (t : Tree) (w : Works b register n m t) where
   -- a row for a new entry
-  pub works-make : (e : Entry) (p : ℕ) → n < 512 → n + m < 1536 → nodesIn 4097 register < 1536 → Proper e → isPresent e ≡ true → roleOf (e .made) t ≡ 0
+  pub works-make : (e : Entry) (p : ℕ) → n < 1024 → n + m < 1536 → nodesIn 4097 register < 1536 → Proper e → isPresent e ≡ true → roleOf (e .made) t ≡ 0
       → Home (e .inside) (t .entries) → p ≡ rowOf (e .inside) t
       → Works (putAt b (4 + 72 * n) (entryRow 0 e)) (entered (named register (e .made) (n + 1)) p (e .inside) (e .label) n) (n + 1) m (withEntries t (t .entries ++ (e ∷ [])))
   unfolding withEntries workBytes isDisputed rowOf noteOf roleOf behindRows
@@ -76,15 +125,6 @@ module _ (b register : List ℕ) (n m : ℕ) (t : Tree) (w : Works b register n 
       let nodes : nodesIn 4097 l1 < 1536 = rw (named-labels register k (n + 1) c r0 (w .keyed .chains)) room in
       let within : p ≤ n = rw place (omega (arith, row-few (e .inside) t)) in
       let at : folderAt es p ≡ e .inside = rw place (place-folder es (w .proper) (e .inside) home) in
-      let new : roleOf k u ≡ n + 1 = rw (row-new k 0 es e nr refl, nn) (omega arith) in
-      let is : nameOf u (n + 1) ≡ k = name-row u (n + 1) (omega arith) ∙ (let z : n + 1 - 1 ≡ length es = omega arith in rw z (made-new es e)) in
-      let others : (j : ℕ) → (j ≡ k → ⊥) → roleOf j u ≡ roleOf j t = λ j q. rw (row-more j 0 es e (λ (z : k ≡ j). q (sym z))) in
-      let names : (r : ℕ) → HasRole t r → nameOf u r ≡ nameOf t r =
-      λ r q.
-      ⊎-elim
-      (λ (z : r ≤ length es). name-row u r (omega arith) ∙ made-more es e (r - 1) (omega (arith, q .0)) ∙ sym (name-row t r (omega arith)))
-      (λ (z : 512 < r). name-note u r z ∙ sym (name-note t r z))
-      (role-within t (omega arith) (w .apart) r q .within) in
       record {
         bytes = rw (b1, ← rows) (add-entry [] es l (w .proper) (omega arith) e (omega arith) fit);
         rows = more;
@@ -100,7 +140,7 @@ module _ (b register : List ℕ) (n m : ℕ) (t : Tree) (w : Works b register n 
             (eq-or-ne j k);
         housed = housed-new es e nr home (w .housed);
         named =
-            named-kept l1 l2 u (named-more register t u k (n + 1) (w .named) r0 fresh new (omega arith) is others names (omega arith))
+            named-kept l1 l2 u (rw (← rows) (named-make register t (w .named) (omega arith) (w .apart) (omega arith) e (omega arith) fresh))
             (entered-long l1 p (e .inside) (e .label) n)
             (entered-before l1 p (e .inside) (e .label) n);
         keyed =
@@ -108,8 +148,8 @@ module _ (b register : List ℕ) (n m : ℕ) (t : Tree) (w : Works b register n 
       }
 
   -- a row for a new aside
-  pub works-aside : (a : Aside) → m < 512 → n + m < 1536 → InRange (a .who) → roleOf (a .who) t ≡ 0 → (a .marked ≡ 0) ⊎ InRange (a .marked)
-      → Works (putAt b (36868 + 12 * m) (asideRow a)) (named register (a .who) (513 + m)) n (m + 1) (withAsides t (t .asides ++ (a ∷ [])))
+  pub works-aside : (a : Aside) → m < 1024 → n + m < 1536 → InRange (a .who) → roleOf (a .who) t ≡ 0 → (a .marked ≡ 0) ⊎ InRange (a .marked)
+      → Works (putAt b (73732 + 12 * m) (asideRow a)) (named register (a .who) (1025 + m)) n (m + 1) (withAsides t (t .asides ++ (a ∷ [])))
   unfolding withAsides workBytes rowOf noteOf roleOf behindRows
   works-aside a h both own fresh mark =
       let es = t .entries in
@@ -123,17 +163,9 @@ module _ (b register : List ℕ) (n m : ℕ) (t : Tree) (w : Works b register n 
       let fit = w .rows-fit in
       let c = w .named .chains in
       let r0 : nodesIn 0 register < 1536 = omega (arith, w .named .count) in
-      let l1 = named register k (513 + m) in
+      let l1 = named register k (1025 + m) in
       let u = withAsides t (l ++ (a ∷ [])) in
       let more : length (l ++ (a ∷ [])) ≡ m + 1 = length-append l (a ∷ []) ∙ rw notes refl in
-      let new : roleOf k u ≡ 513 + m = rw (nr, note-new k 0 l a nn refl) (omega arith) in
-      let is : nameOf u (513 + m) ≡ k = name-note u (513 + m) (omega arith) ∙ (let z : 513 + m - 513 ≡ length l = omega arith in rw z (who-new l a)) in
-      let others : (j : ℕ) → (j ≡ k → ⊥) → roleOf j u ≡ roleOf j t = λ j q. rw (note-more j 0 l a (λ (z : k ≡ j). q (sym z))) in
-      let names : (r : ℕ) → HasRole t r → nameOf u r ≡ nameOf t r =
-      λ r q.
-      ⊎-elim (λ (z : r ≤ length es). name-row u r (omega arith) ∙ sym (name-row t r (omega arith)))
-      (λ (z : 512 < r). name-note u r z ∙ who-more l a (r - 513) (omega (arith, role-within t (omega arith) (w .apart) r q .most)) ∙ sym (name-note t r z))
-      (role-within t (omega arith) (w .apart) r q .within) in
       record {
         bytes = rw (b1, ← notes) (add-aside [] es l (w .proper) (omega arith) a);
         rows = w .rows;
@@ -148,6 +180,6 @@ module _ (b register : List ℕ) (n m : ℕ) (t : Tree) (w : Works b register n 
             (λ (q : j ≡ k → ⊥). rw (note-more j 0 l a (λ (z : k ≡ j). q (sym z))) (w .apart j))
             (eq-or-ne j k);
         housed = w .housed;
-        named = named-more register t u k (513 + m) (w .named) r0 fresh new (omega arith) is others names (omega arith);
-        keyed = keyed-beside register n es (w .keyed) l1 (named-long register k (513 + m)) (named-behind register k (513 + m) c r0);
+        named = rw (← notes) (named-aside register t (w .named) (omega arith) (w .apart) (omega arith) a fresh);
+        keyed = keyed-beside register n es (w .keyed) l1 (named-long register k (1025 + m)) (named-behind register k (1025 + m) c r0);
       }

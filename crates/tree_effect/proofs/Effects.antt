@@ -95,7 +95,7 @@ module _ (b register : List ℕ) (n m : ℕ) (w : Holds b register n m) (both : 
       omega (arith, ap (λ (y : List ℕ). nodesIn 4097 y) x, entered-nodes l p f t row enter-chains (enter-nodes room), kept-labels)
 
 module _ (b register : List ℕ) (n m : ℕ) (w : Holds b register n m) (r : Rec) (h : Takes (treeIn b n m) r) (both : n + m < 1536) where
-  pub entry-added : n < 512 → nodesIn 4097 register < 1536 → Home (folderOf r) (entriesFrom b 0 n) → (l : List ℕ) → l ≡ madeOn r (treeIn b n m) register
+  pub entry-added : n < 1024 → nodesIn 4097 register < 1536 → Home (folderOf r) (entriesFrom b 0 n) → (l : List ℕ) → l ≡ madeOn r (treeIn b n m) register
       → (ys : List ℕ) → ys ≡ newRow (take (4 + 72 * n + 72 - (4 + 72 * n)) (drop (4 + 72 * n) b)) r
       → Works
       (putMid (4 + 72 * n) (4 + 72 * n + 72 - (4 + 72 * n)) b ys)
@@ -115,9 +115,9 @@ module _ (b register : List ℕ) (n m : ℕ) (w : Holds b register n m) (r : Rec
       let x : l ≡ entered (named register (selfOf r) (n + 1)) (rowOf (folderOf r) t) (folderOf r) (labelOf r) n = rw (w .rows) at g in
       rw (mid-put (4 + 72 * n) 72 b ys (ap (λ (l : List ℕ). length l) z ∙ row-length 0 (newEntry r) fit), z, x) v
 
-  pub aside-added : (me : ℕ) → me ≡ selfOf r → m < 512 → (reason marked : ℕ) → (marked ≡ 0) ⊎ InRange marked → (l : List ℕ) → l ≡ named register me (513 + m) → (ys : List ℕ) → ys ≡ asideRow (newAside me reason marked)
+  pub aside-added : (me : ℕ) → me ≡ selfOf r → m < 1024 → (reason marked : ℕ) → (marked ≡ 0) ⊎ InRange marked → (l : List ℕ) → l ≡ named register me (1025 + m) → (ys : List ℕ) → ys ≡ asideRow (newAside me reason marked)
       → Works
-      (putMid (36868 + 12 * m) (36868 + 12 * m + 12 - (36868 + 12 * m)) b ys)
+      (putMid (73732 + 12 * m) (73732 + 12 * m + 12 - (73732 + 12 * m)) b ys)
       l
       n
       (m + 1)
@@ -128,7 +128,7 @@ module _ (b register : List ℕ) (n m : ℕ) (w : Holds b register n m) (r : Rec
       let a = newAside (selfOf r) reason marked in
       let z : ys ≡ asideRow a = y ∙ rw q in
       let v = works-aside b register n m t w a room both (h .own) (h .fresh) fit in
-      rw (mid-put (36868 + 12 * m) 12 b ys (ap (λ (l : List ℕ). length l) z ∙ aside-row-length a), z, g, q) v
+      rw (mid-put (73732 + 12 * m) 12 b ys (ap (λ (l : List ℕ). length l) z ∙ aside-row-length a), z, g, q) v
 
 -- ---- the folder of a make and of a move
 
@@ -144,10 +144,10 @@ module _ (r : Rec) (es : List Entry) (p : Placed r es) where
 -- ---- rows lie within the table
 
 module _ (b register : List ℕ) (n m : ℕ) (w : Holds b register n m) where
-  pub next-row-end : n < 512 → 4 + 72 * n + 72 ≤ length b
+  pub next-row-end : n < 1024 → 4 + 72 * n + 72 ≤ length b
   next-row-end h = omega (arith, works-long b register n m (treeIn b n m) w)
 
-  pub next-note-end : m < 512 → 36868 + 12 * m + 12 ≤ length b
+  pub next-note-end : m < 1024 → 73732 + 12 * m + 12 ≤ length b
   next-note-end h = omega (arith, works-long b register n m (treeIn b n m) w)
 
 -- ---- any operation

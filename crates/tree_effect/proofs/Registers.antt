@@ -17,7 +17,7 @@ module _ (b register : List ℕ) (n m : ℕ) (w : Holds b register n m) (r : Rec
   unfolding madeOn
   make-register g f p e s l' x = rw (w .rows, ← q, ← g, ← e, ← s) x
 
-  pub aside-register : l ≡ named register me (513 + m) → l ≡ asideOn r (treeIn b n m) register
+  pub aside-register : l ≡ named register me (1025 + m) → l ≡ asideOn r (treeIn b n m) register
   unfolding asideOn
   aside-register g = rw (w .notes, ← q) g
 

@@ -26,7 +26,7 @@ fn enter_entry(rec: &[u8], table: &[u8], register: &mut [u16], size: Size)
 
 // A make: a row for the new entry, its role, its folder's count and its label.
 pub fn add_entry(rec: &[u8], table: &mut [u8], register: &mut [u16], size: Size) -> Size
-    requires { ⌜ Takes (treeIn (now table) (size .entries) (size .asides)) (now rec) × Holds (now table) (now register) (size .entries) (size .asides) × Home (folderOf (now rec)) (entriesFrom (now table) 0 (size .entries)) × (size .entries < 512) × (size .entries + size .asides < 1536) × (nodesIn 4097 (now register) < 1536) × (getD (now rec) 1 0 ≤ 2) ⌝ }
+    requires { ⌜ Takes (treeIn (now table) (size .entries) (size .asides)) (now rec) × Holds (now table) (now register) (size .entries) (size .asides) × Home (folderOf (now rec)) (entriesFrom (now table) 0 (size .entries)) × (size .entries < 1024) × (size .entries + size .asides < 1536) × (nodesIn 4097 (now register) < 1536) × (getD (now rec) 1 0 ≤ 2) ⌝ }
     ensures { λ r. ⌜ Works (now (table .exit)) (now (register .exit)) (r .entries) (r .asides) (withEntries (treeIn (now (table .entry)) (size .entries) (size .asides)) (entriesFrom (now (table .entry)) 0 (size .entries) ++ (newEntry (now (rec .entry)) ∷ []))) × (nodesIn 4097 (now (register .exit)) ≤ nodesIn 4097 (now (register .entry)) + 1) × (now (register .exit) ≡ madeOn (now (rec .entry)) (treeIn (now (table .entry)) (size .entries) (size .asides)) (now (register .entry))) ⌝ }
 {
     enter_entry(rec, table, register, size);
@@ -47,13 +47,13 @@ pub fn stand_aside(
     register: &mut [u16],
     size: Size,
 ) -> Size
-    requires { ⌜ Takes (treeIn (now table) (size .entries) (size .asides)) (now rec) × Holds (now table) (now register) (size .entries) (size .asides) × (size .asides < 512) × (size .entries + size .asides < 1536) × ((marked ≡ 0) ⊎ InRange marked) ⌝ }
+    requires { ⌜ Takes (treeIn (now table) (size .entries) (size .asides)) (now rec) × Holds (now table) (now register) (size .entries) (size .asides) × (size .asides < 1024) × (size .entries + size .asides < 1536) × ((marked ≡ 0) ⊎ InRange marked) ⌝ }
     ensures { λ r. ⌜ Works (now (table .exit)) (now (register .exit)) (r .entries) (r .asides) (withAsides (treeIn (now (table .entry)) (size .entries) (size .asides)) (asidesFrom (now (table .entry)) 0 (size .asides) ++ (newAside (selfOf (now (rec .entry))) reason marked ∷ []))) × (nodesIn 4097 (now (register .exit)) ≤ nodesIn 4097 (now (register .entry)) + 1) × (now (register .exit) ≡ asideOn (now (rec .entry)) (treeIn (now (table .entry)) (size .entries) (size .asides)) (now (register .entry))) ⌝ }
 {
     let who = tree_table::self_of(rec);
-    let at = 36868 + 12 * size.asides;
+    let at = 73732 + 12 * size.asides;
     tree_table::fill_aside(&mut table[at..at + 12], who, reason, marked);
-    tree_maps::name(register, who, 513 + size.asides);
+    tree_maps::name(register, who, 1025 + size.asides);
     Size {
         entries: size.entries,
         asides: size.asides + 1,
@@ -62,7 +62,7 @@ pub fn stand_aside(
 
 // A record that fits does what its operation says.
 pub fn effect(rec: &[u8], table: &mut [u8], register: &mut [u16], size: Size) -> Size
-    requires { ⌜ Takes (treeIn (now table) (size .entries) (size .asides)) (now rec) × Holds (now table) (now register) (size .entries) (size .asides) × Placed (now rec) (entriesFrom (now table) 0 (size .entries)) × (size .entries < 512) × (size .entries + size .asides < 1536) × (nodesIn 4097 (now register) < 1536) ⌝ }
+    requires { ⌜ Takes (treeIn (now table) (size .entries) (size .asides)) (now rec) × Holds (now table) (now register) (size .entries) (size .asides) × Placed (now rec) (entriesFrom (now table) 0 (size .entries)) × (size .entries < 1024) × (size .entries + size .asides < 1536) × (nodesIn 4097 (now register) < 1536) ⌝ }
     ensures { λ r. ⌜ Works (now (table .exit)) (now (register .exit)) (r .entries) (r .asides) (effectOf (now (rec .entry)) (treeIn (now (table .entry)) (size .entries) (size .asides))) × (nodesIn 4097 (now (register .exit)) ≤ nodesIn 4097 (now (register .entry)) + 1) × (now (register .exit) ≡ effectOn (now (rec .entry)) (treeIn (now (table .entry)) (size .entries) (size .asides)) (now (register .entry))) ⌝ }
 {
     let op = rec[1];

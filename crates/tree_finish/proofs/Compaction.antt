@@ -13,11 +13,11 @@ use lib.Seq.{take-suc}
 use borrow.Author.Tests.{eq-eqb, ne-eqb}
 use Rattle.model.specs.Bytes.{part, putAt}
 use Rattle.model.specs.Replay.{Entry, Aside, isPresent, presentOnes}
-use Rattle.model.specs.Table.{entryRow, entryRows}
+use Rattle.model.specs.Table.{entryRow, entryRows, flagged}
 use Rattle.byte_slice.proofs.Numbers.{eq-or-ne}
 use Rattle.byte_slice.proofs.Parts.{part-length, part-snoc, part-none, getD-part}
 use Rattle.byte_slice.proofs.PutAt.{set-put, put-nil, put-more, length-put, getD-after, part-put-after}
-use Rattle.tree_table.specs.Rows.{flagged, flagOf, AllProper}
+use Rattle.tree_table.specs.Rows.{flagOf, AllProper}
 use Rattle.tree_table.proofs.Writes.{part-entry, entry-rows-append}
 use Rattle.tree_lookup.proofs.Working.{blankEntry}
 use Rattle.tree_finish.specs.Finishing.{keptTo, presentTo, Kept, Compacted}
@@ -70,7 +70,7 @@ module _ (b : List ℕ) (i j : ℕ) where
       record { rows = rw (ne-eqb (getD b (4 + 72 * i) 0) 0 h) e; count = rw (ne-eqb (getD b (4 + 72 * i) 0) 0 h) (add-one j) }
 
 -- what the loop of `compact` is asked, over plain values
-module _ (d b : List ℕ) (i j : ℕ) (e : b ≡ putAt d 4 (keptTo d i)) (c : j ≡ presentTo d i) (n : ℕ) (long : length d ≡ 43012) (fit : n ≤ 512) (h : i < n) where
+module _ (d b : List ℕ) (i j : ℕ) (e : b ≡ putAt d 4 (keptTo d i)) (c : j ≡ presentTo d i) (n : ℕ) (long : length d ≡ 86020) (fit : n ≤ 1024) (h : i < n) where
   kept-long : length (keptTo d i) ≡ 72 * j
   kept-long = kept-length d i (omega arith) ∙ ap (λ (x : ℕ). 72 * x) (sym c)
 
@@ -132,7 +132,7 @@ here : (e : Entry) → (e .kind ≡ 0 → ⊥) → presentOnes (e ∷ []) ≡ e 
 unfolding presentOnes isPresent
 here e q = rw (ne-eqb (e .kind) 0 q)
 
-module _ (s : List Aside) (es : List Entry) (l : List Aside) (fit : AllProper es) (room : length es ≤ 512) where
+module _ (s : List Aside) (es : List Entry) (l : List Aside) (fit : AllProper es) (room : length es ≤ 1024) where
   kind-is : (i : ℕ) → i < length es → getD (flagged s es l) (4 + 72 * i) 0 ≡ getD es i blankEntry .kind
   unfolding entryRow
   kind-is i h =

@@ -9,10 +9,10 @@ use lib.Seq.{take-all}
 use borrow.Rule.Slice.PartMut.{putMid}
 use Rattle.model.specs.Bytes.{two, padded, putAt}
 use Rattle.model.specs.Replay.{Entry, Aside, presentOnes}
-use Rattle.model.specs.Table.{entryRows, asideRows, tableBytes}
+use Rattle.model.specs.Table.{entryRows, asideRows, tableBytes, flagged}
 use Rattle.byte_slice.proofs.Parts.{lent-length}
 use Rattle.byte_slice.proofs.PutAt.{mid-put, put-more, put-whole}
-use Rattle.tree_table.specs.Rows.{entriesFrom, asidesFrom, treeIn, flagged, AllProper}
+use Rattle.tree_table.specs.Rows.{entriesFrom, asidesFrom, treeIn, AllProper}
 use Rattle.tree_table.proofs.Rows.{rows-length}
 use Rattle.tree_table.proofs.Writes.{rows-written, flagged-long}
 use Rattle.tree_finish.specs.Finishing.{Marked, keptTo, presentTo, Compacted, trimmed}
@@ -31,20 +31,20 @@ counted : (y : List ℕ) (j m : ℕ) → putAt (putAt ((0 ∷ 0 ∷ 0 ∷ 0 ∷ 
 unfolding putAt
 counted y j m = refl
 
-module _ (es : List Entry) (l : List Aside) (n m : ℕ) (fit : AllProper es) (rows : length es ≡ n) (room : n ≤ 512) (notes : length l ≡ m) (note-room : m ≤ 512) where
+module _ (es : List Entry) (l : List Aside) (n m : ℕ) (fit : AllProper es) (rows : length es ≡ n) (room : n ≤ 1024) (notes : length l ≡ m) (note-room : m ≤ 1024) where
   all-kept : keptTo (flagged l es l) n ≡ entryRows l (presentOnes es)
   all-kept = kept-rows l es l fit (omega arith) n (omega arith) ∙ ap (λ (x : List Entry). entryRows l (presentOnes x)) (take-all n es (omega arith))
 
   all-present : presentTo (flagged l es l) n ≡ length (presentOnes es)
   all-present = present-rows l es l fit (omega arith) n (omega arith) ∙ ap (λ (x : List Entry). length (presentOnes x)) (take-all n es (omega arith))
 
-  table-long : length (flagged l es l) ≡ 43012
+  table-long : length (flagged l es l) ≡ 86020
   table-long = flagged-long l es l fit (omega arith) (omega arith)
 
   -- the present rows in the place of all, and zeros behind them
   trimmed-rows : (j : ℕ) → j ≡ presentTo (flagged l es l) n
       → putAt (flagged l es l) 4 (keptTo (flagged l es l) n ++ replicate (72 * (n - j)) 0)
-      ≡ (0 ∷ 0 ∷ 0 ∷ 0 ∷ []) ++ (padded 36864 (entryRows l (presentOnes es)) ++ padded 6144 (asideRows l))
+      ≡ (0 ∷ 0 ∷ 0 ∷ 0 ∷ []) ++ (padded 73728 (entryRows l (presentOnes es)) ++ padded 12288 (asideRows l))
   trimmed-rows j c =
       let b = flagged l es l in
       let k = keptTo b n in
@@ -54,7 +54,7 @@ module _ (es : List Entry) (l : List Aside) (n m : ℕ) (fit : AllProper es) (ro
       let zl : length z ≡ 72 * (n - j) = length-replicate {A = ℕ} (72 * (n - j)) 0 in
       let xl : length (k ++ z) ≡ length (entryRows l es) = omega (arith, length-append k z, rows-length l es fit) in
       rows-written l es l fit (omega arith) 0 (k ++ z) (omega arith)
-      ∙ rw (put-whole (entryRows l es) (k ++ z) xl, padded-zeros 36864 (72 * (n - j)) k (omega arith), all-kept)
+      ∙ rw (put-whole (entryRows l es) (k ++ z) xl, padded-zeros 73728 (72 * (n - j)) k (omega arith), all-kept)
 
   finished : trimmed (flagged l es l) n m ≡ tableBytes (record { entries = es; asides = l })
   unfolding tableBytes trimmed
@@ -65,12 +65,12 @@ module _ (es : List Entry) (l : List Aside) (n m : ℕ) (fit : AllProper es) (ro
       let z : List ℕ = replicate (72 * (n - j)) 0 in
       let kl : length k ≡ 72 * j = kept-length t n (omega (arith, table-long)) in
       let more : putAt (putAt t 4 k) (4 + 72 * j) z ≡ putAt t 4 (k ++ z) = rw kl at (put-more t 4 k z (omega (arith, table-long, present-few t n))) in
-      let y = padded 36864 (entryRows l (presentOnes es)) ++ padded 6144 (asideRows l) in
+      let y = padded 73728 (entryRows l (presentOnes es)) ++ padded 12288 (asideRows l) in
       rw (more, trimmed-rows j refl) (counted y j m ∙ rw (all-present, notes))
 
 -- what `clear_rows` and `finish` are asked, over plain values
 
-pub rows-cleared : (b ys : List ℕ) (i j : ℕ) → length b ≡ 43012 → i ≤ j → j ≤ 512
+pub rows-cleared : (b ys : List ℕ) (i j : ℕ) → length b ≡ 86020 → i ≤ j → j ≤ 1024
     → ys ≡ replicate (length (take (4 + 72 * i + 72 * (j - i) - (4 + 72 * i)) (drop (4 + 72 * i) b))) 0
     → putMid (4 + 72 * i) (4 + 72 * i + 72 * (j - i) - (4 + 72 * i)) b ys ≡ putAt b (4 + 72 * i) (replicate (72 * (j - i)) 0)
 rows-cleared b ys i j long h room e =
@@ -84,7 +84,7 @@ unfolding trimmed
 trim-done b d g e f n m j c hg he hf = hf ∙ rw (he, hg, c .rows, c .present)
 
 module _ (b₀ b register : List ℕ) (n m : ℕ) (k : Marked (asidesFrom b₀ 0 m) b register n m (treeIn b₀ n m)) where
-  pub marked-long : length b ≡ 43012
+  pub marked-long : length b ≡ 86020
   unfolding treeIn
   marked-long =
       ap (λ (x : List ℕ). length x) (k .bytes)

@@ -16,10 +16,10 @@ use borrow.Rule.Slice.PartMut.{putMid}
 use Rattle.model.specs.Bytes.{part, putAt}
 use Rattle.model.specs.Record.{identityAt}
 use Rattle.model.specs.Replay.{Entry, Aside, Tree, isDisputed}
-use Rattle.model.specs.Table.{entryRow, entryRows}
+use Rattle.model.specs.Table.{entryRow, entryRows, asideIn, flagged, workBytes}
 use Rattle.byte_slice.proofs.Parts.{part-is}
 use Rattle.byte_slice.proofs.PutAt.{put-in-back, mid-put}
-use Rattle.tree_table.specs.Rows.{asideIn, entriesFrom, asidesFrom, treeIn, flagged, flagOf, workBytes, InRange, AllProper}
+use Rattle.tree_table.specs.Rows.{entriesFrom, asidesFrom, treeIn, flagOf, InRange, AllProper}
 use Rattle.tree_table.proofs.Rows.{row-length, rows-length, tree-back}
 use Rattle.tree_table.proofs.Writes.{rows-written, part-entry, flagged-long}
 use Rattle.tree_table.proofs.Fields.{put-field}
@@ -101,7 +101,7 @@ flagged-same : (s u : List Aside) (es : List Entry) (l : List Aside) → entryRo
 unfolding flagged
 flagged-same s u es l e = rw e
 
-flagged-row : (s : List Aside) (a : Aside) (es : List Entry) (l : List Aside) (j : ℕ) → AllProper es → length es ≤ 512 → a .isOpen ≡ true → j < length es
+flagged-row : (s : List Aside) (a : Aside) (es : List Entry) (l : List Aside) (j : ℕ) → AllProper es → length es ≤ 1024 → a .isOpen ≡ true → j < length es
     → getD es j blankEntry .made ≡ a .marked → Lone es → putAt (flagged s es l) (4 + 72 * j) (entryRow 1 (getD es j blankEntry)) ≡ flagged (s ++ (a ∷ [])) es l
 unfolding flagged
 flagged-row s a es l j p room o h g u =
@@ -109,7 +109,7 @@ flagged-row s a es l j p room o h g u =
     rows-written s es l p room (72 * j) (entryRow 1 e) (omega (arith, rows-length s es p, row-length 1 e (proper-at es j blankEntry h p)))
     ∙ rw (rows-flagged s a es j blankEntry o h g u p)
 
-flag-part : (s : List Aside) (es : List Entry) (l : List Aside) (j : ℕ) (b : List ℕ) → b ≡ flagged s es l → AllProper es → length es ≤ 512 → j < length es
+flag-part : (s : List Aside) (es : List Entry) (l : List Aside) (j : ℕ) (b : List ℕ) → b ≡ flagged s es l → AllProper es → length es ≤ 1024 → j < length es
     → set (part b (4 + 72 * j) 72) 1 1 ≡ entryRow 1 (getD es j blankEntry)
 unfolding entryRow
 flag-part s es l j b e p room h = rw (e, part-entry s es l p room j blankEntry h)
@@ -117,13 +117,13 @@ flag-part s es l j b e p room h = rw (e, part-entry s es l p room j blankEntry h
 -- ---- what `flag_one` is asked, over plain values
 
 module _ (b register : List ℕ) (n m i : ℕ) (k : Marked (take i (asidesFrom b 0 m)) b register n m (treeIn b n m)) (h : i < m) where
-  one-more : take (i + 1) (asidesFrom b 0 m) ≡ take i (asidesFrom b 0 m) ++ (asideIn b (36868 + 12 * i) ∷ [])
+  one-more : take (i + 1) (asidesFrom b 0 m) ≡ take i (asidesFrom b 0 m) ++ (asideIn b (73732 + 12 * i) ∷ [])
   unfolding treeIn
   one-more =
       let notes = k .works .notes in
       rw (add-one i, take-suc (asidesFrom b 0 m) i blankAside (omega arith), asides-at b 0 m i blankAside h, zero-add i)
 
-  table-long : length b ≡ 43012
+  table-long : length b ≡ 86020
   unfolding treeIn
   table-long =
       let fit = k .works .rows-fit in
@@ -136,12 +136,12 @@ module _ (b register : List ℕ) (n m i : ℕ) (k : Marked (take i (asidesFrom b
   pub flag-reads : Reads b register n m
   flag-reads = record { long = table-long; rows-fit = k .works .rows-fit; notes-fit = k .works .notes-fit; apart = k .works .apart; named = k .works .named }
 
-  pub state-inside : 36868 + 12 * i + 5 < length b
+  pub state-inside : 73732 + 12 * i + 5 < length b
   state-inside =
       let nf = k .works .notes-fit in
       omega (arith, table-long)
 
-  pub mark-inside : 36868 + 12 * i + 8 + 3 < length b
+  pub mark-inside : 73732 + 12 * i + 8 + 3 < length b
   mark-inside =
       let nf = k .works .notes-fit in
       omega (arith, table-long)
@@ -151,23 +151,23 @@ module _ (b register : List ℕ) (n m i : ℕ) (k : Marked (take i (asidesFrom b
       let fit = k .works .rows-fit in
       omega (arith, table-long)
 
-  same-rows : entryRows (take i (asidesFrom b 0 m) ++ (asideIn b (36868 + 12 * i) ∷ [])) (entriesFrom b 0 n) ≡ entryRows (take i (asidesFrom b 0 m)) (entriesFrom b 0 n)
+  same-rows : entryRows (take i (asidesFrom b 0 m) ++ (asideIn b (73732 + 12 * i) ∷ [])) (entriesFrom b 0 n) ≡ entryRows (take i (asidesFrom b 0 m)) (entriesFrom b 0 n)
       → Marked (take (i + 1) (asidesFrom b 0 m)) b register n m (treeIn b n m)
   unfolding treeIn
   same-rows e =
       let s = take i (asidesFrom b 0 m) in
-      let u = s ++ (asideIn b (36868 + 12 * i) ∷ []) in
+      let u = s ++ (asideIn b (73732 + 12 * i) ∷ []) in
       rw one-more (record { bytes = k .bytes ∙ flagged-same s u (entriesFrom b 0 n) (asidesFrom b 0 m) e; works = k .works })
 
-  pub flag-closed : (getD b (36868 + 12 * i + 5) 0 ≡ 1 → ⊥) → Marked (take (i + 1) (asidesFrom b 0 m)) b register n m (treeIn b n m)
+  pub flag-closed : (getD b (73732 + 12 * i + 5) 0 ≡ 1 → ⊥) → Marked (take (i + 1) (asidesFrom b 0 m)) b register n m (treeIn b n m)
   unfolding asideIn
   flag-closed g =
-      same-rows (rows-closed (take i (asidesFrom b 0 m)) (asideIn b (36868 + 12 * i)) (entriesFrom b 0 n) (ne-eqb (getD b (36868 + 12 * i + 5) 0) 1 g))
+      same-rows (rows-closed (take i (asidesFrom b 0 m)) (asideIn b (73732 + 12 * i)) (entriesFrom b 0 n) (ne-eqb (getD b (73732 + 12 * i + 5) 0) 1 g))
 
-  module _ (x : ℕ) (q : x ≡ identityAt b (36868 + 12 * i + 8)) where
+  module _ (x : ℕ) (q : x ≡ identityAt b (73732 + 12 * i + 8)) where
     absent-rows : Absent x (entriesFrom b 0 n) → Marked (take (i + 1) (asidesFrom b 0 m)) b register n m (treeIn b n m)
     unfolding asideIn
-    absent-rows g = same-rows (rows-absent (take i (asidesFrom b 0 m)) (asideIn b (36868 + 12 * i)) (entriesFrom b 0 n) (rw q at g))
+    absent-rows g = same-rows (rows-absent (take i (asidesFrom b 0 m)) (asideIn b (73732 + 12 * i)) (entriesFrom b 0 n) (rw q at g))
 
     pub flag-none : x ≡ 0 → Marked (take (i + 1) (asidesFrom b 0 m)) b register n m (treeIn b n m)
     unfolding treeIn
@@ -177,7 +177,7 @@ module _ (b register : List ℕ) (n m i : ℕ) (k : Marked (take i (asidesFrom b
     unfolding treeIn asideIn
     mark-range z =
         let notes = k .works .notes in
-        let c : getD (asidesFrom b 0 m) i blankAside ≡ asideIn b (36868 + 12 * i) = rw (zero-add i) at (asides-at b 0 m i blankAside h) in
+        let c : getD (asidesFrom b 0 m) i blankAside ≡ asideIn b (73732 + 12 * i) = rw (zero-add i) at (asides-at b 0 m i blankAside h) in
         let a : getD (asidesFrom b 0 m) i blankAside .marked ≡ x = ap (λ (y : Aside). y .marked) c ∙ sym q in
         ⊎-elim (λ (y : getD (asidesFrom b 0 m) i blankAside .marked ≡ 0). absurd (z (sym a ∙ y)))
         (λ (y : InRange (getD (asidesFrom b 0 m) i blankAside .marked)). rw a at y)
@@ -195,7 +195,7 @@ module _ (b register : List ℕ) (n m i : ℕ) (k : Marked (take i (asidesFrom b
       pub flag-aside : n < role → Marked (take (i + 1) (asidesFrom b 0 m)) b register n m (treeIn b n m)
       flag-aside g = no-row (inr g)
 
-      pub flag-done : getD b (36868 + 12 * i + 5) 0 ≡ 1 → (role ≡ 0 → ⊥) → role ≤ n → (ys : List ℕ)
+      pub flag-done : getD b (73732 + 12 * i + 5) 0 ≡ 1 → (role ≡ 0 → ⊥) → role ≤ n → (ys : List ℕ)
           → ys ≡ set (take (4 + 72 * (role - 1) + 72 - (4 + 72 * (role - 1))) (drop (4 + 72 * (role - 1)) b)) 1 1
           → Marked
           (take (i + 1) (asidesFrom b 0 m))
@@ -209,7 +209,7 @@ module _ (b register : List ℕ) (n m i : ℕ) (k : Marked (take i (asidesFrom b
           let s = take i (asidesFrom b 0 m) in
           let es = entriesFrom b 0 n in
           let l = asidesFrom b 0 m in
-          let a = asideIn b (36868 + 12 * i) in
+          let a = asideIn b (73732 + 12 * i) in
           let j = role - 1 in
           let w = k .works in
           let rows = w .rows in
@@ -222,7 +222,7 @@ module _ (b register : List ℕ) (n m i : ℕ) (k : Marked (take i (asidesFrom b
           let n72 : length ys ≡ 72 = ap (λ (q : List ℕ). length q) v ∙ row-length 1 (getD es j blankEntry) (proper-at es j blankEntry (omega (arith, at .inside)) (w .proper)) in
           let u : putAt b (4 + 72 * j) (entryRow 1 (getD es j blankEntry)) ≡ flagged (s ++ (a ∷ [])) es l =
           ap (λ (q : List ℕ). putAt q (4 + 72 * j) (entryRow 1 (getD es j blankEntry))) (k .bytes)
-          ∙ flagged-row s a es l j (w .proper) (omega arith) (eq-eqb (getD b (36868 + 12 * i + 5) 0) 1 o) (omega (arith, at .inside)) (d ∙ q) (w .lone) in
+          ∙ flagged-row s a es l j (w .proper) (omega arith) (eq-eqb (getD b (73732 + 12 * i + 5) 0) 1 o) (omega (arith, at .inside)) (d ∙ q) (w .lone) in
           let e : putMid (4 + 72 * j) (4 + 72 * j + 72 - (4 + 72 * j)) b ys ≡ flagged (take (i + 1) l) es l =
           mid-put (4 + 72 * j) 72 b ys n72 ∙ ap (λ (q : List ℕ). putAt b (4 + 72 * j) q) v ∙ u ∙ ap (λ (q : List Aside). flagged q es l) (sym one-more) in
           record { bytes = e; works = w }

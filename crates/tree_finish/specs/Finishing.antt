@@ -6,9 +6,9 @@ use mathlib.Core.Bool.{cond}
 use mathlib.Core.List.{List, [], _++_}
 use lib.Dec.{eqb}
 use lib.ListN.{getD, replicate}
+use Rattle.model.specs.Table.{flagged, workBytes}
 use Rattle.model.specs.Bytes.{two, part, putAt}
 use Rattle.model.specs.Replay.{Aside, Tree}
-use Rattle.tree_table.specs.Rows.{flagged, workBytes}
 use Rattle.tree_lookup.specs.Roles.{Works}
 
 -- a table that holds the tree t, with the flags of the asides s

@@ -22,7 +22,7 @@ pub fn flag_one(table: &mut [u8], register: &[u16], size: Size, i: usize)
     requires { ⌜ Marked (take i (asidesFrom (now table) 0 (size .asides))) (now table) (now register) (size .entries) (size .asides) (treeIn (now table) (size .entries) (size .asides)) × (i < size .asides) ⌝ }
     ensures { λ _. ⌜ Marked (take (i + 1) (asidesFrom (now (table .entry)) 0 (size .asides))) (now (table .exit)) (now (register .entry)) (size .entries) (size .asides) (treeIn (now (table .entry)) (size .entries) (size .asides)) ⌝ }
 {
-    let note = 36868 + 12 * i;
+    let note = 73732 + 12 * i;
     if table[note + 5] != 1 {
         return;
     }
@@ -67,7 +67,7 @@ pub fn move_down(buf: &mut [u8], from: usize, to: usize, n: usize)
 
 // Row i becomes row j, unless its entry was removed; the row that comes next.
 pub fn keep_row(table: &mut [u8], i: usize, j: usize) -> usize
-    requires { ⌜ (length (now table) ≡ 43012) × (i < 512) × (j ≤ i) ⌝ }
+    requires { ⌜ (length (now table) ≡ 86020) × (i < 1024) × (j ≤ i) ⌝ }
     ensures { λ r. ⌜ Kept (now (table .entry)) (now (table .exit)) i j r ⌝ }
 {
     if table[4 + 72 * i] == 0 {
@@ -79,7 +79,7 @@ pub fn keep_row(table: &mut [u8], i: usize, j: usize) -> usize
 
 // The rows of present entries move to the front.
 pub fn compact(table: &mut [u8], n: usize) -> usize
-    requires { ⌜ (length (now table) ≡ 43012) × (n ≤ 512) ⌝ }
+    requires { ⌜ (length (now table) ≡ 86020) × (n ≤ 1024) ⌝ }
     ensures { λ r. ⌜ Compacted (now (table .entry)) (now (table .exit)) n r ⌝ }
 {
     let mut j: usize = 0;
@@ -93,7 +93,7 @@ pub fn compact(table: &mut [u8], n: usize) -> usize
 
 // The rows from one up to another become zero.
 pub fn clear_rows(table: &mut [u8], from: usize, to: usize)
-    requires { ⌜ (length (now table) ≡ 43012) × (from ≤ to) × (to ≤ 512) ⌝ }
+    requires { ⌜ (length (now table) ≡ 86020) × (from ≤ to) × (to ≤ 1024) ⌝ }
     ensures { λ _. ⌜ now (table .exit) ≡ putAt (now (table .entry)) (4 + 72 * from) (replicate (72 * (to - from)) 0) ⌝ }
 {
     let at = 4 + 72 * from;
@@ -103,7 +103,7 @@ pub fn clear_rows(table: &mut [u8], from: usize, to: usize)
 
 // The rows of present entries alone, zeros behind them, and the counts.
 pub fn trim(table: &mut [u8], n: usize, m: usize)
-    requires { ⌜ (length (now table) ≡ 43012) × (n ≤ 512) × (m ≤ 512) ⌝ }
+    requires { ⌜ (length (now table) ≡ 86020) × (n ≤ 1024) × (m ≤ 1024) ⌝ }
     ensures { λ _. ⌜ now (table .exit) ≡ trimmed (now (table .entry)) n m ⌝ }
 {
     let present = compact(table, n);

@@ -12,14 +12,14 @@ use lib.Dec.{ltb, eqb}
 use lib.ListN.{getD}
 use borrow.Author.Tests.{eq-eqb, ne-eqb, lt-ltb, le-ltb, le-leb, lt-leb, ltb-true, ltb-false}
 use Rattle.model.specs.Record.{Rec, op, objectOf, folderOf, labelOf, usesFolder}
-use Rattle.model.specs.Replay.{Entry, Verdict, fits, aside, entryOf, holderOf, hasEntries, standsAside, unseen, freeLabel, andThen, isFolder, folderStands, isBelow, judgePlace, judgeMake, judgeStore, judgeRemove, judgeRename, judgeMove, judgeSettle, judge}
-use Rattle.tree_table.specs.Rows.{entryIn, entriesFrom, asidesFrom, rowIn, treeIn, InRange}
+use Rattle.model.specs.Replay.{Entry, Verdict, fits, aside, entryOf, holderOf, hasEntries, standsAside, unseen, freeLabel, andThen, isFolder, folderStands, isBelow, judgePlace, judgeMake, judgeStore, judgeRemove, judgeRename, judgeMove, judgeSettle, judge, reasonOf}
+use Rattle.model.specs.Table.{entryIn}
+use Rattle.tree_table.specs.Rows.{entriesFrom, asidesFrom, rowIn, treeIn, InRange}
 use Rattle.tree_lookup.specs.Roles.{noteOf, roleOf, Holds}
 use Rattle.tree_maps.specs.Keys.{childrenOf, folderAt}
 use Rattle.tree_lookup.proofs.Places.{stands, stands-not}
 use Rattle.tree_maps.proofs.Counts.{has-children, folder-row}
 use Rattle.tree_lookup.proofs.Working.{blankEntry, works-row, row-none, row-some, role-note, role-no-note}
-use Rattle.model.specs.Outcome.{reasonOf}
 use Rattle.byte_slice.proofs.Numbers.{bool-cases}
 use Rattle.tree_judge.specs.Judged.{verdictOf, fullBy, Asks}
 use Rattle.tree_judge.proofs.Verdicts.{verdict-numbers}
@@ -220,24 +220,24 @@ module _ (e : Entry) (r : Rec) (x : ℕ) (t : Bool) (p : x ≡ e .contents) (u :
 -- ---- settle
 
 module _ (role x : ℕ) (e : role ≡ x) where
-  pub settle-stands : 512 < role → verdictOf 0 0 ≡ cond (ltb 512 x) fits (aside 18 0)
+  pub settle-stands : 1024 < role → verdictOf 0 0 ≡ cond (ltb 1024 x) fits (aside 18 0)
   unfolding verdictOf
-  settle-stands h = rw (lt-ltb 512 x (rw e at h))
+  settle-stands h = rw (lt-ltb 1024 x (rw e at h))
 
-  pub settle-not : role ≤ 512 → verdictOf 18 0 ≡ cond (ltb 512 x) fits (aside 18 0)
+  pub settle-not : role ≤ 1024 → verdictOf 18 0 ≡ cond (ltb 1024 x) fits (aside 18 0)
   unfolding verdictOf
-  settle-not h = rw (le-ltb 512 x (rw e at h))
+  settle-not h = rw (le-ltb 1024 x (rw e at h))
 
-stands-role : (b register : List ℕ) (n m : ℕ) → Holds b register n m → (k : ℕ) → standsAside k (asidesFrom b 0 m) ≡ ltb 512 (roleOf k (treeIn b n m))
+stands-role : (b register : List ℕ) (n m : ℕ) → Holds b register n m → (k : ℕ) → standsAside k (asidesFrom b 0 m) ≡ ltb 1024 (roleOf k (treeIn b n m))
 unfolding noteOf treeIn
-stands-role b register n m w k = go (ltb 512 role) refl
+stands-role b register n m w k = go (ltb 1024 role) refl
   where
     role : ℕ
     role = roleOf k (treeIn b n m)
 
-    go : (t : Bool) → ltb 512 role ≡ t → standsAside k (asidesFrom b 0 m) ≡ t
-    go true e = stands k 0 (asidesFrom b 0 m) (role - 513) (role-note b register n m (treeIn b n m) w k role refl (ltb-true 512 role e))
-    go false e = stands-not k 0 (asidesFrom b 0 m) (role-no-note b register n m (treeIn b n m) w k role refl (ltb-false 512 role e))
+    go : (t : Bool) → ltb 1024 role ≡ t → standsAside k (asidesFrom b 0 m) ≡ t
+    go true e = stands k 0 (asidesFrom b 0 m) (role - 1025) (role-note b register n m (treeIn b n m) w k role refl (ltb-true 1024 role e))
+    go false e = stands-not k 0 (asidesFrom b 0 m) (role-no-note b register n m (treeIn b n m) w k role refl (ltb-false 1024 role e))
 
 -- ---- any operation
 
@@ -268,7 +268,7 @@ module _ (r : Rec) (b : List ℕ) (n m : ℕ) (v : Verdict) where
     judged-move h e = rw (h, ← p, ← o) e
 
   pub judged-settle : (register : List ℕ) (k : ℕ) → Holds b register n m → k ≡ objectOf r → getD r 1 0 ≡ 6
-      → v ≡ cond (ltb 512 (roleOf k (treeIn b n m))) fits (aside 18 0) → v ≡ judge r (treeIn b n m)
+      → v ≡ cond (ltb 1024 (roleOf k (treeIn b n m))) fits (aside 18 0) → v ≡ judge r (treeIn b n m)
   unfolding judge op treeIn judgeSettle
   judged-settle register k w p h e = rw (h, ← p, stands-role b register n m w k) e
 

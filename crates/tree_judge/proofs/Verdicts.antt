@@ -4,8 +4,7 @@ use Prim.Native.Nat.{ℕ}
 use mathlib.Core.Path.{_≡_, refl, sym, ap, _∙_}
 use mathlib.Core.Logic.{⊎-elim}
 use borrow.Author.Tests.{ne-eqb}
-use Rattle.model.specs.Replay.{Verdict}
-use Rattle.model.specs.Outcome.{reasonOf}
+use Rattle.model.specs.Replay.{Verdict, reasonOf}
 use Rattle.byte_slice.proofs.Numbers.{eq-or-ne}
 use Rattle.tree_judge.specs.Judged.{verdictOf, markedOf}
 

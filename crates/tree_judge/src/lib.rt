@@ -7,7 +7,8 @@ ghost use lib.Dec.{ltb};
 ghost use lib.ListN.{length, getD};
 ghost use Rattle.model.specs.Record.{labelOf};
 ghost use Rattle.model.specs.Replay.{fits, aside, unseen, holderOf, freeLabel, folderStands, judgeMake, judgeStore, judgeRemove, judgeRename, judgeMove, judge as judgeOf};
-ghost use Rattle.tree_table.specs.Rows.{entryIn, entriesFrom, rowIn, treeIn, InRange};
+ghost use Rattle.model.specs.Table.{entryIn};
+ghost use Rattle.tree_table.specs.Rows.{entriesFrom, rowIn, treeIn, InRange};
 ghost use Rattle.tree_lookup.specs.Roles.{roleOf, Holds};
 ghost use Rattle.tree_maps.specs.Keys.{registerSize};
 ghost use Rattle.tree_judge.specs.Judged.{verdictOf, fullBy, Asks};
@@ -90,7 +91,7 @@ pub fn judge_make(rec: &[u8], table: &[u8], register: &[u16], size: Size) -> Jud
 
 // A store on the entry in a row: 12 for no entry, 14 for a folder, 17 for unseen contents.
 pub fn judge_store(rec: &[u8], table: &[u8], n: usize, row: usize) -> Judged
-    requires { ⌜ (length (now rec) ≡ 80) × (length (now table) ≡ 43012) × (n ≤ 512) ⌝ }
+    requires { ⌜ (length (now rec) ≡ 80) × (length (now table) ≡ 86020) × (n ≤ 1024) ⌝ }
     ensures { λ r. ⌜ verdictOf (r .reason) (r .marked) ≡ judgeStore (now (rec .entry)) (rowIn (now (table .entry)) n row) ⌝ }
 {
     if n <= row {
@@ -120,7 +121,7 @@ pub fn judge_store(rec: &[u8], table: &[u8], n: usize, row: usize) -> Judged
 
 // The entry in a row is a folder that has entries, by the register.
 pub fn is_full(table: &[u8], register: &[u16], row: usize) -> bool
-    requires { ⌜ (length (now table) ≡ 43012) × (length (now register) ≡ registerSize) × (row < 512) ⌝ }
+    requires { ⌜ (length (now table) ≡ 86020) × (length (now register) ≡ registerSize) × (row < 1024) ⌝ }
     ensures { λ r. ⌜ r ≡ fullBy (now (register .entry)) row (entryIn (now (table .entry)) (4 + 72 * row)) ⌝ }
 {
     if tree_table::kind_at(table, row) != 1 {
@@ -131,7 +132,7 @@ pub fn is_full(table: &[u8], register: &[u16], row: usize) -> bool
 
 // The last contents or place record of the entry in a row is unseen.
 pub fn is_changed(rec: &[u8], table: &[u8], row: usize) -> bool
-    requires { ⌜ (length (now rec) ≡ 80) × (length (now table) ≡ 43012) × (row < 512) ⌝ }
+    requires { ⌜ (length (now rec) ≡ 80) × (length (now table) ≡ 86020) × (row < 1024) ⌝ }
     ensures { λ r. ⌜ r ≡ (unseen (now (rec .entry)) (entryIn (now (table .entry)) (4 + 72 * row) .contents) || unseen (now (rec .entry)) (entryIn (now (table .entry)) (4 + 72 * row) .placing)) ⌝ }
 {
     if is_unseen(rec, tree_table::contents_at(table, row)) {
@@ -231,9 +232,9 @@ pub fn judge_move(rec: &[u8], table: &[u8], register: &[u16], size: Size, row: u
 // A settle of the record k: 18 if it does not stand aside.
 pub fn judge_settle(table: &[u8], register: &[u16], size: Size, k: u32) -> Judged
     requires { ⌜ InRange k × Holds (now table) (now register) (size .entries) (size .asides) ⌝ }
-    ensures { λ r. ⌜ verdictOf (r .reason) (r .marked) ≡ cond (ltb 512 (roleOf k (treeIn (now (table .entry)) (size .entries) (size .asides)))) fits (aside 18 0) ⌝ }
+    ensures { λ r. ⌜ verdictOf (r .reason) (r .marked) ≡ cond (ltb 1024 (roleOf k (treeIn (now (table .entry)) (size .entries) (size .asides)))) fits (aside 18 0) ⌝ }
 {
-    if 512 < tree_lookup::role_of(table, register, size, k) {
+    if 1024 < tree_lookup::role_of(table, register, size, k) {
         return Judged {
             reason: 0,
             marked: 0,

@@ -1,4 +1,4 @@
--- Claims P2, P3, P4 and A1: the replay, what decides nothing, and acts.
+-- Claims P2, P3 and P4: the replay, and what decides nothing.
 -- Assumes nothing.
 use Prim.Native.Nat.{ℕ, suc, _≤_, _<_}
 use mathlib.Core.Path.{_≡_, refl, sym, ap, _∙_}
@@ -8,23 +8,21 @@ use mathlib.Core.Option.{some}
 use mathlib.Core.List.{List, [], _∷_, _++_}
 use native.Mathlib.Omega.{arith}
 use lib.ListN.{getD, length, set}
-use Rattle.model.specs.Record.{Rec, root, unit, num, op, seen, selfOf, objectOf, labelOf, usesLabel, wellFormed}
+use Rattle.model.specs.Record.{Rec, root, unit, num, op, seen, selfOf, objectOf, labelOf, usesLabel, wellFormed, hasStroke}
 use Rattle.model.specs.Log.{noCounts, soundAfter}
-use Rattle.model.specs.Replay.{Entry, Aside, Tree, Verdict, fits, aside, isPresent, labelKey, entryOf, unseen, isBelow, judge, standsAside, holderOf, isDisputed, renamed, step, emptyTree, replayFrom, replay}
+use Rattle.model.specs.Replay.{Entry, Aside, Tree, Verdict, fits, aside, isPresent, labelKey, entryOf, unseen, isBelow, judge, standsAside, holderOf, isDisputed, renamed, step, emptyTree, replayFrom, replay, trim}
 use Rattle.model.specs.Table.{tableBytes}
-use Rattle.model.specs.Outcome.{stamped, wishFits, hasStroke, actNumber, taken, takeAll}
 use Rattle.log_laws.specs.Members.{Has as Member}
 use Rattle.log_laws.specs.Sound.{Sound}
 use Rattle.log_laws.proofs.Formed.{well-length, well-op}
 use Rattle.log_laws.proofs.Counts.{formed}
-use Rattle.log_laws.proofs.Take.{all-from}
 use Rattle.log_laws.proofs.Tests.{sound-means, means-sound}
 use Rattle.log_laws.proofs.Claims.{order-fixed}
 use Rattle.tree_laws.specs.Replayed.{Has, Distinct, selves, makers, whos, standings, standAside, makesFit, openOf, settledIn, SameButDates, undatedTree, hideDates}
 use Rattle.tree_laws.specs.Before.{replayBefore}
 use Rattle.tree_laws.specs.Places.{PlacedBy, PlaceKept}
 use Rattle.tree_laws.specs.Roots.{Way, Reaches, Stands, Rooted}
-use Rattle.tree_laws.specs.Trees.{trim, SoundTree}
+use Rattle.tree_laws.specs.Trees.{SoundTree}
 use Rattle.tree_laws.proofs.Verdicts.{Under, OneOf, Reason, reason-range, judge-make, judge-store, judge-remove, judge-rename, judge-settle, judge-move, Moving, move-reasons, make-reasons, store-reasons, remove-reasons, rename-reasons, settle-reasons}
 use Rattle.tree_laws.proofs.Steps.{standings-replay, makers-replay}
 use Rattle.tree_laws.proofs.Identities as Identities
@@ -37,10 +35,8 @@ use Rattle.tree_laws.proofs.Trimming as Trimming
 use Rattle.tree_laws.proofs.Before.{replay-before}
 use Rattle.tree_laws.proofs.Dates.{dates-replay}
 use Rattle.tree_laws.proofs.Tables.{table-hidden, filled-replay, entries-few}
-use Rattle.tree_laws.proofs.Arrival.{takeAll-append}
 use Rattle.tree_laws.proofs.Settling as Settling
-use Rattle.tree_laws.proofs.Acting as Acting
-use Rattle.tree_laws.proofs.Strokes as Strokes
+use Rattle.tree_laws.proofs.Seen as Seen
 
 -- ---- P2: each record acts or stands aside under one reason
 
@@ -85,15 +81,15 @@ pub no-record-twice : (l : List Rec) → soundAfter noCounts [] l ≡ true
     × Distinct (makers (replay l .entries))
     × ((k : ℕ) → Has k (whos (replay l .asides)) → Has k (makers (replay l .entries)) → ⊥)
 no-record-twice l s =
-    let d : Distinct (selves l) = Acting.sound-distinct l (sound-means l s) in
+    let d : Distinct (selves l) = Seen.sound-distinct l (sound-means l s) in
     (Identities.asides-distinct l d, Identities.makers-distinct l d, Identities.asides-no-makers l d)
 
 -- no two entries have one identity, and none has the root's
 pub named-of : (l : List Rec) → Sound l → Labels.Named (replay l .entries)
 named-of l h =
     record {
-      once = Identities.makers-distinct l (Acting.sound-distinct l h);
-      none-root = λ e i z. Acting.self-no-root l h (e .made) (Identities.makers-of l (e .made) (Labels.has-made (replay l .entries) e i)) z;
+      once = Identities.makers-distinct l (Seen.sound-distinct l h);
+      none-root = λ e i z. Seen.self-no-root l h (e .made) (Identities.makers-of l (e .made) (Labels.has-made (replay l .entries) e i)) z;
     }
 
 named : (l : List Rec) → soundAfter noCounts [] l ≡ true → Labels.Named (replay l .entries)
@@ -132,7 +128,7 @@ pub rooted : (l : List Rec) → soundAfter noCounts [] l ≡ true → Rooted (re
 unfolding replay emptyTree makers
 rooted l s =
     let h = sound-means l s in
-    Roots.replay-rooted emptyTree l Roots.no-entries (Acting.sound-distinct l h) (λ i. Acting.self-no-root l h root i refl)
+    Roots.replay-rooted emptyTree l Roots.no-entries (Seen.sound-distinct l h) (λ i. Seen.self-no-root l h root i refl)
     (λ r i z. omega (arith, well-op r (formed [] l r h i)))
     (λ k i. absurd i)
 
@@ -194,22 +190,6 @@ tables-differ-only-in-dates l m s t p q d = hidden l s p ∙ ap tableBytes (date
         (filled-replay emptyTree l (λ r i. well-length r (formed [] l r (sound-means l s) i)) tt)
         (omega (arith, entries-few l))
 
--- blocks taken one after another are their records taken one after another
-pub blocks-end-to-end : (l rs qs m : List Rec) → takeAll l rs ≡ taken m → takeAll l (rs ++ qs) ≡ takeAll m qs
-blocks-end-to-end = takeAll-append
-
--- two logs that took in the same records, in whatever order and blocks, are the same, and so show the same
-pub arrival-decides-nothing : (b c rs qs m p : List Rec) → soundAfter noCounts [] b ≡ true → soundAfter noCounts [] c ≡ true → takeAll b rs ≡ taken m → takeAll c qs ≡ taken p
-    → ((s : Rec) → (Member s b ⊎ Member s rs) ↔ (Member s c ⊎ Member s qs)) → m ≡ p
-arrival-decides-nothing b c rs qs m p x y e f h =
-    let v = all-from rs b m (sound-means b x) e in
-    let w = all-from qs c p (sound-means c y) f in
-    order-fixed m p (means-sound m (v .sound)) (means-sound p (w .sound))
-    (λ s. (
-      λ i. ⊎-elim (λ j. w .kept s j) (λ j. w .got s j) (h s .0 (v .from s i)),
-      λ i. ⊎-elim (λ j. v .kept s j) (λ j. v .got s j) (h s .1 (w .from s i)),
-    ))
-
 -- ---- P4: open, settled, disputed
 
 -- a record that stands aside is open until a settle naming it fits, and settled from then on
@@ -217,7 +197,7 @@ pub open-until-settled : (before : List Rec) (r : Rec) (after : List Rec) (n k :
     → soundAfter noCounts [] (before ++ (r ∷ after)) ≡ true
     → judge r (replay before) ≡ aside n k
     → openOf (selfOf r) (replay (before ++ (r ∷ after)) .asides) ≡ not (settledIn (selfOf r) (step (replay before) r) after)
-open-until-settled before r after n k s = Settling.open-until-settled before r after n k (Acting.sound-distinct (before ++ (r ∷ after)) (sound-means (before ++ (r ∷ after)) s))
+open-until-settled before r after n k s = Settling.open-until-settled before r after n k (Seen.sound-distinct (before ++ (r ∷ after)) (sound-means (before ++ (r ∷ after)) s))
 
 -- a second settle fits and changes nothing
 pub second-settle-changes-nothing : (r : Rec) (t : Tree) → op r ≡ 6 → standsAside (objectOf r) (t .asides) ≡ true → openOf (objectOf r) (t .asides) ≡ false
@@ -237,26 +217,3 @@ settle-of-a-fitted-record = Settling.settle-fitted
 -- an entry is disputed exactly while an open aside marks it
 pub disputed-while-open : (k : ℕ) (l : List Aside) → (isDisputed k l ≡ true) ↔ ((a : Aside) × Has a l × (a .isOpen ≡ true) × (a .marked ≡ k))
 disputed-while-open = Settling.disputed-open
-
--- ---- A1: acting
-
--- an act is accepted exactly when its wish is well formed, its label has no stroke, a place is free and its record fits
-pub accepted-exactly : (u : ℕ) (l : List Rec) (w : List ℕ)
-    → (actNumber u l w ≡ 0) ↔ ((wishFits u l w ≡ true) × (hasStroke (labelOf w) ≡ false) × (length l < 512) × (judge (stamped u l w) (replay l) ≡ fits))
-accepted-exactly = Acting.act-accepted
-
--- it is refused by 24 exactly when its wish is well formed and its label has a stroke
-pub stroke-exactly : (u : ℕ) (l : List Rec) (w : List ℕ) → (actNumber u l w ≡ 24) ↔ ((wishFits u l w ≡ true) × (hasStroke (labelOf w) ≡ true))
-stroke-exactly = Strokes.act-stroke
-
--- a text has a stroke exactly when one of its bytes is hexadecimal 2F
-pub stroke-in-a-text : (t : List ℕ) → (hasStroke t ≡ true) ↔ ((i : ℕ) × (i < length t) × (getD t i 0 ≡ 47))
-stroke-in-a-text = Strokes.stroke-exact
-
--- 24 is answered to makes and renames alone
-pub stroke-of-a-label : (u : ℕ) (l : List Rec) (w : List ℕ) → length w ≡ 80 → actNumber u l w ≡ 24 → usesLabel (getD w 1 0) ≡ true
-stroke-of-a-label = Strokes.stroke-of-a-label
-
--- its refusal is never 17
-pub never-17 : (u : ℕ) (l : List Rec) (w : List ℕ) → length w ≡ 80 → soundAfter noCounts [] l ≡ true → actNumber u l w ≡ 17 → ⊥
-never-17 u l w n s = Acting.act-answers-never-17 u l w n (sound-means l s)

@@ -5,10 +5,8 @@ pub mod Labels
 pub mod Settling
 pub mod Blind
 pub mod Dates
-pub mod Acting
-pub mod Strokes
+pub mod Seen
 pub mod Tables
-pub mod Arrival
 pub mod Before
 pub mod Roots
 pub mod Places

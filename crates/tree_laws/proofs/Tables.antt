@@ -94,7 +94,7 @@ Hides p g s n (e ∷ es) =
 -- no place before the rows of entries, none behind them
 pub record Within (p : ℕ → Bool) : Type 0 where
   pub before : (i : ℕ) → i < 4 → p i ≡ false
-  pub behind : (i : ℕ) → 36868 ≤ i → p i ≡ false
+  pub behind : (i : ℕ) → 73732 ≤ i → p i ≡ false
 
 module _ (p : ℕ → Bool) (d m : Telling) (f : (e : Entry) → Filled e → Filled (blind d m e)) where
   abbrev g : Entry → Entry
@@ -116,18 +116,18 @@ module _ (p : ℕ → Bool) (d m : Telling) (f : (e : Entry) → Filled e → Fi
   filled-map (e ∷ es) a = (f e (a .0), filled-map es (a .1))
 
   module _ (s : List Aside) (es : List Entry) (h : length es ≤ 512) (a : All Filled es) where
-    entries-hidden : Hides p g s 0 es → hideFrom p 4 (padded 36864 (entryRows s es)) ≡ padded 36864 (entryRows s (mapped g es))
+    entries-hidden : Hides p g s 0 es → hideFrom p 4 (padded 73728 (entryRows s es)) ≡ padded 73728 (entryRows s (mapped g es))
     unfolding padded
     entries-hidden r =
         let R : List ℕ = entryRows s es in
         let e : length R ≡ length (entryRows s (mapped g es)) =
         omega (arith, length-rows s es h a, length-map d m es, length-rows s (mapped g es) (omega (arith, length-map d m es)) (filled-map es a)) in
-        hide-append p 4 R (replicate (36864 - length R) 0)
-        ∙ (λ k. rows-hidden s es 0 a r k ++ hide-zeros p (4 + length R) (36864 - length R) k)
-        ∙ ap (λ (n : ℕ). entryRows s (mapped g es) ++ replicate (36864 - n) 0) e
+        hide-append p 4 R (replicate (73728 - length R) 0)
+        ∙ (λ k. rows-hidden s es 0 a r k ++ hide-zeros p (4 + length R) (73728 - length R) k)
+        ∙ ap (λ (n : ℕ). entryRows s (mapped g es) ++ replicate (73728 - n) 0) e
 
-    length-entries : length (padded 36864 (entryRows s es)) ≡ 36864
-    length-entries = length-padded 36864 (entryRows s es) (omega (arith, length-rows s es h a))
+    length-entries : length (padded 73728 (entryRows s es)) ≡ 73728
+    length-entries = length-padded 73728 (entryRows s es) (omega (arith, length-rows s es h a))
 
   -- hidden at places of the rows of entries alone, a table is that of the tree so told
   pub hidden-table : Within p → (t : Tree) → All Filled (t .entries) → length (presentOnes (t .entries)) ≤ 512 → Hides p g (t .asides) 0 (presentOnes (t .entries))
@@ -137,18 +137,18 @@ module _ (p : ℕ → Bool) (d m : Telling) (f : (e : Entry) → Filled e → Fi
       let s : List Aside = t .asides in
       let ps : List Entry = presentOnes (t .entries) in
       let b : All Filled ps = all-present Filled (t .entries) a in
-      let P : List ℕ = padded 36864 (entryRows s ps) in
-      let A : List ℕ = padded 6144 (asideRows s) in
+      let P : List ℕ = padded 73728 (entryRows s ps) in
+      let A : List ℕ = padded 12288 (asideRows s) in
       let u : mapped g ps ≡ presentOnes (mapped g (t .entries)) = sym (present-map d m (t .entries)) in
       let n : length ps ≡ length (presentOnes (mapped g (t .entries))) = sym (length-map d m ps) ∙ ap (λ (x : List Entry). length x) u in
-      let w : 4 + length P ≡ 36868 = omega (arith, length-entries s ps h b) in
-      let q : hideFrom p 4 (P ++ A) ≡ padded 36864 (entryRows s (presentOnes (mapped g (t .entries)))) ++ A =
+      let w : 4 + length P ≡ 73732 = omega (arith, length-entries s ps h b) in
+      let q : hideFrom p 4 (P ++ A) ≡ padded 73728 (entryRows s (presentOnes (mapped g (t .entries)))) ++ A =
       hide-append p 4 P A
       ∙ (λ k. entries-hidden s ps h b r k ++ hideFrom p (w k) A)
-      ∙ (λ k. padded 36864 (entryRows s (u k)) ++ hide-keeps p 36868 A (λ j _. v .behind (36868 + j) (omega arith)) k) in
+      ∙ (λ k. padded 73728 (entryRows s (u k)) ++ hide-keeps p 73732 A (λ j _. v .behind (73732 + j) (omega arith)) k) in
       hide-append p 0 (two (length ps) ++ two (length s)) (P ++ A)
       ∙ (λ k. hide-keeps p 0 (two (length ps) ++ two (length s)) (λ j (z : j < 4). v .before (0 + j) (omega arith)) k ++ q k)
-      ∙ (λ k. two (n k) ++ (two (length s) ++ (padded 36864 (entryRows s (presentOnes (mapped g (t .entries)))) ++ A)))
+      ∙ (λ k. two (n k) ++ (two (length s) ++ (padded 73728 (entryRows s (presentOnes (mapped g (t .entries)))) ++ A)))
 
 -- ---- dates
 
@@ -156,7 +156,7 @@ in-row : (n c : ℕ) → n < 512 → c < 72 → isDatePlace (4 + 72 * n + c) ≡
 unfolding isDatePlace
 in-row n c h k =
     let e : (4 + 72 * n + c - 4) % 72 ≡ c = omega arith in
-    rw (le-leb 4 (4 + 72 * n + c) (omega arith), lt-ltb (4 + 72 * n + c) 36868 (omega arith), e)
+    rw (le-leb 4 (4 + 72 * n + c) (omega arith), lt-ltb (4 + 72 * n + c) 73732 (omega arith), e)
 
 module _ (n : ℕ) (h : n < 512) where
   before-date : (j : ℕ) → j < 20 → isDatePlace (4 + 72 * n + j) ≡ false
@@ -194,7 +194,7 @@ unfolding isDatePlace
 date-places =
     record {
       before = λ i h. rw (lt-leb 4 i h);
-      behind = λ i h. rw (le-leb 4 i (omega arith), le-ltb i 36868 h);
+      behind = λ i h. rw (le-leb 4 i (omega arith), le-ltb i 73732 h);
     }
 
 pub table-hidden : (t : Tree) → All Filled (t .entries) → length (presentOnes (t .entries)) ≤ 512 → hideDates (tableBytes t) ≡ tableBytes (undatedTree t)

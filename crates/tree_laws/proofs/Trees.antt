@@ -14,7 +14,7 @@ use borrow.Author.Tests.{leb-true, le-leb, eq-eqb}
 use Rattle.model.specs.Bytes.{word, blank, part}
 use Rattle.model.specs.Date.{isDate}
 use Rattle.model.specs.Record.{Rec, root, identity, unit, num, op, seen, identityAt, selfOf, objectOf, folderOf, labelOf, markOf, dateBytes, names, isLabel, usesFolder, usesLabel, usesMark, unused, folderFits, dateFits, labelFits, markFits, wellFormed}
-use Rattle.model.specs.Replay.{Entry, Aside, Tree, fits, aside, isPresent, entryOf, judgeStore, judge, newEntry, stored, renamed, moved, removed, settled, step, emptyTree, presentOnes}
+use Rattle.model.specs.Replay.{Entry, Aside, Tree, fits, aside, isPresent, entryOf, judgeStore, judge, newEntry, stored, renamed, moved, removed, settled, step, emptyTree, presentOnes, trim}
 use Rattle.byte_slice.proofs.Numbers.{eq-or-ne, bool-cases, and-true, or-true, not-both}
 use Rattle.byte_slice.proofs.Parts.{part-length, getD-part}
 use Rattle.byte_slice.proofs.Words.{word-part}
@@ -24,7 +24,7 @@ use Rattle.log_laws.proofs.Members.{All, all-map, all-append}
 use Rattle.log_laws.proofs.Formed.{well-length, well-fields, well-unit, well-ops, well-own}
 use Rattle.tree_laws.specs.Replayed.{Has, Distinct, makers, whos}
 use Rattle.tree_laws.specs.Roots.{Up, Rooted}
-use Rattle.tree_laws.specs.Trees.{trim, OneLabel, NamedIn, NamedOrNone, EntryFits, AsideFits, SoundTree}
+use Rattle.tree_laws.specs.Trees.{OneLabel, NamedIn, NamedOrNone, EntryFits, AsideFits, SoundTree}
 use Rattle.tree_laws.proofs.Verdicts.{reason-range, judge-store}
 use Rattle.tree_laws.proofs.Steps.{cond-elim, step-elim, effect-elim, all-changed, all-present}
 use Rattle.tree_laws.proofs.Identities.{lone-step}

@@ -10,10 +10,9 @@ use mathlib.Core.List.{List, [], _∷_, _++_}
 use lib.Dec.{eqb}
 use lib.ListN.{length}
 use Rattle.model.specs.Record.{Rec, root, selfOf, objectOf, folderOf, labelOf}
-use Rattle.model.specs.Replay.{Entry, Aside, Tree, isPresent, isIn, entryOf, isHolder, holderOf, hasEntries, folderStands, comesTo, isBelow, judgePlace, newEntry, stored, renamed, moved, removed, changed, settled, effect, judge, judgeMake, judgeRemove, judgeRename, judgeMove, step, replayFrom, replay, emptyTree, presentOnes}
+use Rattle.model.specs.Replay.{Entry, Aside, Tree, isPresent, isIn, entryOf, isHolder, holderOf, hasEntries, folderStands, comesTo, isBelow, judgePlace, newEntry, stored, renamed, moved, removed, changed, settled, effect, judge, judgeMake, judgeRemove, judgeRename, judgeMove, step, replayFrom, replay, emptyTree, presentOnes, trim}
 use Rattle.model.specs.Table.{tableBytes}
 use Rattle.byte_slice.proofs.Numbers.{bool-cases, and-wrong, not-both}
-use Rattle.tree_laws.specs.Trees.{trim}
 use Rattle.tree_laws.proofs.Steps.{step-elim, step-fits, step-aside, effect-elim, effect-make, effect-store, effect-remove, effect-rename, effect-settle, effect-move}
 use Rattle.tree_laws.proofs.Settling.{replay-append}
 use Rattle.tree_laws.proofs.Roots.{present-few, comes-way, way-comes, comes-few}

@@ -137,7 +137,7 @@ undatedTree t = mappedTree undated t
 
 -- the places of the tree table that hold dates: bytes 20 to 23 of each of the 512 rows of 72 from 4 on
 unfoldable pub isDatePlace : ℕ → Bool
-isDatePlace i = leb 4 i && (ltb i 36868 && (leb 20 ((i - 4) % 72) && leb ((i - 4) % 72) 23))
+isDatePlace i = leb 4 i && (ltb i 73732 && (leb 20 ((i - 4) % 72) && leb ((i - 4) % 72) 23))
 
 -- the bytes from the place i of a table on, with zeros where p holds
 unfoldable pub hideFrom : (ℕ → Bool) → ℕ → List ℕ → List ℕ

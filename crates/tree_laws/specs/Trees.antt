@@ -9,14 +9,10 @@ use lib.ListN.{getD, length}
 use Rattle.model.specs.Bytes.{word, blank}
 use Rattle.model.specs.Date.{isDate}
 use Rattle.model.specs.Record.{root, unitOf, numberOf, isLabel}
-use Rattle.model.specs.Replay.{Entry, Aside, Tree, isPresent, sameLabel, presentOnes}
+use Rattle.model.specs.Replay.{Entry, Aside, Tree, isPresent, sameLabel}
 use Rattle.log_laws.proofs.Members.{All}
 use Rattle.tree_laws.specs.Replayed.{Has, Distinct, makers, whos}
 use Rattle.tree_laws.specs.Roots.{Rooted}
-
--- a tree without the rows of removed entries
-unfoldable pub trim : Tree → Tree
-trim t = record { entries = presentOnes (t .entries); asides = t .asides }
 
 -- of the identities of entries and of asides none stands twice, and none is in both
 pub record Lone (ms ws : List ℕ) : Type 0 where

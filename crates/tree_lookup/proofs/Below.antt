@@ -13,7 +13,8 @@ use lib.ListN.{length}
 use borrow.Author.Tests.{eq-eqb, ne-eqb, not-true, not-false}
 use Rattle.model.specs.Replay.{Entry, isPresent, entryOf, comesTo, isBelow}
 use Rattle.byte_slice.proofs.Numbers.{not-both}
-use Rattle.tree_table.specs.Rows.{entryIn, entriesFrom, treeIn, rowIn, InRange, AllProper}
+use Rattle.model.specs.Table.{entryIn}
+use Rattle.tree_table.specs.Rows.{entriesFrom, treeIn, rowIn, InRange, AllProper}
 use Rattle.tree_maps.specs.Keys.{isIdentity}
 use Rattle.tree_maps.proofs.Counts.{identity-range, range-identity}
 use Rattle.tree_lookup.specs.Roles.{Holds}

@@ -19,7 +19,7 @@ use Rattle.tree_lookup.proofs.Places.{absent-row, row-at, row-lone, row
 use Rattle.tree_lookup.proofs.Working.{blankEntry, proper-at, role-row, role-no-row}
 
 -- what is no identity has no row
-no-row : (f : ℕ) (l : List Entry) → AllProper l → (InRange f → ⊥) → Absent f l
+pub no-row : (f : ℕ) (l : List Entry) → AllProper l → (InRange f → ⊥) → Absent f l
 no-row f [] p h = tt
 no-row f (e ∷ l) p h = (λ (z : e .made ≡ f). h (rw z at (p .0 .range)), no-row f l (p .1) h)
 

@@ -14,7 +14,8 @@ use Rattle.model.specs.Replay.{Entry, isPresent, isIn, sameLabel, isHolder, hol
 use Rattle.byte_slice.proofs.Numbers.{lt-or-ge, bool-cases, and-true, not-both, test-false}
 use Rattle.record_label.proofs.Same.{same-key}
 use Rattle.byte_slice.proofs.Parts.{part-is}
-use Rattle.tree_table.specs.Rows.{entryIn, entriesFrom, treeIn, rowIn}
+use Rattle.model.specs.Table.{entryIn}
+use Rattle.tree_table.specs.Rows.{entriesFrom, treeIn, rowIn}
 use Rattle.hash_chains.specs.Chains.{nodesIn, firstOf, behind, rowAt, Found}
 use Rattle.hash_chains.proofs.Links.{found-none, found-next}
 use Rattle.tree_maps.specs.Keys.{hashOf, chainOf}
@@ -117,7 +118,7 @@ module _ (b l : List ℕ) (n m : ℕ) (w : Holds b l n m) (k f : ℕ) (t : List 
       record { node = y; within = omega arith; holds = λ z. absurd (omega arith); ahead = λ i z x. rw (g, e) (held i z x) }
 
   module _ (best q : ℕ) (s : Seeking b l n k f t best q) where
-    pub seek-row : 0 < q → (row : ℕ) → row ≡ rowAt 4097 l q → row < 512
+    pub seek-row : 0 < q → (row : ℕ) → row ≡ rowAt 4097 l q → row < 1024
     seek-row h row e = let a = w .rows-fit in omega (arith, w .keyed .rows q h (s .node))
 
     pub seek-goes : 0 < q → (row best' q' : ℕ) → row ≡ rowAt 4097 l q → best' ≡ earlierOf b k f t row best → q' ≡ behind 4097 l q → q' < q → Seeking b l n k f t best' q'

@@ -11,7 +11,8 @@ use borrow.Author.Tests.{eq-eqb, ne-eqb, le-leb, lt-leb}
 use Rattle.model.specs.Record.{identityAt}
 use Rattle.model.specs.Replay.{Entry, Aside, Tree}
 use Rattle.byte_slice.proofs.Numbers.{eq-or-ne, lt-or-ge}
-use Rattle.tree_table.specs.Rows.{entryIn, asideIn, entriesFrom, asidesFrom, treeIn, InRange}
+use Rattle.model.specs.Table.{entryIn, asideIn}
+use Rattle.tree_table.specs.Rows.{entriesFrom, asidesFrom, treeIn, InRange}
 use Rattle.hash_chains.specs.Chains.{nodesIn, firstOf, behind, rowAt, Found}
 use Rattle.hash_chains.proofs.Links.{found-none, found-next, kept-nodes, kept-chains, kept-found, kept-rows, pushed-nodes, pushed-chains, pushed-new, pushed-found, pushed-rows}
 use Rattle.tree_maps.specs.Keys.{linkOf, named, madeAt}
@@ -38,7 +39,7 @@ note-few k t = go (noteFrom k 0 (t .asides)) refl
     go zero e = omega arith
     go (suc j) e = let a = note-at k 0 (t .asides) j blankAside e in omega (arith, a .inside)
 
-pub role-within : (t : Tree) → length (t .entries) ≤ 512 → ((k : ℕ) → (rowOf k t ≡ 0) ⊎ (noteOf k t ≡ 0)) → (r : ℕ) → HasRole t r → Role (length (t .entries)) (length (t .asides)) r
+pub role-within : (t : Tree) → length (t .entries) ≤ 1024 → ((k : ℕ) → (rowOf k t ≡ 0) ⊎ (noteOf k t ≡ 0)) → (r : ℕ) → HasRole t r → Role (length (t .entries)) (length (t .asides)) r
 unfolding roleOf
 role-within t fit apart r (h, e) =
     let k = nameOf t r in
@@ -46,7 +47,7 @@ role-within t fit apart r (h, e) =
     let c = note-few k t in
     ⊎-elim
     (λ (z : (noteOf k t ≡ 0) × (behindRows (noteOf k t) ≡ 0)). record { least = h; most = omega (arith, z .1); within = inl (omega (arith, z .1)) })
-    (λ (z : (1 ≤ noteOf k t) × (behindRows (noteOf k t) ≡ 512 + noteOf k t)).
+    (λ (z : (1 ≤ noteOf k t) × (behindRows (noteOf k t) ≡ 1024 + noteOf k t)).
     ⊎-elim (λ (y : rowOf k t ≡ 0). record { least = h; most = omega (arith, z .1); within = inr (omega (arith, z .0, z .1)) })
     (λ (y : noteOf k t ≡ 0). absurd (omega (arith, z .0)))
     (apart k))
@@ -79,13 +80,13 @@ unfolding whoAt
 who-new [] a = refl
 who-new (x ∷ l) a = who-new l a
 
-pub name-row : (t : Tree) (r : ℕ) → r ≤ 512 → nameOf t r ≡ madeAt (t .entries) (r - 1)
+pub name-row : (t : Tree) (r : ℕ) → r ≤ 1024 → nameOf t r ≡ madeAt (t .entries) (r - 1)
 unfolding nameOf
-name-row t r h = rw (le-leb r 512 h)
+name-row t r h = rw (le-leb r 1024 h)
 
-pub name-note : (t : Tree) (r : ℕ) → 512 < r → nameOf t r ≡ whoAt (t .asides) (r - 513)
+pub name-note : (t : Tree) (r : ℕ) → 1024 < r → nameOf t r ≡ whoAt (t .asides) (r - 1025)
 unfolding nameOf
-name-note t r h = rw (lt-leb r 512 h)
+name-note t r h = rw (lt-leb r 1024 h)
 
 note-is : (k i : ℕ) (l : List Aside) (j : ℕ) → noteFrom k i l ≡ suc j → whoAt l (j - i) ≡ k
 unfolding noteFrom whoAt
@@ -104,7 +105,7 @@ note-is k i (a ∷ l) j h =
     (eq-or-ne (a .who) k)
 
 -- the role of an identity is that of no other
-pub name-role : (t : Tree) → length (t .entries) ≤ 512 → ((k : ℕ) → (rowOf k t ≡ 0) ⊎ (noteOf k t ≡ 0)) → (k : ℕ) → (roleOf k t ≡ 0 → ⊥) → nameOf t (roleOf k t) ≡ k
+pub name-role : (t : Tree) → length (t .entries) ≤ 1024 → ((k : ℕ) → (rowOf k t ≡ 0) ⊎ (noteOf k t ≡ 0)) → (k : ℕ) → (roleOf k t ≡ 0 → ⊥) → nameOf t (roleOf k t) ≡ k
 unfolding roleOf rowOf noteOf behindRows
 name-role t fit apart k h = go (rowFrom k 0 (t .entries)) (noteFrom k 0 (t .asides)) refl refl (apart k)
   where
@@ -118,21 +119,21 @@ name-role t fit apart k h = go (rowFrom k 0 (t .entries)) (noteFrom k 0 (t .asid
         let y : suc j - 1 ≡ j = omega arith in
         rw (e, f, z) (name-row t (suc j) (omega arith) ∙ rw y (made-row (t .entries) j blankEntry i ∙ (rw sub-zero at (a .is))))
     go zero (suc j) e f o =
-        let z : 0 + (513 + j) ≡ 513 + j = omega arith in
-        let y : 513 + j - 513 ≡ j = omega arith in
-        rw (e, f, z) (name-note t (513 + j) (omega arith) ∙ rw y (rw sub-zero at (note-is k 0 (t .asides) j f)))
+        let z : 0 + (1025 + j) ≡ 1025 + j = omega arith in
+        let y : 1025 + j - 1025 ≡ j = omega arith in
+        rw (e, f, z) (name-note t (1025 + j) (omega arith) ∙ rw y (rw sub-zero at (note-is k 0 (t .asides) j f)))
     go (suc i) (suc j) e f o = ⊎-elim (λ (z : rowFrom k 0 (t .entries) ≡ 0). absurd (omega arith)) (λ (z : noteFrom k 0 (t .asides) ≡ 0). absurd (omega arith)) o
 
 -- ---- what `name_at` is asked, over plain values
 
 module _ (b : List ℕ) (n m r : ℕ) (w : Role n m r) where
-  pub name-low : n < r → 513 ≤ r
-  name-low h = ⊎-elim (λ (z : r ≤ n). absurd (omega arith)) (λ (z : 512 < r). omega arith) (w .within)
+  pub name-low : n < r → 1025 ≤ r
+  name-low h = ⊎-elim (λ (z : r ≤ n). absurd (omega arith)) (λ (z : 1024 < r). omega arith) (w .within)
 
-  pub name-end : length b ≡ 43012 → m ≤ 512 → n < r → 36868 + 12 * (r - 513) + 3 < length b
+  pub name-end : length b ≡ 86020 → m ≤ 1024 → n < r → 73732 + 12 * (r - 1025) + 3 < length b
   name-end long fit h = let a = w .most in omega (arith, name-low h)
 
-  pub name-entry : n ≤ 512 → r ≤ n → (x : ℕ) → x ≡ entryIn b (4 + 72 * (r - 1)) .made → x ≡ nameOf (treeIn b n m) r
+  pub name-entry : n ≤ 1024 → r ≤ n → (x : ℕ) → x ≡ entryIn b (4 + 72 * (r - 1)) .made → x ≡ nameOf (treeIn b n m) r
   unfolding treeIn
   name-entry fit h x e =
       let es = entriesFrom b 0 n in
@@ -144,18 +145,18 @@ module _ (b : List ℕ) (n m r : ℕ) (w : Role n m r) where
       ∙ made-row es (r - 1) blankEntry (omega (arith, entries-length b 0 n))
       ∙ ap (λ (y : Entry). y .made) (rw (zero-add (r - 1)) at (entries-at b 0 n (r - 1) blankEntry i)))
 
-  pub name-aside : n < r → (x : ℕ) → x ≡ identityAt b (36868 + 12 * (r - 513)) → x ≡ nameOf (treeIn b n m) r
+  pub name-aside : n < r → (x : ℕ) → x ≡ identityAt b (73732 + 12 * (r - 1025)) → x ≡ nameOf (treeIn b n m) r
   unfolding treeIn asideIn
   name-aside h x e =
       let l = asidesFrom b 0 m in
       let z = name-low h in
       let a = w .most in
-      let i : r - 513 < m = omega arith in
+      let i : r - 1025 < m = omega arith in
       e
       ∙ sym
       (name-note (treeIn b n m) r (omega arith)
-      ∙ who-row l (r - 513) blankAside (omega (arith, asides-length b 0 m))
-      ∙ ap (λ (y : Aside). y .who) (rw (zero-add (r - 513)) at (asides-at b 0 m (r - 513) blankAside i)))
+      ∙ who-row l (r - 1025) blankAside (omega (arith, asides-length b 0 m))
+      ∙ ap (λ (y : Aside). y .who) (rw (zero-add (r - 1025)) at (asides-at b 0 m (r - 1025) blankAside i)))
 
 -- ---- along the chain
 
@@ -165,7 +166,7 @@ pub record Tracing (l : List ℕ) (t : Tree) (k q : ℕ) : Type 0 where
   pub ahead : (roleOf k t ≡ 0 → ⊥) → Found 0 l q (roleOf k t)
 
 module _ (b l : List ℕ) (n m : ℕ) (w : Reads b l n m) (k : ℕ) where
-  entries-few : length (treeIn b n m .entries) ≤ 512
+  entries-few : length (treeIn b n m .entries) ≤ 1024
   unfolding treeIn
   entries-few = let f = w .rows-fit in omega (arith, entries-length b 0 n)
 
@@ -180,7 +181,7 @@ module _ (b l : List ℕ) (n m : ℕ) (w : Reads b l n m) (k : ℕ) where
         let r = role-within t entries-few (w .apart) (rowAt 0 l q) (w .named .roles q h (s .node)) in
         rw (← e, entries-length b 0 n, asides-length b 0 m) at r
 
-    pub trace-low : 0 < q → (role : ℕ) → role ≡ rowAt 0 l q → role ≤ 1024
+    pub trace-low : 0 < q → (role : ℕ) → role ≡ rowAt 0 l q → role ≤ 2048
     trace-low h role e = let f = w .notes-fit in omega (arith, trace-role h role e .most)
 
     pub trace-found : 0 < q → (role x : ℕ) → role ≡ rowAt 0 l q → x ≡ nameOf (treeIn b n m) role → x ≡ k → role ≡ roleOf k (treeIn b n m)

@@ -11,7 +11,8 @@ use mathlib.Core.List.{List, [], _∷_}
 use lib.ListN.{getD, length}
 use borrow.Author.Tests.{eq-eqb, ne-eqb, lt-ltb, le-ltb}
 use Rattle.model.specs.Replay.{Entry, Aside, Tree, isPresent, entryOf}
-use Rattle.tree_table.specs.Rows.{entryIn, asideIn, entriesFrom, asidesFrom, treeIn, rowIn, workBytes, InRange, Proper, AllProper}
+use Rattle.model.specs.Table.{entryIn, asideIn, workBytes}
+use Rattle.tree_table.specs.Rows.{entriesFrom, asidesFrom, treeIn, rowIn, InRange, Proper, AllProper}
 use Rattle.tree_table.proofs.Rows.{tree-back}
 use Rattle.tree_table.proofs.Writes.{flagged-long}
 use Rattle.byte_slice.proofs.Numbers.{lt-or-ge}
@@ -45,7 +46,7 @@ entries-at b i zero j d h = absurd (omega arith)
 entries-at b i (suc n) zero d h = rw add-zero
 entries-at b i (suc n) (suc j) d h = let e : i + suc j ≡ suc i + j = omega arith in rw e (entries-at b (suc i) n j d (omega arith))
 
-pub asides-at : (b : List ℕ) (i n j : ℕ) (d : Aside) → j < n → getD (asidesFrom b i n) j d ≡ asideIn b (36868 + 12 * (i + j))
+pub asides-at : (b : List ℕ) (i n j : ℕ) (d : Aside) → j < n → getD (asidesFrom b i n) j d ≡ asideIn b (73732 + 12 * (i + j))
 unfolding asidesFrom
 asides-at b i zero j d h = absurd (omega arith)
 asides-at b i (suc n) zero d h = rw add-zero
@@ -61,7 +62,7 @@ proper-at (e ∷ l) (suc i) d h p = proper-at l i d (omega arith) (p .1)
 -- ---- a working table shows its tree
 
 module _ (b register : List ℕ) (n m : ℕ) (t : Tree) (w : Works b register n m t) where
-  pub works-long : length b ≡ 43012
+  pub works-long : length b ≡ 86020
   unfolding workBytes
   works-long =
       let f = w .rows-fit in
@@ -90,14 +91,14 @@ module _ (b register : List ℕ) (n m : ℕ) (t : Tree) (w : Works b register n 
       let p = w .rows in
       rw (← works-row i blankEntry h) (proper-at (t .entries) i blankEntry (omega arith) (w .proper) .range)
 
-  pub works-note : (i : ℕ) (d : Aside) → i < m → getD (t .asides) i d ≡ asideIn b (36868 + 12 * i)
+  pub works-note : (i : ℕ) (d : Aside) → i < m → getD (t .asides) i d ≡ asideIn b (73732 + 12 * i)
   unfolding treeIn
   works-note i d h =
       sym (ap (λ (x : Tree). getD (x .asides) i d) works-tree) ∙ (rw (zero-add i) at (asides-at b 0 m i d h))
 
 -- ---- roles
 
-pub behind-cases : (n : ℕ) → ((n ≡ 0) × (behindRows n ≡ 0)) ⊎ ((1 ≤ n) × (behindRows n ≡ 512 + n))
+pub behind-cases : (n : ℕ) → ((n ≡ 0) × (behindRows n ≡ 0)) ⊎ ((1 ≤ n) × (behindRows n ≡ 1024 + n))
 unfolding behindRows
 behind-cases zero = inl (refl, refl)
 behind-cases (suc n) = inr (omega arith, omega arith)
@@ -123,7 +124,7 @@ module _ (b register : List ℕ) (n m : ℕ) (t : Tree) (w : Works b register n 
       let f = w .rows-fit in
       let q = role-is in
       ⊎-elim (λ (z : (noteOf k t ≡ 0) × (behindRows (noteOf k t) ≡ 0)). omega (arith, z .1))
-      (λ (z : (1 ≤ noteOf k t) × (behindRows (noteOf k t) ≡ 512 + noteOf k t)). absurd (omega (arith, z .0, z .1)))
+      (λ (z : (1 ≤ noteOf k t) × (behindRows (noteOf k t) ≡ 1024 + noteOf k t)). absurd (omega (arith, z .0, z .1)))
       (behind-cases (noteOf k t))
 
   pub role-no-row : (role ≡ 0) ⊎ (n < role) → rowOf k t ≡ 0
@@ -134,25 +135,25 @@ module _ (b register : List ℕ) (n m : ℕ) (t : Tree) (w : Works b register n 
       (λ (z : noteOf k t ≡ 0).
       ⊎-elim (λ (y : (noteOf k t ≡ 0) × (behindRows (noteOf k t) ≡ 0)).
       ⊎-elim (λ (x : role ≡ 0). omega (arith, y .1)) (λ (x : n < role). absurd (omega (arith, y .1))) h)
-      (λ (y : (1 ≤ noteOf k t) × (behindRows (noteOf k t) ≡ 512 + noteOf k t)). absurd (omega (arith, y .0)))
+      (λ (y : (1 ≤ noteOf k t) × (behindRows (noteOf k t) ≡ 1024 + noteOf k t)). absurd (omega (arith, y .0)))
       (behind-cases (noteOf k t)))
       (w .apart k)
 
-  pub role-note : 512 < role → noteOf k t ≡ suc (role - 513)
+  pub role-note : 1024 < role → noteOf k t ≡ suc (role - 1025)
   role-note h =
       let q = role-is in
       let f = w .rows-fit in
       ⊎-elim
       (λ (y : (noteOf k t ≡ 0) × (behindRows (noteOf k t) ≡ 0)). absurd (omega (arith, y .1, row-low b register n m t w k)))
-      (λ (y : (1 ≤ noteOf k t) × (behindRows (noteOf k t) ≡ 512 + noteOf k t)).
+      (λ (y : (1 ≤ noteOf k t) × (behindRows (noteOf k t) ≡ 1024 + noteOf k t)).
       ⊎-elim (λ (z : rowOf k t ≡ 0). omega (arith, y .1)) (λ (z : noteOf k t ≡ 0). absurd (omega (arith, y .0))) (w .apart k))
       (behind-cases (noteOf k t))
 
-  pub role-no-note : role ≤ 512 → noteOf k t ≡ 0
+  pub role-no-note : role ≤ 1024 → noteOf k t ≡ 0
   role-no-note h =
       let q = role-is in
       ⊎-elim (λ (y : (noteOf k t ≡ 0) × (behindRows (noteOf k t) ≡ 0)). y .0)
-      (λ (y : (1 ≤ noteOf k t) × (behindRows (noteOf k t) ≡ 512 + noteOf k t)). absurd (omega (arith, y .1)))
+      (λ (y : (1 ≤ noteOf k t) × (behindRows (noteOf k t) ≡ 1024 + noteOf k t)). absurd (omega (arith, y .1)))
       (behind-cases (noteOf k t))
 
 -- ---- a table in which roles are looked up

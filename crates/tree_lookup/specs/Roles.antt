@@ -8,7 +8,8 @@ use mathlib.Core.List.{List, [], _∷_}
 use lib.Dec.{leb, eqb}
 use lib.ListN.{length}
 use Rattle.model.specs.Replay.{Entry, Aside, Tree, isHolder}
-use Rattle.tree_table.specs.Rows.{entryIn, treeIn, workBytes, InRange, AllProper}
+use Rattle.model.specs.Table.{entryIn, workBytes}
+use Rattle.tree_table.specs.Rows.{treeIn, InRange, AllProper}
 use Rattle.hash_chains.specs.Chains.{nodesIn, firstOf, rowAt, Chains, Found}
 use Rattle.tree_maps.specs.Keys.{linkOf, madeAt, Keyed}
 
@@ -31,9 +32,9 @@ noteOf k t = noteFrom k 0 (t .asides)
 -- what tells an aside's place from a row
 unfoldable pub behindRows : ℕ → ℕ
 behindRows zero = 0
-behindRows (suc n) = 513 + n
+behindRows (suc n) = 1025 + n
 
--- the role of the identity k: 0 none, 1 to 512 the row of an entry and one, 513 and on the place of an aside and 513
+-- the role of the identity k: 0 none, 1 to 1024 the row of an entry and one, 1025 and on the place of an aside and 1025
 unfoldable pub roleOf : ℕ → Tree → ℕ
 roleOf k t = rowOf k t + behindRows (noteOf k t)
 
@@ -45,13 +46,13 @@ whoAt (a ∷ l) (suc i) = whoAt l i
 
 -- the identity that has a role
 unfoldable pub nameOf : Tree → ℕ → ℕ
-nameOf t r = cond (leb r 512) (madeAt (t .entries) (r - 1)) (whoAt (t .asides) (r - 513))
+nameOf t r = cond (leb r 1024) (madeAt (t .entries) (r - 1)) (whoAt (t .asides) (r - 1025))
 
 -- a role among n entries and m asides
 pub record Role (n m r : ℕ) : Type 0 where
   pub least : 1 ≤ r
-  pub most : r ≤ 512 + m
-  pub within : (r ≤ n) ⊎ (512 < r)
+  pub most : r ≤ 1024 + m
+  pub within : (r ≤ n) ⊎ (1024 < r)
 
 -- the number r is the role of an identity
 abbrev pub HasRole : Tree → ℕ → Type 0
@@ -101,8 +102,8 @@ pub record Works (b register : List ℕ) (n m : ℕ) (t : Tree) : Type 0 where
   pub bytes : b ≡ workBytes t
   pub rows : length (t .entries) ≡ n
   pub notes : length (t .asides) ≡ m
-  pub rows-fit : n ≤ 512
-  pub notes-fit : m ≤ 512
+  pub rows-fit : n ≤ 1024
+  pub notes-fit : m ≤ 1024
   pub proper : AllProper (t .entries)
   pub lone : Lone (t .entries)
   pub marks : MarksFit (t .asides)
@@ -117,8 +118,8 @@ Holds b register n m = Works b register n m (treeIn b n m)
 
 -- what is asked of a table and a register in which the role of an identity is looked up
 pub record Reads (b register : List ℕ) (n m : ℕ) : Type 0 where
-  pub long : length b ≡ 43012
-  pub rows-fit : n ≤ 512
-  pub notes-fit : m ≤ 512
+  pub long : length b ≡ 86020
+  pub rows-fit : n ≤ 1024
+  pub notes-fit : m ≤ 1024
   pub apart : (k : ℕ) → (rowOf k (treeIn b n m) ≡ 0) ⊎ (noteOf k (treeIn b n m) ≡ 0)
   pub named : Named register (treeIn b n m)

@@ -3,7 +3,8 @@ ghost use mathlib.Core.Path.{_≡_};
 ghost use Prim.Native.Nat.{_+_, _*_, _≤_, _<_};
 ghost use lib.ListN.{length};
 ghost use Rattle.model.specs.Replay.{entryOf, isIn, holderOf, isBelow};
-ghost use Rattle.tree_table.specs.Rows.{entryIn, entriesFrom, rowIn, treeIn, InRange};
+ghost use Rattle.model.specs.Table.{entryIn};
+ghost use Rattle.tree_table.specs.Rows.{entriesFrom, rowIn, treeIn, InRange};
 ghost use Rattle.tree_lookup.specs.Roles.{rowOf, roleOf, nameOf, Role, holdsAt, earlierOf, Holds, Reads};
 ghost use Rattle.tree_lookup.specs.Lookup.{rowAmong};
 use tree_maps::LABELS;
@@ -11,19 +12,19 @@ use tree_table::Size;
 
 // The identity that has a role.
 pub fn name_at(table: &[u8], size: Size, role: usize) -> u32
-    requires { ⌜ (length (now table) ≡ 43012) × (size .entries ≤ 512) × (size .asides ≤ 512) × Role (size .entries) (size .asides) role ⌝ }
+    requires { ⌜ (length (now table) ≡ 86020) × (size .entries ≤ 1024) × (size .asides ≤ 1024) × Role (size .entries) (size .asides) role ⌝ }
     ensures { λ r. ⌜ r ≡ nameOf (treeIn (now (table .entry)) (size .entries) (size .asides)) role ⌝ }
 {
     if role <= size.entries {
         return tree_table::made_at(table, role - 1);
     }
-    tree_table::identity_at(table, 36868 + 12 * (role - 513))
+    tree_table::identity_at(table, 73732 + 12 * (role - 1025))
 }
 
 // The role of an identity, looked for in its chain.
 pub fn role_of(table: &[u8], register: &[u16], size: Size, k: u32) -> usize
     requires { ⌜ Reads (now table) (now register) (size .entries) (size .asides) × InRange k ⌝ }
-    ensures { λ r. ⌜ (r ≡ roleOf k (treeIn (now (table .entry)) (size .entries) (size .asides))) × (r ≤ 1024) ⌝ }
+    ensures { λ r. ⌜ (r ≡ roleOf k (treeIn (now (table .entry)) (size .entries) (size .asides))) × (r ≤ 2048) ⌝ }
 {
     let h = tree_maps::link(k);
     let mut q = hash_chains::first_of(register, 0, h);
@@ -72,7 +73,7 @@ pub fn entry_of(table: &[u8], register: &[u16], size: Size, k: u32) -> usize
 
 // The entry in row i is present and in the folder f.
 pub fn is_in(table: &[u8], i: usize, f: u32) -> bool
-    requires { ⌜ (length (now table) ≡ 43012) × (i < 512) ⌝ }
+    requires { ⌜ (length (now table) ≡ 86020) × (i < 1024) ⌝ }
     ensures { λ r. ⌜ r ≡ isIn f (entryIn (now (table .entry)) (4 + 72 * i)) ⌝ }
 {
     if tree_table::kind_at(table, i) == 0 {
@@ -83,7 +84,7 @@ pub fn is_in(table: &[u8], i: usize, f: u32) -> bool
 
 // The entry in row i, which is not k, holds a label in the folder f.
 pub fn holds_label(table: &[u8], i: usize, k: u32, f: u32, label: &[u8]) -> bool
-    requires { ⌜ (length (now table) ≡ 43012) × (i < 512) × (length (now label) ≡ 32) ⌝ }
+    requires { ⌜ (length (now table) ≡ 86020) × (i < 1024) × (length (now label) ≡ 32) ⌝ }
     ensures { λ r. ⌜ r ≡ holdsAt (now (table .entry)) k f (now (label .entry)) i ⌝ }
 {
     if !is_in(table, i, f) {
@@ -98,7 +99,7 @@ pub fn holds_label(table: &[u8], i: usize, k: u32, f: u32, label: &[u8]) -> bool
 
 // Of two rows the first, if it stands before the other and its entry, which is not k, holds a label in the folder f; otherwise the other.
 pub fn earlier(table: &[u8], row: usize, best: usize, k: u32, f: u32, label: &[u8]) -> usize
-    requires { ⌜ (length (now table) ≡ 43012) × (row < 512) × (length (now label) ≡ 32) ⌝ }
+    requires { ⌜ (length (now table) ≡ 86020) × (row < 1024) × (length (now label) ≡ 32) ⌝ }
     ensures { λ r. ⌜ r ≡ earlierOf (now (table .entry)) k f (now (label .entry)) row best ⌝ }
 {
     if best <= row {

@@ -236,7 +236,7 @@ module _ (l : List ℕ) (n : ℕ) (es : List Entry) (w : Keyed l n es) where
         }
 
     -- the absent entry in row i comes to its folder, at the place p
-    keyed-entered : i < n → f ≡ e .inside → isPresent (getD es i d) ≡ false → isPresent e ≡ true → nodesIn 4097 l < 1536 → Keyed (entered l p f (e .label) i) n (set es i e)
+    pub keyed-entered : i < n → f ≡ e .inside → isPresent (getD es i d) ≡ false → isPresent e ≡ true → nodesIn 4097 l < 1536 → Keyed (entered l p f (e .label) i) n (set es i e)
     unfolding entered chainOf
     keyed-entered low q gone here room =
         let a = hashOf f (e .label) in

@@ -10,8 +10,7 @@ use mathlib.Core.List.{List}
 use lib.Dec.{leb, eqb}
 use borrow.Author.Tests.{ne-eqb, leb-true, eqb-true}
 use Rattle.model.specs.Record.{Rec, op, objectOf, folderOf, labelOf, usesFolder}
-use Rattle.model.specs.Replay.{Entry, Tree, Verdict, fits, aside, entryOf, holderOf, unseen, freeLabel, andThen, isFolder, folderStands, judgePlace, judgeMake, judgeMove, judge}
-use Rattle.model.specs.Outcome.{reasonOf}
+use Rattle.model.specs.Replay.{Entry, Tree, Verdict, fits, aside, entryOf, holderOf, unseen, freeLabel, andThen, isFolder, folderStands, judgePlace, judgeMake, judgeMove, judge, reasonOf}
 use Rattle.byte_slice.proofs.Numbers.{eq-or-ne, bool-cases, or-true}
 use Rattle.tree_laws.proofs.Verdicts.{Under, Reason, reason-least, reason-range, judge-make, judge-move}
 use Rattle.tree_lookup.specs.Roles.{rowFrom, Home}

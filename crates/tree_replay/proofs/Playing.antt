@@ -65,13 +65,13 @@ unfolding laidAt
 record-is k bytes i at o = part-is bytes at 80 ∙ rw o
 
 module _ (k : Layout) (bytes b₀ register₀ : List ℕ) (n₀ m₀ n : ℕ) (p : Playable (treeIn b₀ n₀ m₀) (laidAt k bytes) n) (w₀ : Holds b₀ register₀ n₀ m₀) (b register : List ℕ) (x y i : ℕ) (w : Works b register x y (replayFrom (treeIn b₀ n₀ m₀) (listed (laidAt k bytes) 0 i))) where
-  pub turn-entries : i < n → n₀ + n ≤ 512 → x < 512
+  pub turn-entries : i < n → n₀ + n ≤ 1024 → x < 1024
   turn-entries h g =
       let c = w .rows in
       let d = w₀ .rows in
       omega (arith, replay-entries (treeIn b₀ n₀ m₀) (laidAt k bytes) i)
 
-  pub turn-asides : i < n → m₀ + n ≤ 512 → y < 512
+  pub turn-asides : i < n → m₀ + n ≤ 1024 → y < 1024
   turn-asides h g =
       let c = w .notes in
       let d = w₀ .notes in

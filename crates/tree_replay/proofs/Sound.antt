@@ -10,22 +10,22 @@ use lib.Dec.{eqb}
 use lib.ListN.{getD, length, replicate, length-replicate, replicate-append-replicate}
 use Rattle.model.specs.Bytes.{padded}
 use Rattle.model.specs.Record.{Rec, root, identity, unit, num, seen, identityAt, selfOf, objectOf, folderOf, wellFormed}
-use Rattle.model.specs.Log.{rank, count, noCounts, recordsOf, soundLog}
-use Rattle.model.specs.Replay.{emptyTree, replayFrom, replay}
-use Rattle.model.specs.Table.{entryRows, asideRows}
+use Rattle.model.specs.Log.{rank, count, countOn, noCounts, recordsOf, soundLog}
+use Rattle.model.specs.Replay.{Tree, emptyTree, replayFrom, replay}
+use Rattle.model.specs.Table.{entryRows, asideRows, flagged, workBytes}
 use Rattle.byte_slice.proofs.Numbers.{eq-or-ne}
 use Rattle.byte_slice.proofs.PutAt.{padded-nil}
 use Rattle.log_laws.specs.Members.{Has}
-use Rattle.log_laws.specs.Sound.{SoundAfter, Sound}
+use Rattle.log_laws.specs.Sound.{SoundAfter, SoundOn, Sound}
 use Rattle.log_laws.proofs.Formed.{well-length, well-unit}
-use Rattle.log_laws.proofs.Counts.{above-all, formed, number-held, seen-within}
-use Rattle.log_laws.proofs.Same.{unique}
+use Rattle.log_laws.proofs.Counts.{above-all-on, formed-on, number-held-on, seen-within-on, no-counts}
+use Rattle.log_laws.proofs.Same.{unique-on}
 use Rattle.encoding_laws.proofs.Logs.{sound-records, sound-few}
 use Rattle.record.specs.WellFormed.{Named}
 use Rattle.record.proofs.Fields.{well-head}
 use Rattle.record.proofs.Claims.{object-named, folder-root-or-named}
 use Rattle.tree_laws.proofs.Steps.{cond-elim}
-use Rattle.tree_table.specs.Rows.{entriesFrom, asidesFrom, treeIn, flagged, workBytes, InRange}
+use Rattle.tree_table.specs.Rows.{entriesFrom, asidesFrom, treeIn, InRange}
 use Rattle.tree_lookup.specs.Roles.{rowFrom, noteFrom, rowOf, noteOf, behindRows, roleOf, Named as Roles, Works, Holds}
 use Rattle.hash_chains.specs.Chains.{nodesIn, firstOf, Chains}
 use Rattle.tree_maps.specs.Keys.{registerSize, childrenOf, Keyed}
@@ -39,7 +39,7 @@ use Rattle.tree_replay.specs.Playable.{Playable}
 
 -- ---- what a well-formed record names
 
-named-range : (r : Rec) (at : ℕ) → Named r at → ((v : ℕ) → v < 8 → seen r v ≤ 512) → InRange (identityAt r at)
+named-range : (r : Rec) (at : ℕ) → Named r at → ((v : ℕ) → v < 8 → seen r v < 65536) → InRange (identityAt r at)
 unfolding identityAt identity
 named-range r at n h =
     let a = n .unit-known in
@@ -48,7 +48,7 @@ named-range r at n h =
     let e = h (getD r at 0) (omega arith) in
     record { low = omega arith; high = omega arith }
 
-pub formed-asks : (r : Rec) → wellFormed r ≡ true → ((v : ℕ) → v < 8 → seen r v ≤ 512) → Asks r
+pub formed-asks : (r : Rec) → wellFormed r ≡ true → ((v : ℕ) → v < 8 → seen r v < 65536) → Asks r
 unfolding objectOf folderOf
 formed-asks r e h =
     record {
@@ -68,13 +68,13 @@ has-listed at i zero j h g = absurd (omega arith)
 has-listed at i (suc m) j h g =
     ⊎-elim (λ (q : j ≡ i). inl (ap at q)) (λ (q : j ≡ i → ⊥). inr (has-listed at (suc i) m j (omega arith) (omega arith))) (eq-or-ne j i)
 
-rank-rises : (at : ℕ → Rec) (i m : ℕ) (pre : List Rec) → SoundAfter noCounts pre (listed at i m) → (p q : ℕ) → i ≤ p → p < q → q < i + m → rank (at p) < rank (at q)
+rank-rises : (base : List ℕ) (at : ℕ → Rec) (i m : ℕ) (pre : List Rec) → SoundAfter base pre (listed at i m) → (p q : ℕ) → i ≤ p → p < q → q < i + m → rank (at p) < rank (at q)
 unfolding listed
-rank-rises at i zero pre s p q h g l = absurd (omega arith)
-rank-rises at i (suc m) pre s p q h g l =
+rank-rises base at i zero pre s p q h g l = absurd (omega arith)
+rank-rises base at i (suc m) pre s p q h g l =
     ⊎-elim
-    (λ (e : p ≡ i). above-all (at i ∷ pre) (listed at (suc i) m) (at p) (at q) (s .1) (inl (ap at e)) (has-listed at (suc i) m q (omega arith) (omega arith)))
-    (λ (e : p ≡ i → ⊥). rank-rises at (suc i) m (at i ∷ pre) (s .1) p q (omega arith) g (omega arith))
+    (λ (e : p ≡ i). above-all-on base (at i ∷ pre) (listed at (suc i) m) (at p) (at q) (s .1) (inl (ap at e)) (has-listed at (suc i) m q (omega arith) (omega arith)))
+    (λ (e : p ≡ i → ⊥). rank-rises base at (suc i) m (at i ∷ pre) (s .1) p q (omega arith) g (omega arith))
     (eq-or-ne p i)
 
 pub count-few : (u : ℕ) (l : List Rec) → count u l ≤ length l
@@ -95,28 +95,34 @@ empty-role : (k : ℕ) → roleOf k emptyTree ≡ 0
 unfolding roleOf rowOf noteOf behindRows rowFrom noteFrom emptyTree
 empty-role k = refl
 
-pub sound-playable : (at : ℕ → Rec) (n : ℕ) (l : List Rec) → l ≡ listed at 0 n → length l ≡ n → n ≤ 512 → Sound l → Playable emptyTree at n
+-- the records of a log that is sound behind a base vector may be replayed from a tree that has none of them
+pub playable-on : (base : List ℕ) (t : Tree) (at : ℕ → Rec) (n : ℕ) (l : List Rec) → l ≡ listed at 0 n → length l ≡ n → SoundOn base l → ((u : ℕ) → u < 8 → countOn base u l < 65536)
+    → ((r : Rec) → Has r l → roleOf (selfOf r) t ≡ 0) → Playable t at n
 unfolding selfOf identity
-sound-playable at n l e c few s =
+playable-on base t at n l e c s low fresh =
     let has : (i : ℕ) → i < n → Has (at i) l = λ i h. rw e (has-listed at 0 n i (omega arith) (omega arith)) in
-    let well : (i : ℕ) → i < n → wellFormed (at i) ≡ true = λ i h. formed [] l (at i) s (has i h) in
-    let low : (i : ℕ) → i < n → unit (at i) < 8 = λ i h. well-unit (at i) (well i h) in
+    let well : (i : ℕ) → i < n → wellFormed (at i) ≡ true = λ i h. formed-on base [] l (at i) s (has i h) in
+    let under : (i : ℕ) → i < n → unit (at i) < 8 = λ i h. well-unit (at i) (well i h) in
     record {
-      asks = λ i h. formed-asks (at i) (well i h) (λ v g. omega (arith, seen-within l (at i) s (has i h) v g, count-few v l));
+      asks = λ i h. formed-asks (at i) (well i h) (λ v g. omega (arith, seen-within-on base l (at i) s (has i h) v g, low v g));
       own = λ i h.
-          let a = low i h in
+          let a = under i h in
           let d = well-head (at i) (well i h) .number in
-          let f = number-held l (at i) s (has i h) in
-          let g = count-few (unit (at i)) l in
+          let f = number-held-on base l (at i) s (has i h) in
+          let g = low (unit (at i)) a in
           record { low = omega arith; high = omega arith };
       apart = λ i j h g q.
           let same : at j ≡ at i =
-          unique [] l s (at j) (at i) (has j g) (has i (omega arith)) (self-unit (at j) (at i) (low j g) (low i (omega arith)) q) (self-num (at j) (at i) (low j g) (low i (omega arith)) q) in
-          let rises = rank-rises at 0 n [] (rw e at s) i j (omega arith) h (omega arith) in
+          unique-on base [] l s (at j) (at i) (has j g) (has i (omega arith)) (self-unit (at j) (at i) (under j g) (under i (omega arith)) q) (self-num (at j) (at i) (under j g) (under i (omega arith)) q) in
+          let rises = rank-rises base at 0 n [] (rw e at s) i j (omega arith) h (omega arith) in
           let level : rank (at j) ≡ rank (at i) = ap rank same in
           absurd (omega arith);
-      fresh = λ i h. empty-role (selfOf (at i));
+      fresh = λ i h. fresh (at i) (has i h);
     }
+
+pub sound-playable : (at : ℕ → Rec) (n : ℕ) (l : List Rec) → l ≡ listed at 0 n → length l ≡ n → n ≤ 512 → Sound l → Playable emptyTree at n
+sound-playable at n l e c few s =
+    playable-on noCounts emptyTree at n l e c s (λ u h. omega (arith, count-few u l, no-counts u)) (λ r i. empty-role (selfOf r))
 
 -- ---- the start: all zero
 
@@ -126,7 +132,7 @@ table-zeros a b =
     sym (replicate-append-replicate {A = ℕ} 4 (a + b) 0)
     ∙ ap (λ (x : List ℕ). 0 ∷ 0 ∷ 0 ∷ 0 ∷ x) (sym (replicate-append-replicate a b 0) ∙ ap₂ (λ (x y : List ℕ). x ++ y) (sym (padded-nil a)) (sym (padded-nil b)))
 
-zeros-at : (n i : ℕ) → getD (replicate {A = ℕ} n 0) i 0 ≡ 0
+pub zeros-at : (n i : ℕ) → getD (replicate {A = ℕ} n 0) i 0 ≡ 0
 zeros-at zero i = refl
 zeros-at (suc n) zero = refl
 zeros-at (suc n) (suc i) = zeros-at n i
@@ -170,11 +176,11 @@ blank-named =
       found = λ k u h. absurd (h (empty-role k));
     }
 
-start-works : (b register : List ℕ) → b ≡ replicate 43012 0 → register ≡ replicate registerSize 0 → Works b register 0 0 emptyTree
+pub start-works : (b register : List ℕ) → b ≡ replicate 86020 0 → register ≡ replicate registerSize 0 → Works b register 0 0 emptyTree
 unfolding workBytes flagged emptyTree entryRows asideRows rowOf noteOf rowFrom noteFrom
 start-works b register e f =
     record {
-      bytes = e ∙ table-zeros 36864 6144;
+      bytes = e ∙ table-zeros 73728 12288;
       rows = refl;
       notes = refl;
       rows-fit = omega arith;
@@ -194,7 +200,7 @@ pub empty-rows : (b : List ℕ) → treeIn b 0 0 ≡ emptyTree
 unfolding treeIn emptyTree entriesFrom asidesFrom
 empty-rows b = refl
 
-pub start-holds : (b register : List ℕ) → b ≡ replicate 43012 0 → register ≡ replicate registerSize 0 → Holds b register 0 0
+pub start-holds : (b register : List ℕ) → b ≡ replicate 86020 0 → register ≡ replicate registerSize 0 → Holds b register 0 0
 start-holds b register e f = works-holds b register 0 0 emptyTree (start-works b register e f)
 
 pub start-nodes : (register : List ℕ) (n : ℕ) → register ≡ replicate registerSize 0 → n ≤ 512 → nodesIn 4097 register + n ≤ 1536
@@ -206,7 +212,7 @@ module _ (b : List ℕ) (n : ℕ) (c : n ≡ length (recordsOf b)) where
   pub few-records : n ≤ 512
   few-records = omega (arith, sound-few b)
 
-  pub log-room : 0 + n ≤ 512
+  pub log-room : 0 + n ≤ 1024
   log-room = omega (arith, sound-few b)
 
   pub log-both : 0 + 0 + n ≤ 1536

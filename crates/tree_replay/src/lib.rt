@@ -19,7 +19,7 @@ use tree_table::Size;
 
 // One record: it acts, or stands aside.
 pub fn step(rec: &[u8], table: &mut [u8], register: &mut [u16], size: Size) -> Size
-    requires { ⌜ Takes (treeIn (now table) (size .entries) (size .asides)) (now rec) × Holds (now table) (now register) (size .entries) (size .asides) × (size .entries < 512) × (size .asides < 512) × (size .entries + size .asides < 1536) × (nodesIn 4097 (now register) < 1536) ⌝ }
+    requires { ⌜ Takes (treeIn (now table) (size .entries) (size .asides)) (now rec) × Holds (now table) (now register) (size .entries) (size .asides) × (size .entries < 1024) × (size .asides < 1024) × (size .entries + size .asides < 1536) × (nodesIn 4097 (now register) < 1536) ⌝ }
     ensures { λ r. ⌜ Works (now (table .exit)) (now (register .exit)) (r .entries) (r .asides) (stepOf (treeIn (now (table .entry)) (size .entries) (size .asides)) (now (rec .entry))) × (nodesIn 4097 (now (register .exit)) ≤ nodesIn 4097 (now (register .entry)) + 1) × (now (register .exit) ≡ stepOn (now (rec .entry)) (treeIn (now (table .entry)) (size .entries) (size .asides)) (now (register .entry))) ⌝ }
 {
     let j = tree_judge::judge(rec, table, register, size);
@@ -38,7 +38,7 @@ pub fn replay(
     register: &mut [u16],
     start: Size,
 ) -> Size
-    requires { ⌜ Laid layout (now bytes) n × Playable (treeIn (now table) (start .entries) (start .asides)) (laidAt layout (now bytes)) n × Holds (now table) (now register) (start .entries) (start .asides) × (start .entries + n ≤ 512) × (start .asides + n ≤ 512) × (start .entries + start .asides + n ≤ 1536) × (nodesIn 4097 (now register) + n ≤ 1536) ⌝ }
+    requires { ⌜ Laid layout (now bytes) n × Playable (treeIn (now table) (start .entries) (start .asides)) (laidAt layout (now bytes)) n × Holds (now table) (now register) (start .entries) (start .asides) × (start .entries + n ≤ 1024) × (start .asides + n ≤ 1024) × (start .entries + start .asides + n ≤ 1536) × (nodesIn 4097 (now register) + n ≤ 1536) ⌝ }
     ensures { λ r. ⌜ Works (now (table .exit)) (now (register .exit)) (r .entries) (r .asides) (replayFrom (treeIn (now (table .entry)) (start .entries) (start .asides)) (listed (laidAt layout (now (bytes .entry))) 0 n)) × (now (register .exit) ≡ replayOn (treeIn (now (table .entry)) (start .entries) (start .asides)) (now (register .entry)) (listed (laidAt layout (now (bytes .entry))) 0 n)) ⌝ }
 {
     let mut size = start;
@@ -54,7 +54,7 @@ pub fn replay(
 
 // The n records of a sound log, from the root alone on, into a table and a register of zeros.
 pub fn replay_log(log: &[u8], n: usize, table: &mut [u8], register: &mut [u16]) -> Size
-    requires { ⌜ (length (now log) ≡ 40960) × (soundLog (now log) ≡ true) × (n ≡ length (recordsOf (now log))) × (now table ≡ replicate 43012 0) × (now register ≡ replicate registerSize 0) ⌝ }
+    requires { ⌜ (length (now log) ≡ 40960) × (soundLog (now log) ≡ true) × (n ≡ length (recordsOf (now log))) × (now table ≡ replicate 86020 0) × (now register ≡ replicate registerSize 0) ⌝ }
     ensures { λ r. ⌜ Works (now (table .exit)) (now (register .exit)) (r .entries) (r .asides) (replayOf (recordsOf (now (log .entry)))) × (now (register .exit) ≡ replayOn emptyTree (replicate registerSize 0) (recordsOf (now (log .entry)))) ⌝ }
 {
     replay(

@@ -12,10 +12,10 @@ use lib.Seq.{getD-append-add, take-at, drop-at}
 use Rattle.model.specs.Bytes.{word, part, padded}
 use Rattle.model.specs.Record.{identity, identityAt}
 use Rattle.model.specs.Replay.{Entry, Aside, Tree}
-use Rattle.model.specs.Table.{identityBytes, entryRow, asideRow, entryRows, asideRows}
+use Rattle.model.specs.Table.{identityBytes, entryRow, asideRow, entryRows, asideRows, entryIn, asideIn, flagged}
 use Rattle.byte_slice.proofs.Parts.{part-behind}
 use Rattle.byte_slice.proofs.Words.{word-behind}
-use Rattle.tree_table.specs.Rows.{entryIn, asideIn, entriesFrom, asidesFrom, treeIn, flagged, flagOf, Proper, AllProper}
+use Rattle.tree_table.specs.Rows.{entriesFrom, asidesFrom, treeIn, flagOf, Proper, AllProper}
 
 -- ---- behind other bytes
 
@@ -131,29 +131,29 @@ entries-back s (e ∷ l) p q i n h =
     let b = rw (append-assoc p row (rest ++ q), ← append-assoc row rest q) at (entries-back s l (p ++ row) q (suc i) m (h .1)) in
     λ j. a j ∷ b j
 
-pub asides-back : (l : List Aside) (p q : List ℕ) (i : ℕ) → length p ≡ 36868 + 12 * i → asidesFrom (p ++ (asideRows l ++ q)) i (length l) ≡ l
+pub asides-back : (l : List Aside) (p q : List ℕ) (i : ℕ) → length p ≡ 73732 + 12 * i → asidesFrom (p ++ (asideRows l ++ q)) i (length l) ≡ l
 unfolding asidesFrom asideRows
 asides-back [] p q i n = refl
 asides-back (x ∷ l) p q i n =
     let row = asideRow x in
     let rest = asideRows l in
-    let a : asideIn (p ++ ((row ++ rest) ++ q)) (36868 + 12 * i) ≡ x =
+    let a : asideIn (p ++ ((row ++ rest) ++ q)) (73732 + 12 * i) ≡ x =
     (rw (add-zero (length p), n) at (aside-behind p ((row ++ rest) ++ q) 0)) ∙ rw (append-assoc row rest q) (aside-back x (rest ++ q)) in
-    let m : length (p ++ row) ≡ 36868 + 12 * suc i = omega (arith, length-append p row, aside-row-length x) in
+    let m : length (p ++ row) ≡ 73732 + 12 * suc i = omega (arith, length-append p row, aside-row-length x) in
     let b = rw (append-assoc p row (rest ++ q), ← append-assoc row rest q) at (asides-back l (p ++ row) q (suc i) m) in
     λ j. a j ∷ b j
 
 -- the tree that a table shows is the tree that was laid in it
-pub tree-back : (s : List Aside) (t : Tree) → AllProper (t .entries) → length (t .entries) ≤ 512
+pub tree-back : (s : List Aside) (t : Tree) → AllProper (t .entries) → length (t .entries) ≤ 1024
     → treeIn (flagged s (t .entries) (t .asides)) (length (t .entries)) (length (t .asides)) ≡ t
 unfolding treeIn flagged padded
 tree-back s t h n =
     let R = entryRows s (t .entries) in
     let A = asideRows (t .asides) in
-    let z : List ℕ = replicate (36864 - length R) 0 in
-    let y : List ℕ = replicate (6144 - length A) 0 in
+    let z : List ℕ = replicate (73728 - length R) 0 in
+    let y : List ℕ = replicate (12288 - length A) 0 in
     let head : List ℕ = (0 ∷ 0 ∷ 0 ∷ 0 ∷ []) in
     let a = rw (← append-assoc R z (A ++ y)) at (entries-back s (t .entries) head (z ++ (A ++ y)) 0 refl h) in
-    let m : length (head ++ (R ++ z)) ≡ 36868 = omega (arith, rows-length s (t .entries) h, length-append R z, length-replicate {A = ℕ} (36864 - length R) 0) in
+    let m : length (head ++ (R ++ z)) ≡ 73732 = omega (arith, rows-length s (t .entries) h, length-append R z, length-replicate {A = ℕ} (73728 - length R) 0) in
     let b = rw (append-assoc head (R ++ z) (A ++ y)) at (asides-back (t .asides) (head ++ (R ++ z)) y 0 m) in
     λ i. record { entries = a i; asides = b i }

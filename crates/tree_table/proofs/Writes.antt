@@ -7,10 +7,10 @@ use mathlib.Core.List.{List, [], _∷_, _++_, append-assoc, append-nil}
 use lib.ListN.{getD, length, set, replicate, length-append}
 use Rattle.model.specs.Bytes.{part, padded, putAt}
 use Rattle.model.specs.Replay.{Entry, Aside}
-use Rattle.model.specs.Table.{entryRow, asideRow, entryRows, asideRows}
+use Rattle.model.specs.Table.{entryRow, asideRow, entryRows, asideRows, flagged}
 use Rattle.byte_slice.proofs.Parts.{part-front, part-behind, part-whole}
 use Rattle.byte_slice.proofs.PutAt.{put-whole, put-in-front, put-in-back, put-padded, length-put, length-padded}
-use Rattle.tree_table.specs.Rows.{flagged, flagOf, Proper, AllProper}
+use Rattle.tree_table.specs.Rows.{flagOf, Proper, AllProper}
 use Rattle.tree_table.proofs.Rows.{row-length, rows-length, aside-row-length, aside-rows-length}
 
 -- ---- rows laid end to end
@@ -82,38 +82,38 @@ part-in-padded n p at m h = part-front p (replicate (n - length p) 0) at m h
 head : List ℕ
 head = 0 ∷ 0 ∷ 0 ∷ 0 ∷ []
 
-module _ (s : List Aside) (es : List Entry) (l : List Aside) (fit : AllProper es) (room : length es ≤ 512) where
-  rows-long : length (padded 36864 (entryRows s es)) ≡ 36864
-  rows-long = length-padded 36864 (entryRows s es) (omega (arith, rows-length s es fit))
+module _ (s : List Aside) (es : List Entry) (l : List Aside) (fit : AllProper es) (room : length es ≤ 1024) where
+  rows-long : length (padded 73728 (entryRows s es)) ≡ 73728
+  rows-long = length-padded 73728 (entryRows s es) (omega (arith, rows-length s es fit))
 
-  pub flagged-long : length l ≤ 512 → length (flagged s es l) ≡ 43012
+  pub flagged-long : length l ≤ 1024 → length (flagged s es l) ≡ 86020
   unfolding flagged
   flagged-long n =
       omega (
         arith,
-        length-append (padded 36864 (entryRows s es)) (padded 6144 (asideRows l)),
+        length-append (padded 73728 (entryRows s es)) (padded 12288 (asideRows l)),
         rows-long,
-        length-padded 6144 (asideRows l) (omega (arith, aside-rows-length l)),
+        length-padded 12288 (asideRows l) (omega (arith, aside-rows-length l)),
       )
 
-  in-entries : (at : ℕ) (x : List ℕ) → at + length x ≤ 36864
-      → putAt (flagged s es l) (4 + at) x ≡ head ++ (putAt (padded 36864 (entryRows s es)) at x ++ padded 6144 (asideRows l))
+  in-entries : (at : ℕ) (x : List ℕ) → at + length x ≤ 73728
+      → putAt (flagged s es l) (4 + at) x ≡ head ++ (putAt (padded 73728 (entryRows s es)) at x ++ padded 12288 (asideRows l))
   unfolding flagged head
   in-entries at x h =
-      put-in-back head (padded 36864 (entryRows s es) ++ padded 6144 (asideRows l)) at x
-      ∙ ap (λ (y : List ℕ). head ++ y) (put-in-front (padded 36864 (entryRows s es)) (padded 6144 (asideRows l)) at x (omega (arith, rows-long)))
+      put-in-back head (padded 73728 (entryRows s es) ++ padded 12288 (asideRows l)) at x
+      ∙ ap (λ (y : List ℕ). head ++ y) (put-in-front (padded 73728 (entryRows s es)) (padded 12288 (asideRows l)) at x (omega (arith, rows-long)))
 
   in-asides : (at : ℕ) (x : List ℕ)
-      → putAt (flagged s es l) (36868 + at) x ≡ head ++ (padded 36864 (entryRows s es) ++ putAt (padded 6144 (asideRows l)) at x)
+      → putAt (flagged s es l) (73732 + at) x ≡ head ++ (padded 73728 (entryRows s es) ++ putAt (padded 12288 (asideRows l)) at x)
   unfolding flagged head
   in-asides at x =
-      let n : 36868 + at ≡ 4 + (length (padded 36864 (entryRows s es)) + at) = omega (arith, rows-long) in
+      let n : 73732 + at ≡ 4 + (length (padded 73728 (entryRows s es)) + at) = omega (arith, rows-long) in
       rw n
-      (put-in-back head (padded 36864 (entryRows s es) ++ padded 6144 (asideRows l)) (length (padded 36864 (entryRows s es)) + at) x
-      ∙ ap (λ (y : List ℕ). head ++ y) (put-in-back (padded 36864 (entryRows s es)) (padded 6144 (asideRows l)) at x))
+      (put-in-back head (padded 73728 (entryRows s es) ++ padded 12288 (asideRows l)) (length (padded 73728 (entryRows s es)) + at) x
+      ∙ ap (λ (y : List ℕ). head ++ y) (put-in-back (padded 73728 (entryRows s es)) (padded 12288 (asideRows l)) at x))
 
   -- a row for one entry more
-  pub add-entry : (e : Entry) → length es < 512 → Proper e
+  pub add-entry : (e : Entry) → length es < 1024 → Proper e
       → putAt (flagged s es l) (4 + 72 * length es) (entryRow (flagOf s e) e) ≡ flagged s (es ++ (e ∷ [])) l
   unfolding flagged head entryRows
   add-entry e h r =
@@ -121,13 +121,13 @@ module _ (s : List Aside) (es : List Entry) (l : List Aside) (fit : AllProper es
       let n = rows-length s es fit in
       let x = entryRow (flagOf s e) e in
       in-entries (72 * length es) x (omega (arith, row-length (flagOf s e) e r))
-      ∙ rw (← n, put-padded 36864 R x, entry-rows-append s es (e ∷ []), append-nil x)
+      ∙ rw (← n, put-padded 73728 R x, entry-rows-append s es (e ∷ []), append-nil x)
 
   -- bytes in the place of bytes of the rows
   pub rows-written : (at : ℕ) (x : List ℕ) → at + length x ≤ length (entryRows s es)
-      → putAt (flagged s es l) (4 + at) x ≡ (0 ∷ 0 ∷ 0 ∷ 0 ∷ []) ++ (padded 36864 (putAt (entryRows s es) at x) ++ padded 6144 (asideRows l))
+      → putAt (flagged s es l) (4 + at) x ≡ (0 ∷ 0 ∷ 0 ∷ 0 ∷ []) ++ (padded 73728 (putAt (entryRows s es) at x) ++ padded 12288 (asideRows l))
   unfolding head
-  rows-written at x h = in-entries at x (omega (arith, rows-length s es fit)) ∙ rw (put-in-padded 36864 (entryRows s es) at x h)
+  rows-written at x h = in-entries at x (omega (arith, rows-length s es fit)) ∙ rw (put-in-padded 73728 (entryRows s es) at x h)
 
   -- another row in the place of row i
   pub set-entry : (i : ℕ) (e : Entry) → i < length es → Proper e
@@ -142,31 +142,31 @@ module _ (s : List Aside) (es : List Entry) (l : List Aside) (fit : AllProper es
   unfolding flagged head
   part-entry i d h =
       let n = rows-length s es fit in
-      part-behind head (padded 36864 (entryRows s es) ++ padded 6144 (asideRows l)) (72 * i) 72
-      ∙ part-front (padded 36864 (entryRows s es)) (padded 6144 (asideRows l)) (72 * i) 72 (omega (arith, rows-long))
-      ∙ part-in-padded 36864 (entryRows s es) (72 * i) 72 (omega arith)
+      part-behind head (padded 73728 (entryRows s es) ++ padded 12288 (asideRows l)) (72 * i) 72
+      ∙ part-front (padded 73728 (entryRows s es)) (padded 12288 (asideRows l)) (72 * i) 72 (omega (arith, rows-long))
+      ∙ part-in-padded 73728 (entryRows s es) (72 * i) 72 (omega arith)
       ∙ rows-part s es i d h fit
 
   -- a row for one aside more
-  pub add-aside : (a : Aside) → putAt (flagged s es l) (36868 + 12 * length l) (asideRow a) ≡ flagged s es (l ++ (a ∷ []))
+  pub add-aside : (a : Aside) → putAt (flagged s es l) (73732 + 12 * length l) (asideRow a) ≡ flagged s es (l ++ (a ∷ []))
   unfolding flagged head asideRows
   add-aside a =
       in-asides (12 * length l) (asideRow a)
-      ∙ rw (← aside-rows-length l, put-padded 6144 (asideRows l) (asideRow a), aside-rows-append l (a ∷ []), append-nil (asideRow a))
+      ∙ rw (← aside-rows-length l, put-padded 12288 (asideRows l) (asideRow a), aside-rows-append l (a ∷ []), append-nil (asideRow a))
 
-  pub set-aside : (i : ℕ) (a : Aside) → i < length l → putAt (flagged s es l) (36868 + 12 * i) (asideRow a) ≡ flagged s es (set l i a)
+  pub set-aside : (i : ℕ) (a : Aside) → i < length l → putAt (flagged s es l) (73732 + 12 * i) (asideRow a) ≡ flagged s es (set l i a)
   unfolding flagged head
   set-aside i a h =
       in-asides (12 * i) (asideRow a)
-      ∙ rw (put-in-padded 6144 (asideRows l) (12 * i) (asideRow a) (omega (arith, aside-rows-length l, aside-row-length a)), aside-rows-set l i a h)
+      ∙ rw (put-in-padded 12288 (asideRows l) (12 * i) (asideRow a) (omega (arith, aside-rows-length l, aside-row-length a)), aside-rows-set l i a h)
 
-  pub part-aside : (i : ℕ) (d : Aside) → i < length l → part (flagged s es l) (36868 + 12 * i) 12 ≡ asideRow (getD l i d)
+  pub part-aside : (i : ℕ) (d : Aside) → i < length l → part (flagged s es l) (73732 + 12 * i) 12 ≡ asideRow (getD l i d)
   unfolding flagged head
   part-aside i d h =
-      let R = padded 36864 (entryRows s es) in
-      let A = padded 6144 (asideRows l) in
-      let n : 36868 + 12 * i ≡ 4 + (length R + 12 * i) = omega (arith, rows-long) in
+      let R = padded 73728 (entryRows s es) in
+      let A = padded 12288 (asideRows l) in
+      let n : 73732 + 12 * i ≡ 4 + (length R + 12 * i) = omega (arith, rows-long) in
       rw n (part-behind head (R ++ A) (length R + 12 * i) 12)
       ∙ part-behind R A (12 * i) 12
-      ∙ part-in-padded 6144 (asideRows l) (12 * i) 12 (omega (arith, aside-rows-length l))
+      ∙ part-in-padded 12288 (asideRows l) (12 * i) 12 (omega (arith, aside-rows-length l))
       ∙ aside-rows-part l i d h

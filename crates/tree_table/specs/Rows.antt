@@ -10,26 +10,7 @@ use lib.ListN.{getD, length}
 use Rattle.model.specs.Bytes.{part, padded, putAt}
 use Rattle.model.specs.Record.{Rec, op, identityAt, selfOf, folderOf, dateBytes, labelOf, markOf}
 use Rattle.model.specs.Replay.{Entry, Aside, Tree, isDisputed}
-use Rattle.model.specs.Table.{identityBytes, entryRows, asideRows}
-
--- the entry in the 72 bytes at a place
-unfoldable pub entryIn : List ℕ → ℕ → Entry
-entryIn b at =
-    record {
-      made = identityAt b (at + 4);
-      kind = getD b at 0;
-      inside = identityAt b (at + 8);
-      label = part b (at + 24) 32;
-      contents = identityAt b (at + 12);
-      date = part b (at + 20) 4;
-      mark = part b (at + 56) 16;
-      placing = identityAt b (at + 16);
-    }
-
--- the aside in the 12 bytes at a place
-unfoldable pub asideIn : List ℕ → ℕ → Aside
-asideIn b at =
-    record { who = identityAt b at; reason = getD b (at + 4) 0; marked = identityAt b (at + 8); isOpen = eqb (getD b (at + 5) 0) 1 }
+use Rattle.model.specs.Table.{identityBytes, asideIn, entryIn}
 
 -- the entries in the n rows from row i on
 unfoldable pub entriesFrom : List ℕ → ℕ → ℕ → List Entry
@@ -39,7 +20,7 @@ entriesFrom b i (suc n) = entryIn b (4 + 72 * i) ∷ entriesFrom b (suc i) n
 -- the asides in the n rows from row i on
 unfoldable pub asidesFrom : List ℕ → ℕ → ℕ → List Aside
 asidesFrom b i zero = []
-asidesFrom b i (suc n) = asideIn b (36868 + 12 * i) ∷ asidesFrom b (suc i) n
+asidesFrom b i (suc n) = asideIn b (73732 + 12 * i) ∷ asidesFrom b (suc i) n
 
 -- the tree in the first n rows of entries and the first m rows of asides
 unfoldable pub treeIn : List ℕ → ℕ → ℕ → Tree
@@ -52,14 +33,6 @@ rowIn b n i = cond (ltb i n) (some (entryIn b (4 + 72 * i))) none
 -- the flag of an entry that the asides dispute, or not
 abbrev pub flagOf : List Aside → Entry → ℕ
 flagOf s e = cond (isDisputed (e .made) s) 1 0
-
--- a table of 43,012 bytes with rows for entries, those disputed by s with their flag, and rows for asides; the counts are zero
-unfoldable pub flagged : List Aside → List Entry → List Aside → List ℕ
-flagged s es l = (0 ∷ 0 ∷ 0 ∷ 0 ∷ []) ++ (padded 36864 (entryRows s es) ++ padded 6144 (asideRows l))
-
--- the table while records are replayed: a row for every entry ever made, in order of making, and no flags
-unfoldable pub workBytes : Tree → List ℕ
-workBytes t = flagged [] (t .entries) (t .asides)
 
 -- an identity of unit 0 to 7 and number 1 to 65,535
 pub record InRange (k : ℕ) : Type 0 where

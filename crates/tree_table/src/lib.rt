@@ -4,8 +4,8 @@ ghost use Prim.Native.Nat.{_+_, _*_, _≤_, _<_};
 ghost use lib.ListN.{length};
 ghost use Rattle.model.specs.Bytes.{putAt};
 ghost use Rattle.model.specs.Record.{identityAt, selfOf, objectOf, folderOf};
-ghost use Rattle.model.specs.Table.{identityBytes, asideRow};
-ghost use Rattle.tree_table.specs.Rows.{entryIn, newAside, newRow, storedRow, renamedRow, movedRow};
+ghost use Rattle.model.specs.Table.{identityBytes, asideRow, entryIn};
+ghost use Rattle.tree_table.specs.Rows.{newAside, newRow, storedRow, renamedRow, movedRow};
 
 // How many rows of entries and of asides a table has.
 pub struct Size {
@@ -57,7 +57,7 @@ pub fn put_identity(dst: &mut [u8], at: usize, k: u32)
 
 // The kind of the entry in row i.
 pub fn kind_at(table: &[u8], i: usize) -> u8
-    requires { ⌜ (length (now table) ≡ 43012) × (i < 512) ⌝ }
+    requires { ⌜ (length (now table) ≡ 86020) × (i < 1024) ⌝ }
     ensures { λ r. ⌜ r ≡ entryIn (now (table .entry)) (4 + 72 * i) .kind ⌝ }
 {
     table[4 + 72 * i]
@@ -65,7 +65,7 @@ pub fn kind_at(table: &[u8], i: usize) -> u8
 
 // The identity of the entry in row i.
 pub fn made_at(table: &[u8], i: usize) -> u32
-    requires { ⌜ (length (now table) ≡ 43012) × (i < 512) ⌝ }
+    requires { ⌜ (length (now table) ≡ 86020) × (i < 1024) ⌝ }
     ensures { λ r. ⌜ r ≡ entryIn (now (table .entry)) (4 + 72 * i) .made ⌝ }
 {
     identity_at(table, 4 + 72 * i + 4)
@@ -73,7 +73,7 @@ pub fn made_at(table: &[u8], i: usize) -> u32
 
 // The folder of the entry in row i.
 pub fn inside_at(table: &[u8], i: usize) -> u32
-    requires { ⌜ (length (now table) ≡ 43012) × (i < 512) ⌝ }
+    requires { ⌜ (length (now table) ≡ 86020) × (i < 1024) ⌝ }
     ensures { λ r. ⌜ r ≡ entryIn (now (table .entry)) (4 + 72 * i) .inside ⌝ }
 {
     identity_at(table, 4 + 72 * i + 8)
@@ -81,7 +81,7 @@ pub fn inside_at(table: &[u8], i: usize) -> u32
 
 // The last contents record of the entry in row i.
 pub fn contents_at(table: &[u8], i: usize) -> u32
-    requires { ⌜ (length (now table) ≡ 43012) × (i < 512) ⌝ }
+    requires { ⌜ (length (now table) ≡ 86020) × (i < 1024) ⌝ }
     ensures { λ r. ⌜ r ≡ entryIn (now (table .entry)) (4 + 72 * i) .contents ⌝ }
 {
     identity_at(table, 4 + 72 * i + 12)
@@ -89,7 +89,7 @@ pub fn contents_at(table: &[u8], i: usize) -> u32
 
 // The last place record of the entry in row i.
 pub fn placing_at(table: &[u8], i: usize) -> u32
-    requires { ⌜ (length (now table) ≡ 43012) × (i < 512) ⌝ }
+    requires { ⌜ (length (now table) ≡ 86020) × (i < 1024) ⌝ }
     ensures { λ r. ⌜ r ≡ entryIn (now (table .entry)) (4 + 72 * i) .placing ⌝ }
 {
     identity_at(table, 4 + 72 * i + 16)

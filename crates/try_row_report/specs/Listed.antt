@@ -1,28 +1,19 @@
--- The disputed entries of a tree table, noted by the slots of their identities, and those of another table that were not noted.
+-- The disputed entries of a tree table by their identities, and those of another table that are not among them.
 -- Assumes nothing.
-use Prim.Native.Nat.{ℕ, zero, suc, _+_, _-_, _*_, _/_, _%_, _≤_, _<_}
+use Prim.Native.Nat.{ℕ, zero, suc, _+_, _*_, _≤_, _<_}
 use mathlib.Core.Path.{_≡_}
-use mathlib.Core.Bool.{Bool, cond, _&&_}
-use mathlib.Core.List.{List, [], _++_}
+use mathlib.Core.Bool.{Bool, false, cond, not, _&&_, _||_}
+use mathlib.Core.List.{List, [], _∷_, _++_}
 use lib.Dec.{eqb}
-use lib.ListN.{getD, length, set}
+use lib.ListN.{getD, length}
 use Rattle.model.specs.Lengths.{treeSize}
 use Rattle.model.specs.Bytes.{word}
-use Rattle.model.specs.Table.{identityBytes}
-use Rattle.tree_table.specs.Rows.{entryIn}
+use Rattle.model.specs.Table.{identityBytes, entryIn}
+use Rattle.tree_table.specs.Rows.{InRange}
 
--- a flag for each unit and number
-abbrev pub flagsSize : ℕ
-flagsSize = 4096
-
--- an identity of unit 0 to 7 and number 1 to 512
-pub record HasSlot (k : ℕ) : Type 0 where
-  pub low : 8 ≤ k
-  pub high : k < 4104
-
--- its slot: 512 for each unit, by number
-unfoldable pub slotOf : ℕ → ℕ
-slotOf k = 512 * (k % 8) + (k / 8 - 1)
+-- an identity for each row of a table
+abbrev pub notesSize : ℕ
+notesSize = 1024
 
 -- the entry in row i of a table is disputed
 unfoldable pub disputedIn : List ℕ → ℕ → Bool
@@ -32,29 +23,31 @@ disputedIn b i = eqb (getD b (5 + 72 * i) 0) 1
 unfoldable pub madeIn : List ℕ → ℕ → ℕ
 madeIn b i = entryIn b (4 + 72 * i) .made
 
--- a table whose entries are at most 512 and have slots
+-- a table with at most 1,024 entries, whose identities are in range
 pub record Shown (b : List ℕ) : Type 0 where
   pub long : length b ≡ treeSize
-  pub few : word b 0 ≤ 512
-  pub range : (i : ℕ) → i < word b 0 → HasSlot (madeIn b i)
+  pub few : word b 0 ≤ 1024
+  pub range : (i : ℕ) → i < word b 0 → InRange (madeIn b i)
 
-unfoldable pub notedOne : List ℕ → ℕ → List ℕ → List ℕ
-notedOne b i f = cond (disputedIn b i) (set f (slotOf (madeIn b i)) 1) f
+-- the identities of the disputed entries among the first n
+unfoldable pub noted : List ℕ → ℕ → List ℕ
+noted b zero = []
+noted b (suc n) = cond (disputedIn b n) (noted b n ++ (madeIn b n ∷ [])) (noted b n)
 
--- the flags with those of the disputed entries among the first n set
-unfoldable pub noted : List ℕ → List ℕ → ℕ → List ℕ
-noted b f zero = f
-noted b f (suc n) = notedOne b n (noted b f n)
+-- k is one of the identities l
+unfoldable pub isAmong : ℕ → List ℕ → Bool
+isAmong k [] = false
+isAmong k (x ∷ l) = eqb x k || isAmong k l
 
 unfoldable pub isNewIn : List ℕ → List ℕ → ℕ → Bool
-isNewIn b f i = disputedIn b i && eqb (getD f (slotOf (madeIn b i)) 0) 0
+isNewIn b l i = disputedIn b i && not (isAmong (madeIn b i) l)
 
--- how many of the first n entries are disputed and not noted
+-- how many of the first n entries are disputed and not among l
 unfoldable pub listedCount : List ℕ → List ℕ → ℕ → ℕ
-listedCount b f zero = 0
-listedCount b f (suc n) = cond (isNewIn b f n) (listedCount b f n + 1) (listedCount b f n)
+listedCount b l zero = 0
+listedCount b l (suc n) = cond (isNewIn b l n) (listedCount b l n + 1) (listedCount b l n)
 
 -- their identities, laid one behind another
 unfoldable pub listed : List ℕ → List ℕ → ℕ → List ℕ
-listed b f zero = []
-listed b f (suc n) = cond (isNewIn b f n) (listed b f n ++ identityBytes (madeIn b n)) (listed b f n)
+listed b l zero = []
+listed b l (suc n) = cond (isNewIn b l n) (listed b l n ++ identityBytes (madeIn b n)) (listed b l n)

@@ -6,18 +6,14 @@ use native.Mathlib.Omega.{arith}
 use mathlib.Core.Path.{_≡_, _∙_}
 use mathlib.Core.Bool.{true}
 use mathlib.Core.List.{List, _++_, append-nil}
-use lib.Dec.{eqb}
 use lib.ListN.{length, take, drop, replicate, length-append, length-drop, length-replicate}
 use lib.Seq.{length-take-le, drop-length}
 use borrow.Rule.Slice.PartMut.{putMid}
 use Rattle.model.specs.Bytes.{padded, putAt}
 use Rattle.model.specs.Log.{recordsOf, soundLog}
 use Rattle.model.specs.File.{blockCount, fileBlock, fileTo, fileOf}
-use Rattle.model.specs.Outcome.{outcome, writeOf}
 use Rattle.byte_slice.proofs.PutAt.{mid-put, put-grows}
 use Rattle.block_laws.proofs.Fields.{Sized}
-use Rattle.call_guard.specs.Opened.{opened, openOf}
-use Rattle.call_guard.proofs.Opening.{call-passes}
 use Rattle.encoding_laws.proofs.Logs.{sound-proper, proper-sized, sound-records, sound-few}
 use Rattle.encoding_laws.proofs.Files.{few-blocks, length-fileBlock, length-fileTo}
 
@@ -78,11 +74,3 @@ module _ (a u : ℕ) (b d : List ℕ) (long : length b ≡ 40960) (sound : sound
       let lz : length (f ++ z) ≡ length d = omega (arith, length-append f z, length-replicate {A = ℕ} (44032 - 512 * n) 0) in
       let x : putAt (f ++ drop (512 * n) d) (512 * n) z ≡ f ++ z = (rw (lf, lz) at (put-grows d f z (omega arith))) ∙ rw (drop-length d, append-nil) in
       q ∙ rw (p, kn, x, ← nc, lf)
-
--- ---- success
-
-pub all-written : (a u : ℕ) (log lent : List ℕ) {m used : ℕ} {held : List ℕ} → opened m held used ≡ openOf u log (eqb (length lent) 44032) true → m ≡ 0
-    → (n : ℕ) (o : List ℕ) → o ≡ padded 44032 (fileOf a u (recordsOf log)) → n ≡ blockCount (length (recordsOf log)) → outcome 0 0 log o n ≡ writeOf a u log lent
-unfolding writeOf
-all-written a u log lent e z n o p q =
-    (rw (p, q)) ∙ call-passes u log lent (eqb (length lent) 44032) e (outcome 0 0 log (padded 44032 (fileOf a u (recordsOf log))) (blockCount (length (recordsOf log)))) z

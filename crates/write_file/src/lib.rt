@@ -4,10 +4,10 @@ ghost use mathlib.Core.Bool.{true};
 ghost use Prim.Native.Nat.{_*_, _-_, _<_, _≤_};
 ghost use lib.ListN.{length, replicate};
 ghost use Rattle.model.specs.Lengths.{logSize, fileSize};
-ghost use Rattle.model.specs.Bytes.{padded, putAt};
+ghost use Rattle.model.specs.Bytes.{blank, padded, putAt};
 ghost use Rattle.model.specs.Log.{recordsOf, soundLog, vectorOf};
 ghost use Rattle.model.specs.File.{blockCount, fileOf};
-ghost use Rattle.model.specs.Outcome.{outcome, writeOf};
+ghost use Rattle.call_model.specs.Outcome.{outcome, writeOf};
 use byte_slice::clear;
 use call_guard::open;
 use model::FILE_BYTES;
@@ -56,14 +56,31 @@ pub fn write_blocks(
     n as u8
 }
 
-// The whole log is written into the lent file, six records a block, with zeros behind the last. The log is only read.
-pub fn write_file(log: &[u8], archive: u32, unit: u8, file: &mut [u8]) -> Written
-    ensures { λ r. ⌜ outcome (r .number) (r .place) (now (log .entry)) (now (file .exit)) (r .blocks) ≡ writeOf archive unit (now (log .entry)) (now (file .entry)) ⌝ }
+// A vector counts no record.
+fn is_zero(v: Vector) -> bool
+    ensures { λ r. ⌜ r ≡ blank (v .counts) ⌝ }
 {
-    let o = open(log, unit, file.len() == FILE_BYTES, true);
+    vector::covers(vector::zero_vector(), v)
+}
+
+// The whole log is written into the lent file, six records a block, with zeros behind the last. Checked in this order: 1, 21, 19, 29. Log and
+// base are only read.
+pub fn write_file(log: &[u8], base: &[u8], archive: u32, unit: u8, file: &mut [u8]) -> Written
+    ensures { λ r. ⌜ outcome (r .number) (r .place) (now (log .entry)) (now (file .exit)) (r .blocks) ≡ writeOf archive unit (now (log .entry)) (now (base .entry)) (now (file .entry)) ⌝ }
+{
+    let o = open(log, base, unit, file.len() == FILE_BYTES, true);
     if o.number != 0 {
         return Written {
             number: o.number,
+            place: 0,
+            blocks: 0,
+        };
+    }
+    let head = o.head;
+    let folded = head.folded;
+    if !is_zero(folded) {
+        return Written {
+            number: 29,
             place: 0,
             blocks: 0,
         };

@@ -14,7 +14,8 @@ static uint32_t act_on(struct lent log, uint32_t unit, struct lent wish)
     uint32_t r;
     note(log);
     only_read(wish, 1);
-    r = sab_act(log.bytes, SAB_LOG_BYTES, NULL, 0, ARCHIVE, unit, wish.bytes, SAB_RECORD_BYTES);
+    r = sab_act(log.bytes, SAB_LOG_BYTES, EMPTY_BASE, NULL, 0, ARCHIVE, unit, wish.bytes,
+                SAB_RECORD_BYTES, WORK);
     only_read(wish, 0);
     CHECK(r == SAB_OK || kept(log));
     return r;
@@ -173,14 +174,15 @@ static void test_order_of_checks(struct lent log, struct lent wish)
     note(wish);
     for (i = 0; i < WRONG_LENGTHS; i++) {
         size_t no_log = wrong_length(SAB_LOG_BYTES, i), no_wish = wrong_length(SAB_RECORD_BYTES, i);
-        CHECK(sab_act(nowhere(), no_log, NULL, 0, ARCHIVE, 0, wish.bytes, SAB_RECORD_BYTES) ==
-              SAB_BAD_BUFFER);
-        CHECK(sab_act(log.bytes, SAB_LOG_BYTES, NULL, 0, ARCHIVE, 0, nowhere(), no_wish) ==
-              SAB_BAD_BUFFER);
-        CHECK(sab_act(nowhere(), no_log, NULL, 0, ARCHIVE, 9, nowhere(), no_wish) == SAB_BAD_BUFFER);
+        CHECK(sab_act(nowhere(), no_log, EMPTY_BASE, NULL, 0, ARCHIVE, 0, wish.bytes,
+                      SAB_RECORD_BYTES, WORK) == SAB_BAD_BUFFER);
+        CHECK(sab_act(log.bytes, SAB_LOG_BYTES, EMPTY_BASE, NULL, 0, ARCHIVE, 0, nowhere(),
+                      no_wish, WORK) == SAB_BAD_BUFFER);
+        CHECK(sab_act(nowhere(), no_log, EMPTY_BASE, NULL, 0, ARCHIVE, 9, nowhere(), no_wish,
+                      WORK) == SAB_BAD_BUFFER);
     }
-    CHECK(sab_act(log.bytes, SAB_LOG_BYTES, NULL, 0, ARCHIVE, 8, wish.bytes, SAB_RECORD_BYTES) ==
-          SAB_BAD_UNIT);
+    CHECK(sab_act(log.bytes, SAB_LOG_BYTES, EMPTY_BASE, NULL, 0, ARCHIVE, 8, wish.bytes,
+                  SAB_RECORD_BYTES, WORK) == SAB_BAD_UNIT);
     CHECK(kept(log) && kept(wish));
     log.bytes[31] = 32;
     wish.bytes[31] = 32;

@@ -14,8 +14,8 @@ static uint32_t hand_out(struct lent log, uint32_t unit, struct lent asked, stru
     only_read(log, 1);
     only_read(asked, 1);
     note(block);
-    r = sab_hand_out(log.bytes, SAB_LOG_BYTES, ARCHIVE, unit, asked.bytes, SAB_VECTOR_BYTES,
-                     block.bytes, SAB_BLOCK_BYTES);
+    r = sab_hand_out(log.bytes, SAB_LOG_BYTES, EMPTY_BASE, ARCHIVE, unit, asked.bytes,
+                     SAB_VECTOR_BYTES, block.bytes, SAB_BLOCK_BYTES);
     only_read(log, 0);
     only_read(asked, 0);
     CHECK(r == SAB_OK || kept(block));
@@ -43,14 +43,14 @@ static void test_wrong_buffers(struct lent log, struct lent asked, struct lent b
     for (i = 0; i < WRONG_LENGTHS; i++) {
         size_t no_log = wrong_length(SAB_LOG_BYTES, i), no_asked = wrong_length(SAB_VECTOR_BYTES, i),
                no_block = wrong_length(SAB_BLOCK_BYTES, i);
-        CHECK(sab_hand_out(nowhere(), no_log, ARCHIVE, 0, asked.bytes, SAB_VECTOR_BYTES,
+        CHECK(sab_hand_out(nowhere(), no_log, EMPTY_BASE, ARCHIVE, 0, asked.bytes,
+                           SAB_VECTOR_BYTES, block.bytes, SAB_BLOCK_BYTES) == SAB_BAD_BUFFER);
+        CHECK(sab_hand_out(log.bytes, SAB_LOG_BYTES, EMPTY_BASE, ARCHIVE, 0, nowhere(), no_asked,
                            block.bytes, SAB_BLOCK_BYTES) == SAB_BAD_BUFFER);
-        CHECK(sab_hand_out(log.bytes, SAB_LOG_BYTES, ARCHIVE, 0, nowhere(), no_asked, block.bytes,
-                           SAB_BLOCK_BYTES) == SAB_BAD_BUFFER);
-        CHECK(sab_hand_out(log.bytes, SAB_LOG_BYTES, ARCHIVE, 0, asked.bytes, SAB_VECTOR_BYTES,
+        CHECK(sab_hand_out(log.bytes, SAB_LOG_BYTES, EMPTY_BASE, ARCHIVE, 0, asked.bytes,
+                           SAB_VECTOR_BYTES, nowhere(), no_block) == SAB_BAD_BUFFER);
+        CHECK(sab_hand_out(nowhere(), no_log, EMPTY_BASE, ARCHIVE, 8, nowhere(), no_asked,
                            nowhere(), no_block) == SAB_BAD_BUFFER);
-        CHECK(sab_hand_out(nowhere(), no_log, ARCHIVE, 8, nowhere(), no_asked, nowhere(),
-                           no_block) == SAB_BAD_BUFFER);
     }
     CHECK(kept(log) && kept(block));
 }
@@ -95,7 +95,8 @@ static uint32_t take(struct lent log, uint32_t unit, struct lent block)
     uint32_t r;
     note(log);
     only_read(block, 1);
-    r = sab_take(log.bytes, SAB_LOG_BYTES, NULL, 0, ARCHIVE, unit, block.bytes, SAB_BLOCK_BYTES);
+    r = sab_take(log.bytes, SAB_LOG_BYTES, EMPTY_BASE, NULL, 0, ARCHIVE, unit, block.bytes,
+                 SAB_BLOCK_BYTES, NO_WORK);
     only_read(block, 0);
     CHECK(r == SAB_OK || kept(log));
     return r;
@@ -164,17 +165,19 @@ static void test_order_of_checks(struct lent log, struct lent block)
     note(block);
     for (i = 0; i < WRONG_LENGTHS; i++) {
         size_t no_log = wrong_length(SAB_LOG_BYTES, i), no_block = wrong_length(SAB_BLOCK_BYTES, i);
-        CHECK(sab_take(nowhere(), no_log, NULL, 0, ARCHIVE, 0, block.bytes, SAB_BLOCK_BYTES) ==
-              SAB_BAD_BUFFER);
-        CHECK(sab_take(log.bytes, SAB_LOG_BYTES, NULL, 0, ARCHIVE, 0, nowhere(), no_block) ==
-              SAB_BAD_LENGTH);
-        CHECK(sab_take(log.bytes, SAB_LOG_BYTES, NULL, 0, ARCHIVE, 8, nowhere(), no_block) ==
-              SAB_BAD_UNIT);
-        CHECK(sab_take(nowhere(), no_log, NULL, 0, ARCHIVE, 8, nowhere(), no_block) == SAB_BAD_BUFFER);
+        CHECK(sab_take(nowhere(), no_log, EMPTY_BASE, NULL, 0, ARCHIVE, 0, block.bytes,
+                       SAB_BLOCK_BYTES, NO_WORK) == SAB_BAD_BUFFER);
+        CHECK(sab_take(log.bytes, SAB_LOG_BYTES, EMPTY_BASE, NULL, 0, ARCHIVE, 0, nowhere(),
+                       no_block, NO_WORK) == SAB_BAD_LENGTH);
+        CHECK(sab_take(log.bytes, SAB_LOG_BYTES, EMPTY_BASE, NULL, 0, ARCHIVE, 8, nowhere(),
+                       no_block, NO_WORK) == SAB_BAD_UNIT);
+        CHECK(sab_take(nowhere(), no_log, EMPTY_BASE, NULL, 0, ARCHIVE, 8, nowhere(), no_block,
+                       NO_WORK) == SAB_BAD_BUFFER);
     }
     CHECK(kept(log) && kept(block));
     log.bytes[1] = 9;
-    CHECK(sab_take(log.bytes, SAB_LOG_BYTES, NULL, 0, ARCHIVE, 0, nowhere(), 0) == SAB_UNSOUND_LOG);
+    CHECK(sab_take(log.bytes, SAB_LOG_BYTES, EMPTY_BASE, NULL, 0, ARCHIVE, 0, nowhere(), 0,
+                   NO_WORK) == SAB_UNSOUND_LOG);
     block.bytes[0] = 0;
     CHECK(take(log, 0, block) == SAB_UNSOUND_LOG);
     for (i = 0; i < WIDE_UNITS; i++)

@@ -13,7 +13,8 @@ static uint32_t write_file(struct lent log, uint32_t unit, struct lent file)
     uint32_t r;
     only_read(log, 1);
     note(file);
-    r = sab_write_file(log.bytes, SAB_LOG_BYTES, ARCHIVE, unit, file.bytes, SAB_FILE_BYTES);
+    r = sab_write_file(log.bytes, SAB_LOG_BYTES, EMPTY_BASE, ARCHIVE, unit, file.bytes,
+                       SAB_FILE_BYTES);
     only_read(log, 0);
     CHECK(SAB_NUMBER(r) == SAB_OK || kept(file));
     return r;
@@ -70,9 +71,9 @@ void test_write_file(void)
     note(file);
     for (i = 0; i < WRONG_LENGTHS; i++) {
         size_t no_log = wrong_length(SAB_LOG_BYTES, i), no_file = wrong_length(SAB_FILE_BYTES, i);
-        CHECK(sab_write_file(nowhere(), no_log, ARCHIVE, 8, file.bytes, SAB_FILE_BYTES) ==
-              SAB_BAD_BUFFER);
-        CHECK(sab_write_file(log.bytes, SAB_LOG_BYTES, ARCHIVE, 8, nowhere(), no_file) ==
+        CHECK(sab_write_file(nowhere(), no_log, EMPTY_BASE, ARCHIVE, 8, file.bytes,
+                             SAB_FILE_BYTES) == SAB_BAD_BUFFER);
+        CHECK(sab_write_file(log.bytes, SAB_LOG_BYTES, EMPTY_BASE, ARCHIVE, 8, nowhere(), no_file) ==
               SAB_BAD_BUFFER);
     }
     CHECK(kept(log) && kept(file));
@@ -87,8 +88,8 @@ static uint32_t read_file(struct lent log, struct lent file, size_t length, stru
     note(log);
     note(head);
     only_read(file, 1);
-    r = sab_read_file(log.bytes, SAB_LOG_BYTES, file.bytes + SAB_FILE_BYTES - length, length,
-                      head.bytes, SAB_HEAD_BYTES);
+    r = sab_read_file(log.bytes, SAB_LOG_BYTES, SPARE_BASE, file.bytes + SAB_FILE_BYTES - length,
+                      length, head.bytes, SAB_HEAD_BYTES);
     only_read(file, 0);
     CHECK(SAB_NUMBER(r) == SAB_OK || (kept(log) && kept(head)));
     return r;
@@ -111,7 +112,7 @@ static void test_read_back(struct lent log, struct lent file, struct lent head)
         size_t length;
         uint32_t r;
         shorten(full, sizes[i]);
-        r = sab_write_file(full, SAB_LOG_BYTES, 0xA1B2C3D4u, 6, whole, SAB_FILE_BYTES);
+        r = sab_write_file(full, SAB_LOG_BYTES, EMPTY_BASE, 0xA1B2C3D4u, 6, whole, SAB_FILE_BYTES);
         length = SAB_BLOCK_BYTES * SAB_COUNT(r);
         memcpy(file.bytes + SAB_FILE_BYTES - length, whole, length);
         CHECK(read_file(log, file, length, head) == sizes[i] << 16);
@@ -219,14 +220,14 @@ static void test_lengths(struct lent log, struct lent file, struct lent head)
     note(log);
     note(head);
     for (i = 0; i < 5; i++)
-        CHECK(sab_read_file(log.bytes, SAB_LOG_BYTES, nowhere(), not_files[i], head.bytes,
-                            SAB_HEAD_BYTES) == SAB_BAD_LENGTH);
+        CHECK(sab_read_file(log.bytes, SAB_LOG_BYTES, SPARE_BASE, nowhere(), not_files[i],
+                            head.bytes, SAB_HEAD_BYTES) == SAB_BAD_LENGTH);
     for (i = 0; i < WRONG_LENGTHS; i++) {
         size_t no_log = wrong_length(SAB_LOG_BYTES, i), no_head = wrong_length(SAB_HEAD_BYTES, i);
-        CHECK(sab_read_file(nowhere(), no_log, nowhere(), 0, head.bytes, SAB_HEAD_BYTES) ==
-              SAB_BAD_BUFFER);
-        CHECK(sab_read_file(log.bytes, SAB_LOG_BYTES, nowhere(), 0, nowhere(), no_head) ==
-              SAB_BAD_BUFFER);
+        CHECK(sab_read_file(nowhere(), no_log, SPARE_BASE, nowhere(), 0, head.bytes,
+                            SAB_HEAD_BYTES) == SAB_BAD_BUFFER);
+        CHECK(sab_read_file(log.bytes, SAB_LOG_BYTES, SPARE_BASE, nowhere(), 0, nowhere(),
+                            no_head) == SAB_BAD_BUFFER);
     }
     CHECK(kept(log) && kept(head));
     CHECK(read_file(log, file, 2 * SAB_BLOCK_BYTES, head) == at(SAB_BAD_FILE, 0));

@@ -12,7 +12,7 @@
 static void right(const uint8_t *log, const uint8_t *index)
 {
     static uint8_t fresh[SAB_INDEX_BYTES];
-    CHECK(sab_index(log, SAB_LOG_BYTES, fresh, sizeof fresh) == SAB_OK);
+    CHECK(sab_index(log, SAB_LOG_BYTES, EMPTY_BASE, fresh, sizeof fresh, WORK) == SAB_OK);
     CHECK(memcmp(fresh, index, sizeof fresh) == 0);
 }
 
@@ -45,7 +45,7 @@ static const uint8_t *rows(struct lent index, struct id folder, unsigned count)
     r = sab_list(index.bytes, SAB_INDEX_BYTES, folder.unit, folder.number, range, sizeof range);
     only_read(index, 0);
     CHECK(r == (uint32_t)count << 16);
-    CHECK(get16(range + 2) == count && get16(range) + get16(range + 2) <= 512);
+    CHECK(get16(range + 2) == count && get16(range) + get16(range + 2) <= 1024);
     return index.bytes + SAB_INDEX_ROWS + SAB_INDEX_ROW_BYTES * get16(range);
 }
 
@@ -58,9 +58,9 @@ static void test_lengths(struct lent log, struct lent index)
     note(index);
     for (i = 0; i < WRONG_LENGTHS; i++) {
         size_t wrong = wrong_length(SAB_INDEX_BYTES, i);
-        CHECK(sab_index(log.bytes, SAB_LOG_BYTES, nowhere(), wrong) == SAB_BAD_BUFFER);
-        CHECK(sab_index(nowhere(), wrong_length(SAB_LOG_BYTES, i), index.bytes, index.length) ==
-              SAB_BAD_BUFFER);
+        CHECK(sab_index(log.bytes, SAB_LOG_BYTES, EMPTY_BASE, nowhere(), wrong, WORK) == SAB_BAD_BUFFER);
+        CHECK(sab_index(nowhere(), wrong_length(SAB_LOG_BYTES, i), EMPTY_BASE, index.bytes,
+                        index.length, WORK) == SAB_BAD_BUFFER);
         CHECK(sab_find(nowhere(), wrong, 8, 0, none, 32) == SAB_BAD_BUFFER);
         CHECK(sab_find(index.bytes, index.length, 0, 0, nowhere(), wrong_length(32, i)) ==
               SAB_BAD_BUFFER);
@@ -69,18 +69,18 @@ static void test_lengths(struct lent log, struct lent index)
               SAB_BAD_BUFFER);
         if (wrong == 0)
             continue;
-        CHECK(sab_start(log.bytes, SAB_LOG_BYTES, nowhere(), wrong, ARCHIVE, 8) == SAB_BAD_BUFFER);
-        CHECK(sab_act(log.bytes, SAB_LOG_BYTES, nowhere(), wrong, ARCHIVE, 8, none, 80) ==
-              SAB_BAD_BUFFER);
-        CHECK(sab_take(log.bytes, SAB_LOG_BYTES, nowhere(), wrong, ARCHIVE, 8, none, 1) ==
-              SAB_BAD_BUFFER);
-        CHECK(sab_take_row(log.bytes, SAB_LOG_BYTES, nowhere(), wrong, ARCHIVE, 8, none, 1) ==
-              SAB_BAD_BUFFER);
+        CHECK(sab_start(log.bytes, SAB_LOG_BYTES, SPARE_BASE, nowhere(), wrong, ARCHIVE, 8) == SAB_BAD_BUFFER);
+        CHECK(sab_act(log.bytes, SAB_LOG_BYTES, EMPTY_BASE, nowhere(), wrong, ARCHIVE, 8, none,
+                      80, WORK) == SAB_BAD_BUFFER);
+        CHECK(sab_take(log.bytes, SAB_LOG_BYTES, EMPTY_BASE, nowhere(), wrong, ARCHIVE, 8, none,
+                       1, WORK) == SAB_BAD_BUFFER);
+        CHECK(sab_take_row(log.bytes, SAB_LOG_BYTES, EMPTY_BASE, nowhere(), wrong, ARCHIVE, 8,
+                           none, 1, WORK) == SAB_BAD_BUFFER);
     }
     CHECK(kept(log) && kept(index));
     CHECK(four[0] == 7 && four[3] == 7);
     log.bytes[1] ^= 0x80;
-    CHECK(sab_index(log.bytes, SAB_LOG_BYTES, index.bytes, index.length) == SAB_UNSOUND_LOG);
+    CHECK(sab_index(log.bytes, SAB_LOG_BYTES, EMPTY_BASE, index.bytes, index.length, WORK) == SAB_UNSOUND_LOG);
     log.bytes[1] ^= 0x80;
     CHECK(kept(index));
 }
@@ -111,8 +111,8 @@ static void test_acts(struct lent log, struct lent index)
         else
             wish_on(wish, 0, wishes[i].operation, id_of(0, wishes[i].number), wishes[i].label);
         note(index);
-        CHECK(sab_act(log.bytes, SAB_LOG_BYTES, index.bytes, index.length, ARCHIVE, 0, wish,
-                      sizeof wish) == wishes[i].answer);
+        CHECK(sab_act(log.bytes, SAB_LOG_BYTES, EMPTY_BASE, index.bytes, index.length, ARCHIVE, 0,
+                      wish, sizeof wish, WORK) == wishes[i].answer);
         if (wishes[i].answer != 0)
             CHECK(kept(index));
         right(log.bytes, index.bytes);
@@ -143,14 +143,14 @@ static void test_moves(struct lent log, struct lent index)
     CHECK(next == 13);
     for (made = 0; made < 2; made++) {
         wish_make(wish, 0, SAB_MAKE_FOLDER, id_of(0, 0), made == 0 ? "Attic" : "Low");
-        CHECK(sab_act(log.bytes, SAB_LOG_BYTES, index.bytes, index.length, ARCHIVE, 0, wish,
-                      sizeof wish) == SAB_OK);
+        CHECK(sab_act(log.bytes, SAB_LOG_BYTES, EMPTY_BASE, index.bytes, index.length, ARCHIVE, 0,
+                      wish, sizeof wish, WORK) == SAB_OK);
     }
     for (i = 0; i < sizeof moves / sizeof moves[0]; i++) {
         wish_move(wish, 0, id_of(0, moves[i].object), id_of(0, moves[i].folder), moves[i].label);
         note(index);
-        CHECK(sab_act(log.bytes, SAB_LOG_BYTES, index.bytes, index.length, ARCHIVE, 0, wish,
-                      sizeof wish) == moves[i].answer);
+        CHECK(sab_act(log.bytes, SAB_LOG_BYTES, EMPTY_BASE, index.bytes, index.length, ARCHIVE, 0,
+                      wish, sizeof wish, WORK) == moves[i].answer);
         if (moves[i].answer != 0)
             CHECK(kept(index));
         right(log.bytes, index.bytes);
@@ -169,23 +169,24 @@ static void test_takes(struct lent log, struct lent index, const uint8_t *full)
     memset(log.bytes, 0, SAB_LOG_BYTES);
     memset(index.bytes, 0, index.length);
     counts(log.bytes, asked);
-    r = sab_hand_out_row(full, SAB_LOG_BYTES, ARCHIVE, 1, asked, sizeof asked, row, sizeof row);
+    r = sab_hand_out_row(full, SAB_LOG_BYTES, EMPTY_BASE, ARCHIVE, 1, asked, sizeof asked, row,
+                         sizeof row);
     CHECK(SAB_COUNT(r) == 86);
-    CHECK(sab_take(log.bytes, SAB_LOG_BYTES, index.bytes, index.length, ARCHIVE, 0, row,
-                   SAB_BLOCK_BYTES) == SAB_OK);
+    CHECK(sab_take(log.bytes, SAB_LOG_BYTES, EMPTY_BASE, index.bytes, index.length, ARCHIVE, 0,
+                   row, SAB_BLOCK_BYTES, WORK) == SAB_OK);
     right(log.bytes, index.bytes);
     note(index);
-    CHECK(sab_take(log.bytes, SAB_LOG_BYTES, index.bytes, index.length, ARCHIVE + 1, 0, row,
-                   SAB_BLOCK_BYTES) == SAB_OTHER_ARCHIVE);
+    CHECK(sab_take(log.bytes, SAB_LOG_BYTES, EMPTY_BASE, index.bytes, index.length, ARCHIVE + 1,
+                   0, row, SAB_BLOCK_BYTES, WORK) == SAB_OTHER_ARCHIVE);
     CHECK(kept(index));
     row[10 * SAB_BLOCK_BYTES] ^= 1;
-    r = sab_take_row(log.bytes, SAB_LOG_BYTES, index.bytes, index.length, ARCHIVE, 0, row,
-                     sizeof row);
+    r = sab_take_row(log.bytes, SAB_LOG_BYTES, EMPTY_BASE, index.bytes, index.length, ARCHIVE, 0,
+                     row, sizeof row, WORK);
     CHECK(SAB_TAKEN(r) == 10 && SAB_STOPPED(r) == 3);
     right(log.bytes, index.bytes);
     row[10 * SAB_BLOCK_BYTES] ^= 1;
-    r = sab_take_row(log.bytes, SAB_LOG_BYTES, index.bytes, index.length, ARCHIVE, 0, row,
-                     sizeof row);
+    r = sab_take_row(log.bytes, SAB_LOG_BYTES, EMPTY_BASE, index.bytes, index.length, ARCHIVE, 0,
+                     row, sizeof row, WORK);
     CHECK(SAB_TAKEN(r) == 86 && SAB_STOPPED(r) == 0);
     right(log.bytes, index.bytes);
 }
@@ -238,7 +239,7 @@ static void test_any_bytes(struct lent index)
                                   32)) == SAB_OK);
         CHECK(SAB_NUMBER(sab_list(index.bytes, index.length, row[0], get16(row + 2), range,
                                   sizeof range)) == SAB_OK);
-        CHECK(get16(range) + get16(range + 2) <= 512);
+        CHECK(get16(range) + get16(range + 2) <= 1024);
         CHECK(kept(index));
     }
 }
@@ -249,7 +250,7 @@ void test_index(void)
     struct lent log = lend(SAB_LOG_BYTES), index = lend(SAB_INDEX_BYTES);
     size_t i;
     bench_logs(apart, log.bytes);
-    CHECK(sab_index(log.bytes, SAB_LOG_BYTES, index.bytes, index.length) == SAB_OK);
+    CHECK(sab_index(log.bytes, SAB_LOG_BYTES, EMPTY_BASE, index.bytes, index.length, WORK) == SAB_OK);
     CHECK(get16(index.bytes) == 2 && get16(index.bytes + 2) == 0);
     expect(index, id_of(0, 1), "Gain \"A\"", id_of(0, 2));
     test_lengths(log, index);
@@ -259,10 +260,10 @@ void test_index(void)
     test_takes(log, index, full);
     test_full(index);
     fill(index);
-    CHECK(sab_start(log.bytes, SAB_LOG_BYTES, index.bytes, index.length, ARCHIVE, 8) ==
+    CHECK(sab_start(log.bytes, SAB_LOG_BYTES, SPARE_BASE, index.bytes, index.length, ARCHIVE, 8) ==
           SAB_BAD_UNIT);
     CHECK(index.bytes[0] == 11);
-    CHECK(sab_start(log.bytes, SAB_LOG_BYTES, index.bytes, index.length, ARCHIVE, 0) == SAB_OK);
+    CHECK(sab_start(log.bytes, SAB_LOG_BYTES, SPARE_BASE, index.bytes, index.length, ARCHIVE, 0) == SAB_OK);
     for (i = 0; i < index.length; i++)
         CHECK(index.bytes[i] == 0);
     test_any_bytes(index);

@@ -27,6 +27,7 @@ int main(void)
     test_hand_out();
     test_take();
     test_rows();
+    test_fold();
     test_write_file();
     test_read_file();
     test_merge();

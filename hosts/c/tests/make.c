@@ -66,9 +66,38 @@ struct id id_of(uint8_t unit, unsigned number)
     return id;
 }
 
+const uint8_t *empty_base(void)
+{
+    static struct lent base;
+    if (base.bytes == NULL) {
+        base = lend(SAB_BASE_BYTES);
+        memset(base.bytes, 0, SAB_BASE_BYTES);
+        base.bytes[0] = 255;
+        only_read(base, 1);
+    }
+    return base.bytes;
+}
+
+uint8_t *spare_base(void)
+{
+    static struct lent base;
+    if (base.bytes == NULL)
+        base = lend(SAB_BASE_BYTES);
+    return base.bytes;
+}
+
+uint8_t *work_memory(void)
+{
+    static struct lent work;
+    if (work.bytes == NULL)
+        work = lend(SAB_WORK_BYTES);
+    return work.bytes;
+}
+
 void act(uint8_t *log, uint8_t unit, const uint8_t *wish)
 {
-    CHECK(sab_act(log, SAB_LOG_BYTES, NULL, 0, ARCHIVE, unit, wish, SAB_RECORD_BYTES) == SAB_OK);
+    CHECK(sab_act(log, SAB_LOG_BYTES, EMPTY_BASE, NULL, 0, ARCHIVE, unit, wish, SAB_RECORD_BYTES,
+                  WORK) == SAB_OK);
 }
 
 void make(uint8_t *log, uint8_t unit, unsigned operation, struct id folder, const char *label)
@@ -108,10 +137,10 @@ void pass(const uint8_t *from, uint8_t giver, uint8_t *to, uint8_t taker)
     uint8_t asked[SAB_VECTOR_BYTES], block[SAB_BLOCK_BYTES];
     do {
         counts(to, asked);
-        CHECK(sab_hand_out(from, SAB_LOG_BYTES, ARCHIVE, giver, asked, SAB_VECTOR_BYTES, block,
-                           SAB_BLOCK_BYTES) == SAB_OK);
-        CHECK(sab_take(to, SAB_LOG_BYTES, NULL, 0, ARCHIVE, taker, block, SAB_BLOCK_BYTES) ==
-              SAB_OK);
+        CHECK(sab_hand_out(from, SAB_LOG_BYTES, EMPTY_BASE, ARCHIVE, giver, asked,
+                           SAB_VECTOR_BYTES, block, SAB_BLOCK_BYTES) == SAB_OK);
+        CHECK(sab_take(to, SAB_LOG_BYTES, EMPTY_BASE, NULL, 0, ARCHIVE, taker, block,
+                       SAB_BLOCK_BYTES, NO_WORK) == SAB_OK);
     } while (block[9] != 0);
 }
 

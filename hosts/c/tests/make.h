@@ -31,6 +31,16 @@ void wish_move(uint8_t *wish, uint8_t unit, struct id object, struct id folder, 
 
 struct id id_of(uint8_t unit, unsigned number);
 
+/* A base that holds nothing, with all eight units listed, in memory that may only be
+ * read; one whose bytes mean nothing; and work memory. Each with its length. */
+#define EMPTY_BASE empty_base(), SAB_BASE_BYTES
+#define SPARE_BASE spare_base(), SAB_BASE_BYTES
+#define WORK work_memory(), SAB_WORK_BYTES
+#define NO_WORK NULL, 0
+const uint8_t *empty_base(void);
+uint8_t *spare_base(void);
+uint8_t *work_memory(void);
+
 /* Acts that must be accepted. */
 void act(uint8_t *log, uint8_t unit, const uint8_t *wish);
 void make(uint8_t *log, uint8_t unit, unsigned operation, struct id folder, const char *label);

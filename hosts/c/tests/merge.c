@@ -23,7 +23,8 @@ static uint8_t *bytes_of(struct card card)
 static void write_card(struct card *card, const uint8_t *log, uint32_t archive, uint8_t unit)
 {
     static uint8_t whole[SAB_FILE_BYTES];
-    uint32_t r = sab_write_file(log, SAB_LOG_BYTES, archive, unit, whole, SAB_FILE_BYTES);
+    uint32_t r = sab_write_file(log, SAB_LOG_BYTES, EMPTY_BASE, archive, unit, whole,
+                                SAB_FILE_BYTES);
     CHECK(SAB_NUMBER(r) == SAB_OK);
     card->length = SAB_BLOCK_BYTES * SAB_COUNT(r);
     memcpy(bytes_of(*card), whole, card->length);
@@ -63,7 +64,8 @@ static uint32_t merge(struct table t)
 static void expect(struct table t, const uint8_t *log, uint8_t unit)
 {
     static uint8_t whole[SAB_FILE_BYTES];
-    uint32_t r = sab_write_file(log, SAB_LOG_BYTES, ARCHIVE, unit, whole, SAB_FILE_BYTES);
+    uint32_t r = sab_write_file(log, SAB_LOG_BYTES, EMPTY_BASE, ARCHIVE, unit, whole,
+                                SAB_FILE_BYTES);
     CHECK(merge(t) == r);
     CHECK(memcmp(t.log.bytes, log, SAB_LOG_BYTES) == 0);
     CHECK(memcmp(t.file.bytes, whole, SAB_FILE_BYTES) == 0);

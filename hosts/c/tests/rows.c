@@ -22,8 +22,9 @@ static uint32_t try_row(struct lent log, uint32_t unit, struct lent row, size_t 
     note(to.copy);
     note(to.tree);
     note(to.report);
-    r = sab_try(log.bytes, log.length, ARCHIVE, unit, row.bytes, length, to.copy.bytes,
-                to.copy.length, to.tree.bytes, to.tree.length, to.report.bytes, to.report.length);
+    r = sab_try(log.bytes, log.length, EMPTY_BASE, ARCHIVE, unit, row.bytes, length,
+                to.copy.bytes, to.copy.length, to.tree.bytes, to.tree.length, to.report.bytes,
+                to.report.length);
     CHECK(kept(log));
     CHECK(kept(row));
     if (SAB_NUMBER(r) != SAB_OK) {
@@ -44,11 +45,12 @@ static void expect(struct lent log, struct lent row, size_t length, struct trial
     CHECK(r == 0);
     CHECK(to.report.bytes[0] == taken && to.report.bytes[1] == stopped);
     memcpy(after, log.bytes, sizeof after);
-    r = sab_take_row(after, sizeof after, NULL, 0, ARCHIVE, 0, row.bytes, length);
+    r = sab_take_row(after, sizeof after, EMPTY_BASE, NULL, 0, ARCHIVE, 0, row.bytes, length,
+                     NO_WORK);
     CHECK(SAB_NUMBER(r) == SAB_OK && SAB_PLACE(r) == 0);
     CHECK(SAB_TAKEN(r) == taken && SAB_STOPPED(r) == stopped);
     CHECK(memcmp(after, to.copy.bytes, sizeof after) == 0);
-    CHECK(sab_show(after, sizeof after, tree, sizeof tree) == 0);
+    CHECK(sab_show(after, sizeof after, EMPTY_BASE, tree, sizeof tree) == 0);
     CHECK(memcmp(tree, to.tree.bytes, sizeof tree) == 0);
     counts(after, vector);
     CHECK(memcmp(vector, to.report.bytes + 4, sizeof vector) == 0);
@@ -62,25 +64,25 @@ static void test_refused(struct lent log, struct lent row, struct trial to)
     for (i = 0; i < WRONG_LENGTHS; i++) {
         struct trial wrong = to;
         wrong.report.length = wrong_length(SAB_REPORT_BYTES, i);
-        CHECK(sab_try(log.bytes, log.length, ARCHIVE, 8, row.bytes, part, to.copy.bytes,
-                      to.copy.length, to.tree.bytes, to.tree.length, nowhere(),
+        CHECK(sab_try(log.bytes, log.length, EMPTY_BASE, ARCHIVE, 8, row.bytes, part,
+                      to.copy.bytes, to.copy.length, to.tree.bytes, to.tree.length, nowhere(),
                       wrong.report.length) == SAB_BAD_BUFFER);
-        CHECK(sab_take_row(nowhere(), wrong_length(SAB_LOG_BYTES, i), NULL, 0, ARCHIVE, 8, row.bytes,
-                           part) == SAB_BAD_BUFFER);
-        CHECK(sab_hand_out_row(log.bytes, log.length, ARCHIVE, 8, none, sizeof none, nowhere(),
-                               wrong_length(SAB_FILE_BYTES, i)) == SAB_BAD_BUFFER);
+        CHECK(sab_take_row(nowhere(), wrong_length(SAB_LOG_BYTES, i), EMPTY_BASE, NULL, 0,
+                           ARCHIVE, 8, row.bytes, part, NO_WORK) == SAB_BAD_BUFFER);
+        CHECK(sab_hand_out_row(log.bytes, log.length, EMPTY_BASE, ARCHIVE, 8, none, sizeof none,
+                               nowhere(), wrong_length(SAB_FILE_BYTES, i)) == SAB_BAD_BUFFER);
     }
     for (i = 0; i < WIDE_UNITS; i++) {
         CHECK(try_row(log, wide_unit(i), row, part, to) == SAB_BAD_UNIT);
-        CHECK(sab_take_row(log.bytes, log.length, NULL, 0, ARCHIVE, wide_unit(i), row.bytes, part) ==
-              SAB_BAD_UNIT);
+        CHECK(sab_take_row(log.bytes, log.length, EMPTY_BASE, NULL, 0, ARCHIVE, wide_unit(i),
+                           row.bytes, part, NO_WORK) == SAB_BAD_UNIT);
     }
     log.bytes[1] ^= 0x80;
     CHECK(try_row(log, 0, row, part, to) == SAB_BAD_LENGTH);
     CHECK(try_row(log, 0, row, SAB_BLOCK_BYTES, to) == SAB_UNSOUND_LOG);
-    CHECK(sab_try(log.bytes, log.length, ARCHIVE, 0, nowhere(), SAB_FILE_BYTES + SAB_BLOCK_BYTES,
-                  to.copy.bytes, to.copy.length, to.tree.bytes, to.tree.length, to.report.bytes,
-                  to.report.length) == SAB_BAD_LENGTH);
+    CHECK(sab_try(log.bytes, log.length, EMPTY_BASE, ARCHIVE, 0, nowhere(),
+                  SAB_FILE_BYTES + SAB_BLOCK_BYTES, to.copy.bytes, to.copy.length, to.tree.bytes,
+                  to.tree.length, to.report.bytes, to.report.length) == SAB_BAD_LENGTH);
     log.bytes[1] ^= 0x80;
 }
 
@@ -100,7 +102,8 @@ void test_rows(void)
     memcpy(log.bytes, full, 100 * SAB_RECORD_BYTES);
     counts(log.bytes, asked);
 
-    r = sab_hand_out_row(full, sizeof full, ARCHIVE, 1, asked, sizeof asked, row.bytes, row.length);
+    r = sab_hand_out_row(full, sizeof full, EMPTY_BASE, ARCHIVE, 1, asked, sizeof asked,
+                         row.bytes, row.length);
     CHECK(SAB_NUMBER(r) == SAB_OK && SAB_COUNT(r) == (512 - 100 + 5) / 6);
     length = SAB_BLOCK_BYTES * SAB_COUNT(r);
     for (i = length; i < row.length; i++)

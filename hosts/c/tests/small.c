@@ -99,7 +99,7 @@ static uint32_t vector_of(struct lent log, struct lent vector)
     only_read(log, 1);
     fill(vector);
     note(vector);
-    r = sab_vector(log.bytes, SAB_LOG_BYTES, vector.bytes, SAB_VECTOR_BYTES);
+    r = sab_vector(log.bytes, SAB_LOG_BYTES, EMPTY_BASE, vector.bytes, SAB_VECTOR_BYTES);
     only_read(log, 0);
     CHECK(SAB_NUMBER(r) == SAB_OK || kept(vector));
     return r;
@@ -135,11 +135,11 @@ void test_vector(void)
     note(vector);
     for (i = 0; i < WRONG_LENGTHS; i++) {
         size_t no_log = wrong_length(SAB_LOG_BYTES, i), no_vector = wrong_length(SAB_VECTOR_BYTES, i);
-        CHECK(sab_vector(nowhere(), no_log, vector.bytes, SAB_VECTOR_BYTES) == SAB_BAD_BUFFER);
-        CHECK(sab_vector(log.bytes, SAB_LOG_BYTES, nowhere(), no_vector) == SAB_BAD_BUFFER);
-        CHECK(sab_vector(nowhere(), no_log, nowhere(), no_vector) == SAB_BAD_BUFFER);
+        CHECK(sab_vector(nowhere(), no_log, EMPTY_BASE, vector.bytes, SAB_VECTOR_BYTES) == SAB_BAD_BUFFER);
+        CHECK(sab_vector(log.bytes, SAB_LOG_BYTES, EMPTY_BASE, nowhere(), no_vector) == SAB_BAD_BUFFER);
+        CHECK(sab_vector(nowhere(), no_log, EMPTY_BASE, nowhere(), no_vector) == SAB_BAD_BUFFER);
     }
-    CHECK(sab_vector(NULL, 0, NULL, 0) == SAB_BAD_BUFFER);
+    CHECK(sab_vector(NULL, 0, EMPTY_BASE, NULL, 0) == SAB_BAD_BUFFER);
     CHECK(kept(log) && kept(vector));
 }
 
@@ -150,7 +150,8 @@ void test_start(void)
     int unit, zero;
     for (unit = 0; unit < 8; unit++) {
         fill(log);
-        CHECK(sab_start(log.bytes, SAB_LOG_BYTES, NULL, 0, 0xFFFFFFFFu, (uint32_t)unit) == SAB_OK);
+        CHECK(sab_start(log.bytes, SAB_LOG_BYTES, SPARE_BASE, NULL, 0, 0xFFFFFFFFu,
+                        (uint32_t)unit) == SAB_OK);
         for (i = 0, zero = 1; i < SAB_LOG_BYTES; i++)
             zero &= log.bytes[i] == 0;
         CHECK(zero);
@@ -158,14 +159,14 @@ void test_start(void)
     fill(log);
     note(log);
     for (unit = 8; unit < 256; unit++)
-        CHECK(sab_start(log.bytes, SAB_LOG_BYTES, NULL, 0, 0, (uint32_t)unit) == SAB_BAD_UNIT);
+        CHECK(sab_start(log.bytes, SAB_LOG_BYTES, SPARE_BASE, NULL, 0, 0, (uint32_t)unit) == SAB_BAD_UNIT);
     for (i = 0; i < WIDE_UNITS; i++)
-        CHECK(sab_start(log.bytes, SAB_LOG_BYTES, NULL, 0, 0, wide_unit((int)i)) == SAB_BAD_UNIT);
+        CHECK(sab_start(log.bytes, SAB_LOG_BYTES, SPARE_BASE, NULL, 0, 0, wide_unit((int)i)) == SAB_BAD_UNIT);
     for (i = 0; i < WRONG_LENGTHS; i++) {
         size_t wrong = wrong_length(SAB_LOG_BYTES, (int)i);
-        CHECK(sab_start(nowhere(), wrong, NULL, 0, ARCHIVE, 0) == SAB_BAD_BUFFER);
-        CHECK(sab_start(nowhere(), wrong, NULL, 0, ARCHIVE, 8) == SAB_BAD_BUFFER);
+        CHECK(sab_start(nowhere(), wrong, SPARE_BASE, NULL, 0, ARCHIVE, 0) == SAB_BAD_BUFFER);
+        CHECK(sab_start(nowhere(), wrong, SPARE_BASE, NULL, 0, ARCHIVE, 8) == SAB_BAD_BUFFER);
     }
-    CHECK(sab_start(NULL, 0, NULL, 0, ARCHIVE, 0) == SAB_BAD_BUFFER);
+    CHECK(sab_start(NULL, 0, SPARE_BASE, NULL, 0, ARCHIVE, 0) == SAB_BAD_BUFFER);
     CHECK(kept(log));
 }

@@ -10,6 +10,7 @@ void test_act(void);
 void test_hand_out(void);
 void test_take(void);
 void test_rows(void);
+void test_fold(void);
 void test_write_file(void);
 void test_read_file(void);
 void test_merge(void);

@@ -43,7 +43,7 @@ static uint32_t show(struct lent log, struct lent tree)
     uint32_t r;
     only_read(log, 1);
     note(tree);
-    r = sab_show(log.bytes, SAB_LOG_BYTES, tree.bytes, SAB_TREE_BYTES);
+    r = sab_show(log.bytes, SAB_LOG_BYTES, EMPTY_BASE, tree.bytes, SAB_TREE_BYTES);
     only_read(log, 0);
     CHECK(r == SAB_OK || kept(tree));
     return r;
@@ -78,9 +78,9 @@ void test_show(void)
     note(tree);
     for (i = 0; i < WRONG_LENGTHS; i++) {
         size_t no_log = wrong_length(SAB_LOG_BYTES, i), no_tree = wrong_length(SAB_TREE_BYTES, i);
-        CHECK(sab_show(nowhere(), no_log, tree.bytes, SAB_TREE_BYTES) == SAB_BAD_BUFFER);
-        CHECK(sab_show(log.bytes, SAB_LOG_BYTES, nowhere(), no_tree) == SAB_BAD_BUFFER);
-        CHECK(sab_show(nowhere(), no_log, nowhere(), no_tree) == SAB_BAD_BUFFER);
+        CHECK(sab_show(nowhere(), no_log, EMPTY_BASE, tree.bytes, SAB_TREE_BYTES) == SAB_BAD_BUFFER);
+        CHECK(sab_show(log.bytes, SAB_LOG_BYTES, EMPTY_BASE, nowhere(), no_tree) == SAB_BAD_BUFFER);
+        CHECK(sab_show(nowhere(), no_log, EMPTY_BASE, nowhere(), no_tree) == SAB_BAD_BUFFER);
     }
     CHECK(kept(log) && kept(tree));
 }
@@ -132,15 +132,14 @@ static void test_wrong_buffers(struct listing l)
     for (i = 0; i < WRONG_LENGTHS; i++)
         for (wrong = 1; wrong < 16; wrong++) {
             int log = wrong & 1, tree = wrong & 2, out = wrong & 4, length = wrong & 8;
-            CHECK(sab_listing(
-                      nowhere(), 0, log ? nowhere() : l.log.bytes,
-                      log ? wrong_length(SAB_LOG_BYTES, i) : SAB_LOG_BYTES,
-                      tree ? nowhere() : l.tree.bytes,
-                      tree ? wrong_length(SAB_TREE_BYTES, i) : SAB_TREE_BYTES,
-                      out ? nowhere() : l.out.bytes,
-                      out ? wrong_length(SAB_LISTING_BYTES, i) : SAB_LISTING_BYTES,
-                      length ? nowhere() : l.length.bytes,
-                      length ? wrong_length(SAB_LENGTH_BYTES, i) : SAB_LENGTH_BYTES) ==
+            CHECK(sab_listing(nowhere(), 0, log ? nowhere() : l.log.bytes,
+                              log ? wrong_length(SAB_LOG_BYTES, i) : SAB_LOG_BYTES,
+                              tree ? nowhere() : l.tree.bytes,
+                              tree ? wrong_length(SAB_TREE_BYTES, i) : SAB_TREE_BYTES,
+                              out ? nowhere() : l.out.bytes,
+                              out ? wrong_length(SAB_LISTING_BYTES, i) : SAB_LISTING_BYTES,
+                              length ? nowhere() : l.length.bytes,
+                              length ? wrong_length(SAB_LENGTH_BYTES, i) : SAB_LENGTH_BYTES) ==
                   SAB_BAD_BUFFER);
             CHECK(kept(l.log) && kept(l.tree) && kept(l.out) && kept(l.length));
         }
@@ -159,7 +158,7 @@ void test_listing(void)
     l.out = lend(SAB_LISTING_BYTES);
     l.length = lend(SAB_LENGTH_BYTES);
     bench_logs(apart, all);
-    CHECK(sab_write_file(all, SAB_LOG_BYTES, ARCHIVE, 0, whole, SAB_FILE_BYTES) == 1u << 16);
+    CHECK(sab_write_file(all, SAB_LOG_BYTES, EMPTY_BASE, ARCHIVE, 0, whole, SAB_FILE_BYTES) == 1u << 16);
     memcpy(l.file.bytes + SAB_BLOCK_BYTES, whole, SAB_BLOCK_BYTES);
     CHECK(list(l, SAB_BLOCK_BYTES) == SAB_OK);
     CHECK(listed(l, BENCH));

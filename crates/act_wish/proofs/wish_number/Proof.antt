@@ -24,8 +24,8 @@ is-blank-requires c κs = search needs
 returns-2 : tie.Need-returns-2
 returns-2 c = search (not-zero)
 
-formed-besides-requires : tie.Need-formed-besides-requires
-formed-besides-requires c κs = search needs
+body-fits-requires : tie.Need-body-fits-requires
+body-fits-requires c κs = search needs
 
 returns-3 : tie.Need-returns-3
 returns-3 c = search (not-formed)
@@ -47,7 +47,7 @@ wish-number-spec =
     part-is-blank-end
     is-blank-requires
     returns-2
-    formed-besides-requires
+    body-fits-requires
     returns-3
     field-number-requires
     returns-4)

@@ -5,80 +5,58 @@ use borrow.Author.Needs.{needs}
 use native.Mathlib.Omega.{arith}
 use Rattle.bench_examples.proofs.pass.Statement.{statement}
 use Rattle.bench_examples.proofs.pass.Tie as tie
-use Rattle.bench_examples.proofs.pass.Reads as reads
-use Rattle.bench_examples.proofs.pass.Lts as lts
-use Rattle.bench_examples.proofs.accepted.Reads as accepted-reads
-use Rattle.bench_examples.proofs.held.Reads as held-reads
-use Rattle.hand_out.proofs.hand_out.Reads as hand-out-reads
-use Rattle.take.proofs.take.Reads as take-reads
 
 abbrev Inv-loop : tie.InvT-loop
-Inv-loop from to₀ taken₀ n₀ to taken n = (n ≤ 100) × (length to ≡ length to₀) × (taken ≤ n)
+Inv-loop from to₀ base taken₀ n₀ to taken n = (n ≤ 100) × (length to ≡ length to₀) × (taken ≤ n)
 
 abbrev μ-loop : tie.MeasureT-loop
-μ-loop from to₀ taken₀ n₀ to taken n = 100 - n
+μ-loop from to₀ base taken₀ n₀ to taken n = 100 - n
 
--- src/main.rt:60:5
 loop-holds : tie.Need-loop-holds Inv-loop μ-loop
 loop-holds c = search needs
 
--- src/main.rt:62:40
 held-requires : tie.Need-held-requires Inv-loop μ-loop
 held-requires c κs = search needs
 
--- src/main.rt:62:50
 slice-aggregate-hand-out : tie.Need-slice-aggregate-hand-out Inv-loop μ-loop
 slice-aggregate-hand-out c = search needs
 
--- src/main.rt:62:9
 hand-out-requires : tie.Need-hand-out-requires Inv-loop μ-loop
 hand-out-requires c κs = search needs
 
--- src/main.rt:63:12
 array-read-if1 : tie.Need-array-read-if1 Inv-loop μ-loop
 array-read-if1 c = search needs
 
--- src/main.rt:64:13
 same-length : tie.Need-same-length Inv-loop μ-loop
 same-length c = search needs
 
--- src/main.rt:64:13
 returns : tie.Need-returns Inv-loop μ-loop
 returns c = search needs
 
--- src/main.rt:69:38
 slice-aggregate-take : tie.Need-slice-aggregate-take Inv-loop μ-loop
 slice-aggregate-take c = search needs
 
--- src/main.rt:69:13
 take-requires : tie.Need-take-requires Inv-loop μ-loop
 take-requires c κs = search needs
 
--- src/main.rt:70:18
 accepted-requires : tie.Need-accepted-requires Inv-loop μ-loop
 accepted-requires c κs = search needs
 
--- src/main.rt:70:9
 add-taken : tie.Need-add-taken Inv-loop μ-loop
 add-taken c = search needs
 
--- src/main.rt:60:9
 add-n : tie.Need-add-n Inv-loop μ-loop
 add-n c = search needs
 
--- src/main.rt:60:5
 loop-less : tie.Need-loop-less Inv-loop μ-loop
 loop-less c = search needs
 
--- src/main.rt:60:5
 loop-again : tie.Need-loop-again Inv-loop μ-loop
 loop-again c = search needs
 
--- src/main.rt:58:1
 same-length-2 : tie.Need-same-length-2 Inv-loop μ-loop
 same-length-2 c = search needs
 
--- src/main.rt:58:1
 returns-2 : tie.Need-returns-2 Inv-loop μ-loop
 returns-2 c = search needs
 

@@ -1,4 +1,4 @@
-use Rattle.call_answer.proofs.Guards.{log-length, lent-length, unit-above, row-length, early-passes}
+use Rattle.call_answer.proofs.Guards.{log-length, base-length, lent-length, unit-above, row-length, early-passes}
 use Rattle.call_answer.proofs.early_number.Statement.{statement}
 use Rattle.call_answer.proofs.early_number.Tie as tie
 
@@ -6,16 +6,19 @@ returns : tie.Need-returns
 returns c = search (log-length)
 
 returns-2 : tie.Need-returns-2
-returns-2 c = search (lent-length)
+returns-2 c = search (base-length)
 
 returns-3 : tie.Need-returns-3
-returns-3 c = search (unit-above)
+returns-3 c = search (lent-length)
 
 returns-4 : tie.Need-returns-4
-returns-4 c = search (row-length)
+returns-4 c = search (unit-above)
 
 returns-5 : tie.Need-returns-5
-returns-5 c = search (early-passes)
+returns-5 c = search (row-length)
+
+returns-6 : tie.Need-returns-6
+returns-6 c = search (early-passes)
 
 pub early-number-spec : {M : Type 1} → statement M
-early-number-spec = tie.close (tie.spec returns returns-2 returns-3 returns-4 returns-5)
+early-number-spec = tie.close (tie.spec returns returns-2 returns-3 returns-4 returns-5 returns-6)

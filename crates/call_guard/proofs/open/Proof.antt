@@ -1,4 +1,4 @@
-use Rattle.call_guard.proofs.Opening.{early-refused, passed-long, judged-opened}
+use Rattle.call_guard.proofs.Opening.{early-refused, passed-long, passed-based, judged-opened}
 use borrow.Author.Needs.{needs}
 use Rattle.call_guard.proofs.open.Statement.{statement}
 use Rattle.call_guard.proofs.open.Tie as tie
@@ -12,11 +12,8 @@ refused-requires c κs = search needs
 returns : tie.Need-returns
 returns c = search (early-refused)
 
-zero-vector-requires : tie.Need-zero-vector-requires
-zero-vector-requires c κs = search needs
-
-check-requires : tie.Need-check-requires
-check-requires c κs = search (passed-long)
+check-state-requires : tie.Need-check-state-requires
+check-state-requires c κs = (search (passed-long), search (passed-based))
 
 judged-requires : tie.Need-judged-requires
 judged-requires c κs = search needs
@@ -25,4 +22,12 @@ returns-2 : tie.Need-returns-2
 returns-2 c = search (judged-opened)
 
 pub open-spec : {M : Type 1} → statement M
-open-spec = tie.close (tie.spec early-number-requires refused-requires returns zero-vector-requires check-requires judged-requires returns-2)
+open-spec =
+    tie.close
+    (tie.spec
+    early-number-requires
+    refused-requires
+    returns
+    check-state-requires
+    judged-requires
+    returns-2)

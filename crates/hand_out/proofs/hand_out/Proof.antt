@@ -1,8 +1,5 @@
-use mathlib.Core.Path.{_≡_}
-use lib.ListN.{length}
-use Rattle.model.specs.Outcome.{handOf}
-use Rattle.call_guard.proofs.Opening.{open-long, open-sound, open-used, open-held, open-buffer, call-refused}
-use Rattle.hand_out.proofs.Handed.{block-fits, handed}
+use Rattle.call_guard.proofs.Opening.{open-long, open-used}
+use Rattle.hand_out.proofs.Handed.{hand-refused, asked-below, told-sound, block-fits, handed-out}
 use borrow.Author.Needs.{needs}
 use Rattle.hand_out.proofs.hand_out.Statement.{statement}
 use Rattle.hand_out.proofs.hand_out.Tie as tie
@@ -11,11 +8,16 @@ open-requires : tie.Need-open-requires
 open-requires c κs = search needs
 
 returns : tie.Need-returns
-unfolding handOf
-returns c = search (call-refused)
+returns c = search (hand-refused)
+
+covers-requires : tie.Need-covers-requires
+covers-requires c κs = search needs
+
+returns-2 : tie.Need-returns-2
+returns-2 c = search (asked-below)
 
 block-for-requires : tie.Need-block-for-requires
-block-for-requires c κs = (search (open-long), search (open-sound), search (open-used), search (open-held))
+block-for-requires c κs = (search (open-long), search (told-sound), search (open-used))
 
 slice-aggregate-put : tie.Need-slice-aggregate-put
 slice-aggregate-put c = search needs
@@ -26,8 +28,10 @@ put-requires c κs = search (block-fits, needs)
 same-length : tie.Need-same-length
 same-length c = search needs
 
-returns-2 : tie.Need-returns-2
-returns-2 c = search (handed, needs)
+returns-3 : tie.Need-returns-3
+returns-3 c = search (handed-out, needs)
 
 pub hand-out-spec : {M : Type 1} → statement M
-hand-out-spec = tie.close (tie.spec open-requires returns block-for-requires slice-aggregate-put put-requires same-length returns-2)
+hand-out-spec =
+    tie.close
+    (tie.spec open-requires returns covers-requires returns-2 block-for-requires slice-aggregate-put put-requires same-length returns-3)

@@ -1,5 +1,5 @@
 use Rattle.hand_out_pick.proofs.Gathered.{gathered, unit-lent, starts-long, starts-few, starts-laid, skips-count, skips-laid, adds-count, adds-laid, full-count, full-laid, ends-count, ends-laid}
-use Rattle.model.specs.Outcome.{lacking}
+use Rattle.model.specs.Log.{lacking}
 use Rattle.model.specs.Bytes.{padded, joined}
 use lib.ListN.{length}
 use mathlib.Core.Path.{_≡_, refl}

@@ -1,6 +1,5 @@
 use Rattle.hand_out_row.proofs.Written.{few, begun, all-counted, goes-on, ends}
-use Rattle.model.specs.Log.{recordsOf}
-use Rattle.model.specs.Outcome.{lacking}
+use Rattle.model.specs.Log.{recordsOf, lacking}
 use Rattle.row_model.specs.Row.{rowTo}
 use lib.ListN.{length, drop}
 use mathlib.Core.List.{_++_}
@@ -12,10 +11,10 @@ use Rattle.hand_out_row.proofs.write_row.Statement.{statement}
 use Rattle.hand_out_row.proofs.write_row.Tie as tie
 
 abbrev Inv-loop : tie.InvT-loop
-Inv-loop log used held archive unit asked out₀ recs m n k₀ out k = (k ≤ n) × (n ≤ 86) × (length out ≡ 44032) × (out ≡ rowTo archive unit (recordsOf log) (lacking (asked .counts) (recordsOf log)) k ++ drop (512 * k) out₀)
+Inv-loop folded log used held archive unit asked out₀ recs m n k₀ out k = (k ≤ n) × (n ≤ 86) × (length out ≡ 44032) × (out ≡ rowTo archive unit (held .counts) (lacking (asked .counts) (recordsOf log)) k ++ drop (512 * k) out₀)
 
 abbrev μ-loop : tie.MeasureT-loop
-μ-loop log used held archive unit asked out₀ recs m n k₀ out k = n - k
+μ-loop folded log used held archive unit asked out₀ recs m n k₀ out k = n - k
 
 fresh-records-requires : tie.Need-fresh-records-requires Inv-loop μ-loop
 fresh-records-requires c κs = search needs
@@ -37,7 +36,7 @@ slice-aggregate-row-block : tie.Need-slice-aggregate-row-block Inv-loop μ-loop
 slice-aggregate-row-block c = search needs
 
 row-block-requires : tie.Need-row-block-requires Inv-loop μ-loop
-row-block-requires c κs = (search needs, search needs, search needs, search needs, search needs, search needs, search (begun))
+row-block-requires c κs = (search needs, search needs, search needs, search needs, search needs, search (begun))
 
 write-at-requires : tie.Need-write-at-requires Inv-loop μ-loop
 write-at-requires c κs = search needs
@@ -56,7 +55,7 @@ loop-again c =
     let at = inside .before in
     let pre = at .before .before .before .before .before .before .before .before .pre in
     let inv = at .loop .inv in
-    (omega arith, search needs, search needs, goes-on _ _ (pre .1) _ _ _ (pre .4) _ _ (write .write-at .ensures) (block .row-block .ensures) (inv .3) (inside .loop-test .taken) (inv .1))
+    (omega arith, search needs, search needs, goes-on _ _ _ _ (pre .1) _ _ _ (pre .3) _ _ (write .write-at .ensures) (block .row-block .ensures) (inv .3) (inside .loop-test .taken) (inv .1))
 
 clear-behind-requires : tie.Need-clear-behind-requires Inv-loop μ-loop
 clear-behind-requires c κs = search needs

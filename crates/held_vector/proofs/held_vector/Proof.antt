@@ -15,8 +15,8 @@ returns c = search (call-refused)
 put-vector-requires : tie.Need-put-vector-requires
 put-vector-requires c κs = search (vector-fits, needs)
 
-cast-t11 : tie.Need-cast-t11
-cast-t11 c = record { fits = search (few-used) }
+cast-t12 : tie.Need-cast-t12
+cast-t12 c = record { fits = search (few-used) }
 
 same-length : tie.Need-same-length
 same-length c = search needs
@@ -26,4 +26,4 @@ returns-2 c = search (counted)
 
 pub held-vector-spec : {M : Type 1} → statement M
 held-vector-spec =
-    tie.close (tie.spec open-requires returns put-vector-requires cast-t11 same-length returns-2)
+    tie.close (tie.spec open-requires returns put-vector-requires cast-t12 same-length returns-2)

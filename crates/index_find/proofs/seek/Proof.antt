@@ -12,10 +12,10 @@ use Rattle.index_find.proofs.seek.Lts as lts
 use Rattle.index_find.proofs.row_before.Reads as row-before-reads
 
 abbrev Inv-loop : tie.InvT-loop
-Inv-loop index n key label lo₀ hi₀ k₀ lo hi k = (k ≤ 10) × (lo ≤ n) × (hi ≤ n) × (halve (rowBefore index key label) (10 - k) lo hi ≡ halve (rowBefore index key label) 10 0 n)
+Inv-loop index n key label lo₀ hi₀ k₀ lo hi k = (k ≤ 11) × (lo ≤ n) × (hi ≤ n) × (halve (rowBefore index key label) (11 - k) lo hi ≡ halve (rowBefore index key label) 11 0 n)
 
 abbrev μ-loop : tie.MeasureT-loop
-μ-loop index n key label lo₀ hi₀ k₀ lo hi k = 10 - k
+μ-loop index n key label lo₀ hi₀ k₀ lo hi k = 11 - k
 
 -- src/lib.rt:86:5
 loop-holds : tie.Need-loop-holds Inv-loop μ-loop

@@ -1,3 +1,4 @@
+use Rattle.index_model.specs.Index.{indexPlaces}
 use Rattle.index_laws.specs.Copied.{orderedRows}
 use Rattle.index_laws.proofs.Fresh.{order-next}
 use Rattle.index_make.proofs.Ordering.{order-none, order-low, order-end}
@@ -14,7 +15,7 @@ use Rattle.index_make.proofs.insert.Reads as insert-reads
 use Rattle.index_make.proofs.place.Reads as place-reads
 
 abbrev Inv-loop : tie.InvT-loop
-Inv-loop table n order₀ k₀ order k = (k ≤ n) × (length order ≡ 512) × (take k order ≡ orderedRows table (n - k) k)
+Inv-loop table n order₀ k₀ order k = (k ≤ n) × (length order ≡ indexPlaces) × (take k order ≡ orderedRows table (n - k) k)
 
 abbrev μ-loop : tie.MeasureT-loop
 μ-loop table n order₀ k₀ order k = n - k

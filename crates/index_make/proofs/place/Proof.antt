@@ -18,10 +18,10 @@ use Rattle.index_find.proofs.folder_key.Reads as folder-key-reads
 use Rattle.tree_table.proofs.inside_at.Reads as inside-at-reads
 
 abbrev Inv-loop : tie.InvT-loop
-Inv-loop table order k row key from lo₀ hi₀ turn₀ lo hi turn = (turn ≤ 10) × (lo ≤ k) × (hi ≤ k) × (halve (orderBefore table order row) (10 - turn) lo hi ≡ halve (orderBefore table order row) 10 0 k)
+Inv-loop table order k row key from lo₀ hi₀ turn₀ lo hi turn = (turn ≤ 11) × (lo ≤ k) × (hi ≤ k) × (halve (orderBefore table order row) (11 - turn) lo hi ≡ halve (orderBefore table order row) 11 0 k)
 
 abbrev μ-loop : tie.MeasureT-loop
-μ-loop table order k row key from lo₀ hi₀ turn₀ lo hi turn = 10 - turn
+μ-loop table order k row key from lo₀ hi₀ turn₀ lo hi turn = 11 - turn
 
 -- src/lib.rt:32:37
 inside-at-requires : tie.Need-inside-at-requires Inv-loop μ-loop

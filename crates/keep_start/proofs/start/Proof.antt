@@ -24,14 +24,20 @@ same-length-2 c = search needs
 same-length-3 : tie.Need-same-length-3
 same-length-3 c = search needs
 
-returns-2 : tie.Need-returns-2
-returns-2 c = search (cleared)
-
 same-length-4 : tie.Need-same-length-4
 same-length-4 c = search needs
 
+returns-2 : tie.Need-returns-2
+returns-2 c = search (cleared)
+
 same-length-5 : tie.Need-same-length-5
 same-length-5 c = search needs
+
+same-length-6 : tie.Need-same-length-6
+same-length-6 c = search needs
+
+same-length-7 : tie.Need-same-length-7
+same-length-7 c = search needs
 
 returns-3 : tie.Need-returns-3
 returns-3 c = search (not-cleared)
@@ -47,7 +53,9 @@ start-spec =
     clear-requires
     same-length-2
     same-length-3
-    returns-2
     same-length-4
+    returns-2
     same-length-5
+    same-length-6
+    same-length-7
     returns-3)

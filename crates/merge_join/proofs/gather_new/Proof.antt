@@ -2,7 +2,7 @@ use Prim.Native.Nat.{_≤_, _-_, _*_}
 use mathlib.Core.Path.{_≡_, refl}
 use lib.ListN.{length}
 use Rattle.model.specs.Bytes.{joined, putAt}
-use Rattle.model.specs.Outcome.{lacking}
+use Rattle.model.specs.Log.{lacking}
 use Rattle.log_check.specs.declared.Layout.the-variants.{File}
 use Rattle.log_check.specs.Places.{laidAt}
 use Rattle.log_check.specs.InOrder.{listed}

@@ -1,5 +1,5 @@
 use Rattle.merge_check.proofs.Clash.{fine-few, fine-laid, fine-formed}
-use Rattle.merge_join.proofs.Joined.{copied-long, copied-sound, copied-used, new-room, new-length, new-rising, log-joined, new-total}
+use Rattle.merge_join.proofs.Joined.{copied-long, copied-ordered, copied-used, new-room, new-length, new-rising, log-joined, new-total}
 use borrow.Author.Needs.{needs}
 use native.Mathlib.Omega.{arith}
 use Rattle.merge_join.proofs.load_union.Statement.{statement}
@@ -29,7 +29,7 @@ part-insert-records-end : tie.Need-part-insert-records-end
 part-insert-records-end c = search needs
 
 insert-records-requires : tie.Need-insert-records-requires
-insert-records-requires c κs = (search (copied-long), search (copied-sound), search (copied-used), search (new-room), search (new-length), search (new-rising))
+insert-records-requires c κs = (search (copied-long), search (copied-ordered), search (copied-used), search (new-room), search (new-length), search (new-rising))
 
 same-length : tie.Need-same-length
 same-length c = search needs

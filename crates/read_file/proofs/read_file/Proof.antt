@@ -1,4 +1,4 @@
-use Rattle.read_file_check.proofs.Checks.{log-length, file-refused, file-read, right-whole, right-some, right-few, faultless}
+use Rattle.read_file_check.proofs.Checks.{base-length, base-kept, base-emptied}
 use borrow.Author.Needs.{needs}
 use Rattle.read_file.proofs.read_file.Statement.{statement}
 use Rattle.read_file.proofs.read_file.Tie as tie
@@ -7,27 +7,30 @@ refused-requires : tie.Need-refused-requires
 refused-requires c κs = search needs
 
 returns : tie.Need-returns
-returns c = search (log-length)
+returns c = search (base-length)
 
-checked-fault-requires : tie.Need-checked-fault-requires
-checked-fault-requires c κs = search needs
-
-refused-requires-2 : tie.Need-refused-requires-2
-refused-requires-2 c κs = search needs
-
-returns-2 : tie.Need-returns-2
-returns-2 c = search (file-refused)
-
-load-requires : tie.Need-load-requires
-load-requires c κs = (search needs, search (right-whole), search (right-some), search (right-few), search (faultless))
+read-log-requires : tie.Need-read-log-requires
+read-log-requires c κs = search needs
 
 same-length : tie.Need-same-length
 same-length c = search needs
 
+returns-2 : tie.Need-returns-2
+returns-2 c = search (base-kept)
+
+write-empty-requires : tie.Need-write-empty-requires
+write-empty-requires c κs = search needs
+
+same-length-2 : tie.Need-same-length-2
+same-length-2 c = search needs
+
+same-length-3 : tie.Need-same-length-3
+same-length-3 c = search needs
+
 returns-3 : tie.Need-returns-3
-returns-3 c = search (file-read)
+returns-3 c = search (base-emptied)
 
 pub read-file-spec : {M : Type 1} → statement M
 read-file-spec =
     tie.close
-    (tie.spec refused-requires returns checked-fault-requires refused-requires-2 returns-2 load-requires same-length returns-3)
+    (tie.spec refused-requires returns read-log-requires same-length returns-2 write-empty-requires same-length-2 same-length-3 returns-3)

@@ -30,6 +30,9 @@ same-length c = search needs
 same-length-2 : tie.Need-same-length-2
 same-length-2 c = search needs
 
+same-length-3 : tie.Need-same-length-3
+same-length-3 c = search needs
+
 returns : tie.Need-returns
 returns c = search (takes)
 
@@ -46,4 +49,5 @@ take-row-spec =
     pack-requires
     same-length
     same-length-2
+    same-length-3
     returns)

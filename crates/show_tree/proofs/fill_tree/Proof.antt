@@ -4,8 +4,8 @@ use borrow.Author.Needs.{needs}
 use Rattle.show_tree.proofs.fill_tree.Statement.{statement}
 use Rattle.show_tree.proofs.fill_tree.Tie as tie
 
-replay-log-requires : tie.Need-replay-log-requires
-replay-log-requires c κs = search needs
+replay-state-requires : tie.Need-replay-state-requires
+replay-state-requires c κs = search needs
 
 finish-requires : tie.Need-finish-requires
 finish-requires c κs = search (works-holds)
@@ -17,8 +17,8 @@ same-length-2 : tie.Need-same-length-2
 same-length-2 c = search needs
 
 returns : tie.Need-returns
-returns c = (search (laid), search)
+returns c = search (laid)
 
 pub fill-tree-spec : {M : Type 1} → statement M
 fill-tree-spec =
-    tie.close (tie.spec replay-log-requires finish-requires same-length same-length-2 returns)
+    tie.close (tie.spec replay-state-requires finish-requires same-length same-length-2 returns)

@@ -11,7 +11,7 @@ slice-aggregate-fill-tree : tie.Need-slice-aggregate-fill-tree
 slice-aggregate-fill-tree c = search needs
 
 fill-tree-requires : tie.Need-fill-tree-requires
-fill-tree-requires c κs = (search, search, search, search (zeroed), refl)
+fill-tree-requires c κs = (search, search, search, search, search, search, search, search (zeroed), refl)
 
 same-length : tie.Need-same-length
 same-length c = search needs

@@ -1,5 +1,5 @@
-use Rattle.model.specs.Outcome.{showOf}
-use Rattle.call_guard.proofs.Opening.{open-long, open-sound, open-used, open-buffer, call-refused}
+use Rattle.call_model.specs.Outcome.{showOf}
+use Rattle.call_guard.proofs.Opening.{open-long, open-based, open-state, open-used, open-held, open-entries, open-asides, open-buffer, call-refused}
 use Rattle.show_tree.proofs.Shown.{shown}
 use borrow.Author.Needs.{needs}
 use Rattle.show_tree.proofs.show_tree.Statement.{statement}
@@ -13,7 +13,7 @@ unfolding showOf
 returns c = search (call-refused)
 
 lay-tree-requires : tie.Need-lay-tree-requires
-lay-tree-requires c κs = (search (open-long), search (open-sound), search (open-used), search (open-buffer))
+lay-tree-requires c κs = (search (open-long), search (open-based), search (open-state), search (open-used), search (open-held), search (open-entries), search (open-asides), search (open-buffer))
 
 same-length : tie.Need-same-length
 same-length c = search needs

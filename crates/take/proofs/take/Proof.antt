@@ -1,6 +1,5 @@
-use Rattle.model.specs.Outcome.{takeOf}
-use Rattle.call_guard.proofs.Opening.{open-long, open-sound, open-used, call-refused}
-use Rattle.take.proofs.Ways.{opened-indexed, took}
+use Rattle.call_guard.proofs.Opening.{open-long, open-used}
+use Rattle.take.proofs.Ways.{take-refused, told-sound, told-indexed, took}
 use borrow.Author.Needs.{needs}
 use Rattle.take.proofs.take.Statement.{statement}
 use Rattle.take.proofs.take.Tie as tie
@@ -24,8 +23,7 @@ same-length : tie.Need-same-length
 same-length c = search needs
 
 returns : tie.Need-returns
-unfolding takeOf
-returns c = search (call-refused)
+returns c = search (take-refused)
 
 slice-aggregate-take-block : tie.Need-slice-aggregate-take-block
 slice-aggregate-take-block c = search needs
@@ -34,7 +32,7 @@ slice-aggregate-take-block-2 : tie.Need-slice-aggregate-take-block-2
 slice-aggregate-take-block-2 c = search needs
 
 take-block-requires : tie.Need-take-block-requires
-take-block-requires c κs = (search (open-long), search (open-sound), search (open-used), search needs, search needs, search (opened-indexed))
+take-block-requires c κs = (search (open-long), search (told-sound), search (open-used), search needs, search needs, search (told-indexed))
 
 same-length-2 : tie.Need-same-length-2
 same-length-2 c = search needs

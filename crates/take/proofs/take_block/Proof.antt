@@ -1,4 +1,4 @@
-use Rattle.take.proofs.Ways.{block-bad, bad-left, judged-left, taken-left, given-long, given-few, base-indexed, block-refused, log-stored, block-passed, block-taken}
+use Rattle.take.proofs.Ways.{block-bad, bad-left, judged-left, taken-left, given-long, given-few, block-refused, log-stored, block-passed, block-taken}
 use borrow.Author.Needs.{needs}
 use Rattle.take.proofs.take_block.Statement.{statement}
 use Rattle.take.proofs.take_block.Tie as tie
@@ -15,11 +15,8 @@ count-in-requires c κs = search (given-long)
 cast-n : tie.Need-cast-n
 cast-n c = search needs
 
-zero-vector-requires : tie.Need-zero-vector-requires
-zero-vector-requires c κs = search needs
-
 judge-block-requires : tie.Need-judge-block-requires
-judge-block-requires c κs = (search (given-long), search needs, search (given-few), search needs, search needs, search needs, search needs, search (base-indexed))
+judge-block-requires c κs = (search (given-long), search needs, search (given-few), search needs, search needs, search needs, search needs, search needs)
 
 same-length : tie.Need-same-length
 same-length c = search needs
@@ -40,7 +37,7 @@ store-requires c κs =
       search (given-long),
       search (given-few),
       search (log-stored),
-      block-passed _ _ _ _ _ (j .before .before .before .before .zero-vector .ensures) (j .judge-block .ensures .1) (j .before .before .before .before .before .count-in .ensures) (c .before .if2 .left),
+      block-passed _ _ _ _ _ _ (j .judge-block .ensures .1) (j .before .before .before .before .count-in .ensures) (c .before .if2 .left),
     )
 
 same-length-4 : tie.Need-same-length-4
@@ -63,7 +60,6 @@ take-block-spec =
     returns
     count-in-requires
     cast-n
-    zero-vector-requires
     judge-block-requires
     same-length
     same-length-2

@@ -9,12 +9,12 @@ use Rattle.take_judge.proofs.judge_block.Statement.{statement}
 use Rattle.take_judge.proofs.judge_block.Tie as tie
 
 abbrev Inv-loop : tie.InvT-loop
-Inv-loop base b n log m places₀ seens₀ held₀ used₀ j₀ places seens held used j =
-    (j ≤ n) × (length places ≡ 4096) × (length seens ≡ 4144) × (judgeFrom (base .counts) log b j (n - j) (held .counts) used places seens ≡ judgeFrom (base .counts) log b 0 n (held₀ .counts) m places₀ seens₀)
-    × Going (base .counts) log b n j (held .counts) used places seens
+Inv-loop list base b n log m places₀ seens₀ held₀ used₀ j₀ places seens held used j =
+    (j ≤ n) × (length places ≡ 4096) × (length seens ≡ 4144) × (judgeFrom list (base .counts) log b j (n - j) (held .counts) used places seens ≡ judgeFrom list (base .counts) log b 0 n (held₀ .counts) m places₀ seens₀)
+    × Going list (base .counts) log b n j (held .counts) used places seens
 
 abbrev μ-loop : tie.MeasureT-loop
-μ-loop base b n log m places₀ seens₀ held₀ used₀ j₀ places seens held used j = n - j
+μ-loop list base b n log m places₀ seens₀ held₀ used₀ j₀ places seens held used j = n - j
 
 loop-holds : tie.Need-loop-holds Inv-loop μ-loop
 loop-holds c = (omega arith, search needs, search needs, search (left-starts), search (going-starts))

@@ -1,4 +1,4 @@
-use Rattle.take_row.proofs.Begun.{row-kept, judged-grown, row-done, row-used, row-counts}
+use Rattle.take_row.proofs.Begun.{row-sound, row-foot, row-kept, judged-grown, row-done, row-used, row-counts}
 use native.Mathlib.Omega.{arith}
 use borrow.Author.Needs.{needs}
 use Rattle.take_row.proofs.take_blocks.Statement.{statement}
@@ -8,10 +8,11 @@ put-requires : tie.Need-put-requires
 put-requires c κs = search needs
 
 judge-row-requires : tie.Need-judge-row-requires
-judge-row-requires c κs = (search needs, search needs, search needs, search needs, search needs, search needs, search needs, search (row-kept))
+judge-row-requires c κs =
+    (search needs, search needs, search (row-foot), search needs, search (row-sound), search needs, search needs, search needs, search (row-kept))
 
 put-in-requires : tie.Need-put-in-requires
-put-in-requires c κs = (search needs, search needs, search needs, search (judged-grown))
+put-in-requires c κs = (search needs, search (row-sound), search needs, search (judged-grown))
 
 same-length : tie.Need-same-length
 same-length c = search needs
@@ -26,7 +27,7 @@ same-length-4 : tie.Need-same-length-4
 same-length-4 c = search needs
 
 returns : tie.Need-returns
-returns c = (search (row-done), (search (row-used), search (row-counts)))
+returns c = let pre = c .before .before .before .before .before .before .before .before .before .before .before .before .before .before .before .before .before .before .before .before .before .before .before .before .before .before .before .pre in (search (row-done), (search (row-used), search (row-counts, pre .6)))
 
 pub take-blocks-spec : {M : Type 1} → statement M
 take-blocks-spec =

@@ -1,4 +1,4 @@
-use Rattle.call_guard.proofs.Opening.{open-long, open-unit, open-sound, open-used}
+use Rattle.call_guard.proofs.Opening.{open-long, open-based, open-unit, open-state, open-list, open-folded, open-used}
 use Rattle.take_row.proofs.Begun.{row-refused, row-passes, row-long, row-indexed}
 use borrow.Author.Needs.{needs}
 use Rattle.take_row.proofs.take_row.Statement.{statement}
@@ -41,13 +41,32 @@ slice-aggregate-take-blocks-3 : tie.Need-slice-aggregate-take-blocks-3
 slice-aggregate-take-blocks-3 c = search needs
 
 take-blocks-requires : tie.Need-take-blocks-requires
-take-blocks-requires c κs = (search (row-long), search (open-unit), search (open-long), search (open-sound), search (open-used), search needs, search needs, search needs, search (row-indexed))
+take-blocks-requires c κs =
+    let passed = c .before .before .before .before .before .before .before .before .if1 .left in
+    let opened = c .before .before .before .before .before .before .before .before .before .before .before .before .open-into .ensures .0 in (
+      search (row-long),
+      search (open-unit),
+      search (open-long),
+      search (open-based),
+      open-state _ _ _ _ _ opened passed,
+      search (open-list),
+      search (open-folded),
+      search (open-used),
+      search needs,
+      search needs,
+      search needs,
+      search (row-indexed),
+    )
 
 same-length-2 : tie.Need-same-length-2
 same-length-2 c = search needs
 
 returns-2 : tie.Need-returns-2
-returns-2 c = search (row-passes)
+returns-2 c =
+    let passed = c .before .before .before .before .before .before .before .before .before .before .before .before .before .before .if1 .left in
+    let opened = c .before .before .before .before .before .before .before .before .before .before .before .before .before .before .before .before .before .before .open-into .ensures .0 in
+    let fits = c .before .before .before .before .before .before .before .before .before .before .before .before .before .before .before .before .before .before .before .before .before .row-fits .ensures in
+    search (row-passes, passed, opened, fits)
 
 pub take-row-spec : {M : Type 1} → statement M
 take-row-spec =

@@ -3,17 +3,17 @@ use mathlib.Core.Path.{_≡_, refl}
 use lib.ListN.{length}
 use Rattle.model.specs.Log.{recordsOf}
 use Rattle.take_row_judge.proofs.Laid.{kept-few}
-use Rattle.take_row_judge.proofs.Running.{Running, running-starts, running-placed, running-counted, running-few, running-ends, running-stops, running-next}
+use Rattle.take_row_judge.proofs.Running.{Running, running-starts, running-placed, running-counted, running-ends, running-stops, running-next, running-room}
 use borrow.Author.Needs.{needs}
 use native.Mathlib.Omega.{arith}
 use Rattle.take_row_judge.proofs.judge_into.Statement.{statement}
 use Rattle.take_row_judge.proofs.judge_into.Tie as tie
 
 abbrev Inv-loop : tie.InvT-loop
-Inv-loop b n log base m work₀ places₀ seens₀ held₀ used₀ j₀ work places seens held used j = (j ≤ n) × (length work ≡ 41440) × (length places ≡ 4096) × (length seens ≡ 4144) × (used ≤ 512) × Running (recordsOf log) base b n j work₀ m work used (held .counts) places seens
+Inv-loop list folded b n log start m work₀ places₀ seens₀ held₀ used₀ j₀ work places seens held used j = (j ≤ n) × (length work ≡ 41440) × (length places ≡ 4096) × (length seens ≡ 4144) × (used ≤ 512) × Running list (folded .counts) (recordsOf log) start b n j work₀ m work used (held .counts) places seens
 
 abbrev μ-loop : tie.MeasureT-loop
-μ-loop b n log base m work₀ places₀ seens₀ held₀ used₀ j₀ work places seens held used j = n - j
+μ-loop list folded b n log start m work₀ places₀ seens₀ held₀ used₀ j₀ work places seens held used j = n - j
 
 loop-holds : tie.Need-loop-holds Inv-loop μ-loop
 loop-holds c = (omega arith, search needs, search needs, search needs, search (kept-few), search (running-starts))
@@ -54,9 +54,6 @@ part-take-at-start c = search needs
 part-take-at-end : tie.Need-part-take-at-end Inv-loop μ-loop
 part-take-at-end c = search needs
 
-zero-vector-requires : tie.Need-zero-vector-requires Inv-loop μ-loop
-zero-vector-requires c κs = search needs
-
 take-at-requires : tie.Need-take-at-requires Inv-loop μ-loop
 take-at-requires c κs = (search needs, search needs, search needs, search needs, search needs, search (running-placed), search (running-counted))
 
@@ -82,13 +79,12 @@ loop-again : tie.Need-loop-again Inv-loop μ-loop
 loop-again c =
     let take = c .before .before .before .before .before .before .before in
     let put = take .before .before .before .before .before .before .before in
-    let zero = put .before .before .before in
-    let inside = zero .before in
+    let inside = put .before .before .before in
     let at = inside .before in
     let inv = at .loop .inv in
     let pre = at .before .before .before .before .before .before .pre in
-    let g = running-next _ _ _ _ _ _ _ _ _ _ _ _ (inv .5) (inside .loop-test .taken) (pre .2) (inv .1) (pre .0) _ (put .put .ensures) _ (zero .zero-vector .ensures) _ _ _ _ _ (take .take-at .ensures) (c .before .if1 .left) in
-    (omega arith, search needs, search needs, search needs, running-few _ _ _ _ _ _ _ _ _ _ _ _ g, g)
+    let g = running-next _ _ _ _ _ _ _ _ _ _ _ _ _ _ (inv .5) (inside .loop-test .taken) (pre .2) (inv .1) (pre .0) _ (put .put .ensures) _ _ _ _ _ (take .take-at .ensures) (c .before .if1 .left) in
+    (omega arith, search needs, search needs, search needs, search (running-room), g)
 
 same-length-4 : tie.Need-same-length-4 Inv-loop μ-loop
 same-length-4 c = search needs
@@ -111,7 +107,6 @@ judge-into-spec =
     loop-holds
     mul-at
     add-at
-    zero-vector-requires
     mul-put
     add-put
     sub-put

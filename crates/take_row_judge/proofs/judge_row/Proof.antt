@@ -7,24 +7,19 @@ use Rattle.row_model.specs.Row.{tryFrom, tryAll}
 use Rattle.row_laws.proofs.Turns.{block-is, block-inside, turns-start, turns-end, turn-stops, turn-goes}
 use Rattle.take_row_store.specs.Grown.{heldIn}
 use Rattle.take_row_judge.specs.Kept.{Kept}
-use Rattle.take_row_judge.proofs.Judged.{row-starts, kept-counts, row-gives, one-kept}
+use Rattle.take_row_judge.proofs.Judged.{row-starts, row-gives, one-kept}
 use borrow.Author.Needs.{needs}
 use native.Mathlib.Omega.{arith}
 use Rattle.take_row_judge.proofs.judge_row.Statement.{statement}
 use Rattle.take_row_judge.proofs.judge_row.Tie as tie
-use Rattle.take_row_judge.proofs.judge_row.Reads as reads
-use Rattle.take_row_judge.proofs.judge_row.Lts as lts
-use Rattle.take_row_judge.proofs.blocks_in.Reads as blocks-in-reads
-use Rattle.take_row_judge.proofs.judge_one.Reads as judge-one-reads
 
 abbrev Inv-loop : tie.InvT-loop
-Inv-loop row archive unit log base work₀ places₀ seens₀ n held₀ used₀ k₀ work places seens held used k =
-    (k ≤ n) × (n ≤ 86) × (length work ≡ 41440) × (length places ≡ 4096) × (length seens ≡ 4144) × Kept (recordsOf log) base work used (held .counts) places seens × (tryFrom archive unit row (logBytes (heldIn (recordsOf log) base work used)) k (n - k) ≡ tryAll archive unit log row)
+Inv-loop list folded base row archive unit log start work₀ places₀ seens₀ n held₀ used₀ k₀ work places seens held used k =
+    (k ≤ n) × (n ≤ 86) × (length work ≡ 41440) × (length places ≡ 4096) × (length seens ≡ 4144) × Kept list (folded .counts) (recordsOf log) start work used (held .counts) places seens × (tryFrom archive unit base row (logBytes (heldIn (recordsOf log) start work used)) k (n - k) ≡ tryAll archive unit log base row)
 
 abbrev μ-loop : tie.MeasureT-loop
-μ-loop row archive unit log base work₀ places₀ seens₀ n held₀ used₀ k₀ work places seens held used k = n - k
+μ-loop list folded base row archive unit log start work₀ places₀ seens₀ n held₀ used₀ k₀ work places seens held used k = n - k
 
--- src/lib.rt:177:9
 blocks-in-requires : tie.Need-blocks-in-requires Inv-loop μ-loop
 blocks-in-requires c κs = search needs
 
@@ -34,7 +29,6 @@ loop-holds c = (omega arith, search needs, search needs, search needs, search ne
 mul-at : tie.Need-mul-at Inv-loop μ-loop
 mul-at c = search needs
 
--- src/lib.rt:175:22
 add-judge-one : tie.Need-add-judge-one Inv-loop μ-loop
 add-judge-one c = search needs
 
@@ -50,9 +44,8 @@ part-judge-one-end c = search (block-inside)
 judge-one-requires : tie.Need-judge-one-requires Inv-loop μ-loop
 judge-one-requires c κs = search needs
 
--- src/lib.rt:202:24
-cast-t29 : tie.Need-cast-t29 Inv-loop μ-loop
-cast-t29 c = search needs
+cast-t32 : tie.Need-cast-t32 Inv-loop μ-loop
+cast-t32 c = search needs
 
 same-length : tie.Need-same-length Inv-loop μ-loop
 same-length c = search needs
@@ -75,9 +68,8 @@ loop-less c = search needs
 loop-again : tie.Need-loop-again Inv-loop μ-loop
 loop-again c = (omega arith, search needs, search needs, search needs, search needs, search (one-kept), search (turn-goes, block-is))
 
--- src/lib.rt:193:24
-cast-t30 : tie.Need-cast-t30 Inv-loop μ-loop
-cast-t30 c = search needs
+cast-t33 : tie.Need-cast-t33 Inv-loop μ-loop
+cast-t33 c = search needs
 
 same-length-4 : tie.Need-same-length-4 Inv-loop μ-loop
 same-length-4 c = search needs
@@ -89,7 +81,7 @@ same-length-6 : tie.Need-same-length-6 Inv-loop μ-loop
 same-length-6 c = search needs
 
 returns-2 : tie.Need-returns-2 Inv-loop μ-loop
-returns-2 c = search (row-gives, turns-end, kept-counts)
+returns-2 c = search (row-gives, turns-end)
 
 pub judge-row-spec : {M : Type 1} → statement M
 judge-row-spec =
@@ -105,7 +97,7 @@ judge-row-spec =
     part-judge-one-start
     part-judge-one-end
     judge-one-requires
-    cast-t29
+    cast-t32
     same-length
     same-length-2
     same-length-3
@@ -113,7 +105,7 @@ judge-row-spec =
     add-k
     loop-less
     loop-again
-    cast-t30
+    cast-t33
     same-length-4
     same-length-5
     same-length-6

@@ -3,17 +3,17 @@ use mathlib.Core.Path.{_≡_, refl}
 use lib.ListN.{length}
 use Rattle.model.specs.Log.{recordsOf, logBytes}
 use Rattle.take_row_store.specs.Grown.{heldIn}
-use Rattle.take_row_store.proofs.Runs.{puts-starts, puts-ends, puts-sound, puts-used, puts-room, puts-rising, puts-next, grown-from, grown-few}
+use Rattle.take_row_store.proofs.Runs.{puts-starts, puts-ends, puts-ordered, puts-used, puts-room, puts-rising, puts-next, grown-from, grown-few}
 use borrow.Author.Needs.{needs}
 use native.Mathlib.Omega.{arith}
 use Rattle.take_row_store.proofs.put_in.Statement.{statement}
 use Rattle.take_row_store.proofs.put_in.Tie as tie
 
 abbrev Inv-loop : tie.InvT-loop
-Inv-loop log₀ base work used done₀ log done = (base ≤ done) × (done ≤ used) × (used ≤ 512) × (length log ≡ length log₀) × (log ≡ logBytes (heldIn (recordsOf log₀) base work done))
+Inv-loop log₀ start work used done₀ log done = (start ≤ done) × (done ≤ used) × (used ≤ 512) × (length log ≡ length log₀) × (log ≡ logBytes (heldIn (recordsOf log₀) start work done))
 
 abbrev μ-loop : tie.MeasureT-loop
-μ-loop log₀ base work used done₀ log done = used - done
+μ-loop log₀ start work used done₀ log done = used - done
 
 loop-holds : tie.Need-loop-holds Inv-loop μ-loop
 loop-holds c = (omega arith, search (grown-from), search (grown-few), refl, search (puts-starts))
@@ -40,7 +40,7 @@ sub-insert-records-2 : tie.Need-sub-insert-records-2 Inv-loop μ-loop
 sub-insert-records-2 c = search needs
 
 insert-records-requires : tie.Need-insert-records-requires Inv-loop μ-loop
-insert-records-requires c κs = (search needs, search (puts-sound), search (puts-used), search (puts-room), search needs, search (puts-rising))
+insert-records-requires c κs = (search needs, search (puts-ordered), search (puts-used), search (puts-room), search needs, search (puts-rising))
 
 loop-less : tie.Need-loop-less Inv-loop μ-loop
 loop-less c = search needs

@@ -1,5 +1,5 @@
 use Rattle.take_store.proofs.News.{taken-units, all-room, lent-rising, all-stored}
-use Rattle.take_store.proofs.Storing.{stored-sound}
+use Rattle.take_store.proofs.Storing.{stored-ordered}
 use borrow.Author.Needs.{needs}
 use Rattle.take_store.proofs.store.Statement.{statement}
 use Rattle.take_store.proofs.store.Tie as tie
@@ -8,7 +8,7 @@ are-new-requires : tie.Need-are-new-requires
 are-new-requires c κs = (search needs, search needs, search (taken-units))
 
 insert-records-requires : tie.Need-insert-records-requires
-insert-records-requires c κs = (search needs, search (stored-sound), search needs, search (all-room), search needs, search (lent-rising))
+insert-records-requires c κs = (search needs, search (stored-ordered), search needs, search (all-room), search needs, search (lent-rising))
 
 returns : tie.Need-returns
 returns c = search (all-stored)

@@ -12,10 +12,10 @@ use Rattle.take_store.proofs.store_each.Statement.{statement}
 use Rattle.take_store.proofs.store_each.Tie as tie
 
 abbrev Inv-loop : tie.InvT-loop
-Inv-loop log₀ b n cur₀ j₀ log cur j = (j ≤ n) × (length log ≡ length log₀) × Stored (afterTo (recordsOf log₀) (recordAt b) j) log (cur .used) (cur .held .counts)
+Inv-loop list base log₀ b n cur₀ j₀ log cur j = (j ≤ n) × (length log ≡ length log₀) × Stored (base .counts) (afterTo list (base .counts) (recordsOf log₀) (recordAt b) j) log (cur .used) (cur .held .counts)
 
 abbrev μ-loop : tie.MeasureT-loop
-μ-loop log₀ b n cur₀ j₀ log cur j = n - j
+μ-loop list base log₀ b n cur₀ j₀ log cur j = n - j
 
 loop-holds : tie.Need-loop-holds Inv-loop μ-loop
 loop-holds c = (omega arith, refl, search (storing-starts))

@@ -1,4 +1,4 @@
-use Rattle.take_store.proofs.Storing.{stored-sound, unit-formed, one-rising, store-held, store-room, unit-stored, count-spare, store-new}
+use Rattle.take_store.proofs.Storing.{stored-ordered, unit-formed, one-rising, store-held, store-room, unit-stored, count-above, store-new}
 use borrow.Author.Needs.{needs}
 use Rattle.take_store.proofs.store_record.Statement.{statement}
 use Rattle.take_store.proofs.store_record.Tie as tie
@@ -10,10 +10,10 @@ returns : tie.Need-returns
 returns c = search (store-held)
 
 insert-records-requires : tie.Need-insert-records-requires
-insert-records-requires c κs = (search needs, search (stored-sound), search needs, search (store-room), search needs, search (one-rising))
+insert-records-requires c κs = (search needs, search (stored-ordered), search needs, search (store-room), search needs, search (one-rising))
 
-bump-requires : tie.Need-bump-requires
-bump-requires c κs = (search (unit-stored), search (count-spare))
+counted-requires : tie.Need-counted-requires
+counted-requires c κs = (search (unit-stored), search (count-above))
 
 returns-2 : tie.Need-returns-2
 returns-2 c = search (store-new)
@@ -21,11 +21,14 @@ returns-2 c = search (store-new)
 unit-of-requires : tie.Need-unit-of-requires
 unit-of-requires c κs = search needs
 
-cast-bump : tie.Need-cast-bump
-cast-bump c = search needs
+cast-u : tie.Need-cast-u
+cast-u c = search needs
 
-add-t13 : tie.Need-add-t13
-add-t13 c = search needs
+number-of-requires : tie.Need-number-of-requires
+number-of-requires c κs = search needs
+
+add-t17 : tie.Need-add-t17
+add-t17 c = search needs
 
 same-length : tie.Need-same-length
 same-length c = search needs
@@ -38,8 +41,9 @@ store-record-spec =
     returns
     insert-records-requires
     unit-of-requires
-    cast-bump
-    bump-requires
-    add-t13
+    cast-u
+    number-of-requires
+    counted-requires
+    add-t17
     same-length
     returns-2)

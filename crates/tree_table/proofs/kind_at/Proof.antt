@@ -1,6 +1,6 @@
 use mathlib.Core.Path.{refl}
-use Rattle.tree_table.specs.Rows.{entryIn}
 use borrow.Author.Needs.{needs}
+use Rattle.model.specs.Table.{entryIn}
 use Rattle.tree_table.proofs.kind_at.Statement.{statement}
 use Rattle.tree_table.proofs.kind_at.Tie as tie
 

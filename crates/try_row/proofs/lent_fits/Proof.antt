@@ -1,5 +1,4 @@
 use Rattle.try_row.proofs.Tried.{copy-wrong, tree-wrong, report-decides}
-use borrow.Author.Needs.{needs}
 use Rattle.try_row.proofs.lent_fits.Statement.{statement}
 use Rattle.try_row.proofs.lent_fits.Tie as tie
 

@@ -12,7 +12,7 @@ part-take-blocks-end : tie.Need-part-take-blocks-end
 part-take-blocks-end c = search needs
 
 take-blocks-requires : tie.Need-take-blocks-requires
-take-blocks-requires c κs = (search needs, search needs, search needs, search needs, search needs, search needs, search needs, search needs, search needs)
+take-blocks-requires c κs = (search needs, search needs, search needs, search needs, search needs, search needs, search needs, search needs, search needs, search needs, search needs, search needs)
 
 same-length : tie.Need-same-length
 same-length c = search needs

@@ -8,12 +8,26 @@ copy-log-requires : tie.Need-copy-log-requires
 copy-log-requires c κs = search needs
 
 take-by-requires : tie.Need-take-by-requires
-take-by-requires c κs = (search needs, search needs, search (copy-long), search (copy-sound), search (copy-used), search needs, search needs, search needs, search (copy-indexed))
+take-by-requires c κs =
+    let is = c .before .before .before .before .before .before .copy-log .ensures in (
+      search needs,
+      search needs,
+      copy-long _ _ is (search needs),
+      search needs,
+      copy-sound _ _ is _ (search needs),
+      search needs,
+      search needs,
+      copy-used _ _ is _ (search needs),
+      search needs,
+      search needs,
+      search needs,
+      copy-indexed _ _ is _ _ _ _ _ (search needs),
+    )
 
 same-length : tie.Need-same-length
 same-length c =
     let t = c .before .before .before .before .before .before .before .before in
-    t .take-by .kept .0 ∙ t .before .before .before .before .before .before .before .copy-log .kept .1 .0
+    t .take-by .kept .1 .1 .1 .0 ∙ t .before .before .before .before .before .before .before .copy-log .kept .1 .0
 
 same-length-2 : tie.Need-same-length-2
 same-length-2 c = search needs

@@ -1,5 +1,4 @@
 use Rattle.try_row_report.specs.Listed.{disputedIn}
-use native.Mathlib.Omega.{arith}
 use borrow.Author.Needs.{needs}
 use Rattle.try_row_report.proofs.is_disputed.Statement.{statement}
 use Rattle.try_row_report.proofs.is_disputed.Tie as tie

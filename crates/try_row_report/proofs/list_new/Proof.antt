@@ -1,20 +1,19 @@
 use Prim.Native.Nat.{_≤_, _-_}
 use mathlib.Core.Path.{_≡_, refl}
-use lib.ListN.{length}
+use lib.ListN.{length, take}
 use native.Mathlib.Omega.{arith}
 use Rattle.model.specs.Bytes.{padded}
 use Rattle.try_row_report.specs.Listed.{listedCount, listed}
-use Rattle.try_row_report.proofs.Listing.{made-low, shown-row, list-first, list-long, count-first, skips-count, skips-list, adds-count, adds-list, list-ends, list-whole}
+use Rattle.try_row_report.proofs.Listing.{made-low, list-first, list-long, count-first, skips-count, skips-list, adds-count, adds-list, list-ends, list-whole}
 use borrow.Author.Needs.{needs}
-use native.Mathlib.Omega.{arith}
 use Rattle.try_row_report.proofs.list_new.Statement.{statement}
 use Rattle.try_row_report.proofs.list_new.Tie as tie
 
 abbrev Inv-loop : tie.InvT-loop
-Inv-loop tree flags list₀ n c₀ i₀ list c i = (i ≤ n) × (n ≤ 512) × (c ≤ i) × (length list ≡ 2048) × (length list ≡ length list₀) × (c ≡ listedCount tree flags i) × (list ≡ padded 2048 (listed tree flags i))
+Inv-loop tree notes count list₀ n c₀ i₀ list c i = (i ≤ n) × (n ≤ 1024) × (c ≤ i) × (length list ≡ 4096) × (length list ≡ length list₀) × (c ≡ listedCount tree (take count notes) i) × (list ≡ padded 4096 (listed tree (take count notes) i))
 
 abbrev μ-loop : tie.MeasureT-loop
-μ-loop tree flags list₀ n c₀ i₀ list c i = n - i
+μ-loop tree notes count list₀ n c₀ i₀ list c i = n - i
 
 entries-in-requires : tie.Need-entries-in-requires Inv-loop μ-loop
 entries-in-requires c κs = search needs

@@ -5,18 +5,22 @@ use crate::files::{self, Bytes, Held, Over};
 use crate::json::Object;
 use crate::numbers::Case;
 use crate::out::{Out, shown};
-use crate::records::Story;
+use crate::records::{self, Story};
+use crate::state::{self, Fault};
 use crate::system::System;
 use crate::why;
 use sab::{Answer, Log, Tree, Vector, raw};
 use std::path::{Path, PathBuf};
 
-/// A byte more than the longest file: who has read so many knows that it is
-/// refused.
-pub const LIMIT: usize = raw::FILE + 1;
+/// A byte more than the longest file, of either form: who has read so many knows
+/// that it is refused.
+pub const LIMIT: usize = if raw::FILE > state::LENGTH { raw::FILE } else { state::LENGTH } + 1;
 
-/// How many records a log holds.
+/// How many records that are not folded a log holds.
 pub const ROOM: usize = 512;
+
+/// Records from which on a log is said to fill.
+const FEW: usize = 400;
 
 /// An archive file that was accepted.
 pub struct Archive {
@@ -32,9 +36,27 @@ pub struct Archive {
 
 /// The library's answer to a file's bytes, with what was wrong with them.
 pub fn judge(name: &Path, bytes: &[u8], length: Option<u64>) -> Outcome<Log> {
+    if state::is_state(bytes) {
+        return judge_state(name, bytes);
+    }
     Log::read_file(bytes).map_err(|refusal| {
         let detail = why::of_file(bytes, length, refusal);
         Failure::Refused(Refused::new(name, refusal, Case::File, detail))
+    })
+}
+
+/// A state file that was cut or changed is no file of the library's.
+fn judge_state(name: &Path, bytes: &[u8]) -> Outcome<Log> {
+    let no_good = |words: &str| {
+        let advice = "copy it again; if it stays, take the backup, or another unit's card";
+        Failure::Trouble(files::trouble(name, words).advise(advice))
+    };
+    state::read(bytes).map_err(|fault| match fault {
+        Fault::Length => no_good("is a state file that was cut short, or has something behind it"),
+        Fault::Sum => no_good("is a state file whose sum differs: some byte of it changed"),
+        Fault::Refused(refusal) => {
+            Failure::Refused(Refused::new(name, refusal, Case::File, None))
+        }
     })
 }
 
@@ -60,6 +82,27 @@ impl Archive {
     /// The tree of its records.
     pub fn tree(&self) -> Outcome<Tree> {
         self.log.show().map_err(of_library(&self.name, Case::File))
+    }
+
+    /// The listing: that of the library, or of a state file in the same form. The
+    /// records counted are those that are not folded.
+    pub fn listing(&self) -> Outcome<String> {
+        if !state::is_needed(&self.log) {
+            return self.log.listing().map_err(of_library(&self.name, Case::File));
+        }
+        let tree = self.tree()?;
+        let mut lines = vec![
+            format!(
+                "archive {} unit {} records {}",
+                self.log.archive(),
+                self.log.unit(),
+                self.log.records().len()
+            ),
+            format!("seen {}", self.vector),
+        ];
+        lines.extend(tree.entries().map(records::entry_line));
+        lines.extend(tree.asides().map(records::aside_line));
+        Ok(lines.join("\n") + "\n")
     }
 
     /// Says in a line if it reads otherwise than before version 4.
@@ -102,10 +145,25 @@ impl Archive {
         shown(&self.name)
     }
 
+    /// The form of its file.
+    pub fn form(&self) -> &'static str {
+        if state::is_needed(&self.log) { "SABS" } else { "SAB1" }
+    }
+
+    /// How many records are folded.
+    pub fn folded(&self) -> u32 {
+        self.log.base().vector().sum()
+    }
+
     /// What `check` says of it, behind its name.
     pub fn summary(&self) -> String {
+        let base = match self.form() {
+            "SAB1" => String::new(),
+            _ => format!(", {} folded, units {}", self.folded(), self.log.base().units()),
+        };
         format!(
-            "SAB1, archive {}, unit {}, {}, seen {}",
+            "{}, archive {}, unit {}, {}{base}, seen {}",
+            self.form(),
             self.log.archive(),
             self.log.unit(),
             why::counted(self.log.records().len(), "record"),
@@ -113,15 +171,43 @@ impl Archive {
         )
     }
 
+    /// Says in a line how much room there is, where it becomes scarce or records are
+    /// folded.
+    pub fn tell_room(&self, out: &mut Out) {
+        let used = self.log.records().len();
+        let free = ROOM - used;
+        if used < FEW && !state::is_needed(&self.log) {
+            return;
+        }
+        out.object(|| {
+            Object::new("room")
+                .text("file", self.shown())
+                .number("free", free as u64)
+        });
+        let advice = match used {
+            ROOM => "; it is full: sab fold (sab explain 11)",
+            FEW.. => "; fold before it is full: sab fold (sab explain 11)",
+            _ => "",
+        };
+        out.line(format_args!(
+            "{}: {used} of {ROOM} places used, {free} free{advice}",
+            self.shown()
+        ));
+    }
+
     /// The object of an archive.
     pub fn object(&self) -> Object {
+        let listed = self.log.base().units().iter();
+        let listed: Vec<u16> = listed.map(|unit| unit.number().into()).collect();
         Object::new("archive")
             .text("file", self.shown())
-            .text("form", "SAB1")
+            .text("form", self.form())
             .number("archive", self.log.archive())
             .number("unit", self.log.unit().number())
             .number("records", self.log.records().len() as u64)
+            .number("folded", self.folded())
             .numbers("vector", self.vector.counts())
+            .numbers("listed", &listed)
     }
 }
 
@@ -153,14 +239,20 @@ impl<'a> Own<'a> {
     }
 }
 
-/// The file of a log.
+/// The file of a log: SAB1 where it loses nothing, else a state file.
 fn written(log: &Log) -> Answer<Vec<u8>> {
-    log.write_file()
+    match state::is_needed(log) {
+        true => Ok(state::written(log)),
+        false => log.write_file(),
+    }
 }
 
 /// Whether bytes are the file of a log, by the library.
 fn reads_back(bytes: &[u8], log: &Log) -> bool {
-    Log::read_file(bytes).as_ref() == Ok(log)
+    match state::is_state(bytes) {
+        true => state::read(bytes).is_ok_and(|read| read == *log),
+        false => Log::read_file(bytes).as_ref() == Ok(log),
+    }
 }
 
 /// Writes a log as a new file.

@@ -25,7 +25,8 @@ pub struct Trouble {
 /// What reading or writing answers.
 pub type Done<T> = Result<T, Trouble>;
 
-fn trouble(file: &Path, words: impl Into<String>) -> Trouble {
+/// What a file is instead of one that can be used.
+pub fn trouble(file: &Path, words: impl Into<String>) -> Trouble {
     Trouble {
         file: file.to_path_buf(),
         words: words.into(),
@@ -34,7 +35,8 @@ fn trouble(file: &Path, words: impl Into<String>) -> Trouble {
 }
 
 impl Trouble {
-    fn advise(mut self, advice: &'static str) -> Trouble {
+    /// With what to do about it.
+    pub fn advise(mut self, advice: &'static str) -> Trouble {
         self.advice = Some(advice);
         self
     }

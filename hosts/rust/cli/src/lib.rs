@@ -4,7 +4,8 @@
 //! It never judges. Every yes, no, number, tree and vector is the answer of a
 //! call of the proved library, through the crate `sab`; the program opens files,
 //! asks, writes files safely and puts the answers into words. Records and rows
-//! are decoded only to be printed.
+//! are decoded only to be printed. Only the sum of a state file, a form of this
+//! program's own, is its own to judge.
 
 #![forbid(unsafe_code)]
 #![deny(missing_docs)]
@@ -25,6 +26,7 @@ pub mod numbers;
 pub mod out;
 pub mod places;
 pub mod records;
+pub mod state;
 pub mod system;
 pub mod why;
 

@@ -42,8 +42,11 @@ pub fn given(log: &Log, row: &Row) -> Vec<Given> {
     let mut held: BTreeSet<Identity> = log.records().map(Record::identity).collect();
     row.blocks()
         .map(|block| {
+            let is_held = |identity: &Identity| {
+                held.contains(identity) || log.base().has_folded(*identity)
+            };
             let (old, new): (Vec<Identity>, Vec<Identity>) =
-                blocks::identities(&block).partition(|identity| held.contains(identity));
+                blocks::identities(&block).partition(is_held);
             held.extend(&new);
             Given { new, held: old }
         })
@@ -54,15 +57,20 @@ pub fn given(log: &Log, row: &Row) -> Vec<Given> {
 /// each unit that both hold is compared too. `room` is how many blocks with new
 /// records may still be taken.
 pub fn pass(from: &Log, to: &mut Log, room: &mut usize) -> Passed {
-    pass_all(from, to, room).unwrap_or_else(|refusal| Passed {
-        blocks: Vec::new(),
-        end: End::Stopped(refusal, None),
+    pass_all(from, to, room).unwrap_or_else(|refusal| {
+        let held = to.vector().unwrap_or_default();
+        let folded = from.base().vector();
+        let words = (refusal.number == 27).then(|| why::of_asked(&held, &folded));
+        Passed {
+            blocks: Vec::new(),
+            end: End::Stopped(refusal, words.flatten()),
+        }
     })
 }
 
 fn pass_all(from: &Log, to: &mut Log, room: &mut usize) -> Answer<Passed> {
-    let asked = Asking::careful(to)?.vector();
-    let row = from.hand_out_row(&asked)?;
+    let asking = Asking::careful(to)?.above(to, &from.base().vector())?;
+    let row = from.hand_out_row(&asking.vector())?;
     let mut blocks = given(to, &row);
     let fits = cut_at(&blocks, *room);
     let cut = Row::try_from(&row.as_ref()[..raw::BLOCK * fits])?;
@@ -143,7 +151,8 @@ pub fn twice_words(twice: &[Identity]) -> String {
 /// Says no if two logs are of different archives, by a take.
 pub fn deny_other_archive(name: &Path, from: &Log, to: &Log) -> Result<(), Refused> {
     let try_it = || {
-        let block = from.hand_out(&to.vector()?)?;
+        let asked = to.vector()?.joined(&from.base().vector());
+        let block = from.hand_out(&asked)?;
         match to.clone().take(block) {
             Err(refusal) if refusal.number == 6 => Err(refusal),
             _ => Ok(()),

@@ -74,6 +74,11 @@ pub const SECTIONS: &[Section] = &[
         title: "moving an entry",
         text: include_str!("card/25.md"),
     },
+    Section {
+        number: 27,
+        title: "behind a base",
+        text: include_str!("card/27.md"),
+    },
 ];
 
 /// The section of a number.
@@ -195,7 +200,11 @@ pub const ROWS: &[Row] = &[
     },
     Row {
         number: 11,
-        cause: Always("a 513th record"),
+        cause: By {
+            file: Some("a 513th record"),
+            taking: Some("a 513th record that is not folded"),
+            act: Some("a 513th record that is not folded"),
+        },
         fault: "own log (full); in a file, peer",
         advice: By {
             file: Some("the writer was faulty: name the card's unit to the workshop"),
@@ -254,7 +263,7 @@ pub const ROWS: &[Row] = &[
     },
     Row {
         number: 19,
-        cause: Always("the lent log is not sound"),
+        cause: Always("the lent log, list or base is not sound"),
         fault: "own log",
         advice: Always(
             "the unit's memory is damaged: keep a copy, start anew and take all from a peer or from a card's file",
@@ -290,6 +299,44 @@ pub const ROWS: &[Row] = &[
         cause: Always("a folder would go into itself or below itself"),
         fault: "wish",
         advice: Always("choose a folder that does not lie in the one to move"),
+    },
+    Row {
+        number: 26,
+        cause: By {
+            file: None,
+            taking: Some("a record is of a unit that is not in this file's list"),
+            act: Some("the list lacks a unit"),
+        },
+        fault: "own list; for an act, wish",
+        advice: By {
+            file: None,
+            taking: Some(
+                "if the unit belongs to the archive, list it with `sab fold --units`, and go on as under 27",
+            ),
+            act: Some("list the own unit and every unit that makes records (`sab help fold`)"),
+        },
+    },
+    Row {
+        number: 27,
+        cause: Always(
+            "records are folded that the other lacks, or a record had not seen what is folded here",
+        ),
+        fault: "own base or the peer's",
+        advice: Always(
+            "take from another unit that has not folded so far; go on as under 27 (`sab explain 27`)",
+        ),
+    },
+    Row {
+        number: 28,
+        cause: Always("the unit has used its last number, 65,535"),
+        fault: "own unit",
+        advice: Always("this unit makes no record any more: go on under another unit number"),
+    },
+    Row {
+        number: 29,
+        cause: Always("records are folded: no file of the form SAB1 can hold them"),
+        fault: "own base",
+        advice: Always("keep the state file; use the last card from before the fold"),
     },
 ];
 

@@ -38,7 +38,7 @@ impl Places {
     pub fn of(archive: &Archive) -> Outcome<Places> {
         let refused = of_library(&archive.name, Case::File);
         let index = archive.log.make_index().map_err(&refused)?;
-        let listing = archive.log.listing().map_err(&refused)?;
+        let listing = archive.listing()?;
         let mut lines = HashMap::new();
         for line in listing.lines().skip(2) {
             let mut words = line.split(' ');

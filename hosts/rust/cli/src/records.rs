@@ -5,7 +5,7 @@
 
 use crate::json::Object;
 use crate::why::counted;
-use sab::{Aside, Entry, Identity, Kind, Log, Operation, Record, Tree};
+use sab::{Aside, Base, Entry, Identity, Kind, Log, Operation, Record, Tree};
 use std::collections::BTreeMap;
 
 /// A label between quotes, as a listing has it.
@@ -18,6 +18,33 @@ pub fn quoted(label: &str) -> String {
         text.push(letter);
     }
     text + "\""
+}
+
+/// An entry as a listing has it.
+pub fn entry_line(entry: Entry) -> String {
+    let mark = entry.mark().map(|mark| format!(" {mark}"));
+    format!(
+        "{} {} in {} {} {}{}{}",
+        kind_word(entry.kind()),
+        entry.identity(),
+        entry.folder(),
+        quoted(entry.label()),
+        entry.date(),
+        mark.unwrap_or_default(),
+        if entry.is_disputed() { " disputed" } else { "" }
+    )
+}
+
+/// An aside as a listing has it.
+pub fn aside_line(aside: Aside) -> String {
+    let marks = aside.marks().map(|marked| marked.to_string());
+    format!(
+        "aside {} reason {} marks {} {}",
+        aside.identity(),
+        aside.reason(),
+        marks.unwrap_or("-".to_string()),
+        state(aside)
+    )
 }
 
 /// What an entry is, in a word.
@@ -91,6 +118,7 @@ pub struct Wished<'a> {
 /// The records of a log with the tree that they make.
 pub struct Story<'a> {
     tree: &'a Tree,
+    base: &'a Base,
     records: Vec<Record<'a>>,
     places: BTreeMap<Identity, usize>,
     entries: BTreeMap<Identity, Entry<'a>>,
@@ -104,6 +132,7 @@ impl<'a> Story<'a> {
         let places = records.iter().enumerate();
         Story {
             tree,
+            base: log.base(),
             places: places.map(|(at, record)| (record.identity(), at)).collect(),
             records,
             entries: tree
@@ -205,9 +234,15 @@ impl<'a> Story<'a> {
         }
     }
 
-    /// The label that an entry had when a record came.
+    /// The label that an entry had when a record came; where no record tells, that
+    /// in the base.
     fn label_before(&self, identity: Identity, record: Record) -> Option<&'a str> {
-        self.place_before(identity, record).and_then(Record::label)
+        let told = self.place_before(identity, record).and_then(Record::label);
+        told.or_else(|| {
+            let mut folded = self.base.entries();
+            let entry = folded.find(|entry| entry.identity() == identity);
+            entry.map(|entry| entry.label())
+        })
     }
 
     /// The last place record that an entry had when a record came.
@@ -238,10 +273,11 @@ impl<'a> Story<'a> {
     /// The records that were judged otherwise before version 4, when capitals were
     /// told from small letters and an entry held its label against its own rename.
     /// If there are none, the file reads as it did: the first record that is judged
-    /// otherwise is always among them. A file with a move was not read at all.
+    /// otherwise is always among them. A file with a move or a base was not read at
+    /// all.
     pub fn otherwise(&self) -> Otherwise {
         let mut otherwise = Otherwise::default();
-        if self.moves() > 0 {
+        if self.moves() > 0 || !self.base.is_empty() {
             return otherwise;
         }
         for &record in &self.records {
@@ -344,6 +380,9 @@ impl<'a> Story<'a> {
                 format!("{entry} is a {}, no entry", other.operation()),
                 None,
             ),
+            None if self.base.has_folded(entry) => {
+                ("what became of it is folded".to_string(), None)
+            }
             None => ("it is not held".to_string(), None),
         }
     }
@@ -529,12 +568,7 @@ impl<'a> Story<'a> {
     pub fn told(&self, aside: Aside) -> Told {
         let identity = aside.identity();
         let Some(record) = self.record(identity) else {
-            return Told {
-                did: format!("record {identity}"),
-                because: format!("reason {}", aside.reason()),
-                todo: format!("settle {identity}"),
-                stake: Stake::Nothing,
-            };
+            return self.told_of_folded(aside);
         };
         let (because, blame) = self.because(aside, record);
         let stake = match (blame, record.mark()) {
@@ -559,6 +593,25 @@ impl<'a> Story<'a> {
             because,
             todo,
             stake,
+        }
+    }
+
+    /// An aside whose record is folded, in words: what it did is not known any more.
+    fn told_of_folded(&self, aside: Aside) -> Told {
+        let identity = aside.identity();
+        let marked = aside.marks().map(|marked| self.name(marked));
+        let marked = marked.map_or(String::new(), |marked| format!(", marks {marked}"));
+        let settled = self.settler(identity).map(|settle| self.brief(settle));
+        let todo = match (aside.is_open(), settled) {
+            (true, _) => format!("look at the card from before the fold, then settle {identity}"),
+            (false, Some(settle)) => format!("settled by {settle}"),
+            (false, None) => "settled".to_string(),
+        };
+        Told {
+            did: format!("record {identity} of unit {} is folded", identity.unit()),
+            because: format!("it stood aside under reason {}{marked}", aside.reason()),
+            todo,
+            stake: Stake::Nothing,
         }
     }
 

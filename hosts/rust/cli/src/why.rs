@@ -4,7 +4,7 @@
 //! say which of them it was; where nothing is found, nothing is said.
 
 use sab::raw::{BLOCK, WISH};
-use sab::{Log, Refusal, Vector};
+use sab::{Log, Refusal, Unit, Vector};
 
 /// A record's bytes.
 type Bytes = [u8; WISH];
@@ -51,6 +51,24 @@ pub fn of_block(block: &[u8], log: &Log, refusal: Refusal) -> Option<String> {
             number32(block.get(4..8)?),
             log.archive()
         )),
+        // Which is the next, and what was seen, is told by folded records too.
+        8 | 9 if !log.base().is_empty() => None,
+        26 => {
+            let listed = log.base().units();
+            let mut records = in_block(block).iter();
+            let unlisted = records.find(|record| !listed.contains(unit_of(record)))?;
+            Some(format!("record {}; listed are {listed}", identity(unlisted)))
+        }
+        27 => {
+            let folded = log.base().vector();
+            let mut records = in_block(block).iter();
+            records.find_map(|record| {
+                let seen = Vector::from_bytes(&std::array::from_fn(|i| record[4 + i]));
+                let unit = Unit::ALL.into_iter().find(|unit| seen[*unit] < folded[*unit])?;
+                let is_new = number16(&record[2..]) > folded[unit_of(record)];
+                is_new.then(|| format!("record {} {}", identity(record), behind(unit, &seen, &folded)))
+            })
+        }
         7..=11 => {
             let mut before: Vec<&Bytes> = log.records().map(sab::Record::as_bytes).collect();
             for record in in_block(block) {
@@ -71,6 +89,25 @@ pub fn of_block(block: &[u8], log: &Log, refusal: Refusal) -> Option<String> {
         }
         _ => None,
     }
+}
+
+/// What of the records that one has folded a vector lacks.
+pub fn of_asked(held: &Vector, folded: &Vector) -> Option<String> {
+    let unit = Unit::ALL.into_iter().find(|unit| held[*unit] < folded[*unit])?;
+    Some(format!("it {}", behind(unit, held, folded)))
+}
+
+/// How far a vector is behind what is folded of a unit.
+fn behind(unit: Unit, seen: &Vector, folded: &Vector) -> String {
+    format!(
+        "has seen {} of unit {unit}, of which {} are folded",
+        seen[unit], folded[unit]
+    )
+}
+
+/// The unit of a record's bytes.
+fn unit_of(record: &Bytes) -> Unit {
+    Unit::ALL[usize::from(record[0] & 7)]
 }
 
 /// What was wrong with a wish of a unit that holds this vector: the first fault

@@ -1,10 +1,9 @@
 //! The example files, by name.
 
-use library::{LISTING, Library};
+use library::{BASE, LISTING, LOG, Library};
 use make_vectors::chain::file_of;
 use make_vectors::examples::{moves, not_closed, operations, paper, reasons, removed, two_blocks};
 
-const LOG: usize = 40_960;
 const FILE: usize = 44_032;
 
 const ARCHIVE: u32 = 305_419_896;
@@ -41,12 +40,12 @@ pub fn example(library: &dyn Library, name: &str) -> Option<Example> {
 /// listed.
 fn written(library: &dyn Library, archive: u32, unit: u8, records: &[[u8; 80]]) -> Example {
     let laid = file_of(records, archive, unit);
-    let (mut log, mut file) = (vec![0; LOG], vec![0; FILE]);
+    let (mut log, mut base, mut file) = (vec![0; LOG], vec![0; BASE], vec![0; FILE]);
     library
-        .read_file(&mut log, &laid)
+        .read_file(&mut log, &mut base, &laid)
         .expect("an example is a good file");
     let blocks = library
-        .write_file(&log, archive, unit.into(), &mut file)
+        .write_file(&log, &base, archive, unit.into(), &mut file)
         .expect("a log that was read is sound");
     file.truncate(512 * blocks as usize);
     listed(library, file)

@@ -3,7 +3,7 @@
 use crate::study::{End, Plan, Tally, incorrect};
 use crate::world::{ARCHIVE, apart, file_of, first, hand_out, held, take};
 use library::{Head, Library, Refusal};
-use plain::{BLOCK, LOG};
+use plain::{BLOCK, EMPTY_BASE, LOG};
 use workload::{Mix, log_of};
 
 /// The number that a changed byte gives: letters or sums.
@@ -52,7 +52,7 @@ fn refused_block(
     block: &[u8],
     number: u8,
 ) -> End {
-    let answer = library.take(log, &mut [], ARCHIVE, 1, block);
+    let answer = library.take(log, &EMPTY_BASE, &mut [], ARCHIVE, 1, block);
     if answer != Err(Refusal { number, place: 0 }) {
         return incorrect(format!("{answer:?}, not {number}"));
     }
@@ -108,7 +108,7 @@ pub fn files(library: &dyn Library, plan: &Plan) -> Tally {
             }
             for change in 1..=255 {
                 file[place] = good[place] ^ change;
-                let answer = library.read_file(&mut log, &file);
+                let answer = library.read_file(&mut log, &mut EMPTY_BASE.clone(), &file);
                 let end = refused_file(answer, &log, &before, &[expected(place)], place / BLOCK);
                 tally.count(|| format!("{size} records, byte {place} by {change}"), end);
             }
@@ -139,7 +139,7 @@ pub fn short_files(library: &dyn Library, plan: &Plan) -> Tally {
             } else {
                 (2, 0)
             };
-            let answer = library.read_file(&mut log, &good[..length]);
+            let answer = library.read_file(&mut log, &mut EMPTY_BASE.clone(), &good[..length]);
             let end = refused_file(answer, &log, &before, &[number], place);
             tally.count(|| format!("{size} records, {length} bytes"), end);
 
@@ -148,7 +148,7 @@ pub fn short_files(library: &dyn Library, plan: &Plan) -> Tally {
             };
             let mut zeroed = good.clone();
             zeroed[length..].fill(0);
-            let answer = library.read_file(&mut log, &zeroed);
+            let answer = library.read_file(&mut log, &mut EMPTY_BASE.clone(), &zeroed);
             let end = refused_file(answer, &log, &before, &[3, 4], (length + zeros) / BLOCK);
             tally.count(|| format!("{size} records, zeros from {length}"), end);
         }

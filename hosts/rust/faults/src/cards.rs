@@ -3,13 +3,13 @@
 use crate::study::{End, Plan, Tally, incorrect, manual};
 use crate::world::{ARCHIVE, Goal, apart, first, held};
 use library::{Library, MergeRefusal, Refusal};
-use plain::{BLOCK, FILE, LOG, RECORD};
+use plain::{BLOCK, EMPTY_BASE, FILE, LOG, RECORD};
 use workload::{Chance, Mix, vector_of};
 
 /// The card of a unit.
 fn card(log: &[u8], unit: usize) -> Vec<u8> {
     let mut file = vec![0; FILE];
-    let blocks = plain::write_file(log, ARCHIVE, unit as u8, &mut file).expect("a sound log");
+    let blocks = plain::write_file(log, &EMPTY_BASE, ARCHIVE, unit as u8, &mut file).expect("a sound log");
     file.truncate(BLOCK * blocks as usize);
     file
 }

@@ -3,7 +3,7 @@
 use crate::study::{End, Plan, Tally, Wrong, incorrect};
 use crate::world::{ALL, ARCHIVE, Block, Goal, apart, hand_out, meet, pass, take};
 use library::Library;
-use plain::BLOCK;
+use plain::{BLOCK, EMPTY_BASE};
 use workload::{Chance, Mix};
 
 /// Two units that have been apart.
@@ -163,7 +163,7 @@ fn cut_inside(
     arrived: &[u8],
 ) -> End {
     let mut logs = states.to_vec();
-    match library.take(&mut logs[to], &mut [], ARCHIVE, to as u32, arrived) {
+    match library.take(&mut logs[to], &EMPTY_BASE, &mut [], ARCHIVE, to as u32, arrived) {
         Err(_) if logs[to] != states[to] => return incorrect("refused, but the log changed"),
         Ok(()) if !given.iter().any(|block| block[..] == *arrived) => {
             return incorrect("a part of a block was taken");

@@ -5,7 +5,7 @@
 use crate::study::{End, Plan, Tally, Wrong, incorrect, manual};
 use crate::world::{ARCHIVE, tree_of};
 use library::{Library, folder_of};
-use plain::{BLOCK, ENTRY_ROW, FILE, INDEX, LOG, TREE};
+use plain::{BLOCK, EMPTY_BASE, ENTRY_ROW, FILE, INDEX, LOG, TREE};
 use workload::{Chance, Mix, vector_of, wish};
 
 /// How many units there are.
@@ -48,14 +48,14 @@ fn one(library: &dyn Library, units: &mut [Unit], chance: &mut Chance, mix: &Mix
         2 => asked(library, &units[own], chance)?,
         3 if chance.one_in(40) => {
             let Unit { log, index } = &mut units[own];
-            if library.start(log, index, ARCHIVE, own as u32) != Ok(()) {
+            if library.start(log, &mut EMPTY_BASE.clone(), index, ARCHIVE, own as u32) != Ok(()) {
                 return incorrect("the start is refused");
             }
         }
         _ => act(library, &mut units[own], own, chance, mix)?,
     }
     let mut fresh = vec![0xa5; INDEX];
-    if plain::index(&units[own].log, &mut fresh).is_err() {
+    if plain::index(&units[own].log, &EMPTY_BASE, &mut fresh).is_err() {
         return manual("a log that is not sound");
     }
     if units[own].index != fresh {
@@ -73,7 +73,7 @@ fn act(
     mix: &Mix,
 ) -> Result<(), Wrong> {
     let mut tree = [0; TREE];
-    if plain::show(&unit.log, &mut tree).is_err() {
+    if plain::show(&unit.log, &EMPTY_BASE, &mut tree).is_err() {
         return manual("a log that is not sound");
     }
     let mut wish = wish(chance, mix, own as u8, &tree);
@@ -81,7 +81,7 @@ fn act(
         wish[chance.below(80)] ^= 1 << chance.below(8);
     }
     let before = unit.clone();
-    let done = library.act(&mut unit.log, &mut unit.index, ARCHIVE, own as u32, &wish);
+    let done = library.act(&mut unit.log, &EMPTY_BASE, &mut unit.index, ARCHIVE, own as u32, &wish);
     if done.is_err() && (unit.log != before.log || unit.index != before.index) {
         return incorrect("refused, but log or index changed");
     }
@@ -99,7 +99,7 @@ fn take(
     let from = chance.below(UNITS);
     let asked = vector_of(&units[own].log);
     let mut row = vec![0; FILE];
-    let blocks = plain::hand_out_row(&units[from].log, ARCHIVE, from as u8, &asked, &mut row);
+    let blocks = plain::hand_out_row(&units[from].log, &EMPTY_BASE, ARCHIVE, from as u8, &asked, &mut row);
     row.truncate(BLOCK * usize::from(blocks.unwrap_or(0)));
     if !row.is_empty() && chance.one_in(4) {
         let at = chance.below(row.len());
@@ -107,7 +107,7 @@ fn take(
     }
     let Unit { log, index } = &mut units[own];
     if by_row {
-        return match library.take_row(log, index, ARCHIVE, own as u32, &row) {
+        return match library.take_row(log, &EMPTY_BASE, index, ARCHIVE, own as u32, &row) {
             Ok(_) => Ok(()),
             Err(refusal) => manual(format!("a row refused: {refusal:?}")),
         };
@@ -116,7 +116,7 @@ fn take(
     let Some(block) = row.chunks(BLOCK).next() else {
         return Ok(());
     };
-    let _ = library.take(log, index, ARCHIVE, own as u32, block);
+    let _ = library.take(log, &EMPTY_BASE, index, ARCHIVE, own as u32, block);
     Ok(())
 }
 

@@ -3,9 +3,9 @@
 
 use crate::study::{End, Plan, Tally, incorrect};
 use library::{LISTING, Library, Plain, folder_of};
-use plain::{BLOCK, FILE, INDEX, LOG, RECORD, TREE};
+use plain::{BASE, BLOCK, EMPTY_BASE, FILE, INDEX, LOG, RECORD, TREE};
 use std::fmt::Debug;
-use workload::{Chance, Mix, log_of, vector_of, wish};
+use workload::{Chance, Mix, log_of, wish};
 
 const ARCHIVE: u32 = 0x8000_0011;
 
@@ -30,6 +30,8 @@ struct Calls<'a> {
     chance: Chance,
     mix: Mix,
     logs: Vec<Vec<u8>>,
+    /// The base of each log.
+    bases: Vec<Vec<u8>>,
     /// The index of each log.
     indexes: Vec<Vec<u8>>,
     /// Blocks and files that were written.
@@ -79,12 +81,13 @@ impl Calls<'_> {
         let held = *chance.pick(&[0, 0, 12, 60, 505, 512]);
         let log = log_of(held, 1 + chance.below(8), 4, &mix, seed);
         let mut index = vec![0; INDEX];
-        plain::index(&log, &mut index).expect("a sound log");
+        plain::index(&log, &EMPTY_BASE, &mut index).expect("a sound log");
         Calls {
             library,
             chance,
             mix,
             logs: vec![log; 8],
+            bases: vec![EMPTY_BASE.to_vec(); 8],
             indexes: vec![index; 8],
             blocks: Vec::new(),
             files: Vec::new(),
@@ -101,7 +104,8 @@ impl Calls<'_> {
         };
         match self.chance.below(100) {
             0 => self.start(slot, unit),
-            1..40 => self.act(slot, unit),
+            1..36 => self.act(slot, unit),
+            36..40 => self.fold(slot, unit),
             40..60 => self.hand_out(slot, unit),
             60..84 => self.take(slot, unit),
             84..88 => self.write_file(slot, unit),
@@ -138,10 +142,7 @@ impl Calls<'_> {
         if !self.chance.one_in(30) {
             return (log, true);
         }
-        let used = vector_of(&log)
-            .iter()
-            .map(|count| *count as usize)
-            .sum::<usize>();
+        let used = used(&log);
         match self.chance.below(4) {
             0 => log.truncate(self.chance.below(LOG)),
             1 => log.push(0),
@@ -152,6 +153,35 @@ impl Calls<'_> {
             }
         }
         (log, false)
+    }
+
+    /// The slot's base, or seldom one with changed bytes, that of another slot, or
+    /// one not as long.
+    fn base(&mut self, slot: usize) -> (Vec<u8>, bool) {
+        let mut base = self.bases[slot].clone();
+        if !self.chance.one_in(30) {
+            return (base, true);
+        }
+        match self.chance.below(6) {
+            0 => base.truncate(self.chance.below(BASE)),
+            1 => base.push(0),
+            2 => base = self.bases[self.chance.below(8)].clone(),
+            3 => base[self.chance.below(24)] = self.odd_byte(),
+            4 => {
+                let at = 36_888 + self.chance.below(12 * (usize::from(base[4]) + 1));
+                base[at] = self.odd_byte();
+            }
+            _ => {
+                let at = 24 + self.chance.below(72 * (usize::from(base[2]) + 1));
+                base[at] = self.odd_byte();
+            }
+        }
+        (base, false)
+    }
+
+    /// The vector that a slot holds.
+    fn held(&self, slot: usize) -> [u16; 8] {
+        plain::vector(&self.logs[slot], &self.bases[slot]).unwrap_or_default()
     }
 
     /// A buffer lent for writing, seldom of another length.
@@ -178,7 +208,7 @@ impl Calls<'_> {
         }
     }
 
-    /// Keeps what the call left in the slot's log and index. An index that was
+    /// Keeps what the call left in the slot's log, base and index. An index that was
     /// right must be the one made afresh; where another was lent, it is made.
     fn keep<T: PartialEq + Debug>(
         &mut self,
@@ -191,11 +221,12 @@ impl Calls<'_> {
             return Ok(false);
         }
         let right = lent == self.indexes[slot];
-        let [log, index] = std::mem::take(&mut both.lent[0])
+        let [log, base, index] = std::mem::take(&mut both.lent[0])
             .try_into()
-            .expect("a log and an index");
-        self.logs[slot] = log;
-        let made = self.library.index(&self.logs[slot], &mut self.indexes[slot]);
+            .expect("a log, a base and an index");
+        (self.logs[slot], self.bases[slot]) = (log, base);
+        let (log, base) = (&self.logs[slot], &self.bases[slot]);
+        let made = self.library.index(log, base, &mut self.indexes[slot]);
         if made != Ok(()) {
             return incorrect(format!("no index: {made:?}"));
         }
@@ -207,11 +238,11 @@ impl Calls<'_> {
 
     /// Makes the index of a log.
     fn index(&mut self, slot: usize) -> End {
-        let (log, _) = self.log(slot);
+        let ((log, _), (base, _)) = (self.log(slot), self.base(slot));
         let index = self.lent(INDEX);
-        let both = Both::run(self.library, &[&index, &log], |library, lent| {
-            let [index, log] = lent else { unreachable!() };
-            library.index(log, index)
+        let both = Both::run(self.library, &[&index, &log, &base], |library, lent| {
+            let [index, log, base] = lent else { unreachable!() };
+            library.index(log, base, index)
         });
         both.compared("index")
     }
@@ -222,7 +253,7 @@ impl Calls<'_> {
         if index.is_empty() {
             index = self.lent(INDEX);
         }
-        let at = 4 + 40 * self.chance.below(512);
+        let at = 4 + 40 * self.chance.below(1024);
         let row = index.get(at..at + 40).unwrap_or(&[0; 40]);
         let (mut folder, mut label) = (folder_of(row), row[4..36].to_vec());
         match self.chance.below(6) {
@@ -241,23 +272,25 @@ impl Calls<'_> {
 
     fn start(&mut self, slot: usize, unit: u32) -> End {
         let archive = self.archive();
-        let ((log, own), index) = (self.log(slot), self.index_for(slot));
-        let mut both = Both::run(self.library, &[&log, &index], |library, lent| {
-            let [log, index] = lent else { unreachable!() };
-            library.start(log, index, archive, unit)
+        let ((log, own), (base, based)) = (self.log(slot), self.base(slot));
+        let index = self.index_for(slot);
+        let mut both = Both::run(self.library, &[&log, &base, &index], |library, lent| {
+            let [log, base, index] = lent else { unreachable!() };
+            library.start(log, base, index, archive, unit)
         });
         both.compared("start")?;
-        self.keep(slot, own, &index, &mut both)
+        self.keep(slot, own && based, &index, &mut both)
     }
 
     fn act(&mut self, slot: usize, unit: u32) -> End {
         let archive = self.archive();
         let mut tree = [0; TREE];
-        let mut wish = match plain::show(&self.logs[slot], &mut tree) {
+        let mut wish = match plain::show(&self.logs[slot], &self.bases[slot], &mut tree) {
             Ok(()) => wish(&mut self.chance, &self.mix, unit as u8 & 7, &tree).to_vec(),
-            Err(_) => return incorrect("a log that is not sound"),
+            Err(_) => return incorrect("a state that is not sound"),
         };
-        let ((log, own), index) = (self.log(slot), self.index_for(slot));
+        let ((log, own), (base, based)) = (self.log(slot), self.base(slot));
+        let index = self.index_for(slot);
         if self.chance.one_in(4) {
             let at = self.chance.below(RECORD);
             wish[at] = self.odd_byte();
@@ -265,12 +298,31 @@ impl Calls<'_> {
         if self.chance.one_in(40) {
             wish.truncate(self.chance.below(RECORD));
         }
-        let mut both = Both::run(self.library, &[&log, &index], |library, lent| {
-            let [log, index] = lent else { unreachable!() };
-            library.act(log, index, archive, unit, &wish)
+        let mut both = Both::run(self.library, &[&log, &base, &index], |library, lent| {
+            let [log, base, index] = lent else { unreachable!() };
+            library.act(log, base, index, archive, unit, &wish)
         });
         both.compared("act")?;
-        self.keep(slot, own, &index, &mut both)
+        self.keep(slot, own && based, &index, &mut both)
+    }
+
+    /// Folds by a list that mostly names every unit with a record.
+    fn fold(&mut self, slot: usize, unit: u32) -> End {
+        let archive = self.archive();
+        let held = self.held(slot);
+        let mut list = self.chance.number() as u8 & self.chance.number() as u8;
+        if !self.chance.one_in(8) {
+            list |= 1 << slot;
+            (0..8).for_each(|unit| list |= u8::from(held[unit] > 0) << unit);
+        }
+        let ((log, own), (base, based)) = (self.log(slot), self.base(slot));
+        let index = self.indexes[slot].clone();
+        let mut both = Both::run(self.library, &[&log, &base, &index], |library, lent| {
+            let [log, base, _] = lent else { unreachable!() };
+            library.fold(log, base, archive, unit, list)
+        });
+        both.compared("fold")?;
+        self.keep(slot, own && based, &index, &mut both)
     }
 
     fn odd_byte(&mut self) -> u8 {
@@ -283,19 +335,20 @@ impl Calls<'_> {
     fn hand_out(&mut self, slot: usize, unit: u32) -> End {
         let archive = self.archive();
         let other = self.chance.below(8);
-        let mut asked = vector_of(&self.logs[other]);
+        let mut asked = self.held(other);
         if self.chance.one_in(4) {
             asked[self.chance.below(8)] = *self.chance.pick(&[0, 1, 5, 64, 513, 65_535]);
         }
-        let (log, _) = self.log(slot);
+        let ((log, _), (base, _)) = (self.log(slot), self.base(slot));
         let block = self.lent(BLOCK);
-        let both = Both::run(self.library, &[&block, &log], |library, lent| {
-            let [block, log] = lent else { unreachable!() };
-            library.hand_out(log, archive, unit, &asked, block)
+        let both = Both::run(self.library, &[&block, &log, &base], |library, lent| {
+            let [block, log, base] = lent else { unreachable!() };
+            library.hand_out(log, base, archive, unit, &asked, block)
         });
         if both.answers[0].is_ok() {
             let block = &both.lent[0][0];
-            let (count, lacks) = (block[9], self.library.compare(&asked, &vector_of(&log)));
+            let held = plain::vector(&log, &base).unwrap_or_default();
+            let (count, lacks) = (block[9], self.library.compare(&asked, &held));
             if u32::from(count) != lacks.first_lacks.min(6) {
                 return incorrect(format!("hand out: {count} records, {lacks:?}"));
             }
@@ -363,22 +416,23 @@ impl Calls<'_> {
     fn take(&mut self, slot: usize, unit: u32) -> End {
         let archive = self.archive();
         let block = self.block();
-        let ((log, own), index) = (self.log(slot), self.index_for(slot));
-        let mut both = Both::run(self.library, &[&log, &index], |library, lent| {
-            let [log, index] = lent else { unreachable!() };
-            library.take(log, index, archive, unit, &block)
+        let ((log, own), (base, based)) = (self.log(slot), self.base(slot));
+        let index = self.index_for(slot);
+        let mut both = Both::run(self.library, &[&log, &base, &index], |library, lent| {
+            let [log, base, index] = lent else { unreachable!() };
+            library.take(log, base, index, archive, unit, &block)
         });
         both.compared("take")?;
-        self.keep(slot, own, &index, &mut both)
+        self.keep(slot, own && based, &index, &mut both)
     }
 
     fn write_file(&mut self, slot: usize, unit: u32) -> End {
         let archive = self.archive();
-        let (log, _) = self.log(slot);
+        let ((log, _), (base, _)) = (self.log(slot), self.base(slot));
         let file = self.lent(FILE);
-        let both = Both::run(self.library, &[&file, &log], |library, lent| {
-            let [file, log] = lent else { unreachable!() };
-            library.write_file(log, archive, unit, file)
+        let both = Both::run(self.library, &[&file, &log, &base], |library, lent| {
+            let [file, log, base] = lent else { unreachable!() };
+            library.write_file(log, base, archive, unit, file)
         });
         if let Ok(blocks) = both.answers[0] {
             let file = both.lent[0][0][..BLOCK * blocks as usize].to_vec();
@@ -412,9 +466,10 @@ impl Calls<'_> {
 
     fn read_file(&mut self) -> End {
         let file = self.file();
-        let log = self.lent(LOG);
-        Both::run(self.library, &[&log], |library, lent| {
-            library.read_file(&mut lent[0], &file)
+        let (log, base) = (self.lent(LOG), self.lent(BASE));
+        Both::run(self.library, &[&log, &base], |library, lent| {
+            let [log, base] = lent else { unreachable!() };
+            library.read_file(log, base, &file)
         })
         .compared("read a file")
     }
@@ -438,19 +493,19 @@ impl Calls<'_> {
     }
 
     fn show(&mut self, slot: usize) -> End {
-        let (log, _) = self.log(slot);
+        let ((log, _), (base, _)) = (self.log(slot), self.base(slot));
         let tree = self.lent(TREE);
-        Both::run(self.library, &[&tree, &log], |library, lent| {
-            let [tree, log] = lent else { unreachable!() };
-            library.show(log, tree)
+        Both::run(self.library, &[&tree, &log, &base], |library, lent| {
+            let [tree, log, base] = lent else { unreachable!() };
+            library.show(log, base, tree)
         })
         .compared("show")
     }
 
     fn vector(&mut self, slot: usize) -> End {
-        let (log, _) = self.log(slot);
-        Both::run(self.library, &[&log], |library, lent| {
-            library.vector(&lent[0])
+        let ((log, _), (base, _)) = (self.log(slot), self.base(slot));
+        Both::run(self.library, &[&log, &base], |library, lent| {
+            library.vector(&lent[0], &lent[1])
         })
         .compared("vector")
     }
@@ -466,8 +521,10 @@ impl Calls<'_> {
 
     /// Two vectors, of logs or with any count.
     fn compare(&mut self) -> End {
-        let one = vector_of(&self.logs[self.chance.below(8)]);
-        let mut other = vector_of(&self.logs[self.chance.below(8)]);
+        let one = self.chance.below(8);
+        let one = self.held(one);
+        let other = self.chance.below(8);
+        let mut other = self.held(other);
         if self.chance.one_in(2) {
             other[self.chance.below(8)] = self.chance.number() as u16;
         }
@@ -476,6 +533,12 @@ impl Calls<'_> {
         })
         .compared("compare")
     }
+}
+
+/// How many records a log has.
+fn used(log: &[u8]) -> usize {
+    let places = log.chunks(RECORD);
+    places.take_while(|record| record[2..4] != [0, 0]).count()
 }
 
 /// Writes the sums of a block.

@@ -7,6 +7,7 @@
 mod bytes;
 mod cards;
 mod cuts;
+mod folds;
 mod index;
 mod lists;
 mod orders;
@@ -23,7 +24,7 @@ use study::{Plan, Tally};
 
 type Study = fn(&dyn Library, &Plan) -> Tally;
 
-const STUDIES: [(&str, Study); 17] = [
+const STUDIES: [(&str, Study); 19] = [
     ("meetings, no fault", cuts::none),
     ("changed byte, block", bytes::blocks),
     ("changed byte, file", bytes::files),
@@ -41,6 +42,8 @@ const STUDIES: [(&str, Study); 17] = [
     ("meetings by rows", rows::meetings),
     ("changed byte, row", rows::changed),
     ("index kept and asked", index::kept),
+    ("units that fold", folds::lives),
+    ("changed byte, base", folds::changed),
 ];
 
 const USAGE: &str = "usage: faults [--long] [--seconds N] [--seed N]";

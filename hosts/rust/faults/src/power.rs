@@ -3,7 +3,7 @@
 use crate::study::{End, Plan, Tally, Wrong, incorrect, manual};
 use crate::world::{ARCHIVE, Goal, apart, file_of, first, hand_out, take};
 use library::Library;
-use plain::{BLOCK, FILE, LOG};
+use plain::{BLOCK, EMPTY_BASE, FILE, LOG};
 use workload::{Chance, Mix, log_of, wish};
 
 /// Where power is lost: at these units, behind this call, and whether the host
@@ -30,7 +30,7 @@ impl Hosts<'_> {
         let mut file = vec![0xa5; FILE];
         match self
             .library
-            .write_file(&self.logs[unit], ARCHIVE, unit as u32, &mut file)
+            .write_file(&self.logs[unit], &EMPTY_BASE, ARCHIVE, unit as u32, &mut file)
         {
             Ok(blocks) => file.truncate(BLOCK * blocks as usize),
             Err(refusal) => return manual(format!("no file: {refusal:?}")),
@@ -57,7 +57,7 @@ impl Hosts<'_> {
             self.logs[unit] = (0..LOG).map(|i| (9 + 31 * i) as u8).collect();
             let answer = self
                 .library
-                .read_file(&mut self.logs[unit], &self.files[unit]);
+                .read_file(&mut self.logs[unit], &mut EMPTY_BASE.clone(), &self.files[unit]);
             if let Err(refusal) = answer {
                 return manual(format!("the stored file is refused: {refusal:?}"));
             }
@@ -73,7 +73,7 @@ impl Hosts<'_> {
             let wish = &wishes[count(&self.logs[unit])];
             let answer = self
                 .library
-                .act(&mut self.logs[unit], &mut [], ARCHIVE, unit as u32, wish);
+                .act(&mut self.logs[unit], &EMPTY_BASE, &mut [], ARCHIVE, unit as u32, wish);
             if let Err(refusal) = answer {
                 return manual(format!("an act is refused: {refusal:?}"));
             }
@@ -214,7 +214,7 @@ pub fn half_stored(library: &dyn Library, plan: &Plan) -> Tally {
 fn stored_in_part(library: &dyn Library, card: &[u8], states: [&Vec<u8>; 2]) -> End {
     let lent: Vec<u8> = (0..LOG).map(|i| (3 + 31 * i) as u8).collect();
     let mut log = lent.clone();
-    match library.read_file(&mut log, card) {
+    match library.read_file(&mut log, &mut EMPTY_BASE.clone(), card) {
         Ok(_) if states.contains(&&log) => Ok(false),
         Ok(_) => incorrect("a log that never was"),
         Err(_) if log == lent => Ok(false),

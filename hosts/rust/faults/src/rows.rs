@@ -3,7 +3,7 @@
 use crate::study::{End, Plan, Tally, Wrong, incorrect, manual};
 use crate::world::{ARCHIVE, Goal, apart, take, tree_of};
 use library::{Library, REPORT, RowTaken, Trial};
-use plain::{BLOCK, FILE, LOG, TREE};
+use plain::{BLOCK, EMPTY_BASE, FILE, LOG, TREE};
 use workload::{Chance, Mix, vector_of};
 
 /// The row that a unit hands out to another log.
@@ -14,7 +14,7 @@ fn hand_out(
     to: &[u8],
 ) -> Result<Vec<u8>, Wrong> {
     let mut row = vec![0xa5; FILE];
-    match library.hand_out_row(from, ARCHIVE, unit as u32, &vector_of(to), &mut row) {
+    match library.hand_out_row(from, &EMPTY_BASE, ARCHIVE, unit as u32, &vector_of(to), &mut row) {
         Ok(blocks) => {
             let (blocks, behind) = row.split_at(BLOCK * usize::from(blocks));
             match behind.iter().all(|byte| *byte == 0) {
@@ -34,7 +34,7 @@ fn both(library: &dyn Library, log: &mut Vec<u8>, unit: usize, row: &[u8], due: 
         tree: vec![0xa5; TREE],
         report: vec![0xa5; REPORT],
     };
-    if library.try_row(log, ARCHIVE, unit as u32, row, &mut trial) != Ok(()) {
+    if library.try_row(log, &EMPTY_BASE, ARCHIVE, unit as u32, row, &mut trial) != Ok(()) {
         return incorrect("the trial is refused");
     }
     if *log != before {
@@ -43,7 +43,7 @@ fn both(library: &dyn Library, log: &mut Vec<u8>, unit: usize, row: &[u8], due: 
     if (trial.report[0], trial.report[1]) != (due.taken, due.stopped) {
         return incorrect(format!("{:?} tried, not {due:?}", &trial.report[..2]));
     }
-    let taken = library.take_row(log, &mut [], ARCHIVE, unit as u32, row);
+    let taken = library.take_row(log, &EMPTY_BASE, &mut [], ARCHIVE, unit as u32, row);
     if taken != Ok(due) {
         return incorrect(format!("{taken:?}, not {due:?}"));
     }

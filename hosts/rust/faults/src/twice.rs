@@ -6,7 +6,7 @@
 
 use crate::study::{Plan, STOPPED};
 use crate::world::ARCHIVE;
-use plain::TREE;
+use plain::{TREE, EMPTY_BASE};
 use sab::{Answer, Asking, Identity, Log, Pass, Unit};
 use std::ops::RangeInclusive;
 use workload::{Chance, Mix, Units, wish};
@@ -72,10 +72,10 @@ fn thoroughly(from: &Log, to: &mut Log) -> Pass {
 fn act(chance: &mut Chance, mix: &Mix, log: &mut [u8], unit: usize) {
     let mut tree = [0; TREE];
     loop {
-        plain::show(log, &mut tree).expect("a sound log");
+        plain::show(log, &EMPTY_BASE, &mut tree).expect("a sound log");
         let mut wish = wish(chance, mix, unit as u8, &tree);
         wish[28..32].copy_from_slice(&DAY);
-        if plain::act(log, &mut [], ARCHIVE, unit as u8, &wish).is_ok() {
+        if plain::act(log, &EMPTY_BASE, &mut [], ARCHIVE, unit as u8, &wish).is_ok() {
             return;
         }
     }
@@ -110,7 +110,7 @@ fn trial(chance: &mut Chance, cause: Cause, acts: &RangeInclusive<usize>) -> Vec
         }
     }
     let logs = units.iter().zip(&life.logs);
-    logs.map(|(unit, log)| Log::from_bytes(ARCHIVE, Unit::ALL[*unit], log).expect("a sound log"))
+    logs.map(|(unit, log)| Log::from_bytes(ARCHIVE, Unit::ALL[*unit], log, &EMPTY_BASE).expect("a sound log"))
         .collect()
 }
 

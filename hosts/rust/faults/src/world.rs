@@ -2,7 +2,7 @@
 
 use crate::study::{End, Wrong, incorrect, manual};
 use library::Library;
-use plain::{BLOCK, FILE, LOG, RECORD, TREE};
+use plain::{BLOCK, EMPTY_BASE, FILE, LOG, RECORD, TREE};
 use workload::{Chance, Mix, Units, vector_of};
 
 pub const ARCHIVE: u32 = 0x0102_0307;
@@ -34,7 +34,7 @@ pub fn apart(units: usize, records: usize, mix: &Mix, seed: u64) -> Vec<Vec<u8>>
 /// The tree of a log.
 pub fn tree_of(library: &dyn Library, log: &[u8]) -> Result<Vec<u8>, Wrong> {
     let mut tree = vec![0xa5; TREE];
-    match library.show(log, &mut tree) {
+    match library.show(log, &EMPTY_BASE, &mut tree) {
         Ok(()) => Ok(tree),
         Err(refusal) => manual(format!("no tree: {refusal:?}")),
     }
@@ -48,7 +48,7 @@ pub fn hand_out(
     to: &[u8],
 ) -> Result<Block, Wrong> {
     let mut block = [0xa5; BLOCK];
-    match library.hand_out(from, ARCHIVE, unit as u32, &vector_of(to), &mut block) {
+    match library.hand_out(from, &EMPTY_BASE, ARCHIVE, unit as u32, &vector_of(to), &mut block) {
         Ok(()) => Ok(block),
         Err(refusal) => manual(format!("no hand-out: {refusal:?}")),
     }
@@ -56,7 +56,7 @@ pub fn hand_out(
 
 /// Takes a block that must be good.
 pub fn take(library: &dyn Library, log: &mut [u8], unit: usize, block: &[u8]) -> Result<(), Wrong> {
-    match library.take(log, &mut [], ARCHIVE, unit as u32, block) {
+    match library.take(log, &EMPTY_BASE, &mut [], ARCHIVE, unit as u32, block) {
         Ok(()) => Ok(()),
         Err(refusal) => manual(format!("a good block refused: {refusal:?}")),
     }
@@ -114,7 +114,7 @@ impl Goal {
         }
         let log = logs.swap_remove(0);
         let mut tree = vec![0; TREE];
-        plain::show(&log, &mut tree).expect("a sound log");
+        plain::show(&log, &EMPTY_BASE, &mut tree).expect("a sound log");
         let asides = tree[2..4] != [0, 0];
         Goal { log, tree, asides }
     }
@@ -139,7 +139,7 @@ impl Goal {
 /// The file of a log.
 pub fn file_of(log: &[u8]) -> Vec<u8> {
     let mut file = vec![0; FILE];
-    let blocks = plain::write_file(log, ARCHIVE, 3, &mut file).expect("a sound log");
+    let blocks = plain::write_file(log, &EMPTY_BASE, ARCHIVE, 3, &mut file).expect("a sound log");
     file.truncate(BLOCK * blocks as usize);
     file
 }

@@ -43,8 +43,10 @@ where
     (answer, ours)
 }
 
-/// Shows the tree of a log on both.
-pub fn show(log: &[u8]) {
+/// Shows the tree of a log and its base on both.
+pub fn show(log: &[u8], base: &[u8]) {
     let tree = vec![0xa5; plain::TREE];
-    let _ = both(7, &[&tree], |library, lent| library.show(log, &mut lent[0]));
+    let _ = both(7, &[&tree], |library, lent| {
+        library.show(log, base, &mut lent[0])
+    });
 }

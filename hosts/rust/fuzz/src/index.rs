@@ -3,27 +3,27 @@
 
 use crate::compare::both;
 use crate::input::Input;
-use crate::life::{ARCHIVE, Life, get16};
+use crate::life::{ARCHIVE, Life, State, get16};
 use library::{Folder, folder_of};
 use plain::{INDEX, RECORD};
 
 const ROW: usize = 40;
 
-/// The index of a log, as both make it.
-pub fn fresh(log: &[u8]) -> Vec<u8> {
+/// The index of a log and its base, as both make it.
+pub fn fresh(state: &State) -> Vec<u8> {
     let (_, mut made) = both(6, &[&[0xa5; INDEX]], |library, lent| {
-        library.index(log, &mut lent[0])
+        library.index(&state.log, &state.base, &mut lent[0])
     });
     made.swap_remove(0)
 }
 
 /// The index that a call is lent: that of the log, mostly; none; any bytes; seldom
 /// one of another length.
-pub fn lent(input: &mut Input, log: &[u8]) -> Vec<u8> {
+pub fn lent(input: &mut Input, state: &State) -> Vec<u8> {
     let mut index = match input.byte() % 8 {
         0 => return Vec::new(),
-        1 => drawn(input, log),
-        _ => fresh(log),
+        1 => drawn(input, state),
+        _ => fresh(state),
     };
     if input.one_in(32) {
         index.resize(input.below(2 * INDEX), 0);
@@ -32,23 +32,23 @@ pub fn lent(input: &mut Input, log: &[u8]) -> Vec<u8> {
 }
 
 /// Bytes for an index: a log's with changes, or few values over and over.
-fn drawn(input: &mut Input, log: &[u8]) -> Vec<u8> {
-    let mut index = fresh(log);
+fn drawn(input: &mut Input, state: &State) -> Vec<u8> {
+    let mut index = fresh(state);
     if input.one_in(4) {
         let pattern: Vec<u8> = (0..1 + input.below(64)).map(|_| input.byte()).collect();
         for (place, byte) in index.iter_mut().zip(pattern.iter().cycle()) {
             *place = *byte;
         }
     }
-    let end = 4 + ROW * (usize::from(get16(&index, 0)).min(511) + 1);
+    let end = 4 + ROW * (usize::from(get16(&index, 0)).min(1023) + 1);
     input.patch(&mut index, end);
     if input.one_in(4) {
-        let count = input.below(1024) as u16;
+        let count = input.below(2048) as u16;
         index[..2].copy_from_slice(&count.to_le_bytes());
     }
     for _ in 0..input.below(4) {
         // One row in the place of another.
-        let (from, to) = (4 + ROW * input.below(512), 4 + ROW * input.below(512));
+        let (from, to) = (4 + ROW * input.below(1024), 4 + ROW * input.below(1024));
         index.copy_within(from..from + ROW, to);
     }
     index
@@ -56,7 +56,7 @@ fn drawn(input: &mut Input, log: &[u8]) -> Vec<u8> {
 
 /// A folder and a label: those of a row, with changes.
 fn asked(input: &mut Input, index: &[u8]) -> (Folder, Vec<u8>) {
-    let rows = usize::from(get16(index, 0)).clamp(1, 512);
+    let rows = usize::from(get16(index, 0)).clamp(1, 1024);
     let row = index[4 + ROW * input.below(rows)..][..ROW].to_vec();
     let mut folder = row[..4].to_vec();
     let mut label = row[4..36].to_vec();
@@ -84,30 +84,30 @@ pub fn index(data: &[u8]) {
     let mut input = Input::new(data);
     let life = Life::drawn(&mut input);
     let unit = input.below(8);
-    let log = life.log(unit);
-    let mut index = drawn(&mut input, &log);
+    let state = life.state(unit, &mut input);
+    let mut index = drawn(&mut input, &state);
     for _ in 0..1 + input.below(4) {
         let (folder, label) = asked(&mut input, &index);
         let _ = both(4, &[], |library, _| library.find(&index, folder, &label));
         let (range, _) = both(5, &[], |library, _| library.list(&index, folder));
         if let Ok(range) = range {
             let end = range.first + range.count;
-            assert!(end <= 512, "the rows and the index differ");
+            assert!(end <= 1024, "the rows and the index differ");
         }
     }
     let mut wish = [0; RECORD];
     wish[0] = unit as u8;
     wish[1] = 1 + input.byte() % 7;
     wish[28..32].copy_from_slice(&[0xe9, 7, 1, 28]);
-    crate::life::fill_in(&mut wish, &workload::vector_of(&log), &mut input);
+    crate::life::fill_in(&mut wish, &state.vector(), &mut input);
     if input.one_in(32) {
         index.truncate(input.below(INDEX));
     }
-    let (_, after) = both(7, &[&log, &index], |library, lent| {
+    let (_, after) = both(7, &[&state.log, &index], |library, lent| {
         let [log, index] = lent else {
             unreachable!("two buffers");
         };
-        library.act(log, index, ARCHIVE, unit as u32, &wish)
+        library.act(log, &state.base, index, ARCHIVE, unit as u32, &wish)
     });
     let [_, index] = &after[..] else {
         unreachable!("two buffers");

@@ -1,10 +1,11 @@
 //! Harnesses for a coverage-guided fuzzer. Each takes the fuzzer's bytes, makes a
-//! log and a block, row, file, wish or index of them, gives both to the static library
+//! state and a block, row, file, wish, list or index of them, gives both to the static library
 //! and to the plain implementation, and ends the program if an answer or a byte
 //! differs.
 
 mod act;
 mod compare;
+mod fold;
 mod index;
 mod input;
 mod life;
@@ -14,6 +15,7 @@ mod row;
 mod take;
 
 pub use act::act;
+pub use fold::fold;
 pub use index::index;
 pub use merge::merge;
 pub use read_file::read_file;
@@ -48,3 +50,4 @@ harness!(fuzz_act, act::act);
 harness!(fuzz_merge, merge::merge);
 harness!(fuzz_row, row::row_calls);
 harness!(fuzz_index, index::index);
+harness!(fuzz_fold, fold::fold);

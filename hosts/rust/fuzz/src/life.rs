@@ -1,7 +1,7 @@
 //! Records of eight units that learn from each other, and logs of them.
 
 use crate::input::Input;
-use plain::{BLOCK, LOG, RECORD, RECORDS};
+use plain::{BLOCK, EMPTY_BASE, LOG, RECORD, RECORDS};
 use std::sync::OnceLock;
 use workload::{Mix, log_of, vector_of};
 
@@ -94,6 +94,24 @@ impl Life {
         self.known[unit][unit] += 1;
     }
 
+    /// What a unit has: its log, folded or not. A unit may fold for another, and
+    /// by a list that others are not on.
+    pub fn state(&self, unit: usize, input: &mut Input) -> State {
+        let mut state = State {
+            log: self.log(unit),
+            base: EMPTY_BASE.to_vec(),
+        };
+        for _ in 0..input.below(3) {
+            let (own, mut list) = (input.below(8) as u8, input.byte() | 1 << unit);
+            let held = state.vector();
+            (0..8).for_each(|unit| list |= u8::from(held[unit] > 0) << unit);
+            list |= 1 << own;
+            let (log, base) = (&mut state.log, &mut state.base);
+            let _ = plain::fold(log, base, ARCHIVE, own, list);
+        }
+        state
+    }
+
     /// The records that a unit knows, at most a full log.
     pub fn log(&self, unit: usize) -> Vec<u8> {
         let known = &self.known[unit];
@@ -105,6 +123,39 @@ impl Life {
         }
         log.resize(LOG, 0);
         log
+    }
+}
+
+/// A log and its base.
+#[derive(Clone)]
+pub struct State {
+    pub log: Vec<u8>,
+    pub base: Vec<u8>,
+}
+
+impl State {
+    /// The held vector; the log's counts where the state is not sound.
+    pub fn vector(&self) -> Vector {
+        plain::vector(&self.log, &self.base).unwrap_or_else(|_| vector_of(&self.log))
+    }
+
+    /// Changes some bytes of the log, seldom, or of the base.
+    pub fn patch(&mut self, input: &mut Input, seldom: u8) {
+        if input.one_in(seldom) {
+            let end = RECORD * (held(&self.log) + 1);
+            input.patch(&mut self.log, end);
+        }
+        if input.one_in(seldom) {
+            let [entries, asides] = [2, 4].map(|at| usize::from(get16(&self.base, at)).min(512));
+            match input.byte() % 3 {
+                0 => input.patch(&mut self.base, 24 + 72 * (entries + 1)),
+                1 => input.patch(&mut self.base, 24),
+                _ => input.patch(&mut self.base[36_888..], 12 * (asides + 1)),
+            }
+        }
+        if input.one_in(64) {
+            self.base.truncate(input.below(self.base.len() + 1));
+        }
     }
 }
 
@@ -147,9 +198,10 @@ pub fn fill_in(record: &mut [u8; RECORD], seen: &Vector, input: &mut Input) {
     }
 }
 
-/// How many records a log holds.
+/// How many records a log has.
 pub fn held(log: &[u8]) -> usize {
-    vector_of(log).iter().map(|count| *count as usize).sum()
+    let places = log.chunks(RECORD);
+    places.take_while(|record| record[2..4] != [0, 0]).count()
 }
 
 /// Writes the sums of a block.

@@ -5,7 +5,7 @@ use crate::compare::{both, show};
 use crate::input::Input;
 use crate::life::{Life, get16, held, seal};
 use crate::read_file::{file_of, patch};
-use plain::{BLOCK, FILE, LOG, RECORD};
+use plain::{BASE, BLOCK, FILE, LOG, RECORD};
 
 /// A file of what a unit knows, sometimes changed. A changed date of a record is
 /// a number used twice.
@@ -39,8 +39,11 @@ fn merged(call: u8, first: &[u8], second: &[u8], lent: &[Vec<u8>; 2]) -> Option<
     });
     let blocks = answer.ok()? as usize;
     let file = after[1][..BLOCK * blocks].to_vec();
-    let (head, read) = both(2, &[log], |library, lent| {
-        library.read_file(&mut lent[0], &file)
+    let (head, read) = both(2, &[log, &[0xa5; BASE]], |library, lent| {
+        let [log, base] = lent else {
+            unreachable!("a log and a base");
+        };
+        library.read_file(log, base, &file)
     });
     let head = head.expect("a merged file is read");
     assert!(
@@ -48,7 +51,7 @@ fn merged(call: u8, first: &[u8], second: &[u8], lent: &[Vec<u8>; 2]) -> Option<
         "the merged file reads back as another log"
     );
     assert_eq!((head.archive, head.unit), head_of(first));
-    show(&after[0]);
+    show(&after[0], &read[1]);
     Some(file)
 }
 

@@ -4,11 +4,11 @@ use crate::compare::{both, show};
 use crate::input::Input;
 use crate::life::{ARCHIVE, Life, held, seal};
 use library::{LISTING, Refusal};
-use plain::{BLOCK, FILE, LOG, RECORD};
+use plain::{BASE, BLOCK, EMPTY_BASE, FILE, LOG, RECORD};
 
 pub fn file_of(log: &[u8]) -> Vec<u8> {
     let mut file = vec![0; FILE];
-    let blocks = plain::write_file(log, ARCHIVE, 2, &mut file).map_or(1, |blocks| blocks as usize);
+    let blocks = plain::write_file(log, &EMPTY_BASE, ARCHIVE, 2, &mut file).map_or(1, |blocks| blocks as usize);
     file.truncate(BLOCK * blocks);
     file
 }
@@ -72,9 +72,12 @@ pub fn read_file(data: &[u8]) {
         let life = Life::drawn(&mut input);
         file(&mut input, &life)
     };
-    let lent = vec![0xa5; LOG];
-    let (answer, after) = both(1, &[&lent], |library, lent| {
-        library.read_file(&mut lent[0], &file)
+    let lent = [vec![0xa5; LOG], vec![0xa5; BASE]];
+    let (answer, after) = both(1, &[&lent[0], &lent[1]], |library, lent| {
+        let [log, base] = lent else {
+            unreachable!("a log and a base");
+        };
+        library.read_file(log, base, &file)
     });
     let out = vec![0xa5; LISTING];
     let _ = both(2, &[&out], |library, lent| {
@@ -86,10 +89,11 @@ pub fn read_file(data: &[u8]) {
     let Ok(head) = answer else {
         return;
     };
-    show(&after[0]);
+    assert!(after[1] == EMPTY_BASE, "the base is not empty");
+    show(&after[0], &after[1]);
     let room = vec![0xa5; FILE];
     let (count, again) = both(3, &[&room], |library, lent| {
-        library.write_file(&after[0], head.archive, head.unit.into(), &mut lent[0])
+        library.write_file(&after[0], &after[1], head.archive, head.unit.into(), &mut lent[0])
     });
     assert_eq!(count, Ok((file.len() / BLOCK) as u16));
     assert!(

@@ -3,18 +3,16 @@
 use crate::compare::{both, show};
 use crate::index;
 use crate::input::Input;
-use crate::life::{ARCHIVE, Life, get16, held, seal};
+use crate::life::{ARCHIVE, Life, get16, seal};
 use plain::{BLOCK, RECORD};
-use workload::vector_of;
 
 /// The block of some records: the first that a log lacks, or any.
-fn block(input: &mut Input, life: &Life, log: &[u8]) -> Vec<u8> {
+fn block(input: &mut Input, life: &Life, held: &[u16; 8]) -> Vec<u8> {
     let mut block = vec![0; BLOCK];
     block[..5].copy_from_slice(b"SAB1\x07");
     block[8] = input.byte() % 8;
     let mode = input.byte();
     let count = 1 + input.below(6);
-    let held = vector_of(log);
     let lacking: Vec<&[u8; RECORD]> = life
         .records
         .iter()
@@ -50,11 +48,9 @@ fn block(input: &mut Input, life: &Life, log: &[u8]) -> Vec<u8> {
 pub fn take(data: &[u8]) {
     let mut input = Input::new(data);
     let life = Life::drawn(&mut input);
-    let mut log = life.log(input.below(8));
-    if input.one_in(16) {
-        let end = RECORD * (held(&log) + 1);
-        input.patch(&mut log, end);
-    }
+    let own = input.below(8);
+    let mut state = life.state(own, &mut input);
+    state.patch(&mut input, 16);
     let unit = input.unit();
     let archive = ARCHIVE + input.one_in(32) as u32;
     let block = if input.one_in(16) {
@@ -64,19 +60,20 @@ pub fn take(data: &[u8]) {
         seal(&mut block);
         block
     } else {
-        block(&mut input, &life, &log)
+        block(&mut input, &life, &state.vector())
     };
-    let index = index::lent(&mut input, &log);
-    let (answer, after) = both(0, &[&log, &index], |library, lent| {
+    let index = index::lent(&mut input, &state);
+    let (answer, after) = both(0, &[&state.log, &index], |library, lent| {
         let [log, index] = lent else {
             unreachable!("two buffers");
         };
-        library.take(log, index, archive, unit, &block)
+        library.take(log, &state.base, index, archive, unit, &block)
     });
     if answer.is_ok() {
-        show(&after[0]);
+        state.log.clone_from(&after[0]);
+        show(&state.log, &state.base);
         if !index.is_empty() {
-            let fresh = index::fresh(&after[0]);
+            let fresh = index::fresh(&state);
             assert!(after[1] == fresh, "the index and a fresh one differ");
         }
     }

@@ -37,6 +37,11 @@ fn rows() {
 }
 
 #[test]
+fn folds() {
+    run(fuzz::fold, 7);
+}
+
+#[test]
 fn indexes() {
     run(fuzz::index, 6);
 }

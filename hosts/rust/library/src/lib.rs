@@ -1,5 +1,7 @@
 //! The entry points of an implementation, for programs that run or compare them.
 
+pub mod tree;
+
 pub use plain_rust::Plain;
 #[cfg(feature = "static")]
 pub use static_library::Static;
@@ -74,23 +76,47 @@ pub fn folder_of(bytes: &[u8]) -> Folder {
     (bytes[0].into(), number.into())
 }
 
+/// Bytes of a log.
+pub const LOG: usize = 40_960;
+
+/// Bytes of a list and base.
+pub const BASE: usize = 43_032;
+
+/// Bytes of a tree table.
+pub const TREE: usize = 86_020;
+
 /// Bytes of an index.
-pub const INDEX: usize = 20_484;
+pub const INDEX: usize = 40_964;
 
 /// Bytes of the report of a trial.
-pub const REPORT: usize = 2_068;
+pub const REPORT: usize = 4_116;
 
 /// Bytes lent for a listing; none is longer.
 pub const LISTING: usize = 76_800;
 
-/// The entry points. An index is lent to those that change a log, or no bytes.
+/// The base that a unit has at first: all eight units are listed, and nothing is
+/// folded.
+pub fn empty_base() -> Vec<u8> {
+    plain::EMPTY_BASE.to_vec()
+}
+
+/// The entry points. A base is lent beside each log, an index to those that change
+/// a log, or no bytes. Work memory is an implementation's own business here.
 /// Those that answer an `Option` alone are run beside what follows from the
 /// others, where an implementation offers them.
 pub trait Library {
-    fn start(&self, log: &mut [u8], index: &mut [u8], archive: u32, unit: u32) -> Answer<()>;
+    fn start(
+        &self,
+        log: &mut [u8],
+        base: &mut [u8],
+        index: &mut [u8],
+        archive: u32,
+        unit: u32,
+    ) -> Answer<()>;
     fn act(
         &self,
         log: &mut [u8],
+        base: &[u8],
         index: &mut [u8],
         archive: u32,
         unit: u32,
@@ -99,6 +125,7 @@ pub trait Library {
     fn hand_out(
         &self,
         log: &[u8],
+        base: &[u8],
         archive: u32,
         unit: u32,
         asked: &[u16; 8],
@@ -107,6 +134,7 @@ pub trait Library {
     fn take(
         &self,
         log: &mut [u8],
+        base: &[u8],
         index: &mut [u8],
         archive: u32,
         unit: u32,
@@ -115,6 +143,7 @@ pub trait Library {
     fn hand_out_row(
         &self,
         log: &[u8],
+        base: &[u8],
         archive: u32,
         unit: u32,
         asked: &[u16; 8],
@@ -123,6 +152,7 @@ pub trait Library {
     fn take_row(
         &self,
         log: &mut [u8],
+        base: &[u8],
         index: &mut [u8],
         archive: u32,
         unit: u32,
@@ -131,20 +161,37 @@ pub trait Library {
     fn try_row(
         &self,
         log: &[u8],
+        base: &[u8],
         archive: u32,
         unit: u32,
         row: &[u8],
         trial: &mut Trial,
     ) -> Answer<()>;
-    fn write_file(&self, log: &[u8], archive: u32, unit: u32, file: &mut [u8]) -> Answer<u16>;
-    fn read_file(&self, log: &mut [u8], file: &[u8]) -> Answer<Head>;
-    fn show(&self, log: &[u8], tree: &mut [u8]) -> Answer<()>;
-    fn index(&self, log: &[u8], index: &mut [u8]) -> Answer<()>;
+    fn write_file(
+        &self,
+        log: &[u8],
+        base: &[u8],
+        archive: u32,
+        unit: u32,
+        file: &mut [u8],
+    ) -> Answer<u16>;
+    fn read_file(&self, log: &mut [u8], base: &mut [u8], file: &[u8]) -> Answer<Head>;
+    /// A list has bit u for unit u. How many records were folded.
+    fn fold(
+        &self,
+        log: &mut [u8],
+        base: &mut [u8],
+        archive: u32,
+        unit: u32,
+        list: u8,
+    ) -> Answer<u16>;
+    fn show(&self, log: &[u8], base: &[u8], tree: &mut [u8]) -> Answer<()>;
+    fn index(&self, log: &[u8], base: &[u8], index: &mut [u8]) -> Answer<()>;
     /// A folder is given by unit and number; so is the entry.
     fn find(&self, index: &[u8], folder: Folder, label: &[u8]) -> Answer<Option<(u8, u16)>>;
     fn list(&self, index: &[u8], folder: Folder) -> Answer<Range>;
     fn compare(&self, first: &[u16; 8], second: &[u16; 8]) -> Compared;
-    fn vector(&self, log: &[u8]) -> Answer<[u16; 8]>;
+    fn vector(&self, log: &[u8], base: &[u8]) -> Answer<[u16; 8]>;
     fn merge(
         &self,
         first: &[u8],
@@ -166,7 +213,7 @@ pub trait Library {
     fn sums(&self, _block: &[u8; 512]) -> Option<(u16, u16)> {
         None
     }
-    fn sound(&self, _log: &[u8]) -> Option<bool> {
+    fn sound(&self, _log: &[u8], _base: &[u8]) -> Option<bool> {
         None
     }
 }
@@ -174,83 +221,113 @@ pub trait Library {
 /// The entry points of a crate that has them by these names.
 macro_rules! entry_points {
     ($library:ident) => {
-        fn start(&self, log: &mut [u8], index: &mut [u8], archive: u32, unit: u32) -> Answer<()> {
-            $library::start(log, index, archive, unit_of(unit)).map_err(refusal)
+        fn start(
+            &self,
+            log: &mut [u8],
+            base: &mut [u8],
+            index: &mut [u8],
+            archive: u32,
+            unit: u32,
+        ) -> Answer<()> {
+            $library::start(log, base, index, archive, unit_of(unit)).map_err(refusal)
         }
         fn act(
             &self,
             log: &mut [u8],
+            base: &[u8],
             index: &mut [u8],
             archive: u32,
             unit: u32,
             wish: &[u8],
         ) -> Answer<()> {
-            $library::act(log, index, archive, unit_of(unit), wish).map_err(refusal)
+            $library::act(log, base, index, archive, unit_of(unit), wish).map_err(refusal)
         }
         fn hand_out(
             &self,
             log: &[u8],
+            base: &[u8],
             archive: u32,
             unit: u32,
             asked: &[u16; 8],
             block: &mut [u8],
         ) -> Answer<()> {
-            $library::hand_out(log, archive, unit_of(unit), asked, block).map_err(refusal)
+            $library::hand_out(log, base, archive, unit_of(unit), asked, block).map_err(refusal)
         }
         fn take(
             &self,
             log: &mut [u8],
+            base: &[u8],
             index: &mut [u8],
             archive: u32,
             unit: u32,
             block: &[u8],
         ) -> Answer<()> {
-            $library::take(log, index, archive, unit_of(unit), block).map_err(refusal)
+            $library::take(log, base, index, archive, unit_of(unit), block).map_err(refusal)
         }
         fn hand_out_row(
             &self,
             log: &[u8],
+            base: &[u8],
             archive: u32,
             unit: u32,
             asked: &[u16; 8],
             row: &mut [u8],
         ) -> Answer<u16> {
-            $library::hand_out_row(log, archive, unit_of(unit), asked, row).map_err(refusal)
+            $library::hand_out_row(log, base, archive, unit_of(unit), asked, row).map_err(refusal)
         }
         fn take_row(
             &self,
             log: &mut [u8],
+            base: &[u8],
             index: &mut [u8],
             archive: u32,
             unit: u32,
             row: &[u8],
         ) -> Answer<RowTaken> {
             let $library::RowTaken { taken, stopped } =
-                $library::take_row(log, index, archive, unit_of(unit), row).map_err(refusal)?;
+                $library::take_row(log, base, index, archive, unit_of(unit), row).map_err(refusal)?;
             Ok(RowTaken { taken, stopped })
         }
         fn try_row(
             &self,
             log: &[u8],
+            base: &[u8],
             archive: u32,
             unit: u32,
             row: &[u8],
             trial: &mut Trial,
         ) -> Answer<()> {
             let Trial { copy, tree, report } = trial;
-            $library::try_row(log, archive, unit_of(unit), row, copy, tree, report)
+            $library::try_row(log, base, archive, unit_of(unit), row, copy, tree, report)
                 .map_err(refusal)
         }
-        fn write_file(&self, log: &[u8], archive: u32, unit: u32, file: &mut [u8]) -> Answer<u16> {
-            $library::write_file(log, archive, unit_of(unit), file).map_err(refusal)
+        fn write_file(
+            &self,
+            log: &[u8],
+            base: &[u8],
+            archive: u32,
+            unit: u32,
+            file: &mut [u8],
+        ) -> Answer<u16> {
+            $library::write_file(log, base, archive, unit_of(unit), file).map_err(refusal)
         }
-        fn read_file(&self, log: &mut [u8], file: &[u8]) -> Answer<Head> {
+        fn fold(
+            &self,
+            log: &mut [u8],
+            base: &mut [u8],
+            archive: u32,
+            unit: u32,
+            list: u8,
+        ) -> Answer<u16> {
+            $library::fold(log, base, archive, unit_of(unit), list).map_err(refusal)
+        }
+        fn read_file(&self, log: &mut [u8], base: &mut [u8], file: &[u8]) -> Answer<Head> {
             let $library::Head {
                 archive,
                 unit,
                 records,
                 vector,
-            } = $library::read_file(log, file).map_err(refusal)?;
+            } = $library::read_file(log, base, file).map_err(refusal)?;
             Ok(Head {
                 archive,
                 unit,
@@ -258,11 +335,11 @@ macro_rules! entry_points {
                 vector,
             })
         }
-        fn show(&self, log: &[u8], tree: &mut [u8]) -> Answer<()> {
-            $library::show(log, tree).map_err(refusal)
+        fn show(&self, log: &[u8], base: &[u8], tree: &mut [u8]) -> Answer<()> {
+            $library::show(log, base, tree).map_err(refusal)
         }
-        fn index(&self, log: &[u8], index: &mut [u8]) -> Answer<()> {
-            $library::index(log, index).map_err(refusal)
+        fn index(&self, log: &[u8], base: &[u8], index: &mut [u8]) -> Answer<()> {
+            $library::index(log, base, index).map_err(refusal)
         }
         fn find(&self, index: &[u8], folder: Folder, label: &[u8]) -> Answer<Option<(u8, u16)>> {
             $library::find(index, folder.0, folder.1, label).map_err(refusal)
@@ -284,8 +361,8 @@ macro_rules! entry_points {
                 second_lacks,
             }
         }
-        fn vector(&self, log: &[u8]) -> Answer<[u16; 8]> {
-            $library::vector(log).map_err(refusal)
+        fn vector(&self, log: &[u8], base: &[u8]) -> Answer<[u16; 8]> {
+            $library::vector(log, base).map_err(refusal)
         }
         fn merge(
             &self,
@@ -333,8 +410,8 @@ mod plain_rust {
         fn sums(&self, block: &[u8; 512]) -> Option<(u16, u16)> {
             Some(plain::sums(block))
         }
-        fn sound(&self, log: &[u8]) -> Option<bool> {
-            Some(plain::sound(log))
+        fn sound(&self, log: &[u8], base: &[u8]) -> Option<bool> {
+            Some(plain::sound(log, base))
         }
     }
 }
@@ -349,9 +426,81 @@ mod static_library {
     pub struct Static;
 
     thread_local! {
+        /// Work memory of a call.
+        static WORK: RefCell<Vec<u8>> = RefCell::new(vec![0; raw::WORK]);
         /// Work space of a listing: a log and a tree.
-        static WORK: RefCell<(Vec<u8>, Vec<u8>)> =
-            RefCell::new((vec![0; raw::LOG], vec![0; raw::TREE]));
+        static LISTED: RefCell<[Vec<u8>; 2]> =
+            RefCell::new([raw::LOG, raw::TREE].map(|length| vec![0; length]));
+    }
+
+    /// The calls as a trait has them: with work memory of their own.
+    mod calls {
+        use super::{WORK, raw};
+        use sab::Answer;
+
+        pub use raw::{
+            Compared, Head, Range, RowTaken, compare, find, hand_out, hand_out_row, list, merge,
+            read_file, show, start, try_row, vector, write_file,
+        };
+
+        /// Work memory is lent to a take with an index, and none without.
+        fn with_index<T>(index: &mut [u8], call: impl FnOnce(&mut [u8], &mut [u8]) -> T) -> T {
+            if index.is_empty() {
+                return call(index, &mut []);
+            }
+            WORK.with_borrow_mut(|work| call(index, work))
+        }
+
+        pub fn act(
+            log: &mut [u8],
+            base: &[u8],
+            index: &mut [u8],
+            archive: u32,
+            unit: u32,
+            wish: &[u8],
+        ) -> Answer<()> {
+            WORK.with_borrow_mut(|work| raw::act(log, base, index, archive, unit, wish, work))
+        }
+
+        pub fn take(
+            log: &mut [u8],
+            base: &[u8],
+            index: &mut [u8],
+            archive: u32,
+            unit: u32,
+            block: &[u8],
+        ) -> Answer<()> {
+            with_index(index, |index, work| {
+                raw::take(log, base, index, archive, unit, block, work)
+            })
+        }
+
+        pub fn take_row(
+            log: &mut [u8],
+            base: &[u8],
+            index: &mut [u8],
+            archive: u32,
+            unit: u32,
+            row: &[u8],
+        ) -> Answer<RowTaken> {
+            with_index(index, |index, work| {
+                raw::take_row(log, base, index, archive, unit, row, work)
+            })
+        }
+
+        pub fn fold(
+            log: &mut [u8],
+            base: &mut [u8],
+            archive: u32,
+            unit: u32,
+            list: u8,
+        ) -> Answer<u16> {
+            WORK.with_borrow_mut(|work| raw::fold(log, base, archive, unit, list.into(), work))
+        }
+
+        pub fn index(log: &[u8], base: &[u8], index: &mut [u8]) -> Answer<()> {
+            WORK.with_borrow_mut(|work| raw::index(log, base, index, work))
+        }
     }
 
     fn unit_of(unit: u32) -> u32 {
@@ -363,10 +512,10 @@ mod static_library {
     }
 
     impl Library for Static {
-        entry_points!(raw);
+        entry_points!(calls);
 
         fn listing_into(&self, file: &[u8], out: &mut [u8]) -> Option<usize> {
-            WORK.with_borrow_mut(|(log, tree)| {
+            LISTED.with_borrow_mut(|[log, tree]| {
                 let listed = raw::listing(file, log, tree, out).ok()?;
                 Some(listed.length)
             })

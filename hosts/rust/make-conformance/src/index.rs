@@ -13,6 +13,7 @@ Cases for a program that reads or writes the format of docs/FORMAT.md, with the 
     lists/NAME.txt     calls, one a line, with what each must answer and leave
     tables.txt         small functions, one call a line
     merge.txt          merges of two files, one a line
+    states.txt         lists and bases written out row by row, and questions to them
 
 The form of a line is told in vectors/README.md. In the lists, tables and merges a line that begins with `#` says what the next line shows.
 

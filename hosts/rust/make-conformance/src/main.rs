@@ -1,6 +1,6 @@
 //! `make-conformance DIR`: writes the conformance kit into a directory, the same
-//! bytes each time: files with their listings, call lists, tables, merges, and an index
-//! that says what each case shows. Each case names its answer, and that the plain
+//! bytes each time: files with their listings, call lists, tables, merges, states, and
+//! an index that says what each case shows. Each case names its answer, and that the plain
 //! implementation gives it is checked here.
 
 mod acts;
@@ -8,11 +8,13 @@ mod blocks;
 mod calls;
 mod damaged;
 mod finding;
+mod folding;
 mod good;
 mod index;
 mod kit;
 mod merges;
 mod rows;
+mod states;
 mod tables;
 
 use kit::{Case, Written};
@@ -30,8 +32,9 @@ fn write(directory: &Path) -> io::Result<()> {
         calls::full(),
         rows::list(),
         finding::list(),
+        folding::list(),
     ];
-    let (tables, merges) = (tables::all(), merges::all());
+    let (tables, merges, states) = (tables::all(), merges::all(), states::all());
 
     fs::create_dir_all(directory.join("lists"))?;
     fs::create_dir_all(directory.join("readout"))?;
@@ -46,12 +49,12 @@ fn write(directory: &Path) -> io::Result<()> {
             &list.text,
         )?;
     }
-    for lines in [&tables, &merges] {
+    for lines in [&tables, &merges, &states] {
         fs::write(directory.join(format!("{}.txt", lines.name)), &lines.text)?;
     }
     fs::write(
         directory.join("README.md"),
-        index::page(&good, &damaged, &lists, &[tables, merges]),
+        index::page(&good, &damaged, &lists, &[tables, merges, states]),
     )
 }
 

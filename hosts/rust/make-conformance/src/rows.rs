@@ -27,7 +27,7 @@ fn lengths(calls: &mut Calls) {
     let block = block_of(&paper());
     let full = log_of(&blocks_of_six(85)[..508]);
     let mut row = vec![0; FILE];
-    let blocks = plain::hand_out_row(&full, 7, 1, &[0; 8], &mut row).expect("a sound log");
+    let blocks = plain::hand_out_row(&full, &plain::EMPTY_BASE, 7, 1, &[0; 8], &mut row).expect("a sound log");
     row.truncate(BLOCK * usize::from(blocks));
     calls.call(0, "no block: the vector is the held one", try_row(&held, &[]));
     calls.call(0, "85 blocks into an empty log", try_row(&none, &row));

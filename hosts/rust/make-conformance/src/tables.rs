@@ -215,7 +215,7 @@ fn sums(tables: &mut Tables) {
 
 fn logs(tables: &mut Tables) {
     let mut row = |answer: bool, shows: &str, log: &[u8]| {
-        assert_eq!(plain::sound(log), answer, "{shows}");
+        assert_eq!(plain::sound(log, &plain::EMPTY_BASE), answer, "{shows}");
         let row = format!("sound {}", bytes(log));
         tables.row(&format!("sound: {shows}"), row, (answer as u8).to_string());
     };

@@ -1,15 +1,15 @@
 //! A call list in the making: each call is run and written down.
 
-use crate::text::{bytes, hash, lent, vector};
-use plain::{Answer, FILE, INDEX, LOG, REPORT, TREE};
-use workload::vector_of;
+use crate::text::{bytes, hash, lent, units, vector};
+use library::tree;
+use plain::{Answer, EMPTY_BASE, FILE, INDEX, LOG, REPORT, TREE};
 
 /// The log lent to a call.
 #[derive(Clone, Copy)]
 pub enum Lent<'a> {
-    /// The slot's own.
+    /// The slot's own, with its base.
     Own,
-    /// One from outside.
+    /// One from outside, with an empty base.
     Outside(&'a [u8]),
 }
 use Lent::{Outside, Own};
@@ -17,6 +17,8 @@ use Lent::{Outside, Own};
 pub struct List {
     text: String,
     pub logs: [Vec<u8>; 8],
+    /// The base of each log.
+    pub bases: [Vec<u8>; 8],
     /// The index of each log.
     indexes: [Vec<u8>; 8],
     /// Blocks given so far.
@@ -33,7 +35,7 @@ fn answer<T>(answer: &Answer<T>) -> String {
     match answer {
         Ok(_) => "0 -".to_string(),
         Err(refusal) => match refusal.number {
-            2..=11 | 20 | 24 | 25 => format!("{} {}", refusal.number, refusal.place),
+            2..=11 | 20 | 24..=29 => format!("{} {}", refusal.number, refusal.place),
             number => format!("{number} -"),
         },
     }
@@ -44,6 +46,7 @@ impl List {
         List {
             text: format!("# {remark}\n"),
             logs: std::array::from_fn(|_| vec![0; LOG]),
+            bases: std::array::from_fn(|_| EMPTY_BASE.to_vec()),
             indexes: std::array::from_fn(|_| vec![0; INDEX]),
             given: Vec::new(),
         }
@@ -65,12 +68,24 @@ impl List {
         line.rsplit(' ').next().unwrap_or_default()
     }
 
-    /// The log of a call, and how it is written.
-    fn lent(&self, slot: usize, log: Lent) -> (Vec<u8>, String) {
+    /// The log and the base of a call, and how the log is written.
+    fn lent(&self, slot: usize, log: Lent) -> (Vec<u8>, Vec<u8>, String) {
         match log {
-            Own => (self.logs[slot].clone(), "@".to_string()),
-            Outside(log) => (log.to_vec(), bytes(log)),
+            Own => (self.logs[slot].clone(), self.bases[slot].clone(), "@".to_string()),
+            Outside(log) => (log.to_vec(), EMPTY_BASE.to_vec(), bytes(log)),
         }
+    }
+
+    /// The vector that a slot holds.
+    pub fn vector(&self, slot: usize) -> [u16; 8] {
+        plain::vector(&self.logs[slot], &self.bases[slot]).expect("a sound state")
+    }
+
+    /// The tree that a slot shows.
+    pub fn tree(&self, slot: usize) -> [u8; TREE] {
+        let mut tree = [0; TREE];
+        plain::show(&self.logs[slot], &self.bases[slot], &mut tree).expect("a sound state");
+        tree
     }
 
     fn keep(&mut self, slot: usize, log: Lent, after: Vec<u8>) {
@@ -88,8 +103,11 @@ impl List {
     }
 
     pub fn start(&mut self, slot: usize, log: Lent, archive: u32, unit: u8) -> u8 {
-        let (mut after, word) = self.lent(slot, log);
-        let came = plain::start(&mut after, self.index(slot, log), archive, unit);
+        let (mut after, mut base, word) = self.lent(slot, log);
+        let came = plain::start(&mut after, &mut base, self.index(slot, log), archive, unit);
+        if matches!(log, Own) {
+            self.bases[slot] = base;
+        }
         self.line(format!(
             "start {slot} {word} {archive} {unit} = {} {}",
             answer(&came),
@@ -100,8 +118,8 @@ impl List {
     }
 
     pub fn act(&mut self, slot: usize, log: Lent, archive: u32, unit: u8, wish: &[u8]) -> u8 {
-        let (mut after, word) = self.lent(slot, log);
-        let came = plain::act(&mut after, self.index(slot, log), archive, unit, wish);
+        let (mut after, base, word) = self.lent(slot, log);
+        let came = plain::act(&mut after, &base, self.index(slot, log), archive, unit, wish);
         self.line(format!(
             "act {slot} {word} {archive} {unit} {} = {} {}",
             bytes(wish),
@@ -113,8 +131,8 @@ impl List {
     }
 
     pub fn take(&mut self, slot: usize, log: Lent, archive: u32, unit: u8, block: &[u8]) -> u8 {
-        let (mut after, word) = self.lent(slot, log);
-        let came = plain::take(&mut after, self.index(slot, log), archive, unit, block);
+        let (mut after, base, word) = self.lent(slot, log);
+        let came = plain::take(&mut after, &base, self.index(slot, log), archive, unit, block);
         self.line(format!(
             "take {slot} {word} {archive} {unit} {} = {} {}",
             bytes(block),
@@ -134,9 +152,9 @@ impl List {
         asked: &[u16; 8],
         (length, seed): (usize, u8),
     ) -> u8 {
-        let (after, word) = self.lent(slot, log);
+        let (after, base, word) = self.lent(slot, log);
         let mut block = lent(length, seed);
-        let came = plain::hand_out(&after, archive, unit, asked, &mut block);
+        let came = plain::hand_out(&after, &base, archive, unit, asked, &mut block);
         let written = came.map_or("-".to_string(), |()| bytes(&block));
         self.line(format!(
             "handout {slot} {word} {archive} {unit} {} {length}*{seed} = {} {} {written}",
@@ -159,9 +177,9 @@ impl List {
         length: usize,
         seed: u8,
     ) -> u8 {
-        let (after, word) = self.lent(slot, log);
+        let (after, base, word) = self.lent(slot, log);
         let mut file = lent(length, seed);
-        let came = plain::write_file(&after, archive, unit, &mut file);
+        let came = plain::write_file(&after, &base, archive, unit, &mut file);
         let written = came.map_or("- -".to_string(), |count| {
             format!("{count} {}", hash(&file))
         });
@@ -180,10 +198,11 @@ impl List {
     /// A row tried: on 0 how far it would be taken, what stops it, the vector and
     /// the entries that become disputed.
     pub fn try_row(&mut self, slot: usize, log: Lent, archive: u32, unit: u8, row: &[u8]) -> u8 {
-        let (after, word) = self.lent(slot, log);
+        let (after, base, word) = self.lent(slot, log);
         let (mut copy, mut tree, mut report) = (vec![0; LOG], vec![0; TREE], [0; REPORT]);
         let came = plain::try_row(
             &after,
+            &base,
             archive,
             unit,
             row,
@@ -213,11 +232,10 @@ impl List {
     }
 
     pub fn show(&mut self, slot: usize, log: Lent) -> u8 {
-        let (after, word) = self.lent(slot, log);
-        let mut tree = vec![0; TREE];
-        let came = plain::show(&after, &mut tree);
+        let (after, base, word) = self.lent(slot, log);
+        let came = plain::show(&after, &base, &mut vec![0; TREE]);
         let lines = if came.is_ok() {
-            lines(&after)
+            lines(&after, &base)
         } else {
             Vec::new()
         };
@@ -236,6 +254,35 @@ impl List {
         for line in lines {
             self.line(format!("> {line}"));
         }
+        number(&came)
+    }
+
+    /// A fold by a list of units, bit u for unit u: on 0 how many records, the
+    /// vector of the base and its tree.
+    pub fn fold(&mut self, slot: usize, archive: u32, unit: u8, list: u8) -> u8 {
+        let (mut after, mut base, word) = self.lent(slot, Own);
+        let came = plain::fold(&mut after, &mut base, archive, unit, list);
+        let lines = match came {
+            Ok(_) => lines(&vec![0; LOG], &base),
+            Err(_) => Vec::new(),
+        };
+        let asides = lines.iter().filter(|line| line.starts_with("aside"));
+        let (asides, all) = (asides.count(), lines.len());
+        let told = came.map_or("- - - -".to_string(), |count| {
+            let folded = vector(&base_vector(&base));
+            format!("{count} {folded} {} {asides}", all - asides)
+        });
+        self.line(format!(
+            "fold {slot} {word} {archive} {unit} {} = {} {} {told}",
+            units(list),
+            answer(&came),
+            hash(&after)
+        ));
+        for line in lines {
+            self.line(format!("> {line}"));
+        }
+        self.logs[slot] = after;
+        self.bases[slot] = base;
         number(&came)
     }
 
@@ -274,9 +321,10 @@ impl List {
     /// The list with what the slots hold at its end.
     pub fn end(mut self) -> String {
         for slot in 0..8 {
-            let log = &self.logs[slot];
-            let line = format!("end {slot} {} {}", vector(&vector_of(log)), hash(log));
-            self.line(line);
+            let (held, base) = (vector(&self.vector(slot)), &self.bases[slot]);
+            let (listed, folded) = (units(base[0]), vector(&base_vector(base)));
+            let hash = hash(&self.logs[slot]);
+            self.line(format!("end {slot} {held} {hash} {listed} {folded}"));
         }
         self.text
     }
@@ -287,12 +335,22 @@ fn identity(bytes: &[u8]) -> String {
     format!("{}.{}", bytes[0], u16::from_le_bytes([bytes[2], bytes[3]]))
 }
 
-/// The lines of a log's tree, as its file is listed.
-fn lines(log: &[u8]) -> Vec<String> {
-    let mut file = vec![0; FILE];
-    let count = plain::write_file(log, 0, 0, &mut file).expect("a sound log") as usize;
-    let mut out = [0; plain::LISTING];
-    let len = plain::listing(&file[..512 * count], &mut out);
-    let text = String::from_utf8_lossy(&out[..len]);
-    text.lines().skip(2).map(str::to_string).collect()
+/// The vector of a base.
+fn base_vector(base: &[u8]) -> [u16; 8] {
+    std::array::from_fn(|unit| u16::from_le_bytes([base[8 + 2 * unit], base[9 + 2 * unit]]))
+}
+
+/// The lines of a tree; those of a file's listing, where there is a file.
+fn lines(log: &[u8], base: &[u8]) -> Vec<String> {
+    let (mut table, mut file) = (vec![0; TREE], vec![0; FILE]);
+    plain::show(log, base, &mut table).expect("a sound state");
+    let lines = tree::lines(&table).expect("a tree table");
+    let lines: Vec<String> = lines.all().into_iter().cloned().collect();
+    if let Ok(count) = plain::write_file(log, base, 0, 0, &mut file) {
+        let mut out = [0; plain::LISTING];
+        let len = plain::listing(&file[..512 * usize::from(count)], &mut out);
+        let text = String::from_utf8_lossy(&out[..len]);
+        assert!(text.lines().skip(2).eq(lines.iter()));
+    }
+    lines
 }

@@ -3,8 +3,8 @@
 use crate::chain::{Wished, blocks_of_six, chain, file_of, seal};
 use crate::list::{Lent, List};
 use Lent::{Outside, Own};
-use plain::{BLOCK, FILE, LOG, TREE};
-use workload::{Chance, Mix, vector_of, wish};
+use plain::{BLOCK, FILE, LOG};
+use workload::{Chance, Mix, wish};
 
 pub fn all() -> Vec<(&'static str, String)> {
     vec![
@@ -42,17 +42,15 @@ pub fn all() -> Vec<(&'static str, String)> {
                 &Mix::MOVES,
             ),
         ),
+        (
+            "folding",
+            folding("demand 3, three units of five listed, folding", 16, 3, 160, &Mix::MOVES),
+        ),
         ("damage", damage("anything goes, four units", 13, 110)),
         ("refusals", refusals()),
         ("full", full()),
         ("reasons", reasons()),
     ]
-}
-
-fn tree_of(log: &[u8]) -> [u8; TREE] {
-    let mut tree = [0; TREE];
-    plain::show(log, &mut tree).expect("a sound log");
-    tree
 }
 
 /// One of the blocks given, mostly a late one.
@@ -76,11 +74,11 @@ fn meetings(remark: &str, seed: u64, units: usize, calls: usize, mix: &Mix) -> S
         let seed = chance.number() as u8;
         match chance.below(100) {
             0..45 => {
-                let wish = wish(&mut chance, mix, own, &tree_of(&list.logs[slot]));
+                let wish = wish(&mut chance, mix, own, &list.tree(slot));
                 list.act(slot, Own, archive, own, &wish);
             }
             45..72 => {
-                let asked = vector_of(&list.logs[chance.below(units)]);
+                let asked = list.vector(chance.below(units));
                 list.hand_out(slot, Own, archive, own, &asked, (BLOCK, seed));
             }
             72..98 => {
@@ -99,6 +97,46 @@ fn meetings(remark: &str, seed: u64, units: usize, calls: usize, mix: &Mix) -> S
             list.show(slot, Own);
         }
     }
+    list.end()
+}
+
+/// Units that act, meet and fold. Every list names each unit that acts.
+fn folding(remark: &str, seed: u64, units: usize, calls: usize, mix: &Mix) -> String {
+    let archive = 77;
+    let mut chance = Chance::new(seed);
+    let mut list = List::new(remark);
+    let named = (1u8 << units) - 1;
+    let mut folded = 0;
+    for call in 0..calls {
+        let slot = chance.below(units);
+        let own = slot as u8;
+        match chance.below(100) {
+            0..60 => {
+                let wish = wish(&mut chance, mix, own, &list.tree(slot));
+                list.act(slot, Own, archive, own, &wish);
+            }
+            60..80 => {
+                let to = chance.below(units);
+                pass_in(&mut list, archive, slot, to);
+            }
+            80..95 => {
+                let more = [0, 0, 16][chance.below(3)];
+                assert_eq!(list.fold(slot, archive, own, named | more), 0);
+                folded += usize::from(list.bases[slot][8] > 0);
+            }
+            95..97 => {
+                list.write(slot, Own, archive, own, FILE, 1);
+            }
+            _ => {
+                let asked = [0; 8];
+                list.hand_out(slot, Own, archive, own, &asked, (BLOCK, 3));
+            }
+        }
+        if call % 40 == 39 {
+            list.show(slot, Own);
+        }
+    }
+    assert!(folded > 5);
     list.end()
 }
 
@@ -125,7 +163,7 @@ fn damage(remark: &str, seed: u64, calls: usize) -> String {
         let odd = chance.one_in(20);
         match chance.below(100) {
             0..42 => {
-                let tree = tree_of(&list.logs[slot]);
+                let tree = list.tree(slot);
                 let mut wish = wish(&mut chance, &Mix::CONFLICTS, slot as u8, &tree).to_vec();
                 if chance.one_in(4) {
                     let at = chance.below(80);
@@ -138,7 +176,7 @@ fn damage(remark: &str, seed: u64, calls: usize) -> String {
                 let asked = if odd {
                     std::array::from_fn(|_| chance.number() as u16)
                 } else {
-                    vector_of(&list.logs[chance.below(4)])
+                    list.vector(chance.below(4))
                 };
                 let length = if chance.one_in(20) { 511 } else { BLOCK };
                 list.hand_out(slot, log, archive, unit, &asked, (length, seed));
@@ -429,11 +467,16 @@ fn reasons() -> String {
 
 /// Passes all that the other slot lacks.
 pub fn pass(list: &mut List, from: usize, to: usize) {
+    pass_in(list, 7, from, to);
+}
+
+fn pass_in(list: &mut List, archive: u32, from: usize, to: usize) {
     loop {
-        let asked = vector_of(&list.logs[to]);
-        list.hand_out(from, Own, 7, from as u8, &asked, (BLOCK, 1));
+        let asked = list.vector(to);
+        let given = list.hand_out(from, Own, archive, from as u8, &asked, (BLOCK, 1));
+        assert_eq!(given, 0);
         let block = list.given.last().expect("a block was given").clone();
-        assert_eq!(list.take(to, Own, 7, to as u8, &block), 0);
+        assert_eq!(list.take(to, Own, archive, to as u8, &block), 0);
         if block[9] == 0 {
             return;
         }

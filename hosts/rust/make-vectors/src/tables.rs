@@ -2,7 +2,7 @@
 
 use crate::chain::blocks_of_six;
 use crate::text::{bytes, compared, vector};
-use plain::LOG;
+use plain::{EMPTY_BASE, LOG};
 use workload::{Chance, Mix, log_of};
 
 pub fn all() -> String {
@@ -110,7 +110,7 @@ fn sums(chance: &mut Chance, text: &mut String) {
 
 fn logs(chance: &mut Chance, text: &mut String) {
     let mut row = |log: &[u8]| {
-        let answer = plain::sound(log) as u8;
+        let answer = plain::sound(log, &EMPTY_BASE) as u8;
         *text += &format!("sound {} = {answer}\n", bytes(log));
     };
     row(&[]);

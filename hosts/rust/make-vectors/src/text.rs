@@ -18,6 +18,13 @@ pub fn vector(counts: &[u16; 8]) -> String {
     counts.map(|count| count.to_string()).join(",")
 }
 
+/// A list of units, bit u for unit u: units parted by commas, or `-`.
+pub fn units(list: u8) -> String {
+    let listed = (0..8).filter(|unit| list >> unit & 1 == 1);
+    let units: Vec<String> = listed.map(|unit: u8| unit.to_string()).collect();
+    if units.is_empty() { "-".to_string() } else { units.join(",") }
+}
+
 /// What a comparison answers: 0 to 3, and how many records each lacks.
 pub fn compared(said: &plain::Compared) -> String {
     format!("{} {} {}", said.answer, said.first_lacks, said.second_lacks)

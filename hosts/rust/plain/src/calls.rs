@@ -1,12 +1,16 @@
 //! The entry points.
 
+use crate::base::{self, Base, lists_all};
 use crate::block::{self, Block, Header};
 use crate::bytes::{all_zero, get64};
 use crate::held::{Counts, Places, Store};
 use crate::index::{self, Before};
-use crate::record::{Fields, Record, rank_of, well_formed};
-use crate::replay::Replay;
-use crate::{Answer, BLOCK, FILE, LOG, PER_BLOCK, RECORD, RECORDS, TREE, refuse, refuse_at, table};
+use crate::record::{Fields, Record, body_fits, rank_of, well_formed};
+use crate::replay::{Replay, Source, slot_of};
+use crate::vector::Vector;
+use crate::{
+    Answer, BASE, BLOCK, FILE, LOG, PER_BLOCK, RECORD, RECORDS, TREE, refuse, refuse_at, table,
+};
 
 /// What a file says of itself.
 #[derive(Clone, Copy, Debug, PartialEq, Eq)]
@@ -17,18 +21,23 @@ pub struct Head {
     pub vector: [u16; 8],
 }
 
-/// Goes once over a lent log and counts it, if it is sound. Each record is shown
-/// to `each` with its place after its own check.
+/// Goes once over a lent log behind a base and counts it, if it is sound and
+/// every unit that is counted is listed. Each record is shown to `each` with its
+/// place after its own check.
 #[inline(always)]
-pub fn scan(
+fn scan(
     log: &[Record],
+    base: &Base,
     places: &mut Places,
     mut each: impl FnMut(&Places, &Fields, usize),
 ) -> Option<Counts> {
-    let mut held = Counts::NONE;
+    let mut held = Counts::on(base.vector);
     for (place, record) in log.iter().enumerate() {
         if get64(record, 0) == 0 {
-            return all_zero(log[place..].as_flattened()).then_some(held);
+            if !all_zero(log[place..].as_flattened()) {
+                return None;
+            }
+            break;
         }
         if !well_formed(record) {
             return None;
@@ -41,34 +50,93 @@ pub fn scan(
         places.add(&fields, place);
         each(places, &fields, place);
     }
-    Some(held)
+    lists_all(base.list, held.vector).then_some(held)
 }
 
-/// The lent log is sound.
-pub fn sound(log: &[u8]) -> bool {
-    log.len() == LOG && scan(log.as_chunks().0, &mut Places::none(), |_, _, _| ()).is_some()
+/// What a sound state has: its base, and its counts.
+pub type State<'a> = (Base<'a>, Counts);
+
+/// The state in a log and a base, or 19; where its records stand.
+#[inline(always)]
+pub fn open<'a>(
+    log: &[Record],
+    base: &'a [u8; BASE],
+    places: &mut Places,
+) -> Answer<State<'a>> {
+    let mut read = || {
+        let base = Base::of(base)?;
+        places.begin_on(base.vector);
+        let held = scan(log, &base, places, |_, _, _| ())?;
+        base.tree_fits().then_some((base, held))
+    };
+    read().map_or(refuse(19), Ok)
 }
 
-/// The held vector of a log: how many records of each unit.
-pub fn vector(log: &[u8]) -> Answer<[u16; 8]> {
-    if log.len() != LOG {
+/// The same, with its tree.
+#[inline(always)]
+pub fn open_tree<'a>(
+    log: &[Record],
+    base: &'a [u8; BASE],
+    places: &mut Places,
+    replay: &mut Replay,
+) -> Answer<State<'a>> {
+    let mut read = || {
+        let base = Base::of(base)?;
+        if !replay.enter(&base) {
+            return None;
+        }
+        let source = Source { base, store: log };
+        places.begin_on(base.vector);
+        let held = scan(log, &base, places, |places, fields, place| {
+            replay.step(places, &source, fields, place)
+        })?;
+        Some((base, held))
+    };
+    read().map_or(refuse(19), Ok)
+}
+
+/// The records of a lent log, if it has its length.
+pub fn records_of(log: &[u8]) -> Answer<&[Record]> {
+    match log.len() {
+        LOG => Ok(log.as_chunks().0),
+        _ => refuse(1),
+    }
+}
+
+/// An own unit is 0 to 7.
+pub fn unit_fits(unit: u8) -> Answer<()> {
+    match unit {
+        0..8 => Ok(()),
+        _ => refuse(21),
+    }
+}
+
+/// The lent log and base are sound.
+pub fn sound(log: &[u8], base: &[u8]) -> bool {
+    vector(log, base).is_ok()
+}
+
+/// The held vector: how many records of each unit, folded ones with them.
+pub fn vector(log: &[u8], base: &[u8]) -> Answer<[u16; 8]> {
+    let (records, base) = (records_of(log)?, base::lent(base)?);
+    let (_, held) = open(records, base, &mut Places::none())?;
+    Ok(core::array::from_fn(|unit| held.vector.count(unit)))
+}
+
+/// Empties a log, its base, and its index if one is lent.
+pub fn start(
+    log: &mut [u8],
+    base: &mut [u8],
+    index: &mut [u8],
+    _archive: u32,
+    unit: u8,
+) -> Answer<()> {
+    if !index::fits(index) || log.len() != LOG || base.len() != BASE {
         return refuse(1);
     }
-    match scan(log.as_chunks().0, &mut Places::none(), |_, _, _| ()) {
-        Some(held) => Ok(core::array::from_fn(|unit| held.vector.count(unit))),
-        None => refuse(19),
-    }
-}
-
-/// Empties a log, and its index if one is lent.
-pub fn start(log: &mut [u8], index: &mut [u8], _archive: u32, unit: u8) -> Answer<()> {
-    if !index::fits(index) || log.len() != LOG {
-        return refuse(1);
-    }
-    if unit > 7 {
-        return refuse(21);
-    }
+    unit_fits(unit)?;
     log.fill(0);
+    base::empty(base);
     index.fill(0);
     Ok(())
 }
@@ -77,6 +145,7 @@ pub fn start(log: &mut [u8], index: &mut [u8], _archive: u32, unit: u8) -> Answe
 /// one is lent.
 pub fn act(
     log: &mut [u8],
+    base: &[u8],
     index: &mut [u8],
     _archive: u32,
     unit: u8,
@@ -85,41 +154,35 @@ pub fn act(
     if !index::fits(index) || log.len() != LOG {
         return refuse(1);
     }
+    let base = base::lent(base)?;
     let Ok(wish) = <&Record>::try_from(wish) else {
         return refuse(1);
     };
-    if unit > 7 {
-        return refuse(21);
-    }
+    unit_fits(unit)?;
     let (records, _) = log.as_chunks_mut::<RECORD>();
-    let mut places = Places::none();
-    let mut replay = Replay::root();
-    let lent = &*records;
-    let Some(held) = scan(lent, &mut places, |places, fields, place| {
-        replay.step(places, &lent, fields, place)
-    }) else {
-        return refuse(19);
-    };
-    if wish[0] != unit || wish[2..20] != [0; 18] {
-        return refuse(7);
+    let (mut places, mut replay) = (Places::none(), Replay::root());
+    let (base, held) = open_tree(records, base, &mut places, &mut replay)?;
+    if !base.lists(unit as usize) {
+        return refuse(26);
     }
-    let mut record = *wish;
-    let number = held.vector.count(unit as usize) + 1;
-    record[2..4].copy_from_slice(&number.to_le_bytes());
-    held.vector.write(&mut record, 4);
-    if !well_formed(&record) {
-        return refuse(7);
-    }
+    let record = stamped(wish, unit, held.vector)?;
     if wish[32..64].contains(&b'/') {
         return refuse(24);
+    }
+    if held.vector.count(unit as usize) == u16::MAX {
+        return refuse(28);
     }
     if held.all == RECORDS {
         return refuse(11);
     }
     let fields = Fields::of(&record);
-    let before = Before::of(&replay, &places, lent, &fields);
-    replay.step(&places, &lent, &fields, held.all);
-    match replay.fates[held.all].reason {
+    let source = Source {
+        base,
+        store: &*records,
+    };
+    let before = Before::of(&replay, &places, &source, &fields);
+    replay.step(&places, &source, &fields, held.all);
+    match replay.fates[slot_of(held.all)].reason {
         0 => (),
         reason => return refuse(reason),
     }
@@ -130,28 +193,38 @@ pub fn act(
     Ok(())
 }
 
+/// The wish with its number and the held vector, if it is well formed. Behind
+/// 65,535 there is no next number, and the others of its fields are judged.
+fn stamped(wish: &Record, unit: u8, held: Vector) -> Answer<Record> {
+    let mut record = *wish;
+    let number = held.count(unit as usize).wrapping_add(1);
+    record[2..4].copy_from_slice(&number.to_le_bytes());
+    held.write(&mut record, 4);
+    if wish[0] != unit || wish[2..20] != [0; 18] || !body_fits(&record) {
+        return refuse(7);
+    }
+    Ok(record)
+}
+
 /// Writes a block of the first six or fewer records that the asked vector lacks.
 pub fn hand_out(
     log: &[u8],
+    base: &[u8],
     archive: u32,
     unit: u8,
     asked: &[u16; 8],
     block: &mut [u8],
 ) -> Answer<()> {
-    if log.len() != LOG {
-        return refuse(1);
-    }
+    let (records, base) = (records_of(log)?, base::lent(base)?);
     let Ok(block) = <&mut Block>::try_from(block) else {
         return refuse(1);
     };
-    if unit > 7 {
-        return refuse(21);
-    }
-    let (records, _) = log.as_chunks::<RECORD>();
+    unit_fits(unit)?;
     let mut places = Places::none();
-    let Some(held) = scan(records, &mut places, |_, _, _| ()) else {
-        return refuse(19);
-    };
+    let (base, held) = open(records, base, &mut places)?;
+    if !base.vector.within(Vector::of(asked)) {
+        return refuse(27);
+    }
     // The place of each unit's first record that is lacked and not yet given.
     let mut after = *asked;
     let place_after = |unit: usize, count: u16| {
@@ -195,6 +268,7 @@ pub fn hand_out(
 /// Takes a block wholly or not at all. The index is made afresh, if one is lent.
 pub fn take(
     log: &mut [u8],
+    base: &[u8],
     index: &mut [u8],
     archive: u32,
     unit: u8,
@@ -203,31 +277,34 @@ pub fn take(
     if !index::fits(index) {
         return refuse(1);
     }
-    take_block(log, archive, unit, block)?;
-    renew(log, index)
+    take_block(log, base, archive, unit, block)?;
+    renew(log, base, index)
 }
 
-/// Makes the index of a sound log afresh, if one is lent.
-pub fn renew(log: &[u8], index: &mut [u8]) -> Answer<()> {
+/// Makes the index of a sound state afresh, if one is lent.
+pub fn renew(log: &[u8], base: &[u8], index: &mut [u8]) -> Answer<()> {
     if index.is_empty() {
         return Ok(());
     }
-    index::index(log, index)
+    index::index(log, base, index)
 }
 
 /// Takes a block wholly or not at all.
-pub fn take_block(log: &mut [u8], archive: u32, unit: u8, block: &[u8]) -> Answer<()> {
+pub fn take_block(
+    log: &mut [u8],
+    base: &[u8],
+    archive: u32,
+    unit: u8,
+    block: &[u8],
+) -> Answer<()> {
     if log.len() != LOG {
         return refuse(1);
     }
-    if unit > 7 {
-        return refuse(21);
-    }
+    let base = base::lent(base)?;
+    unit_fits(unit)?;
     let (records, _) = log.as_chunks_mut::<RECORD>();
     let mut places = Places::none();
-    let Some(mut held) = scan(records, &mut places, |_, _, _| ()) else {
-        return refuse(19);
-    };
+    let (base, mut held) = open(records, base, &mut places)?;
     let Ok(block) = <&Block>::try_from(block) else {
         return refuse(2);
     };
@@ -247,6 +324,12 @@ pub fn take_block(log: &mut [u8], archive: u32, unit: u8, block: &[u8]) -> Answe
             return refuse(7);
         }
         let fields = Fields::of(record);
+        if !base.lists(fields.unit) {
+            return refuse(26);
+        }
+        if places.is_folded(fields.identity()) {
+            continue;
+        }
         if held.hold(&fields) {
             let place = places.named(fields.identity());
             let known = match place.checked_sub(RECORDS) {
@@ -261,6 +344,9 @@ pub fn take_block(log: &mut [u8], archive: u32, unit: u8, block: &[u8]) -> Answe
         if !held.are_before(&fields) {
             return refuse(8);
         }
+        if !base.vector.within(fields.seen) {
+            return refuse(27);
+        }
         if !places.are_closed(&fields) {
             return refuse(9);
         }
@@ -268,11 +354,11 @@ pub fn take_block(log: &mut [u8], archive: u32, unit: u8, block: &[u8]) -> Answe
             return refuse(11);
         }
         let mut at = held.all - held_before;
-        while at > 0 && new[at - 1].0 > fields.small_rank() {
+        while at > 0 && new[at - 1].0 > fields.rank() {
             new[at] = new[at - 1];
             at -= 1;
         }
-        new[at] = (fields.small_rank(), i);
+        new[at] = (fields.rank(), i);
         held.add(&fields);
         places.add(&fields, RECORDS + i);
     }
@@ -291,19 +377,24 @@ fn lay_in(records: &mut [Record], held: usize, block: &Block, new: &[(u32, usize
     }
 }
 
-/// Writes the whole log as a file; answers its count of blocks.
-pub fn write_file(log: &[u8], archive: u32, unit: u8, file: &mut [u8]) -> Answer<u16> {
-    if log.len() != LOG || file.len() != FILE {
+/// Writes the whole log as a file, if nothing is folded; answers its count of
+/// blocks.
+pub fn write_file(
+    log: &[u8],
+    base: &[u8],
+    archive: u32,
+    unit: u8,
+    file: &mut [u8],
+) -> Answer<u16> {
+    let (records, base) = (records_of(log)?, base::lent(base)?);
+    if file.len() != FILE {
         return refuse(1);
     }
-    if unit > 7 {
-        return refuse(21);
+    unit_fits(unit)?;
+    let (base, held) = open(records, base, &mut Places::none())?;
+    if base.vector != Vector::ZERO {
+        return refuse(29);
     }
-    let (records, _) = log.as_chunks::<RECORD>();
-    let mut places = Places::none();
-    let Some(held) = scan(records, &mut places, |_, _, _| ()) else {
-        return refuse(19);
-    };
     let header = Header {
         archive,
         unit,
@@ -368,7 +459,7 @@ pub fn check_file(
             return refuse_at(20, place);
         }
     }
-    let mut held = Counts::NONE;
+    let mut held = Counts::on(Vector::ZERO);
     for (place, block) in blocks.iter().enumerate() {
         for i in 0..block::count(block) {
             if held.all == RECORDS {
@@ -379,12 +470,11 @@ pub fn check_file(
                 return refuse_at(7, place);
             }
             let fields = Fields::of(record);
-            if !held.are_before(&fields) {
-                let number = if held.rank_before_any(&fields) { 8 } else { 20 };
-                return refuse_at(number, place);
-            }
             if !held.rank_before(&fields) {
                 return refuse_at(20, place);
+            }
+            if !held.are_before(&fields) {
+                return refuse_at(8, place);
             }
             if !places.are_closed(&fields) {
                 return refuse_at(9, place);
@@ -400,13 +490,15 @@ pub fn check_file(
     Ok((header, held))
 }
 
-/// Reads a file into a lent log, whose old bytes are not judged.
-pub fn read_file(log: &mut [u8], file: &[u8]) -> Answer<Head> {
-    if log.len() != LOG {
+/// Reads a file into a lent log, and empties its base. Their old bytes are not
+/// judged.
+pub fn read_file(log: &mut [u8], base: &mut [u8], file: &[u8]) -> Answer<Head> {
+    if log.len() != LOG || base.len() != BASE {
         return refuse(1);
     }
     let blocks = blocks_of(file)?;
     let (header, held) = check_file(blocks, &mut Places::none(), |_, _, _| ())?;
+    base::empty(base);
     let mut rest = log;
     for block in blocks.0 {
         let from = block::records(block);
@@ -423,22 +515,18 @@ pub fn read_file(log: &mut [u8], file: &[u8]) -> Answer<Head> {
     })
 }
 
-/// Shows the tree of a log: every byte of the lent table.
-pub fn show(log: &[u8], tree: &mut [u8]) -> Answer<()> {
-    if log.len() != LOG {
-        return refuse(1);
-    }
+/// Shows the tree of a log and its base: every byte of the lent table.
+pub fn show(log: &[u8], base: &[u8], tree: &mut [u8]) -> Answer<()> {
+    let (records, base) = (records_of(log)?, base::lent(base)?);
     let Ok(tree) = <&mut [u8; TREE]>::try_from(tree) else {
         return refuse(1);
     };
-    let (records, _) = log.as_chunks::<RECORD>();
-    let mut places = Places::none();
     let mut replay = Replay::root();
-    let Some(held) = scan(records, &mut places, |places, fields, place| {
-        replay.step(places, &records, fields, place)
-    }) else {
-        return refuse(19);
+    let (base, held) = open_tree(records, base, &mut Places::none(), &mut replay)?;
+    let source = Source {
+        base,
+        store: records,
     };
-    table::write(tree, held.all, &replay, &records);
+    table::write(tree, held.all, &replay, &source);
     Ok(())
 }

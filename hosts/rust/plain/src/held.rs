@@ -24,20 +24,25 @@ impl Store for &[Record] {
 /// How many records are held.
 #[derive(Clone, Copy)]
 pub struct Counts {
+    /// Those that are not folded.
     pub all: usize,
+    /// Of each unit, folded ones with them.
     pub vector: Vector,
     /// One above the rank of the last record; a next in order has no lower one.
     next_rank: u32,
 }
 
 impl Counts {
-    pub const NONE: Counts = Counts {
-        all: 0,
-        vector: Vector::ZERO,
-        next_rank: 0,
-    };
+    /// No records behind a base vector.
+    pub const fn on(base: Vector) -> Counts {
+        Counts {
+            all: 0,
+            vector: base,
+            next_rank: 0,
+        }
+    }
 
-    /// The record's number is held.
+    /// The record's number is held, or folded.
     #[inline(always)]
     pub fn hold(&self, fields: &Fields) -> bool {
         fields.number <= self.vector.count(fields.unit)
@@ -46,20 +51,13 @@ impl Counts {
     /// The record's number is its unit's next and its seen within the counts.
     #[inline(always)]
     pub fn are_before(&self, fields: &Fields) -> bool {
-        fields.seen.is_small()
-            & fields.seen.within_small(self.vector)
-            & (self.vector.count(fields.unit) + 1 == fields.number)
+        fields.seen.within(self.vector)
+            & (u32::from(self.vector.count(fields.unit)) + 1 == u32::from(fields.number))
     }
 
-    /// A record that the counts are before ranks after the last one.
+    /// The record ranks after the last one.
     #[inline(always)]
     pub fn rank_before(&self, fields: &Fields) -> bool {
-        self.next_rank <= fields.small_rank()
-    }
-
-    /// Any record ranks after the last one.
-    #[cold]
-    pub fn rank_before_any(&self, fields: &Fields) -> bool {
         self.next_rank <= fields.rank()
     }
 
@@ -68,13 +66,15 @@ impl Counts {
     pub fn add(&mut self, fields: &Fields) {
         self.all += 1;
         self.vector = self.vector.and_one_of(fields.unit);
-        self.next_rank = fields.small_rank() + 1;
+        self.next_rank = fields.rank() + 1;
     }
 }
 
-/// Where the held records stand.
+/// Where the held records stand that are not folded.
 pub struct Places {
-    /// The place of each unit's records, by number less 1.
+    /// How many records of each unit are folded.
+    base: Vector,
+    /// The place of each unit's records, by number less those folded and 1.
     of: [[u16; RECORDS]; 8],
     /// The seen of each unit's last record with that record counted.
     heard: [Vector; 8],
@@ -83,29 +83,59 @@ pub struct Places {
 }
 
 impl Places {
+    /// No records, and none folded.
     #[inline(always)]
     pub fn none() -> Places {
         Places {
+            base: Vector::ZERO,
             of: [[0; RECORDS]; 8],
             heard: [Vector::ZERO; 8],
             seen: [Vector::ZERO; ALL],
         }
     }
 
-    /// The place of a unit's held record.
+    /// So many of each unit are folded.
     #[inline(always)]
-    pub fn place(&self, unit: usize, number: usize) -> usize {
-        self.of[unit & 7][number.wrapping_sub(1) % RECORDS] as usize
+    pub fn begin_on(&mut self, base: Vector) {
+        self.base = base;
     }
 
-    /// The place of a held record, given as it is named.
+    /// The record of an identity, given as it is named, is folded.
+    #[inline(always)]
+    pub fn is_folded(&self, identity: u32) -> bool {
+        identity >> 16 <= u32::from(self.base.count(identity as usize & 7))
+    }
+
+    /// Where the place of a unit's record stands that is not folded.
+    #[inline(always)]
+    fn row(&self, unit: usize, number: usize) -> usize {
+        number.wrapping_sub(usize::from(self.base.count(unit)) + 1) % RECORDS
+    }
+
+    /// The place of a unit's held record that is not folded.
+    #[inline(always)]
+    pub fn place(&self, unit: usize, number: usize) -> usize {
+        self.of[unit & 7][self.row(unit & 7, number)] as usize
+    }
+
+    /// The place of a held record that is not folded, given as it is named.
     #[inline(always)]
     pub fn named(&self, identity: u32) -> usize {
-        self.place(identity as usize, identity as usize >> 16)
+        self.place(identity as usize & 7, identity as usize >> 16)
+    }
+
+    /// What a unit has told that it has heard, by its last record; of a unit
+    /// without one that is not folded, the base vector.
+    pub fn heard(&self, unit: usize) -> Vector {
+        match self.heard[unit] {
+            Vector::ZERO => self.base,
+            heard => heard,
+        }
     }
 
     /// The seen of a next record is closed. What its unit had heard is closed
-    /// already, so only the counts that moved since then are looked at.
+    /// already, so only the counts that moved since then are looked at, and of
+    /// these the ones that go beyond the base.
     #[inline(always)]
     pub fn are_closed(&self, fields: &Fields) -> bool {
         let seen = fields.seen;
@@ -113,15 +143,16 @@ impl Places {
         if seen == heard {
             return true;
         }
-        if !heard.within_small(seen) {
+        if !heard.within(seen) {
             return false;
         }
-        let mut moved = seen.small_differences(heard);
+        let mut moved = seen.differences(heard);
         while moved != 0 {
             let bit = moved.trailing_zeros() as usize;
             let unit = bit / 16 + 4 * (bit & 1);
-            let place = self.place(unit, seen.count(unit) as usize);
-            if !self.seen[place].within_small(seen) {
+            let count = seen.count(unit);
+            let place = self.place(unit, count as usize);
+            if count > self.base.count(unit) && !self.seen[place].within(seen) {
                 return false;
             }
             moved &= moved - 1;
@@ -133,7 +164,8 @@ impl Places {
     #[inline(always)]
     pub fn add(&mut self, fields: &Fields, place: usize) {
         let unit = fields.unit & 7;
-        self.of[unit][(fields.number as usize).wrapping_sub(1) % RECORDS] = place as u16;
+        let row = self.row(unit, fields.number as usize);
+        self.of[unit][row] = place as u16;
         self.heard[unit] = fields.seen.and_one_of(unit);
         self.seen[place] = fields.seen;
     }

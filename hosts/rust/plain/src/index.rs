@@ -2,19 +2,20 @@
 //! z. It is made afresh from a replay, changed by one record, and asked by
 //! halving. Any bytes may be asked.
 
+use crate::base;
 use crate::bytes::{get16, get32, put16, put32};
-use crate::calls::scan;
+use crate::calls::{open_tree, records_of};
 use crate::held::{Places, Store};
-use crate::record::{Fields, MAKE_FOLDER, MAKE_TRACE, MOVE, REMOVE, RENAME, Record};
-use crate::replay::{Entry, Kind, ROOT, Replay};
-use crate::{Answer, LOG, RECORD, RECORDS, refuse};
+use crate::record::{Fields, Label, MAKE_FOLDER, MAKE_TRACE, MOVE, REMOVE, RENAME, label_in};
+use crate::replay::{Entry, Kind, ROOT, Replay, Source};
+use crate::{Answer, ROWS, refuse};
 
 /// Bytes of an index row: folder, label, entry.
 const ROW: usize = 40;
-/// Bytes of the index: a count, two zeros, 512 rows.
-pub const INDEX: usize = 4 + RECORDS * ROW;
-/// Halvings that end any search among 512 rows.
-const HALVINGS: usize = 10;
+/// Bytes of the index: a count, two zeros, 1,024 rows.
+pub const INDEX: usize = 4 + ROWS * ROW;
+/// Halvings that end any search among 1,024 rows.
+const HALVINGS: usize = 11;
 
 type Row = [u8; ROW];
 
@@ -55,10 +56,10 @@ fn folder_asked(unit: u32, number: u32) -> Name {
     8 * number + unit
 }
 
-/// How many rows, at most 512.
+/// How many rows, at most 1,024.
 #[inline(always)]
 fn rows_in(index: &[u8]) -> usize {
-    usize::from(get16(index, 0)).min(RECORDS)
+    usize::from(get16(index, 0)).min(ROWS)
 }
 
 #[inline(always)]
@@ -135,19 +136,19 @@ pub fn list(index: &[u8], unit: u32, number: u32) -> Answer<Range> {
     })
 }
 
-/// Makes the index of a log afresh.
-pub fn index(log: &[u8], index: &mut [u8]) -> Answer<()> {
-    if log.len() != LOG || index.len() != INDEX {
+/// Makes the index of a log and its base afresh.
+pub fn index(log: &[u8], base: &[u8], index: &mut [u8]) -> Answer<()> {
+    let (records, base) = (records_of(log)?, base::lent(base)?);
+    if index.len() != INDEX {
         return refuse(1);
     }
-    let records = log.as_chunks::<RECORD>().0;
     let mut replay = Replay::root();
-    let Some(held) = scan(records, &mut Places::none(), |places, fields, place| {
-        replay.step(places, &records, fields, place)
-    }) else {
-        return refuse(19);
+    let (base, held) = open_tree(records, base, &mut Places::none(), &mut replay)?;
+    let source = Source {
+        base,
+        store: records,
     };
-    write(index, held.all, &replay, &records);
+    write(index, held.all, &replay, &source);
     Ok(())
 }
 
@@ -159,10 +160,6 @@ fn folder_of(replay: &Replay, entry: &Entry) -> u32 {
     }
 }
 
-fn label_in(record: &Record) -> &[u8] {
-    &record[32..64]
-}
-
 /// The first bytes of a label, in the order of labels.
 fn front(label: &[u8]) -> u64 {
     lower(label)
@@ -171,19 +168,20 @@ fn front(label: &[u8]) -> u64 {
 }
 
 /// Writes every byte of the index.
-fn write(index: &mut [u8], records: usize, replay: &Replay, store: &impl Store) {
-    let label = |place: u16| {
-        let entry = &replay.entries[usize::from(place)];
-        label_in(store.record(usize::from(entry.placing)))
+fn write(index: &mut [u8], records: usize, replay: &Replay, source: &Source<impl Store>) {
+    let label = |slot: u16| {
+        let entry = &replay.entries[usize::from(slot)];
+        source.label(entry.placing.slot)
     };
-    // Key of the folder, front of the label and place of each entry.
-    let mut order = [(0u64, 0, 0); RECORDS];
+    // Key of the folder, front of the label and slot of each entry.
+    let mut order = [(0u64, 0, 0); ROWS];
     let mut count = 0;
-    for (place, entry) in replay.entries[..records].iter().enumerate() {
+    for slot in Replay::slots(&source.base, records) {
+        let entry = &replay.entries[slot];
         if entry.kind != Kind::Absent {
             let key = key_of(name_of(folder_of(replay, entry)));
-            let place = place as u16;
-            order[count] = (key, front(label(place)), place);
+            let slot = slot as u16;
+            order[count] = (key, front(label(slot)), slot);
             count += 1;
         }
     }
@@ -195,11 +193,11 @@ fn write(index: &mut [u8], records: usize, replay: &Replay, store: &impl Store) 
     let (head, rows) = index.split_at_mut(4);
     put32(head, 0, count as u32);
     let (rows, unused) = rows.as_chunks_mut::<ROW>().0.split_at_mut(count);
-    for (row, &(_, _, place)) in rows.iter_mut().zip(&*order) {
-        let entry = &replay.entries[usize::from(place)];
+    for (row, &(_, _, slot)) in rows.iter_mut().zip(&*order) {
+        let entry = &replay.entries[usize::from(slot)];
         put32(row, 0, folder_of(replay, entry));
-        row[4..36].copy_from_slice(label(place));
-        put32(row, 36, replay.identities[usize::from(place)]);
+        row[4..36].copy_from_slice(label(slot));
+        put32(row, 36, replay.identities[usize::from(slot)]);
     }
     unused.as_flattened_mut().fill(0);
 }
@@ -208,18 +206,22 @@ fn write(index: &mut [u8], records: usize, replay: &Replay, store: &impl Store) 
 #[derive(Clone, Copy)]
 pub struct Before<'a> {
     folder: u32,
-    label: &'a [u8],
+    label: &'a Label,
     entry: u32,
 }
 
 impl<'a> Before<'a> {
     /// Of the entry that a remove, a rename or a move names.
-    pub fn of(replay: &Replay, places: &Places, log: &'a [Record], fields: &Fields) -> Before<'a> {
-        let place = places.named(fields.named);
-        let entry = &replay.entries[place];
+    pub fn of(
+        replay: &Replay,
+        places: &Places,
+        source: &'a Source<impl Store>,
+        fields: &Fields,
+    ) -> Before<'a> {
+        let entry = replay.entry_named(places, fields.named);
         Before {
             folder: folder_of(replay, entry),
-            label: label_in(&log[usize::from(entry.placing)]),
+            label: source.label(entry.placing.slot),
             entry: fields.named,
         }
     }
@@ -246,7 +248,7 @@ pub fn change(index: &mut [u8], fields: &Fields, before: &Before) {
 /// Puts an entry in by its folder and label, if there is room.
 fn put_in(index: &mut [u8], folder: u32, label: &[u8], entry: u32) {
     let count = rows_in(index);
-    if count == RECORDS {
+    if count == ROWS {
         return;
     }
     let at = seek(index, key_of(name_of(folder)), label);

@@ -1,16 +1,20 @@
-//! The shared record folder in plain Rust: the rules of document 01 written
-//! for speed and apart from the proved library, to compare it with.
+//! The shared record folder in plain Rust: the rules of the customer's papers
+//! written for speed and apart from the proved library, to compare it with.
 //!
-//! Every call works in lent memory, uses no heap and leaves all bytes as they
-//! were when it refuses. A refusal is the paper's number with the place of the
-//! block at fault; the place is 0 where the paper returns none.
+//! A state is a log and a base. Every call works in lent memory, uses no heap and
+//! leaves all bytes as they were when it refuses. A refusal is the paper's number
+//! with the place of the block at fault; the place is 0 where the paper returns
+//! none. Work memory is not lent: what a call needs lies on its stack.
 
 #![no_std]
 #![forbid(unsafe_code)]
 
+mod base;
 mod block;
 mod bytes;
 mod calls;
+mod fold;
+mod folded;
 mod held;
 mod index;
 mod listing;
@@ -21,8 +25,10 @@ mod rows;
 mod table;
 mod vector;
 
+pub use base::EMPTY_BASE;
 pub use block::sums;
 pub use calls::{Head, act, hand_out, read_file, show, sound, start, take, vector, write_file};
+pub use fold::fold;
 pub use index::{INDEX, Range, find, index, list};
 pub use listing::{LISTING, listing};
 pub use merge::{MergeRefusal, merge};
@@ -44,8 +50,14 @@ pub const PER_BLOCK: usize = 6;
 pub const BLOCKS: usize = 86;
 /// Bytes lent for writing a file.
 pub const FILE: usize = BLOCKS * BLOCK;
-/// Bytes of the tree table: two counts, 512 entry rows, 512 aside rows.
-pub const TREE: usize = 4 + RECORDS * (ENTRY_ROW + ASIDE_ROW);
+/// Rows of entries, and of asides, that a base holds.
+pub const BASE_ROWS: usize = 512;
+/// Bytes of the lent list and base.
+pub const BASE: usize = 24 + BASE_ROWS * (ENTRY_ROW + ASIDE_ROW);
+/// Rows of entries, and of asides, that a tree table holds.
+pub const ROWS: usize = BASE_ROWS + RECORDS;
+/// Bytes of the tree table: two counts, rows of entries, rows of asides.
+pub const TREE: usize = 4 + ROWS * (ENTRY_ROW + ASIDE_ROW);
 /// Bytes of an entry row.
 pub const ENTRY_ROW: usize = 72;
 /// Bytes of an aside row.

@@ -1,9 +1,10 @@
 //! The listing that `readout` prints.
 
+use crate::base;
 use crate::calls::{Blocks, blocks_of, check_file};
-use crate::held::{Places, Store};
-use crate::record::Record;
-use crate::replay::{Kind, ROOT, Replay};
+use crate::held::Places;
+use crate::record::Label;
+use crate::replay::{Kind, ROOT, Replay, Source, slot_of};
 use crate::{Answer, RECORDS};
 
 /// The longest entry line: a trace with a label of 32 quotes, disputed.
@@ -28,10 +29,14 @@ pub fn listing(file: &[u8], out: &mut [u8; LISTING]) -> usize {
 
 fn list(file: &[u8], out: &mut [u8; LISTING]) -> Answer<usize> {
     let blocks = blocks_of(file)?;
+    let source = Source {
+        base: base::EMPTY,
+        store: blocks,
+    };
     let mut places = Places::none();
     let mut replay = Replay::root();
     let (header, held) = check_file(blocks, &mut places, |places, fields, place| {
-        replay.step(places, &blocks, fields, place)
+        replay.step(places, &source, fields, place)
     })?;
     let mut line = Line::empty();
     line.put(b"archive ");
@@ -48,27 +53,33 @@ fn list(file: &[u8], out: &mut [u8; LISTING]) -> Answer<usize> {
     }
     len = line.end(out, len);
     let disputed = replay.disputed();
-    for (place, disputed) in disputed[..held.all].iter().enumerate() {
-        if replay.entries[place].kind != Kind::Absent {
-            put_entry(&mut line, &replay, blocks, place, *disputed);
+    for slot in slot_of(0)..slot_of(held.all) {
+        if replay.entries[slot].kind != Kind::Absent {
+            put_entry(&mut line, &replay, &source, slot, disputed[slot]);
             len = line.end(out, len);
         }
     }
-    for place in 0..held.all {
-        if replay.fates[place].reason != 0 {
-            put_aside(&mut line, &replay, place);
+    for slot in slot_of(0)..slot_of(held.all) {
+        if replay.fates[slot].reason != 0 {
+            put_aside(&mut line, &replay, slot);
             len = line.end(out, len);
         }
     }
     Ok(len)
 }
 
-fn put_entry(line: &mut Line, replay: &Replay, blocks: Blocks, place: usize, disputed: bool) {
-    let entry = &replay.entries[place];
-    let contents = blocks.record(entry.contents as usize);
+fn put_entry(
+    line: &mut Line,
+    replay: &Replay,
+    source: &Source<Blocks>,
+    slot: usize,
+    disputed: bool,
+) {
+    let entry = &replay.entries[slot];
+    let (date, mark) = source.contents(entry.contents.slot);
     let is_trace = entry.kind == Kind::Trace;
     line.put(if is_trace { b"trace " } else { b"folder " });
-    line.identity(replay.identities[place]);
+    line.identity(replay.identities[slot]);
     line.put(b" in ");
     line.identity(if entry.folder == ROOT {
         0
@@ -76,34 +87,34 @@ fn put_entry(line: &mut Line, replay: &Replay, blocks: Blocks, place: usize, dis
         replay.identities[entry.folder as usize]
     });
     line.put(b" \"");
-    line.label(blocks.record(entry.placing as usize));
+    line.label(source.label(entry.placing.slot));
     line.put(b"\" ");
-    let year = u16::from_le_bytes([contents[28], contents[29]]);
+    let year = u16::from_le_bytes([date[0], date[1]]);
     line.two_digits((year / 100) as u8);
     line.two_digits((year % 100) as u8);
     line.put(b"-");
-    line.two_digits(contents[30]);
+    line.two_digits(date[2]);
     line.put(b"-");
-    line.two_digits(contents[31]);
+    line.two_digits(date[3]);
     if is_trace {
         line.put(b" ");
-        line.mark(contents);
+        line.mark(mark);
     }
     if disputed {
         line.put(b" disputed");
     }
 }
 
-fn put_aside(line: &mut Line, replay: &Replay, place: usize) {
-    let fate = replay.fates[place];
+fn put_aside(line: &mut Line, replay: &Replay, slot: usize) {
+    let fate = replay.fates[slot];
     line.put(b"aside ");
-    line.identity(replay.identities[place]);
+    line.identity(replay.identities[slot]);
     line.put(b" reason ");
     line.number(fate.reason as u32);
     line.put(b" marks ");
-    match fate.marks() {
-        None => line.put(b"-"),
-        Some(place) => line.identity(replay.identities[place]),
+    match fate.marks {
+        0 => line.put(b"-"),
+        marked => line.identity(marked),
     }
     line.put(if fate.settled { b" settled" } else { b" open" });
 }
@@ -167,10 +178,10 @@ impl Line {
         self.number(identity >> 16);
     }
 
-    /// A record's label, quotes and backslashes with a backslash before them.
+    /// A label, quotes and backslashes with a backslash before them.
     #[inline(always)]
-    fn label(&mut self, record: &Record) {
-        for byte in &record[32..64] {
+    fn label(&mut self, label: &Label) {
+        for byte in label {
             if *byte == 0 {
                 break;
             }
@@ -181,14 +192,14 @@ impl Line {
         }
     }
 
-    /// A record's mark in hexadecimal.
+    /// A mark in hexadecimal.
     #[inline(always)]
-    fn mark(&mut self, record: &Record) {
+    fn mark(&mut self, mark: &[u8]) {
         let digit = |half: u8| half + if half < 10 { b'0' } else { b'a' - 10 };
         let mut text = [0; 32];
         for i in 0..16 {
-            text[2 * i] = digit(record[64 + i] >> 4);
-            text[2 * i + 1] = digit(record[64 + i] & 15);
+            text[2 * i] = digit(mark[i] >> 4);
+            text[2 * i + 1] = digit(mark[i] & 15);
         }
         self.put(&text);
     }

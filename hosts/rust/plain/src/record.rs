@@ -109,28 +109,32 @@ impl Fields<'_> {
     pub fn rank(&self) -> u32 {
         self.seen.total() << 3 | self.unit as u32
     }
-
-    /// The rank, where the seen counts are within those of a log.
-    #[inline(always)]
-    pub fn small_rank(&self) -> u32 {
-        self.seen.small_total() << 3 | self.unit as u32
-    }
 }
 
 /// The rank of a held record.
 #[inline(always)]
 pub fn rank_of(record: &Record) -> u32 {
-    Vector::read(record, 4).small_total() << 3 | (record[0] & 7) as u32
+    Vector::read(record, 4).total() << 3 | (record[0] & 7) as u32
 }
 
-/// What of a well-formed record's label counts.
+/// A label with the zeros behind it.
+pub type Label = [u8; 32];
+
+/// The label of a record.
 #[inline(always)]
-pub fn label_key(record: &Record) -> LabelKey {
+pub fn label_in(record: &Record) -> &Label {
+    let (parts, _) = record[32..].as_chunks();
+    &parts[0]
+}
+
+/// What of a label counts.
+#[inline(always)]
+pub fn label_key(label: &Label) -> LabelKey {
     [
-        lower(get64(record, 32)),
-        lower(get64(record, 40)),
-        lower(get64(record, 48)),
-        lower(get64(record, 56)),
+        lower(get64(label, 0)),
+        lower(get64(label, 8)),
+        lower(get64(label, 16)),
+        lower(get64(label, 24)),
     ]
 }
 
@@ -158,33 +162,39 @@ pub fn is_date(year: u16, month: u8, day: u8) -> bool {
     (year.wrapping_sub(1990) < 210) & (month < 16) & (day.wrapping_sub(1) < days)
 }
 
-/// The label is empty, or bytes 20 to 7E without a space first or last; all
-/// bytes after it are zero. The record's date must be one: the day stands
-/// before the label and is neither zero nor a space.
+/// The label behind its day is empty, or bytes 20 to 7E without a space first or
+/// last; all bytes after it are zero. The day is that of a date: neither zero nor
+/// a space.
 #[inline(always)]
-fn is_label_or_empty(record: &Record) -> bool {
+pub fn is_label_or_empty(dated: &[u8; 33]) -> bool {
     // Without comparisons the loop becomes vector instructions.
     let mut wrong = 0;
-    for i in 32..64 {
-        let (byte, before) = (record[i], record[i - 1]);
+    for i in 1..33 {
+        let (byte, before) = (dated[i], dated[i - 1]);
         let unprinted = byte.saturating_sub(0x7e) | byte.min(0x20u8.saturating_sub(byte));
         let after_end = byte.min(1u8.saturating_sub(before));
         let last_space = 1u8.saturating_sub(byte) & 1u8.saturating_sub(before ^ 0x20);
         wrong |= unprinted | after_end | last_space;
     }
-    wrong == 0 && record[32] != 0x20 && record[63] != 0x20
+    wrong == 0 && dated[1] != 0x20 && dated[32] != 0x20
 }
 
-/// The record is well formed.
+/// The record's number is one above what it has seen of its unit.
 #[inline(always)]
-pub fn well_formed(record: &Record) -> bool {
+fn number_fits(record: &Record) -> bool {
+    let head = get32(record, 0);
+    let own_seen = get16(record, 4 + 2 * (head & 7) as usize) as u32;
+    own_seen + 1 == head >> 16
+}
+
+/// All of a record but its number is well formed.
+#[inline(always)]
+pub fn body_fits(record: &Record) -> bool {
     let head = get32(record, 0);
     let rule = rule((head >> 8) as u8);
     let names = get64(record, 20);
     let mark = get64(record, 64) | get64(record, 72);
     let stray = (head & 0xf8f8) as u64 | names & rule.names_zero | mark & rule.mark_zero;
-
-    let own_seen = get16(record, 4 + 2 * (head & 7) as usize) as u32;
 
     let is_held = |identity: u32| {
         let seen = get16(record, 4 + 2 * (identity & 7) as usize) as u32;
@@ -198,9 +208,14 @@ pub fn well_formed(record: &Record) -> bool {
     let has_label = record[32] != 0;
 
     stray == 0
-        && own_seen + 1 == head >> 16
         && named & placed
         && has_label == rule.uses_label
         && is_date(date as u16, (date >> 16) as u8, (date >> 24) as u8)
-        && is_label_or_empty(record)
+        && is_label_or_empty(&record[31..].as_chunks().0[0])
+}
+
+/// The record is well formed.
+#[inline(always)]
+pub fn well_formed(record: &Record) -> bool {
+    number_fits(record) && body_fits(record)
 }

@@ -1,15 +1,33 @@
-//! The replay: each record in rank order fits or stands aside.
+//! The replay: each record in rank order fits or stands aside. It starts from the
+//! tree of a base, which is judged as it is entered.
 
-use crate::RECORDS;
+use crate::base::Base;
+use crate::bytes::get32;
+use crate::folded::Folded;
 use crate::held::{Places, Store};
 use crate::record::{
-    Fields, LabelKey, MAKE_FOLDER, MAKE_TRACE, MOVE, REMOVE, RENAME, STORE, label_key,
+    Fields, Label, LabelKey, MAKE_FOLDER, MAKE_TRACE, MOVE, REMOVE, RENAME, STORE, label_in,
+    label_key,
 };
+use crate::{BASE_ROWS, RECORDS};
 
-/// The root's place among the entries.
-pub const ROOT: u16 = RECORDS as u16;
+/// Entries by slot: those of the base by row, then those that records make, by the
+/// place of the record.
+pub const SLOTS: usize = BASE_ROWS + RECORDS;
+
+/// The root's slot.
+pub const ROOT: u16 = SLOTS as u16;
+
+/// The slot of an entry that is folded and gone.
+pub const NOWHERE: u16 = ROOT + 1;
 
 const HEADS: usize = 4096;
+
+/// The slot of the record at a place.
+#[inline(always)]
+pub const fn slot_of(place: usize) -> usize {
+    BASE_ROWS + place
+}
 
 #[derive(Clone, Copy, PartialEq, Eq)]
 #[repr(u16)]
@@ -19,15 +37,23 @@ pub enum Kind {
     Trace = 2,
 }
 
-/// An entry, kept at the place of its making record. The others are places too.
+/// What gave an entry something: its identity, and the slot where it stands.
+#[derive(Clone, Copy)]
+pub struct Giver {
+    pub identity: u32,
+    pub slot: u16,
+}
+
+/// An entry.
 #[derive(Clone, Copy)]
 pub struct Entry {
+    /// Last contents record; its slot has date and mark.
+    pub contents: Giver,
+    /// Last place record; its slot has the label.
+    pub placing: Giver,
     hash: u32,
+    /// The slot of its folder.
     pub folder: u16,
-    /// Last contents record.
-    pub contents: u16,
-    /// Last place record.
-    pub placing: u16,
     /// Entries in it.
     inside: u16,
     /// Next entry under the same head, plus 1.
@@ -35,11 +61,17 @@ pub struct Entry {
     pub kind: Kind,
 }
 
+/// No record; its slot is one that is always there.
+const NO_GIVER: Giver = Giver {
+    identity: 0,
+    slot: slot_of(0) as u16,
+};
+
 const ABSENT: Entry = Entry {
+    contents: NO_GIVER,
+    placing: NO_GIVER,
     hash: 0,
     folder: 0,
-    contents: 0,
-    placing: 0,
     inside: 0,
     next: 0,
     kind: Kind::Absent,
@@ -50,31 +82,69 @@ const ABSENT: Entry = Entry {
 pub struct Fate {
     pub reason: u8,
     pub settled: bool,
-    /// The marked entry, plus 1.
-    marks: u16,
+    /// The slot of the marked entry, plus 1.
+    marked: u16,
+    /// The marked entry, or 0.
+    pub marks: u32,
 }
 
 impl Fate {
     const FITS: Fate = Fate {
         reason: 0,
         settled: false,
+        marked: 0,
         marks: 0,
     };
-
-    /// The place of the marked entry.
-    #[inline(always)]
-    pub fn marks(self) -> Option<usize> {
-        (self.marks as usize).checked_sub(1)
-    }
 }
 
 pub struct Replay {
-    pub entries: [Entry; RECORDS + 1],
-    pub fates: [Fate; RECORDS],
-    /// The record at each place, as it is named.
-    pub identities: [u32; RECORDS],
+    /// By slot, then the root, then one that is nowhere.
+    pub entries: [Entry; SLOTS + 2],
+    /// Of the asides of the base, by row, then of the records, by slot; then of
+    /// none.
+    pub fates: [Fate; SLOTS + 1],
+    /// The entry or record of each slot, as it is named.
+    pub identities: [u32; SLOTS],
+    /// Where the identities of the base stand.
+    folded: Folded,
     /// First entry under each hash of folder and label, plus 1.
     heads: [u16; HEADS],
+    /// Entries that are present.
+    pub present: usize,
+    /// Records that stand aside.
+    pub aside: usize,
+}
+
+/// What a state has: rows of the base, and records of a log or a file.
+pub struct Source<'a, S> {
+    pub base: Base<'a>,
+    pub store: S,
+}
+
+impl<S: Store> Source<'_, S> {
+    /// The label that stands in a slot.
+    #[inline(always)]
+    pub fn label(&self, slot: u16) -> &Label {
+        match (slot as usize).checked_sub(BASE_ROWS) {
+            None => self.base.label(slot as usize),
+            Some(place) => label_in(self.store.record(place)),
+        }
+    }
+
+    /// The date, four bytes, and the mark, sixteen, that stand in a slot.
+    #[inline(always)]
+    pub fn contents(&self, slot: u16) -> (&[u8], &[u8]) {
+        match (slot as usize).checked_sub(BASE_ROWS) {
+            None => {
+                let row = &self.base.entries[slot as usize];
+                (&row[20..24], &row[56..])
+            }
+            Some(place) => {
+                let record = self.store.record(place);
+                (&record[28..32], &record[64..])
+            }
+        }
+    }
 }
 
 /// Hash of a label in a folder.
@@ -103,13 +173,102 @@ impl Replay {
     #[inline(always)]
     pub fn root() -> Replay {
         let mut replay = Replay {
-            entries: [ABSENT; RECORDS + 1],
-            fates: [Fate::FITS; RECORDS],
-            identities: [0; RECORDS],
+            entries: [ABSENT; SLOTS + 2],
+            fates: [Fate::FITS; SLOTS + 1],
+            identities: [0; SLOTS],
+            folded: Folded::none(),
             heads: [0; HEADS],
+            present: 0,
+            aside: 0,
         };
         replay.entries[ROOT as usize].kind = Kind::Folder;
         replay
+    }
+
+    /// Enters the tree of a base behind the root; says whether no identity stands
+    /// twice, no label twice in a folder, and each entry reaches the root through
+    /// folders.
+    pub fn enter(&mut self, base: &Base) -> bool {
+        for (slot, row) in base.entries.iter().enumerate() {
+            let given = |at: usize| Giver {
+                identity: get32(row, at),
+                slot: slot as u16,
+            };
+            let identity = get32(row, 4);
+            if !self.folded.add(identity, slot) {
+                return false;
+            }
+            self.identities[slot] = identity;
+            self.entries[slot] = Entry {
+                contents: given(12),
+                placing: given(16),
+                kind: if row[0] == 1 { Kind::Folder } else { Kind::Trace },
+                ..ABSENT
+            };
+        }
+        for (i, row) in base.asides.iter().enumerate() {
+            if !self.folded.add(get32(row, 0), slot_of(i)) {
+                return false;
+            }
+            let marks = get32(row, 8);
+            self.fates[i] = Fate {
+                reason: row[4],
+                settled: row[5] == 2,
+                marked: if marks == 0 { 0 } else { self.folded.entry(marks) + 1 },
+                marks,
+            };
+        }
+        self.present = base.entries.len();
+        self.aside = base.asides.len();
+        self.enter_folders(base)
+    }
+
+    /// Puts the entries of a base into their folders; says whether each goes in
+    /// there under its label and reaches the root.
+    fn enter_folders(&mut self, base: &Base) -> bool {
+        let source = &Source {
+            base: *base,
+            store: &[][..],
+        };
+        for (slot, row) in base.entries.iter().enumerate() {
+            let folder = match get32(row, 8) {
+                0 => ROOT,
+                identity => self.folded.entry(identity),
+            };
+            if self.entries[folder as usize].kind != Kind::Folder {
+                return false;
+            }
+            let label = label_key(base.label(slot));
+            let hash = hash_of(folder, &label);
+            if self.holder(source, ROOT, folder, &label, hash) != 0 {
+                return false;
+            }
+            self.entries[slot].folder = folder;
+            self.entries[folder as usize].inside += 1;
+            self.link(slot as u16, hash);
+        }
+        let mut rooted = [false; BASE_ROWS];
+        (0..base.entries.len()).all(|slot| self.reaches_root(slot, &mut rooted))
+    }
+
+    /// An entry of the base reaches the root. Those of which it is known end the
+    /// way.
+    fn reaches_root(&self, slot: usize, rooted: &mut [bool; BASE_ROWS]) -> bool {
+        let is_end = |at: usize| at == ROOT as usize || rooted[at];
+        let (mut at, mut steps) = (slot, 0);
+        while !is_end(at) && steps < BASE_ROWS {
+            at = self.entries[at].folder as usize;
+            steps += 1;
+        }
+        if !is_end(at) {
+            return false;
+        }
+        at = slot;
+        for _ in 0..steps {
+            rooted[at] = true;
+            at = self.entries[at].folder as usize;
+        }
+        true
     }
 
     /// The entry in a folder that has a label, plus 1; one entry does not count.
@@ -117,7 +276,7 @@ impl Replay {
     #[inline(always)]
     fn holder(
         &self,
-        store: &impl Store,
+        source: &Source<impl Store>,
         but: u16,
         folder: u16,
         label: &LabelKey,
@@ -129,7 +288,7 @@ impl Replay {
             if entry.hash == hash
                 && entry.folder == folder
                 && link != but + 1
-                && label_key(store.record(entry.placing as usize)) == *label
+                && label_key(source.label(entry.placing.slot)) == *label
             {
                 break;
             }
@@ -164,27 +323,58 @@ impl Replay {
         self.entries[link as usize - 1].next = next;
     }
 
+    /// The slot of an entry, given as it is named.
+    #[inline(always)]
+    fn slot_named(&self, places: &Places, identity: u32) -> u16 {
+        match identity {
+            0 => ROOT,
+            _ if places.is_folded(identity) => self.folded.entry(identity),
+            _ => slot_of(places.named(identity)) as u16,
+        }
+    }
+
+    /// The entry of an identity, given as it is named; absent if there is none.
+    pub fn entry_named(&self, places: &Places, identity: u32) -> &Entry {
+        &self.entries[self.slot_named(places, identity) as usize]
+    }
+
     /// Replays the record at a place, the last one held.
     #[inline(always)]
-    pub fn step(&mut self, places: &Places, store: &impl Store, fields: &Fields, place: usize) {
-        self.identities[place] = fields.identity();
-        let place_of = |identity: u32| match identity {
-            0 => ROOT,
-            _ => places.named(identity) as u16,
+    pub fn step(
+        &mut self,
+        places: &Places,
+        source: &Source<impl Store>,
+        fields: &Fields,
+        place: usize,
+    ) {
+        let slot = slot_of(place);
+        self.identities[slot] = fields.identity();
+        let own = Giver {
+            identity: fields.identity(),
+            slot: slot as u16,
         };
-        let named = place_of(fields.named);
-        let (reason, marks) = match fields.operation {
-            MAKE_FOLDER => self.make(store, fields, Kind::Folder, place as u16, named),
-            MAKE_TRACE => self.make(store, fields, Kind::Trace, place as u16, named),
-            STORE => self.store(fields, place as u16, named),
+        let named = self.slot_named(places, fields.named);
+        let (reason, marked) = match fields.operation {
+            MAKE_FOLDER => self.make(source, fields, Kind::Folder, own, named),
+            MAKE_TRACE => self.make(source, fields, Kind::Trace, own, named),
+            STORE => self.store(fields, own, named),
             REMOVE => self.remove(fields, named),
-            RENAME => self.rename(store, fields, place as u16, named),
-            MOVE => self.move_to(store, fields, place as u16, named, place_of(fields.folder)),
-            _ => self.settle(named),
+            RENAME => self.rename(source, fields, own, named),
+            MOVE => {
+                let folder = self.slot_named(places, fields.folder);
+                self.move_to(source, fields, own, named, folder)
+            }
+            _ => self.settle(places, fields.named),
         };
-        self.fates[place] = Fate {
+        let marks = match marked {
+            0 => 0,
+            _ => self.identities[marked as usize - 1],
+        };
+        self.aside += (reason != 0) as usize;
+        self.fates[slot] = Fate {
             reason,
             settled: false,
+            marked,
             marks,
         };
     }
@@ -193,42 +383,43 @@ impl Replay {
     #[inline(always)]
     fn make(
         &mut self,
-        store: &impl Store,
+        source: &Source<impl Store>,
         fields: &Fields,
         kind: Kind,
-        place: u16,
+        own: Giver,
         folder: u16,
     ) -> (u8, u16) {
         if let Some(wrong) = self.no_folder(folder) {
             return wrong;
         }
-        let label = label_key(fields.record);
+        let label = label_key(label_in(fields.record));
         let hash = hash_of(folder, &label);
-        let holder = self.holder(store, ROOT, folder, &label, hash);
+        let holder = self.holder(source, ROOT, folder, &label, hash);
         if holder != 0 {
             return (15, holder);
         }
         self.entries[folder as usize].inside += 1;
-        self.entries[place as usize] = Entry {
+        self.entries[own.slot as usize] = Entry {
             kind,
             folder,
-            contents: place,
-            placing: place,
+            contents: own,
+            placing: own,
             ..ABSENT
         };
-        self.link(place, hash);
+        self.link(own.slot, hash);
+        self.present += 1;
         (0, 0)
     }
 
     #[inline(always)]
-    fn store(&mut self, fields: &Fields, place: u16, object: u16) -> (u8, u16) {
+    fn store(&mut self, fields: &Fields, own: Giver, object: u16) -> (u8, u16) {
         let entry = self.entries[object as usize];
         match entry.kind {
             Kind::Absent => (12, 0),
             Kind::Folder => (14, object + 1),
-            Kind::Trace if self.unseen(fields, entry.contents) => (17, object + 1),
+            Kind::Trace if unseen(fields, entry.contents) => (17, object + 1),
             Kind::Trace => {
-                self.entries[object as usize].contents = place;
+                self.entries[object as usize].contents = own;
                 (0, 0)
             }
         }
@@ -243,38 +434,39 @@ impl Replay {
         if entry.inside != 0 {
             return (16, object + 1);
         }
-        if self.unseen(fields, entry.contents) || self.unseen(fields, entry.placing) {
+        if unseen(fields, entry.contents) || unseen(fields, entry.placing) {
             return (17, object + 1);
         }
         self.unlink(object);
         self.entries[object as usize].kind = Kind::Absent;
         self.entries[entry.folder as usize].inside -= 1;
+        self.present -= 1;
         (0, 0)
     }
 
     #[inline(always)]
     fn rename(
         &mut self,
-        store: &impl Store,
+        source: &Source<impl Store>,
         fields: &Fields,
-        place: u16,
+        own: Giver,
         object: u16,
     ) -> (u8, u16) {
         let entry = self.entries[object as usize];
         if entry.kind == Kind::Absent {
             return (12, 0);
         }
-        if self.unseen(fields, entry.placing) {
+        if unseen(fields, entry.placing) {
             return (17, object + 1);
         }
-        let label = label_key(fields.record);
+        let label = label_key(label_in(fields.record));
         let hash = hash_of(entry.folder, &label);
-        let holder = self.holder(store, object, entry.folder, &label, hash);
+        let holder = self.holder(source, object, entry.folder, &label, hash);
         if holder != 0 {
             return (15, holder);
         }
         self.unlink(object);
-        self.entries[object as usize].placing = place;
+        self.entries[object as usize].placing = own;
         self.link(object, hash);
         (0, 0)
     }
@@ -282,9 +474,9 @@ impl Replay {
     #[inline(always)]
     fn move_to(
         &mut self,
-        store: &impl Store,
+        source: &Source<impl Store>,
         fields: &Fields,
-        place: u16,
+        own: Giver,
         object: u16,
         folder: u16,
     ) -> (u8, u16) {
@@ -292,7 +484,7 @@ impl Replay {
         if entry.kind == Kind::Absent {
             return (12, 0);
         }
-        if self.unseen(fields, entry.placing) {
+        if unseen(fields, entry.placing) {
             return (17, object + 1);
         }
         if let Some(wrong) = self.no_folder(folder) {
@@ -301,9 +493,9 @@ impl Replay {
         if self.is_at_or_below(folder, object) {
             return (25, object + 1);
         }
-        let label = label_key(fields.record);
+        let label = label_key(label_in(fields.record));
         let hash = hash_of(folder, &label);
-        let holder = self.holder(store, object, folder, &label, hash);
+        let holder = self.holder(source, object, folder, &label, hash);
         if holder != 0 {
             return (15, holder);
         }
@@ -312,7 +504,7 @@ impl Replay {
         self.entries[folder as usize].inside += 1;
         let moved = &mut self.entries[object as usize];
         moved.folder = folder;
-        moved.placing = place;
+        moved.placing = own;
         self.link(object, hash);
         (0, 0)
     }
@@ -338,8 +530,13 @@ impl Replay {
     }
 
     #[inline(always)]
-    fn settle(&mut self, record: u16) -> (u8, u16) {
-        let fate = &mut self.fates[record as usize % RECORDS];
+    fn settle(&mut self, places: &Places, identity: u32) -> (u8, u16) {
+        let at = if places.is_folded(identity) {
+            self.folded.aside(identity).unwrap_or(SLOTS)
+        } else {
+            slot_of(places.named(identity))
+        };
+        let fate = &mut self.fates[at];
         if fate.reason == 0 {
             return (18, 0);
         }
@@ -347,21 +544,39 @@ impl Replay {
         (0, 0)
     }
 
-    /// The record at a place is unseen.
-    #[inline(always)]
-    fn unseen(&self, fields: &Fields, place: u16) -> bool {
-        let identity = self.identities[place as usize];
-        identity >> 16 > fields.seen.count((identity & 7) as usize) as u32
-    }
-
-    /// The entries that an open aside marks.
-    pub fn disputed(&self) -> [bool; RECORDS] {
-        let mut disputed = [false; RECORDS];
+    /// The entries that an open aside marks, by slot.
+    pub fn disputed(&self) -> [bool; SLOTS + 2] {
+        let mut disputed = [false; SLOTS + 2];
         for fate in self.fates {
-            if let (false, Some(place)) = (fate.settled, fate.marks()) {
-                disputed[place % RECORDS] = true;
+            if !fate.settled && fate.marked != 0 {
+                disputed[fate.marked as usize - 1] = true;
             }
         }
         disputed
     }
+
+    /// The record whose fate stands at a slot.
+    #[inline(always)]
+    pub fn identity_aside(&self, base: &Base, at: usize) -> u32 {
+        match base.asides.get(at) {
+            Some(row) => get32(row, 0),
+            None => self.identities[at],
+        }
+    }
+
+    /// The slots that are used: rows of the base, then records.
+    pub fn slots(base: &Base, records: usize) -> impl Iterator<Item = usize> + use<> {
+        (0..base.entries.len()).chain(slot_of(0)..slot_of(records))
+    }
+
+    /// Where the fates of asides may stand: rows of the base, then records.
+    pub fn fate_slots(base: &Base, records: usize) -> impl Iterator<Item = usize> + use<> {
+        (0..base.asides.len()).chain(slot_of(0)..slot_of(records))
+    }
+}
+
+/// A last record of an entry is unseen.
+#[inline(always)]
+fn unseen(fields: &Fields, last: Giver) -> bool {
+    last.identity >> 16 > fields.seen.count((last.identity & 7) as usize) as u32
 }

@@ -1,12 +1,12 @@
 //! Rows of blocks: each block by its own call, and the report of a trial from
 //! two trees.
 
-use crate::calls::{hand_out, renew, show, sound, take_block, vector};
+use crate::calls::{hand_out, renew, show, sound, take_block, unit_fits, vector};
 use crate::index;
-use crate::{Answer, BLOCK, BLOCKS, ENTRY_ROW, FILE, LOG, TREE, refuse};
+use crate::{Answer, BASE, BLOCK, BLOCKS, ENTRY_ROW, FILE, LOG, ROWS, TREE, refuse};
 
 /// Bytes of the report of a row that is tried.
-pub const REPORT: usize = 20 + 512 * 4;
+pub const REPORT: usize = 20 + ROWS * 4;
 
 /// How far a row was taken.
 #[derive(Clone, Copy, Debug, PartialEq, Eq)]
@@ -18,24 +18,23 @@ pub struct RowTaken {
 /// Writes all blocks of what the asked vector lacks; answers how many.
 pub fn hand_out_row(
     log: &[u8],
+    base: &[u8],
     archive: u32,
     unit: u8,
     asked: &[u16; 8],
     row: &mut [u8],
 ) -> Answer<u16> {
-    if log.len() != LOG || row.len() != FILE {
+    if log.len() != LOG || base.len() != BASE || row.len() != FILE {
         return refuse(1);
     }
-    if unit > 7 {
-        return refuse(21);
-    }
-    if !sound(log) {
+    unit_fits(unit)?;
+    if !sound(log, base) {
         return refuse(19);
     }
     let mut asked = *asked;
     let mut count = 0;
     for block in row.as_chunks_mut::<BLOCK>().0 {
-        hand_out(log, archive, unit, &asked, block)?;
+        hand_out(log, base, archive, unit, &asked, block)?;
         if block[9] == 0 {
             break;
         }
@@ -49,17 +48,15 @@ pub fn hand_out_row(
 }
 
 /// 1, 21, 2, 19.
-fn check(log: &[u8], unit: u8, lent: bool, row: &[u8]) -> Answer<()> {
-    if log.len() != LOG || !lent {
+fn check(log: &[u8], base: &[u8], unit: u8, lent: bool, row: &[u8]) -> Answer<()> {
+    if log.len() != LOG || base.len() != BASE || !lent {
         return refuse(1);
     }
-    if unit > 7 {
-        return refuse(21);
-    }
+    unit_fits(unit)?;
     if !row.len().is_multiple_of(BLOCK) || row.len() / BLOCK > BLOCKS {
         return refuse(2);
     }
-    if !sound(log) {
+    if !sound(log, base) {
         return refuse(19);
     }
     Ok(())
@@ -69,24 +66,25 @@ fn check(log: &[u8], unit: u8, lent: bool, row: &[u8]) -> Answer<()> {
 /// taken, the index is made afresh, if one is lent.
 pub fn take_row(
     log: &mut [u8],
+    base: &[u8],
     index: &mut [u8],
     archive: u32,
     unit: u8,
     row: &[u8],
 ) -> Answer<RowTaken> {
-    check(log, unit, index::fits(index), row)?;
-    let taken = take_blocks(log, archive, unit, row);
+    check(log, base, unit, index::fits(index), row)?;
+    let taken = take_blocks(log, base, archive, unit, row);
     if taken.taken > 0 {
-        renew(log, index)?;
+        renew(log, base, index)?;
     }
     Ok(taken)
 }
 
 /// Takes blocks in turn.
-fn take_blocks(log: &mut [u8], archive: u32, unit: u8, row: &[u8]) -> RowTaken {
+fn take_blocks(log: &mut [u8], base: &[u8], archive: u32, unit: u8, row: &[u8]) -> RowTaken {
     let mut taken = 0;
     for block in row.chunks(BLOCK) {
-        if let Err(refusal) = take_block(log, archive, unit, block) {
+        if let Err(refusal) = take_block(log, base, archive, unit, block) {
             let stopped = refusal.number;
             return RowTaken { taken, stopped };
         }
@@ -105,6 +103,7 @@ fn entries(tree: &[u8]) -> impl Iterator<Item = &[u8; ENTRY_ROW]> + Clone {
 /// Tries a row on a copy of the log.
 pub fn try_row(
     log: &[u8],
+    base: &[u8],
     archive: u32,
     unit: u8,
     row: &[u8],
@@ -113,16 +112,16 @@ pub fn try_row(
     report: &mut [u8],
 ) -> Answer<()> {
     let lent = copy.len() == LOG && tree.len() == TREE && report.len() == REPORT;
-    check(log, unit, lent, row)?;
+    check(log, base, unit, lent, row)?;
     copy.copy_from_slice(log);
-    let RowTaken { taken, stopped } = take_blocks(copy, archive, unit, row);
+    let RowTaken { taken, stopped } = take_blocks(copy, base, archive, unit, row);
     let mut before = [0; TREE];
-    show(log, &mut before)?;
-    show(copy, tree)?;
+    show(log, base, &mut before)?;
+    show(copy, base, tree)?;
     report.fill(0);
     report[0] = taken;
     report[1] = stopped;
-    for (place, count) in report[4..20].chunks_mut(2).zip(vector(copy)?) {
+    for (place, count) in report[4..20].chunks_mut(2).zip(vector(copy, base)?) {
         place.copy_from_slice(&count.to_le_bytes());
     }
     let was = |row: &&[u8; ENTRY_ROW]| {

@@ -83,25 +83,14 @@ impl Vector {
         at_most(self.low, other.low) && at_most(self.high, other.high)
     }
 
-    /// No count is above the other's, where all counts are below 32,768.
+    /// The units whose counts differ: bit 16k for unit k, bit 16k + 1 for unit
+    /// 4 + k.
     #[inline(always)]
-    pub fn within_small(self, other: Vector) -> bool {
-        let low = (other.low | TOP).wrapping_sub(self.low);
-        let high = (other.high | TOP).wrapping_sub(self.high);
-        low & high & TOP == TOP
-    }
-
-    /// All counts are below 32,768.
-    #[inline(always)]
-    pub fn is_small(self) -> bool {
-        (self.low | self.high) & TOP == 0
-    }
-
-    /// The units whose counts differ, where all are below 32,768: bit 16k for
-    /// unit k, bit 16k + 1 for unit 4 + k.
-    #[inline(always)]
-    pub fn small_differences(self, other: Vector) -> u64 {
-        let differ = |a: u64, b: u64| ((a ^ b) + !TOP) & TOP;
+    pub fn differences(self, other: Vector) -> u64 {
+        let differ = |a: u64, b: u64| {
+            let bits = a ^ b;
+            (bits | ((bits & !TOP) + !TOP)) & TOP
+        };
         differ(self.low, other.low) >> 15 | differ(self.high, other.high) >> 14
     }
 
@@ -112,13 +101,6 @@ impl Vector {
         let pairs = |word: u64| (word & EVEN) + (word >> 16 & EVEN);
         let sum = pairs(self.low) + pairs(self.high);
         (sum + (sum >> 32)) as u32
-    }
-
-    /// The sum of the eight counts, where it is below 65,536.
-    #[inline(always)]
-    pub fn small_total(self) -> u32 {
-        const ONES: u64 = 0x0001_0001_0001_0001;
-        ((self.low + self.high).wrapping_mul(ONES) >> 48) as u32
     }
 }
 

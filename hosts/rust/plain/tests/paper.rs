@@ -47,7 +47,7 @@ fn log_of(records: &[[u8; 80]]) -> Log {
 
 fn listed(log: &[u8]) -> String {
     let mut file = vec![0; FILE];
-    let blocks = write_file(log, 7, 0, &mut file).unwrap() as usize;
+    let blocks = write_file(log, &EMPTY_BASE, 7, 0, &mut file).unwrap() as usize;
     let mut out = [0; LISTING];
     let len = listing(&file[..BLOCK * blocks], &mut out);
     String::from_utf8(out[..len].to_vec()).unwrap()
@@ -161,12 +161,12 @@ fn a_record_that_acted_stands_aside_after_a_meeting() {
         wish
     };
     let (mut zero, mut one): (Log, Log) = (vec![0; LOG], vec![0; LOG]);
-    act(&mut zero, &mut [], 7, 0, &wish(0)).unwrap();
-    act(&mut one, &mut [], 7, 1, &wish(1)).unwrap();
+    act(&mut zero, &EMPTY_BASE, &mut [], 7, 0, &wish(0)).unwrap();
+    act(&mut one, &EMPTY_BASE, &mut [], 7, 1, &wish(1)).unwrap();
     assert!(listed(&one).ends_with("folder 1.1 in 0.0 \"A\" 2025-03-03\n"));
     let mut block = [0; BLOCK];
-    hand_out(&zero, 7, 0, &[0, 1, 0, 0, 0, 0, 0, 0], &mut block).unwrap();
-    take(&mut one, &mut [], 7, 1, &block).unwrap();
+    hand_out(&zero, &EMPTY_BASE, 7, 0, &[0, 1, 0, 0, 0, 0, 0, 0], &mut block).unwrap();
+    take(&mut one, &EMPTY_BASE, &mut [], 7, 1, &block).unwrap();
     assert!(listed(&one).ends_with("aside 1.1 reason 15 marks 0.1 open\n"));
 }
 
@@ -175,7 +175,7 @@ fn blocks_for_what_is_lacking() {
     for (records, blocks) in [(0, 1), (6, 1), (7, 2), (512, 86)] {
         let log = traces(records);
         let mut file = vec![0xa5; FILE];
-        assert_eq!(write_file(&log, 7, 0, &mut file), Ok(blocks));
+        assert_eq!(write_file(&log, &EMPTY_BASE, 7, 0, &mut file), Ok(blocks));
         let last = &file[BLOCK * (blocks as usize - 1)..];
         assert_eq!(last[9] as usize, records - 6 * (blocks as usize - 1));
         let mut taken = vec![0; LOG];
@@ -187,11 +187,11 @@ fn blocks_for_what_is_lacking() {
                 .filter(|record| record[2..4] != [0, 0])
                 .count();
             let asked = [held as u16, 0, 0, 0, 0, 0, 0, 0];
-            hand_out(&log, 7, 0, &asked, &mut block).unwrap();
+            hand_out(&log, &EMPTY_BASE, 7, 0, &asked, &mut block).unwrap();
             if block[9] == 0 {
                 break;
             }
-            take(&mut taken, &mut [], 7, 1, &block).unwrap();
+            take(&mut taken, &EMPTY_BASE, &mut [], 7, 1, &block).unwrap();
             passed += 1;
         }
         assert_eq!(passed, records.div_ceil(6));
@@ -205,7 +205,7 @@ fn traces(count: usize) -> Log {
     for number in 1..=count {
         let mut wish = labelled(record(0, 2, 0, NONE), &number.to_string());
         wish[2..20].fill(0);
-        act(&mut log, &mut [], 7, 0, &wish).unwrap();
+        act(&mut log, &EMPTY_BASE, &mut [], 7, 0, &wish).unwrap();
     }
     log
 }

@@ -1,7 +1,8 @@
 //! The static library's functions as its header declares them.
 //!
 //! A result's low byte is the number, its next byte the place, its upper 16
-//! bits the count where a call returns one, or the file at fault of a merge.
+//! bits the count where a call returns one, or the file at fault of a merge. A
+//! fold counts up to 512 records there.
 //! `include/sab.h` is the manual.
 
 #![allow(unsafe_code)]
@@ -10,6 +11,8 @@ unsafe extern "C" {
     pub fn sab_start(
         log: *mut u8,
         log_len: usize,
+        base: *mut u8,
+        base_len: usize,
         index: *mut u8,
         index_len: usize,
         archive: u32,
@@ -19,17 +22,23 @@ unsafe extern "C" {
     pub fn sab_act(
         log: *mut u8,
         log_len: usize,
+        base: *const u8,
+        base_len: usize,
         index: *mut u8,
         index_len: usize,
         archive: u32,
         unit: u32,
         wish: *const u8,
         wish_len: usize,
+        work: *mut u8,
+        work_len: usize,
     ) -> u32;
 
     pub fn sab_hand_out(
         log: *const u8,
         log_len: usize,
+        base: *const u8,
+        base_len: usize,
         archive: u32,
         unit: u32,
         asked: *const u8,
@@ -41,17 +50,23 @@ unsafe extern "C" {
     pub fn sab_take(
         log: *mut u8,
         log_len: usize,
+        base: *const u8,
+        base_len: usize,
         index: *mut u8,
         index_len: usize,
         archive: u32,
         unit: u32,
         block: *const u8,
         block_len: usize,
+        work: *mut u8,
+        work_len: usize,
     ) -> u32;
 
     pub fn sab_hand_out_row(
         log: *const u8,
         log_len: usize,
+        base: *const u8,
+        base_len: usize,
         archive: u32,
         unit: u32,
         asked: *const u8,
@@ -63,17 +78,23 @@ unsafe extern "C" {
     pub fn sab_take_row(
         log: *mut u8,
         log_len: usize,
+        base: *const u8,
+        base_len: usize,
         index: *mut u8,
         index_len: usize,
         archive: u32,
         unit: u32,
         row: *const u8,
         row_len: usize,
+        work: *mut u8,
+        work_len: usize,
     ) -> u32;
 
     pub fn sab_try(
         log: *const u8,
         log_len: usize,
+        base: *const u8,
+        base_len: usize,
         archive: u32,
         unit: u32,
         row: *const u8,
@@ -86,9 +107,23 @@ unsafe extern "C" {
         report_len: usize,
     ) -> u32;
 
+    pub fn sab_fold(
+        log: *mut u8,
+        log_len: usize,
+        base: *mut u8,
+        base_len: usize,
+        archive: u32,
+        unit: u32,
+        list: u32,
+        work: *mut u8,
+        work_len: usize,
+    ) -> u32;
+
     pub fn sab_write_file(
         log: *const u8,
         log_len: usize,
+        base: *const u8,
+        base_len: usize,
         archive: u32,
         unit: u32,
         file: *mut u8,
@@ -98,6 +133,8 @@ unsafe extern "C" {
     pub fn sab_read_file(
         log: *mut u8,
         log_len: usize,
+        base: *mut u8,
+        base_len: usize,
         file: *const u8,
         file_len: usize,
         head: *mut u8,
@@ -115,9 +152,25 @@ unsafe extern "C" {
         file_len: usize,
     ) -> u32;
 
-    pub fn sab_show(log: *const u8, log_len: usize, tree: *mut u8, tree_len: usize) -> u32;
+    pub fn sab_show(
+        log: *const u8,
+        log_len: usize,
+        base: *const u8,
+        base_len: usize,
+        tree: *mut u8,
+        tree_len: usize,
+    ) -> u32;
 
-    pub fn sab_index(log: *const u8, log_len: usize, index: *mut u8, index_len: usize) -> u32;
+    pub fn sab_index(
+        log: *const u8,
+        log_len: usize,
+        base: *const u8,
+        base_len: usize,
+        index: *mut u8,
+        index_len: usize,
+        work: *mut u8,
+        work_len: usize,
+    ) -> u32;
 
     pub fn sab_find(
         index: *const u8,
@@ -137,7 +190,14 @@ unsafe extern "C" {
         range_len: usize,
     ) -> u32;
 
-    pub fn sab_vector(log: *const u8, log_len: usize, vector: *mut u8, vector_len: usize) -> u32;
+    pub fn sab_vector(
+        log: *const u8,
+        log_len: usize,
+        base: *const u8,
+        base_len: usize,
+        vector: *mut u8,
+        vector_len: usize,
+    ) -> u32;
 
     pub fn sab_compare(
         first: *const u8,

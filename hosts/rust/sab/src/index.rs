@@ -1,7 +1,7 @@
-//! The ordered index of a log.
+//! The ordered index of a unit's tree.
 
 use crate::record::text_of;
-use crate::{Answer, Identity, Unit, raw};
+use crate::{Answer, Identity, Unit, raw, work};
 use std::fmt;
 
 const ROW: usize = 40;
@@ -34,11 +34,11 @@ const ROW: usize = 40;
 pub struct Index(Box<[u8; raw::INDEX]>);
 
 impl Index {
-    pub(crate) fn of(log: &[u8]) -> Answer<Index> {
+    pub(crate) fn of(log: &[u8], base: &[u8]) -> Answer<Index> {
         let Ok(mut bytes) = <Box<[u8; raw::INDEX]>>::try_from(vec![0; raw::INDEX]) else {
             unreachable!("an index of its length");
         };
-        raw::index(log, &mut *bytes)?;
+        work::lent(|work| raw::index(log, base, &mut *bytes, work))?;
         Ok(Index(bytes))
     }
 

@@ -5,8 +5,9 @@
 //! meet in twos and pass [`Block`]s of 512 bytes; the [`Tree`] follows from the
 //! records alone. A record that does not fit the tree stands aside, with a
 //! reason, at every unit alike. An [`Index`] kept with a log finds a label in a
-//! folder, and lists a folder by label. `include/sab.h` is the manual of the
-//! calls, and [`raw`] has them over slices.
+//! folder, and lists a folder by label. [`Log::fold`] frees the places of records
+//! that all units have heard of; what these left is the [`Base`] of the log.
+//! `include/sab.h` is the manual of the calls, and [`raw`] has them over slices.
 //!
 //! A whole meeting of two units that worked apart:
 //!
@@ -58,6 +59,7 @@
 #![deny(missing_docs)]
 #![deny(unsafe_code)]
 
+mod base;
 mod block;
 mod ffi;
 mod fields;
@@ -73,7 +75,9 @@ mod tree;
 mod unit;
 mod vector;
 mod wish;
+mod work;
 
+pub use base::Base;
 pub use block::Block;
 pub use fields::{Date, Mark, Operation};
 pub use index::{Index, Indexed};
@@ -84,6 +88,6 @@ pub use record::{Record, Records};
 pub use refusal::{Answer, Refusal, Unreadable, in_words};
 pub use row::{Row, RowTaken, Trial};
 pub use tree::{Aside, Entry, Kind, Tree};
-pub use unit::{Identity, Unit};
+pub use unit::{Identity, Unit, Units};
 pub use vector::{Comparison, Distance, Vector, blocks_for};
 pub use wish::Wish;

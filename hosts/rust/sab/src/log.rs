@@ -1,30 +1,32 @@
 //! A unit's log.
 
 use crate::{
-    Answer, Block, Identity, Index, Record, Records, Refusal, Row, RowTaken, Tree, Trial, Unit,
-    Vector, Wish, raw,
+    Answer, Base, Block, Identity, Index, Record, Records, Refusal, Row, RowTaken, Tree, Trial,
+    Unit, Units, Vector, Wish, raw, work,
 };
 use std::fmt;
 
-/// The records that a unit holds, with its archive and its unit number, and its
-/// index if one is kept.
+/// The records that a unit holds, with its archive and its unit number, what its
+/// folded records left, and its index if one is kept.
 ///
 /// Only the library changes its bytes, so it is sound. The refusals 1, 19 and 21
 /// do not come from the calls here unless the memory itself is at fault.
 #[derive(Clone)]
 pub struct Log {
     bytes: Box<[u8; raw::LOG]>,
+    base: Base,
     index: Option<Index>,
     archive: u32,
     unit: Unit,
 }
 
-/// The same records of the same archive and unit, whether an index is kept or
-/// not.
+/// The same records and the same base of the same archive and unit, whether an
+/// index is kept or not. Logs that differ in what is folded, or in their lists, are
+/// compared by vector and tree.
 impl PartialEq for Log {
     fn eq(&self, other: &Log) -> bool {
         let named = |log: &Log| (log.archive, log.unit);
-        named(self) == named(other) && self.bytes == other.bytes
+        named(self) == named(other) && self.bytes == other.bytes && self.base == other.base
     }
 }
 
@@ -35,34 +37,39 @@ impl Log {
     /// not started but read from its file, or takes its own records back from a
     /// peer before it acts. Otherwise it uses numbers twice.
     pub fn start(archive: u32, unit: Unit) -> Log {
-        let mut bytes = boxed();
-        let started = raw::start(&mut *bytes, &mut [], archive, u32::from(unit.number()));
-        debug_assert_eq!(started, Ok(()), "a log and a unit");
+        let (mut bytes, mut base) = (boxed(), Base::zeros());
+        let number = u32::from(unit.number());
+        let started = raw::start(&mut *bytes, base.lent(), &mut [], archive, number);
+        debug_assert_eq!(started, Ok(()), "a log, a base and a unit");
         Log {
             bytes,
+            base,
             index: None,
             archive,
             unit,
         }
     }
 
-    /// The log in the bytes that [`Log::as_bytes`] gave. Refuses 1, 19.
-    pub fn from_bytes(archive: u32, unit: Unit, bytes: &[u8]) -> Answer<Log> {
-        raw::vector(bytes)?;
+    /// The log in the bytes that [`Log::as_bytes`] gave, with the base whose bytes
+    /// [`Log::base`] had at the same moment. Refuses 1, 19.
+    pub fn from_bytes(archive: u32, unit: Unit, bytes: &[u8], base: &[u8]) -> Answer<Log> {
+        raw::vector(bytes, base)?;
         let mut log = Log::start(archive, unit);
         log.bytes.copy_from_slice(bytes);
+        log.base.lent().copy_from_slice(base);
         Ok(log)
     }
 
     /// The log in a file, of whichever archive and unit wrote it: compare
     /// [`Log::archive`] and [`Log::unit`] with the ones expected. Only the unit
-    /// itself acts on its log; see [`Log::held_by`]. Refuses 2 to 5, 7 to 9, 11,
-    /// 20.
+    /// itself acts on its log; see [`Log::held_by`]. Nothing is folded, and all
+    /// eight units are listed. Refuses 2 to 5, 7 to 9, 11, 20.
     pub fn read_file(file: &[u8]) -> Answer<Log> {
-        let mut bytes = boxed();
-        let head = raw::read_file(&mut *bytes, file)?;
+        let (mut bytes, mut base) = (boxed(), Base::zeros());
+        let head = raw::read_file(&mut *bytes, base.lent(), file)?;
         Ok(Log {
             bytes,
+            base,
             index: None,
             archive: head.archive,
             unit: Unit::try_from(u32::from(head.unit))?,
@@ -91,6 +98,11 @@ impl Log {
         &self.bytes
     }
 
+    /// The listed units, and what the folded records left.
+    pub const fn base(&self) -> &Base {
+        &self.base
+    }
+
     /// Keeps an index from now on: made afresh now, and right after every call on
     /// this log. An act puts its one change into it; a take makes it afresh.
     pub fn keep_index(&mut self) -> Answer<()> {
@@ -105,36 +117,75 @@ impl Log {
 
     /// An index of the log as it is now, made afresh.
     pub fn make_index(&self) -> Answer<Index> {
-        Index::of(&*self.bytes)
+        Index::of(&*self.bytes, self.base.as_bytes())
     }
 
     fn unit_number(&self) -> u32 {
         u32::from(self.unit.number())
     }
 
-    /// The bytes to be changed, and those of the index; none if none is kept.
-    fn lent(&mut self) -> (&mut [u8], &mut [u8]) {
+    /// The bytes to be changed, those of the base, and those of the index; none if
+    /// none is kept.
+    fn lent(&mut self) -> (&mut [u8], &[u8], &mut [u8]) {
         let index = self.index.as_mut().map(Index::lent);
-        (&mut *self.bytes, index.unwrap_or_default())
+        let base = self.base.as_bytes();
+        (&mut *self.bytes, base, index.unwrap_or_default())
     }
 
     /// Makes a record of the own unit, if it fits the tree; its identity. Refuses
-    /// 7, 24, 11, 12 to 16, 18, 25.
+    /// 26, 7, 24, 28, 11, 12 to 16, 18, 25.
     pub fn act(&mut self, wish: &Wish) -> Answer<Identity> {
         let (archive, unit) = (self.archive, self.unit_number());
         let wish = wish.to_bytes(self.unit);
-        let (log, index) = self.lent();
-        raw::act(log, index, archive, unit, &wish)?;
+        let (log, base, index) = self.lent();
+        work::lent(|work| raw::act(log, base, index, archive, unit, &wish, work))?;
         let made = self.records().next_back();
         Ok(made.ok_or(Refusal::new(19))?.identity())
     }
 
+    /// Lists the units of the archive, and folds the longest run of records, from
+    /// the lowest rank on, that all of them have heard of: these leave the log, and
+    /// what they come to stands in the base. How many were folded. The tree, the
+    /// vector and the index stay as they are. Refuses 26.
+    ///
+    /// What another unit has heard is told by its last record in the log; a listed
+    /// unit without one holds all back.
+    ///
+    /// ```
+    /// use sab::{Date, Identity, Log, Refusal, Unit, Units, Wish, meet};
+    /// # fn main() -> Result<(), sab::Refusal> {
+    /// let day = Date::new(2025, 3, 3);
+    /// let mut van = Log::start(7, Unit::ALL[0]);
+    /// let mut bench = Log::start(7, Unit::ALL[1]);
+    /// van.act(&Wish::make_folder(Identity::ROOT, "Bench", day)?)?;
+    /// meet(&mut van, &mut bench);
+    /// let both: Units = [van.unit(), bench.unit()].into_iter().collect();
+    /// assert_eq!(van.fold(both)?, 0);     // the bench has told of nothing yet
+    /// bench.act(&Wish::make_folder(Identity::ROOT, "Roof", day)?)?;
+    /// meet(&mut van, &mut bench);
+    /// let before = van.show()?;
+    /// assert_eq!(van.fold(both)?, 2);
+    /// assert_eq!(van.records().len(), 0);
+    /// assert_eq!(van.vector()?.to_string(), "1 1 0 0 0 0 0 0");
+    /// assert_eq!(van.show()?, before);
+    /// assert_eq!(van.write_file(), Err(Refusal::new(29)));
+    /// # Ok(())
+    /// # }
+    /// ```
+    pub fn fold(&mut self, units: Units) -> Answer<u16> {
+        let (archive, unit) = (self.archive, self.unit_number());
+        let (log, base) = (&mut *self.bytes, self.base.lent());
+        let list = u32::from(units.to_byte());
+        work::lent(|work| raw::fold(log, base, archive, unit, list, work))
+    }
+
     /// A block of the first six or fewer records, by rank, that the asked vector
-    /// lacks.
+    /// lacks. Refuses 27.
     pub fn hand_out(&self, asked: &Vector) -> Answer<Block> {
         let mut block = [0; raw::BLOCK];
         raw::hand_out(
             &*self.bytes,
+            self.base.as_bytes(),
             self.archive,
             self.unit_number(),
             asked.counts(),
@@ -143,19 +194,22 @@ impl Log {
         Ok(Block::new(block))
     }
 
-    /// Takes a block wholly or not at all. Refuses 2 to 11. For the blocks of a
-    /// meeting there is [`Asking::take`](crate::Asking::take).
+    /// Takes a block wholly or not at all. Refuses 2 to 11, 26, 27. For the blocks
+    /// of a meeting there is [`Asking::take`](crate::Asking::take).
     pub fn take(&mut self, block: impl AsRef<[u8]>) -> Answer<()> {
         let (archive, unit) = (self.archive, self.unit_number());
-        let (log, index) = self.lent();
-        raw::take(log, index, archive, unit, block.as_ref())
+        let (log, base, index) = self.lent();
+        for_index(index, |index, work| {
+            raw::take(log, base, index, archive, unit, block.as_ref(), work)
+        })
     }
 
-    /// All blocks of what the asked vector lacks, in one call.
+    /// All blocks of what the asked vector lacks, in one call. Refuses 27.
     pub fn hand_out_row(&self, asked: &Vector) -> Answer<Row> {
         let mut row = vec![0; raw::FILE];
         let blocks = raw::hand_out_row(
             &*self.bytes,
+            self.base.as_bytes(),
             self.archive,
             self.unit_number(),
             asked.counts(),
@@ -166,11 +220,14 @@ impl Log {
     }
 
     /// Takes the blocks of a row in turn, up to the first that is refused, in one
-    /// call. Refuses 2; what stops the row, 3 to 11, is part of the answer.
+    /// call. Refuses 2; what stops the row, 3 to 11, 26 or 27, is part of the
+    /// answer.
     pub fn take_row(&mut self, row: impl AsRef<[u8]>) -> Answer<RowTaken> {
         let (archive, unit) = (self.archive, self.unit_number());
-        let (log, index) = self.lent();
-        let row = raw::take_row(log, index, archive, unit, row.as_ref())?;
+        let (log, base, index) = self.lent();
+        let row = for_index(index, |index, work| {
+            raw::take_row(log, base, index, archive, unit, row.as_ref(), work)
+        })?;
         Ok(RowTaken::of(row.taken, row.stopped))
     }
 
@@ -199,6 +256,7 @@ impl Log {
         let mut report = [0; raw::REPORT];
         raw::try_row(
             &*self.bytes,
+            self.base.as_bytes(),
             self.archive,
             self.unit_number(),
             row.as_ref(),
@@ -208,6 +266,7 @@ impl Log {
         )?;
         let mut log = Log {
             bytes: copy,
+            base: self.base.clone(),
             index: None,
             ..*self
         };
@@ -217,24 +276,33 @@ impl Log {
         Ok(Trial::of(&report, log, Tree::new(tree)))
     }
 
-    /// The whole log as a file, 1 to 86 blocks.
+    /// The whole log as a file, 1 to 86 blocks. Its list is not written. Refuses 29
+    /// if records are folded.
     pub fn write_file(&self) -> Answer<Vec<u8>> {
         let mut file = vec![0; raw::FILE];
-        let blocks = raw::write_file(&*self.bytes, self.archive, self.unit_number(), &mut file)?;
+        let blocks = raw::write_file(
+            &*self.bytes,
+            self.base.as_bytes(),
+            self.archive,
+            self.unit_number(),
+            &mut file,
+        )?;
         file.truncate(raw::BLOCK * usize::from(blocks));
         Ok(file)
     }
 
-    /// The tree of the records, with those that stand aside.
+    /// The tree of the records held, with those that stand aside.
     pub fn show(&self) -> Answer<Tree> {
-        Tree::of(&*self.bytes)
+        Tree::of(&*self.bytes, self.base.as_bytes())
     }
 
-    /// The listing of the log's file, as docs/FORMAT.md gives it.
+    /// The listing of the log's file, as docs/FORMAT.md gives it. Refuses 29 if
+    /// records are folded.
     pub fn listing(&self) -> Answer<String> {
         let (mut log, mut tree) = (boxed(), vec![0; raw::TREE]);
         let mut text = vec![0; raw::LISTING];
-        let listed = raw::listing(&self.write_file()?, &mut *log, &mut tree, &mut text)?;
+        let file = self.write_file()?;
+        let listed = raw::listing(&file, &mut *log, &mut tree, &mut text)?;
         text.truncate(listed.length);
         match listed.refused {
             Some(refusal) => Err(refusal),
@@ -242,17 +310,17 @@ impl Log {
         }
     }
 
-    /// How many records of each unit are held.
+    /// How many records of each unit are held, folded ones with them.
     pub fn vector(&self) -> Answer<Vector> {
-        raw::vector(&*self.bytes).map(Vector::from)
+        raw::vector(&*self.bytes, self.base.as_bytes()).map(Vector::from)
     }
 
-    /// The records, by rank.
+    /// The records that are not folded, by rank.
     pub fn records(&self) -> Records<'_> {
         Records::of(&self.bytes)
     }
 
-    /// The record of an identity, if it is held.
+    /// The record of an identity, if it is held and not folded.
     pub fn record(&self, identity: Identity) -> Option<Record<'_>> {
         self.records().find(|record| record.identity() == identity)
     }
@@ -264,8 +332,17 @@ impl fmt::Debug for Log {
             .field("archive", &self.archive)
             .field("unit", &self.unit)
             .field("records", &self.records().len())
+            .field("folded", &self.base.vector().sum())
             .finish_non_exhaustive()
     }
+}
+
+/// Lends work memory with an index, and none without.
+fn for_index<T>(index: &mut [u8], call: impl FnOnce(&mut [u8], &mut [u8]) -> T) -> T {
+    if index.is_empty() {
+        return call(index, &mut []);
+    }
+    work::lent(|work| call(index, work))
 }
 
 /// Zeros for a log, on the heap.

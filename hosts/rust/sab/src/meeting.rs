@@ -11,6 +11,11 @@
 //! by rank, so they may lie in any block. The asked counts are therefore raised
 //! by what each block brought, and not set to what is held; so each of them comes
 //! once, and the last block, of count 0, says that nothing is lacking.
+//!
+//! Folded records cannot be compared. A count is not lowered where the last record
+//! of a unit is folded at the one who asks; where it is folded at the giver, the
+//! giver refuses the lowered count with 27, and [`Asking::above`] raises it to what
+//! the giver has folded.
 
 use crate::{Answer, Block, Identity, Log, Refusal, Vector};
 use std::fmt;
@@ -45,19 +50,29 @@ pub struct Asking {
 }
 
 impl Asking {
-    /// Begins to ask for a log, with every count above 0 lowered by one. To be
-    /// begun again for each meeting, and for each of the two that asks in it.
+    /// Begins to ask for a log, with every count lowered by one, if it is above 0 and
+    /// its record is not folded. To be begun again for each meeting, and for each of
+    /// the two that asks in it.
     pub fn careful(log: &Log) -> Answer<Asking> {
-        let asked = log.vector()?.lowered();
+        let asked = log.vector()?.lowered().joined(&log.base().vector());
         Ok(Asking { asked })
     }
 
     /// Begins to ask for every record: what is held is compared with all that the
     /// other holds, in at most 86 blocks. For when a meeting was refused with 10,
-    /// or when meetings were not careful before.
+    /// or when meetings were not careful before. To one who has folded records it is
+    /// to be brought [`above`](Asking::above) these.
     pub fn thorough() -> Asking {
         let asked = Vector::default();
         Asking { asked }
+    }
+
+    /// Asks a giver that has folded records, whose base has this vector: counts
+    /// below it are raised to it, where the log has as many. A count that is still
+    /// below it, since the log lacks folded records, is refused with 27.
+    pub fn above(self, log: &Log, folded: &Vector) -> Answer<Asking> {
+        let asked = self.asked.joined(&log.vector()?.common(folded));
+        Ok(Asking { asked })
     }
 
     /// The vector to send next.
@@ -112,6 +127,7 @@ pub fn pass(from: &Log, to: &mut Log) -> Pass {
 }
 
 fn pass_all(asking: Asking, from: &Log, to: &mut Log, pass: &mut Pass) -> Answer<()> {
+    let asking = asking.above(to, &from.base().vector())?;
     let row = from.hand_out_row(&asking.vector())?;
     let taken = to.take_row(&row)?;
     pass.blocks = taken.taken.into();
@@ -146,10 +162,11 @@ pub struct Meeting {
 }
 
 /// Two units meet: the second takes what it lacks, then the first. A refusal ends
-/// the meeting, but a full log, 11, does not keep the other unit from taking.
+/// the meeting, but a full log, 11, a list, 26, or a base, 27, does not keep the
+/// other unit from taking.
 pub fn meet(first: &mut Log, second: &mut Log) -> Meeting {
     let to_second = pass(first, second);
-    let goes_on = to_second.refusal.is_none_or(|refusal| refusal.number == 11);
+    let goes_on = to_second.refusal.is_none_or(|refusal| refusal.is_one_sided());
     Meeting {
         to_second,
         to_first: goes_on.then(|| pass(second, first)),

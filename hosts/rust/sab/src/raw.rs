@@ -1,10 +1,12 @@
 //! The library's calls over slices, one function for each.
 //!
-//! A refused call leaves all lent bytes as they were. A slice of any length may
-//! be lent; one of another length than stated is refused with 1 or 2. A unit is
-//! any number here, and one above 7 is refused with 21. To the calls that change a
-//! log its index is lent, or no bytes if none is kept; [`index`] makes one. The
-//! types beside this module do the same with less to get wrong.
+//! A refused call leaves all lent bytes as they were, but for work memory. A slice
+//! of any length may be lent; one of another length than stated is refused with 1
+//! or 2. A unit is any number here, and one above 7 is refused with 21. A base is
+//! lent beside each log. To the calls that change a tree its index is lent, or no
+//! bytes if none is kept; [`index`] makes one. A take is lent [`WORK`] bytes of work
+//! memory with an index, and none without. The types beside this module do the same
+//! with less to get wrong.
 
 #![allow(unsafe_code)]
 
@@ -12,6 +14,8 @@ use crate::{Answer, MergeRefusal, Refusal, ffi};
 
 /// Bytes of the lent log.
 pub const LOG: usize = 40_960;
+/// Bytes of the lent list and base.
+pub const BASE: usize = 43_032;
 /// Bytes of a wish.
 pub const WISH: usize = 80;
 /// Bytes of a block.
@@ -19,11 +23,13 @@ pub const BLOCK: usize = 512;
 /// Bytes lent for writing a file.
 pub const FILE: usize = 44_032;
 /// Bytes of the tree table.
-pub const TREE: usize = 43_012;
+pub const TREE: usize = 86_020;
+/// Bytes of work memory.
+pub const WORK: usize = 86_020;
 /// Bytes of an index.
-pub const INDEX: usize = 20_484;
+pub const INDEX: usize = 40_964;
 /// Bytes of the report of a row that is tried.
-pub const REPORT: usize = 2_068;
+pub const REPORT: usize = 4_116;
 /// Bytes lent for a listing; none is longer.
 pub const LISTING: usize = 76_800;
 
@@ -62,12 +68,20 @@ pub(crate) fn vector_of(bytes: &[u8; VECTOR]) -> [u16; 8] {
     std::array::from_fn(|unit| u16::from_le_bytes([bytes[2 * unit], bytes[2 * unit + 1]]))
 }
 
-/// Empties a log and its index. Refuses 1, 21.
-pub fn start(log: &mut [u8], index: &mut [u8], archive: u32, unit: u32) -> Answer<()> {
+/// Empties a log, its base and its index. Refuses 1, 21.
+pub fn start(
+    log: &mut [u8],
+    base: &mut [u8],
+    index: &mut [u8],
+    archive: u32,
+    unit: u32,
+) -> Answer<()> {
     let result = unsafe {
         ffi::sab_start(
             log.as_mut_ptr(),
             log.len(),
+            base.as_mut_ptr(),
+            base.len(),
             index.as_mut_ptr(),
             index.len(),
             archive,
@@ -77,34 +91,41 @@ pub fn start(log: &mut [u8], index: &mut [u8], archive: u32, unit: u32) -> Answe
     answer(result).map(drop)
 }
 
-/// Makes the wished record, if it fits. Refuses 1, 21, 19, 7, 24, 11,
+/// Makes the wished record, if it fits. Refuses 1, 21, 19, 26, 7, 24, 28, 11,
 /// 12 to 16, 18, 25.
 pub fn act(
     log: &mut [u8],
+    base: &[u8],
     index: &mut [u8],
     archive: u32,
     unit: u32,
     wish: &[u8],
+    work: &mut [u8],
 ) -> Answer<()> {
     let result = unsafe {
         ffi::sab_act(
             log.as_mut_ptr(),
             log.len(),
+            base.as_ptr(),
+            base.len(),
             index.as_mut_ptr(),
             index.len(),
             archive,
             unit,
             wish.as_ptr(),
             wish.len(),
+            work.as_mut_ptr(),
+            work.len(),
         )
     };
     answer(result).map(drop)
 }
 
 /// Writes a block of the first six or fewer records that the asked vector
-/// lacks. Refuses 1, 21, 19.
+/// lacks. Refuses 1, 21, 19, 27.
 pub fn hand_out(
     log: &[u8],
+    base: &[u8],
     archive: u32,
     unit: u32,
     asked: &[u16; 8],
@@ -115,6 +136,8 @@ pub fn hand_out(
         ffi::sab_hand_out(
             log.as_ptr(),
             log.len(),
+            base.as_ptr(),
+            base.len(),
             archive,
             unit,
             asked.as_ptr(),
@@ -126,24 +149,31 @@ pub fn hand_out(
     answer(result).map(drop)
 }
 
-/// Takes a block wholly or not at all. Refuses 1, 21, 19, 2 to 11.
+/// Takes a block wholly or not at all. Refuses 1, 21, 19, 2 to 11, 26,
+/// 27.
 pub fn take(
     log: &mut [u8],
+    base: &[u8],
     index: &mut [u8],
     archive: u32,
     unit: u32,
     block: &[u8],
+    work: &mut [u8],
 ) -> Answer<()> {
     let result = unsafe {
         ffi::sab_take(
             log.as_mut_ptr(),
             log.len(),
+            base.as_ptr(),
+            base.len(),
             index.as_mut_ptr(),
             index.len(),
             archive,
             unit,
             block.as_ptr(),
             block.len(),
+            work.as_mut_ptr(),
+            work.len(),
         )
     };
     answer(result).map(drop)
@@ -151,9 +181,10 @@ pub fn take(
 
 /// Writes all blocks of what the asked vector lacks, each as [`hand_out`] would
 /// give it once those before are taken, and zeros behind them; answers how many
-/// they are. Refuses 1, 21, 19.
+/// they are. Refuses 1, 21, 19, 27.
 pub fn hand_out_row(
     log: &[u8],
+    base: &[u8],
     archive: u32,
     unit: u32,
     asked: &[u16; 8],
@@ -164,6 +195,8 @@ pub fn hand_out_row(
         ffi::sab_hand_out_row(
             log.as_ptr(),
             log.len(),
+            base.as_ptr(),
+            base.len(),
             archive,
             unit,
             asked.as_ptr(),
@@ -188,21 +221,27 @@ pub struct RowTaken {
 /// Refuses 1, 21, 2, 19.
 pub fn take_row(
     log: &mut [u8],
+    base: &[u8],
     index: &mut [u8],
     archive: u32,
     unit: u32,
     row: &[u8],
+    work: &mut [u8],
 ) -> Answer<RowTaken> {
     let result = unsafe {
         ffi::sab_take_row(
             log.as_mut_ptr(),
             log.len(),
+            base.as_ptr(),
+            base.len(),
             index.as_mut_ptr(),
             index.len(),
             archive,
             unit,
             row.as_ptr(),
             row.len(),
+            work.as_mut_ptr(),
+            work.len(),
         )
     };
     let [taken, stopped] = answer(result)?.to_le_bytes();
@@ -213,6 +252,7 @@ pub fn take_row(
 /// `tree` its tree, in `report` what `include/sab.h` says. Refuses 1, 21, 2, 19.
 pub fn try_row(
     log: &[u8],
+    base: &[u8],
     archive: u32,
     unit: u32,
     row: &[u8],
@@ -224,6 +264,8 @@ pub fn try_row(
         ffi::sab_try(
             log.as_ptr(),
             log.len(),
+            base.as_ptr(),
+            base.len(),
             archive,
             unit,
             row.as_ptr(),
@@ -239,13 +281,48 @@ pub fn try_row(
     answer(result).map(drop)
 }
 
-/// Writes the whole log as a file; answers its count of blocks. Refuses 1, 21,
-/// 19.
-pub fn write_file(log: &[u8], archive: u32, unit: u32, file: &mut [u8]) -> Answer<u16> {
+/// Lists the units of the archive, bit u for unit u, and folds the longest run of
+/// records that all of them have heard of; answers how many were folded. Refuses 1,
+/// 21, 19, 26.
+pub fn fold(
+    log: &mut [u8],
+    base: &mut [u8],
+    archive: u32,
+    unit: u32,
+    list: u32,
+    work: &mut [u8],
+) -> Answer<u16> {
+    let result = unsafe {
+        ffi::sab_fold(
+            log.as_mut_ptr(),
+            log.len(),
+            base.as_mut_ptr(),
+            base.len(),
+            archive,
+            unit,
+            list,
+            work.as_mut_ptr(),
+            work.len(),
+        )
+    };
+    answer(result)
+}
+
+/// Writes the whole log as a file, if nothing is folded; answers its count of
+/// blocks. Refuses 1, 21, 19, 29.
+pub fn write_file(
+    log: &[u8],
+    base: &[u8],
+    archive: u32,
+    unit: u32,
+    file: &mut [u8],
+) -> Answer<u16> {
     let result = unsafe {
         ffi::sab_write_file(
             log.as_ptr(),
             log.len(),
+            base.as_ptr(),
+            base.len(),
             archive,
             unit,
             file.as_mut_ptr(),
@@ -255,14 +332,16 @@ pub fn write_file(log: &[u8], archive: u32, unit: u32, file: &mut [u8]) -> Answe
     answer(result)
 }
 
-/// Reads a file into a lent log, whose old bytes are not judged. Refuses 1, 2 to
-/// 5, 7 to 9, 11, 20.
-pub fn read_file(log: &mut [u8], file: &[u8]) -> Answer<Head> {
+/// Reads a file into a lent log, and empties its base. Their old bytes are not
+/// judged. Refuses 1, 2 to 5, 7 to 9, 11, 20.
+pub fn read_file(log: &mut [u8], base: &mut [u8], file: &[u8]) -> Answer<Head> {
     let mut head = [0; HEAD];
     let result = unsafe {
         ffi::sab_read_file(
             log.as_mut_ptr(),
             log.len(),
+            base.as_mut_ptr(),
+            base.len(),
             file.as_ptr(),
             file.len(),
             head.as_mut_ptr(),
@@ -308,16 +387,37 @@ pub fn merge(
     })
 }
 
-/// Shows the tree of a log: every byte of the lent table. Refuses 1, 19.
-pub fn show(log: &[u8], tree: &mut [u8]) -> Answer<()> {
-    let result = unsafe { ffi::sab_show(log.as_ptr(), log.len(), tree.as_mut_ptr(), tree.len()) };
+/// Shows the tree of a log and its base: every byte of the lent table. Refuses 1,
+/// 19.
+pub fn show(log: &[u8], base: &[u8], tree: &mut [u8]) -> Answer<()> {
+    let result = unsafe {
+        ffi::sab_show(
+            log.as_ptr(),
+            log.len(),
+            base.as_ptr(),
+            base.len(),
+            tree.as_mut_ptr(),
+            tree.len(),
+        )
+    };
     answer(result).map(drop)
 }
 
-/// Makes the index of a log afresh: every byte of the lent one. Refuses 1, 19.
-pub fn index(log: &[u8], index: &mut [u8]) -> Answer<()> {
-    let result =
-        unsafe { ffi::sab_index(log.as_ptr(), log.len(), index.as_mut_ptr(), index.len()) };
+/// Makes the index of a log and its base afresh: every byte of the lent one.
+/// Refuses 1, 19.
+pub fn index(log: &[u8], base: &[u8], index: &mut [u8], work: &mut [u8]) -> Answer<()> {
+    let result = unsafe {
+        ffi::sab_index(
+            log.as_ptr(),
+            log.len(),
+            base.as_ptr(),
+            base.len(),
+            index.as_mut_ptr(),
+            index.len(),
+            work.as_mut_ptr(),
+            work.len(),
+        )
+    };
     answer(result).map(drop)
 }
 
@@ -371,11 +471,20 @@ pub fn list(index: &[u8], unit: u32, number: u32) -> Answer<Range> {
     })
 }
 
-/// The held vector of a log: how many records of each unit. Refuses 1, 19.
-pub fn vector(log: &[u8]) -> Answer<[u16; 8]> {
+/// The held vector: how many records of each unit, folded ones with them. Refuses
+/// 1, 19.
+pub fn vector(log: &[u8], base: &[u8]) -> Answer<[u16; 8]> {
     let mut vector = [0; VECTOR];
-    let result =
-        unsafe { ffi::sab_vector(log.as_ptr(), log.len(), vector.as_mut_ptr(), vector.len()) };
+    let result = unsafe {
+        ffi::sab_vector(
+            log.as_ptr(),
+            log.len(),
+            base.as_ptr(),
+            base.len(),
+            vector.as_mut_ptr(),
+            vector.len(),
+        )
+    };
     answer(result)?;
     Ok(vector_of(&vector))
 }
@@ -425,9 +534,14 @@ pub struct Listed {
 }
 
 /// Lists a file as text; a refused file gives one line. `log` and `tree` are work
-/// space, and hold the file's records and tree if it is accepted. Refuses 1, for
-/// `log`, `tree` or `out`.
-pub fn listing(file: &[u8], log: &mut [u8], tree: &mut [u8], out: &mut [u8]) -> Answer<Listed> {
+/// space, and hold the file's records and their tree if it is accepted. Refuses 1,
+/// for one of these or `out`.
+pub fn listing(
+    file: &[u8],
+    log: &mut [u8],
+    tree: &mut [u8],
+    out: &mut [u8],
+) -> Answer<Listed> {
     let mut length = [0; 4];
     let result = unsafe {
         ffi::sab_listing(

@@ -13,7 +13,7 @@ use std::fmt;
 /// ```
 #[derive(Clone, Copy, Debug, PartialEq, Eq, Hash)]
 pub struct Refusal {
-    /// The number, 1 to 21, 24 or 25, but not 17.
+    /// The number, 1 to 21 or 24 to 29, but not 17.
     pub number: u8,
     /// The block at fault, counted from 0. It is 0 for a call with one block, and
     /// for a number that has no place.
@@ -39,9 +39,15 @@ impl Refusal {
         matches!(self.number, 2..=4)
     }
 
-    /// The number has a place: 2 to 11, 20, and 24 and 25, which are always at 0.
+    /// It keeps one unit from taking and not the other, 11, 26, 27: the log is full,
+    /// a unit is not listed, or records are folded that the other lacks.
+    pub const fn is_one_sided(self) -> bool {
+        matches!(self.number, 11 | 26 | 27)
+    }
+
+    /// The number has a place: 2 to 11, 20, and 24 to 29, which are always at 0.
     pub const fn has_place(self) -> bool {
-        matches!(self.number, 2..=11 | 20 | 24 | 25)
+        matches!(self.number, 2..=11 | 20 | 24..=29)
     }
 }
 
@@ -79,11 +85,15 @@ pub const fn in_words(number: u8) -> &'static str {
         16 => "the folder to remove has entries",
         17 => "the object was changed by a record that its maker had not seen",
         18 => "the record to settle does not stand aside",
-        19 => "the log is not sound",
+        19 => "the log, its list or its base is not sound",
         20 => "the file's blocks disagree, its ranks do not rise, or its vector is not its counts",
         21 => "the unit is above 7",
         24 => "the label of a new record has a stroke",
         25 => "a folder would be put into itself or below itself",
+        26 => "a unit is not in the list of the archive's units",
+        27 => "what is folded here or there is lacking on the other side",
+        28 => "the unit has used its last number, 65,535",
+        29 => "records are folded: a file of the form SAB1 cannot hold them",
         _ => "no number of the refusal table",
     }
 }

@@ -1,4 +1,4 @@
-//! The tree of a log.
+//! The tree of a unit.
 
 use crate::record::text_of;
 use crate::{Answer, Date, Identity, Mark, raw};
@@ -6,9 +6,10 @@ use crate::{Answer, Date, Identity, Mark, raw};
 const ENTRY: usize = 72;
 const ASIDE: usize = 12;
 const ENTRIES: usize = 4;
-const ASIDES: usize = ENTRIES + 512 * ENTRY;
+const ASIDES: usize = ENTRIES + 1024 * ENTRY;
 
-/// The folders and traces of a log, and the records that stand aside.
+/// The folders and traces of a unit, and the records that stand aside; those that
+/// folded records made are among them.
 #[derive(Clone, Debug, PartialEq, Eq)]
 pub struct Tree(Vec<u8>);
 
@@ -17,9 +18,9 @@ impl Tree {
         Tree(table)
     }
 
-    pub(crate) fn of(log: &[u8]) -> Answer<Tree> {
+    pub(crate) fn of(log: &[u8], base: &[u8]) -> Answer<Tree> {
         let mut tree = vec![0; raw::TREE];
-        raw::show(log, &mut tree)?;
+        raw::show(log, base, &mut tree)?;
         Ok(Tree(tree))
     }
 
@@ -28,21 +29,14 @@ impl Tree {
         &self.0
     }
 
-    /// The rows of one length, the count of which stands at an offset.
-    fn rows<const LENGTH: usize>(&self, begin: usize, count: usize) -> &[[u8; LENGTH]] {
-        let count = u16::from_le_bytes([self.0[count], self.0[count + 1]]);
-        let (rows, _) = self.0[begin..].as_chunks();
-        &rows[..usize::from(count)]
-    }
-
     /// The entries, by rank of the records that made them.
     pub fn entries(&self) -> impl ExactSizeIterator<Item = Entry<'_>> + DoubleEndedIterator {
-        self.rows(ENTRIES, 0).iter().map(Entry)
+        rows(&self.0, ENTRIES, 0).iter().map(Entry)
     }
 
     /// The records that stand aside, by rank.
     pub fn asides(&self) -> impl ExactSizeIterator<Item = Aside<'_>> + DoubleEndedIterator {
-        self.rows(ASIDES, 2).iter().map(Aside)
+        rows(&self.0, ASIDES, 2).iter().map(Aside)
     }
 
     /// The entry of an identity, if it is in the tree.
@@ -63,6 +57,17 @@ impl Tree {
     }
 }
 
+/// The rows of one length in a table, the count of which stands at an offset.
+pub(crate) fn rows<const LENGTH: usize>(
+    table: &[u8],
+    begin: usize,
+    count: usize,
+) -> &[[u8; LENGTH]] {
+    let count = u16::from_le_bytes([table[count], table[count + 1]]);
+    let (rows, _) = table[begin..].as_chunks();
+    &rows[..usize::from(count)]
+}
+
 /// What an entry is.
 #[derive(Clone, Copy, Debug, PartialEq, Eq, Hash)]
 pub enum Kind {
@@ -74,7 +79,7 @@ pub enum Kind {
 
 /// A folder or a trace in the tree.
 #[derive(Clone, Copy, Debug, PartialEq, Eq, Hash)]
-pub struct Entry<'a>(&'a [u8; ENTRY]);
+pub struct Entry<'a>(pub(crate) &'a [u8; ENTRY]);
 
 impl<'a> Entry<'a> {
     /// Folder or trace.
@@ -132,7 +137,7 @@ impl<'a> Entry<'a> {
 
 /// A record that stands aside.
 #[derive(Clone, Copy, Debug, PartialEq, Eq, Hash)]
-pub struct Aside<'a>(&'a [u8; ASIDE]);
+pub struct Aside<'a>(pub(crate) &'a [u8; ASIDE]);
 
 impl Aside<'_> {
     /// The record.

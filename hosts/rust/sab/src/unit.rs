@@ -73,6 +73,76 @@ impl fmt::Display for Unit {
     }
 }
 
+/// A list of units, as a fold is given it.
+///
+/// ```
+/// use sab::{Unit, Units};
+/// let units: Units = "0,1,5".parse()?;
+/// assert!(units.contains(Unit::ALL[5]) && !units.contains(Unit::ALL[2]));
+/// assert_eq!(units, Unit::ALL[..2].iter().copied().chain([Unit::ALL[5]]).collect());
+/// assert_eq!(units.to_string(), "0,1,5");
+/// # Ok::<(), sab::Unreadable>(())
+/// ```
+#[derive(Clone, Copy, Debug, PartialEq, Eq, Hash)]
+pub struct Units(u8);
+
+impl Units {
+    /// All eight.
+    pub const ALL: Units = Units(255);
+
+    /// The list in a byte, bit u for unit u. Every byte is a list.
+    pub const fn from_byte(byte: u8) -> Units {
+        Units(byte)
+    }
+
+    /// The byte of the list.
+    pub const fn to_byte(self) -> u8 {
+        self.0
+    }
+
+    /// A unit is listed.
+    pub const fn contains(self, unit: Unit) -> bool {
+        self.0 >> unit.0 & 1 == 1
+    }
+
+    /// With one unit more.
+    pub const fn with(self, unit: Unit) -> Units {
+        Units(self.0 | 1 << unit.0)
+    }
+
+    /// The units, rising.
+    pub fn iter(self) -> impl Iterator<Item = Unit> {
+        let listed = move |unit: &Unit| self.contains(*unit);
+        Unit::ALL.into_iter().filter(listed)
+    }
+}
+
+impl FromIterator<Unit> for Units {
+    fn from_iter<I: IntoIterator<Item = Unit>>(units: I) -> Units {
+        units.into_iter().fold(Units(0), Units::with)
+    }
+}
+
+/// Units parted by commas, in any order.
+impl FromStr for Units {
+    type Err = Unreadable;
+
+    fn from_str(text: &str) -> Result<Units, Unreadable> {
+        let units: Result<Units, Unreadable> = text.split(',').map(Unit::from_str).collect();
+        units.map_err(|_| Unreadable {
+            wanted: "a list of units, as 0,1,2",
+        })
+    }
+}
+
+/// The units parted by commas, rising.
+impl fmt::Display for Units {
+    fn fmt(&self, f: &mut fmt::Formatter<'_>) -> fmt::Result {
+        let units: Vec<String> = self.iter().map(|unit| unit.to_string()).collect();
+        f.pad(&units.join(","))
+    }
+}
+
 /// The identity of a record, and of the entry that it made: unit and number,
 /// written as `3.17`. The root is `0.0`.
 ///

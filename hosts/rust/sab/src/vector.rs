@@ -110,6 +110,11 @@ impl Vector {
         Vector(std::array::from_fn(|unit| self.0[unit].max(other.0[unit])))
     }
 
+    /// Of each unit the lesser count.
+    pub fn common(&self, other: &Vector) -> Vector {
+        Vector(std::array::from_fn(|unit| self.0[unit].min(other.0[unit])))
+    }
+
     /// With every count above 0 lowered by one.
     pub fn lowered(&self) -> Vector {
         Vector(self.0.map(|count| count.saturating_sub(1)))

@@ -1,11 +1,17 @@
 //! The calls over slices against the static library: every call, every buffer of
 //! another length, and bytes kept by refusals.
 
+use plain::EMPTY_BASE;
 use sab::Refusal;
 use sab::raw::{self, BLOCK, FILE, Head, LISTING, LOG, Listed, REPORT, RowTaken, TREE, WISH};
 use workload::{Mix, log_of, vector_of};
 
 const ARCHIVE: u32 = 0xfedc_ba98;
+
+/// Work memory.
+fn work() -> Vec<u8> {
+    vec![0xa5; raw::WORK]
+}
 
 fn refused<T>(number: u8) -> Result<T, Refusal> {
     Err(Refusal { number, place: 0 })
@@ -35,7 +41,7 @@ fn a_log() -> Vec<u8> {
 
 fn file_of(log: &[u8]) -> Vec<u8> {
     let mut file = vec![0; FILE];
-    let blocks = raw::write_file(log, ARCHIVE, 5, &mut file).unwrap();
+    let blocks = raw::write_file(log, &EMPTY_BASE, ARCHIVE, 5, &mut file).unwrap();
     file.truncate(BLOCK * blocks as usize);
     file
 }
@@ -43,13 +49,13 @@ fn file_of(log: &[u8]) -> Vec<u8> {
 #[test]
 fn starting() {
     let mut log = pattern(LOG);
-    assert_eq!(raw::start(&mut log, &mut [], ARCHIVE, 8), refused(21));
+    assert_eq!(raw::start(&mut log, &mut EMPTY_BASE.clone(), &mut [], ARCHIVE, 8), refused(21));
     assert_eq!(log, pattern(LOG));
-    assert_eq!(raw::start(&mut log, &mut [], ARCHIVE, 7), Ok(()));
+    assert_eq!(raw::start(&mut log, &mut EMPTY_BASE.clone(), &mut [], ARCHIVE, 7), Ok(()));
     assert_eq!(log, vec![0; LOG]);
     for mut log in wrong(LOG) {
         let before = log.clone();
-        assert_eq!(raw::start(&mut log, &mut [], ARCHIVE, 0), refused(1));
+        assert_eq!(raw::start(&mut log, &mut EMPTY_BASE.clone(), &mut [], ARCHIVE, 0), refused(1));
         assert_eq!(log, before);
     }
 }
@@ -58,34 +64,34 @@ fn starting() {
 fn acting() {
     let mut log = vec![0; LOG];
     let wish = make_folder(3, "Bench");
-    assert_eq!(raw::act(&mut log, &mut [], ARCHIVE, 3, &wish), Ok(()));
+    assert_eq!(raw::act(&mut log, &EMPTY_BASE, &mut [], ARCHIVE, 3, &wish, &mut work()), Ok(()));
     let mut record = wish;
     record[2] = 1;
     assert_eq!(log[..WISH], record);
     assert!(log[WISH..].iter().all(|byte| *byte == 0));
     let before = log.clone();
-    assert_eq!(raw::act(&mut log, &mut [], ARCHIVE, 3, &wish), refused(15));
-    assert_eq!(raw::act(&mut log, &mut [], ARCHIVE, 4, &wish), refused(7));
+    assert_eq!(raw::act(&mut log, &EMPTY_BASE, &mut [], ARCHIVE, 3, &wish, &mut work()), refused(15));
+    assert_eq!(raw::act(&mut log, &EMPTY_BASE, &mut [], ARCHIVE, 4, &wish, &mut work()), refused(7));
     for at in 32..64 {
         let mut wish = wish;
         wish[32..=at].fill(b'a');
         wish[at] = b'/';
-        assert_eq!(raw::act(&mut log, &mut [], ARCHIVE, 3, &wish), refused(24));
+        assert_eq!(raw::act(&mut log, &EMPTY_BASE, &mut [], ARCHIVE, 3, &wish, &mut work()), refused(24));
         wish[31] = 0;
-        assert_eq!(raw::act(&mut log, &mut [], ARCHIVE, 3, &wish), refused(7));
+        assert_eq!(raw::act(&mut log, &EMPTY_BASE, &mut [], ARCHIVE, 3, &wish, &mut work()), refused(7));
     }
-    assert_eq!(raw::act(&mut log, &mut [], ARCHIVE, 200, &wish), refused(21));
+    assert_eq!(raw::act(&mut log, &EMPTY_BASE, &mut [], ARCHIVE, 200, &wish, &mut work()), refused(21));
     for wish in wrong(WISH) {
-        assert_eq!(raw::act(&mut log, &mut [], ARCHIVE, 3, &wish), refused(1));
+        assert_eq!(raw::act(&mut log, &EMPTY_BASE, &mut [], ARCHIVE, 3, &wish, &mut work()), refused(1));
     }
     assert_eq!(log, before);
     for mut log in wrong(LOG) {
         let before = log.clone();
-        assert_eq!(raw::act(&mut log, &mut [], ARCHIVE, 3, &wish), refused(1));
+        assert_eq!(raw::act(&mut log, &EMPTY_BASE, &mut [], ARCHIVE, 3, &wish, &mut work()), refused(1));
         assert_eq!(log, before);
     }
     log[1] = 0;
-    assert_eq!(raw::act(&mut log, &mut [], ARCHIVE, 3, &wish), refused(19));
+    assert_eq!(raw::act(&mut log, &EMPTY_BASE, &mut [], ARCHIVE, 3, &wish, &mut work()), refused(19));
 }
 
 #[test]
@@ -96,27 +102,27 @@ fn passing_blocks() {
     loop {
         let asked = vector_of(&log);
         assert_eq!(
-            raw::hand_out(&given, ARCHIVE, 1, &asked, &mut block),
+            raw::hand_out(&given, &EMPTY_BASE, ARCHIVE, 1, &asked, &mut block),
             Ok(())
         );
-        assert_eq!(raw::take(&mut log, &mut [], ARCHIVE, 2, &block), Ok(()));
+        assert_eq!(raw::take(&mut log, &EMPTY_BASE, &mut [], ARCHIVE, 2, &block, &mut []), Ok(()));
         if block[9] == 0 {
             break;
         }
     }
     assert_eq!(log, given);
-    assert_eq!(raw::take(&mut log, &mut [], ARCHIVE + 1, 2, &block), refused(6));
-    assert_eq!(raw::take(&mut log, &mut [], ARCHIVE, 8, &block), refused(21));
+    assert_eq!(raw::take(&mut log, &EMPTY_BASE, &mut [], ARCHIVE + 1, 2, &block, &mut []), refused(6));
+    assert_eq!(raw::take(&mut log, &EMPTY_BASE, &mut [], ARCHIVE, 8, &block, &mut []), refused(21));
     block[100] ^= 1;
-    assert_eq!(raw::take(&mut log, &mut [], ARCHIVE, 2, &block), refused(4));
+    assert_eq!(raw::take(&mut log, &EMPTY_BASE, &mut [], ARCHIVE, 2, &block, &mut []), refused(4));
     for block in wrong(BLOCK) {
-        assert_eq!(raw::take(&mut log, &mut [], ARCHIVE, 2, &block), refused(2));
+        assert_eq!(raw::take(&mut log, &EMPTY_BASE, &mut [], ARCHIVE, 2, &block, &mut []), refused(2));
     }
     assert_eq!(log, given);
     for mut block in wrong(BLOCK) {
         let before = block.clone();
         assert_eq!(
-            raw::hand_out(&log, ARCHIVE, 1, &[0; 8], &mut block),
+            raw::hand_out(&log, &EMPTY_BASE, ARCHIVE, 1, &[0; 8], &mut block),
             refused(1)
         );
         assert_eq!(block, before);
@@ -124,10 +130,10 @@ fn passing_blocks() {
     for mut log in wrong(LOG) {
         let (before, mut block) = (log.clone(), pattern(BLOCK));
         assert_eq!(
-            raw::hand_out(&log, ARCHIVE, 1, &[0; 8], &mut block),
+            raw::hand_out(&log, &EMPTY_BASE, ARCHIVE, 1, &[0; 8], &mut block),
             refused(1)
         );
-        assert_eq!(raw::take(&mut log, &mut [], ARCHIVE, 1, &block), refused(1));
+        assert_eq!(raw::take(&mut log, &EMPTY_BASE, &mut [], ARCHIVE, 1, &block, &mut []), refused(1));
         assert!(log == before && block == pattern(BLOCK));
     }
 }
@@ -155,7 +161,7 @@ fn records_in_any_order() {
     let records: [[u8; WISH]; 6] = std::array::from_fn(|unit| {
         let mut log = vec![0; LOG];
         let wish = make_folder(unit as u8, "Bench");
-        raw::act(&mut log, &mut [], ARCHIVE, unit as u32, &wish).unwrap();
+        raw::act(&mut log, &EMPTY_BASE, &mut [], ARCHIVE, unit as u32, &wish, &mut work()).unwrap();
         log[..WISH].try_into().unwrap()
     });
     let log_with = |held: &dyn Fn(usize) -> bool| {
@@ -166,7 +172,7 @@ fn records_in_any_order() {
     };
     let all = log_with(&|_| true);
     let mut block = [0; BLOCK];
-    raw::hand_out(&all, ARCHIVE, 0, &[0; 8], &mut block).unwrap();
+    raw::hand_out(&all, &EMPTY_BASE, ARCHIVE, 0, &[0; 8], &mut block).unwrap();
     for order in orders(&records) {
         block[28..508].copy_from_slice(&order.concat());
         let (first, second) = plain::sums(&block);
@@ -174,7 +180,7 @@ fn records_in_any_order() {
         block[510..].copy_from_slice(&second.to_le_bytes());
         for held in 0..64 {
             let mut log = log_with(&|i| held >> i & 1 == 1);
-            assert_eq!(raw::take(&mut log, &mut [], ARCHIVE, 7, &block), Ok(()));
+            assert_eq!(raw::take(&mut log, &EMPTY_BASE, &mut [], ARCHIVE, 7, &block, &mut []), Ok(()));
             assert!(log == all);
         }
     }
@@ -192,7 +198,7 @@ fn files() {
         records: 40,
         vector: vector_of(&log),
     };
-    assert_eq!(raw::read_file(&mut read, &file), Ok(head));
+    assert_eq!(raw::read_file(&mut read, &mut EMPTY_BASE.clone(), &file), Ok(head));
     assert_eq!(read, log);
     let mut kept = pattern(LOG);
     file[3 * BLOCK + 60] ^= 4;
@@ -200,24 +206,24 @@ fn files() {
         number: 4,
         place: 3,
     });
-    assert_eq!(raw::read_file(&mut kept, &file), bad_sum);
+    assert_eq!(raw::read_file(&mut kept, &mut EMPTY_BASE.clone(), &file), bad_sum);
     for length in [0, 1, 511, 513, FILE + BLOCK] {
-        assert_eq!(raw::read_file(&mut kept, &pattern(length)), refused(2));
+        assert_eq!(raw::read_file(&mut kept, &mut EMPTY_BASE.clone(), &pattern(length)), refused(2));
     }
     assert_eq!(kept, pattern(LOG));
     for mut other in wrong(LOG) {
         let (before, mut lent) = (other.clone(), pattern(FILE));
-        assert_eq!(raw::read_file(&mut other, &file), refused(1));
-        assert_eq!(raw::write_file(&other, ARCHIVE, 5, &mut lent), refused(1));
+        assert_eq!(raw::read_file(&mut other, &mut EMPTY_BASE.clone(), &file), refused(1));
+        assert_eq!(raw::write_file(&other, &EMPTY_BASE, ARCHIVE, 5, &mut lent), refused(1));
         assert!(other == before && lent == pattern(FILE));
     }
     for mut lent in wrong(FILE) {
         let before = lent.clone();
-        assert_eq!(raw::write_file(&log, ARCHIVE, 5, &mut lent), refused(1));
+        assert_eq!(raw::write_file(&log, &EMPTY_BASE, ARCHIVE, 5, &mut lent), refused(1));
         assert_eq!(lent, before);
     }
     assert_eq!(
-        raw::write_file(&log, ARCHIVE, 8, &mut pattern(FILE)),
+        raw::write_file(&log, &EMPTY_BASE, ARCHIVE, 8, &mut pattern(FILE)),
         refused(21)
     );
 }
@@ -226,15 +232,15 @@ fn files() {
 fn trees() {
     let log = a_log();
     let mut tree = pattern(TREE);
-    assert_eq!(raw::show(&log, &mut tree), Ok(()));
+    assert_eq!(raw::show(&log, &EMPTY_BASE, &mut tree), Ok(()));
     for mut lent in wrong(TREE) {
         let before = lent.clone();
-        assert_eq!(raw::show(&log, &mut lent), refused(1));
+        assert_eq!(raw::show(&log, &EMPTY_BASE, &mut lent), refused(1));
         assert_eq!(lent, before);
     }
     for log in wrong(LOG) {
         let mut lent = pattern(TREE);
-        assert_eq!(raw::show(&log, &mut lent), refused(1));
+        assert_eq!(raw::show(&log, &EMPTY_BASE, &mut lent), refused(1));
         assert_eq!(lent, pattern(TREE));
     }
 
@@ -300,32 +306,32 @@ fn wide_units() {
     let wish = make_folder(0, "Bench");
     for unit in [8, 255, 256, 263, 65_536, 65_537, 0x0100_0000, u32::MAX] {
         let (mut log, mut block, mut file) = (a_log(), pattern(BLOCK), pattern(FILE));
-        assert_eq!(raw::start(&mut log, &mut [], ARCHIVE, unit), refused(21));
-        assert_eq!(raw::act(&mut log, &mut [], ARCHIVE, unit, &wish), refused(21));
-        assert_eq!(raw::take(&mut log, &mut [], ARCHIVE, unit, &block), refused(21));
+        assert_eq!(raw::start(&mut log, &mut EMPTY_BASE.clone(), &mut [], ARCHIVE, unit), refused(21));
+        assert_eq!(raw::act(&mut log, &EMPTY_BASE, &mut [], ARCHIVE, unit, &wish, &mut work()), refused(21));
+        assert_eq!(raw::take(&mut log, &EMPTY_BASE, &mut [], ARCHIVE, unit, &block, &mut []), refused(21));
         assert_eq!(
-            raw::hand_out(&log, ARCHIVE, unit, &[0; 8], &mut block),
+            raw::hand_out(&log, &EMPTY_BASE, ARCHIVE, unit, &[0; 8], &mut block),
             refused(21)
         );
-        assert_eq!(raw::write_file(&log, ARCHIVE, unit, &mut file), refused(21));
+        assert_eq!(raw::write_file(&log, &EMPTY_BASE, ARCHIVE, unit, &mut file), refused(21));
         assert!(log == a_log() && block == pattern(BLOCK) && file == pattern(FILE));
     }
 }
 
 #[test]
 fn held_vectors() {
-    assert_eq!(raw::vector(&vec![0; LOG]), Ok([0; 8]));
+    assert_eq!(raw::vector(&vec![0; LOG], &EMPTY_BASE), Ok([0; 8]));
     for records in [1, 40, 512] {
         let log = log_of(records, 8, 5, &Mix::BENCH, 4);
-        let vector = raw::vector(&log).unwrap();
+        let vector = raw::vector(&log, &EMPTY_BASE).unwrap();
         assert_eq!(vector, vector_of(&log));
         assert_eq!(vector.iter().sum::<u16>() as usize, records);
         let mut unsound = log;
         unsound[0] = 8;
-        assert_eq!(raw::vector(&unsound), refused(19));
+        assert_eq!(raw::vector(&unsound, &EMPTY_BASE), refused(19));
     }
     for log in wrong(LOG) {
-        assert_eq!(raw::vector(&log), refused(1));
+        assert_eq!(raw::vector(&log, &EMPTY_BASE), refused(1));
     }
 }
 
@@ -355,16 +361,16 @@ fn rows() {
 
     // Handing out: as single blocks, one after another.
     let mut row = pattern(FILE);
-    let blocks = raw::hand_out_row(&full, ARCHIVE, 5, &held, &mut row).unwrap();
+    let blocks = raw::hand_out_row(&full, &EMPTY_BASE, ARCHIVE, 5, &held, &mut row).unwrap();
     assert_eq!(blocks, 10);
     assert!(row[BLOCK * 10..].iter().all(|byte| *byte == 0));
     let row = row[..BLOCK * 10].to_vec();
     let mut single = log.clone();
     for block in row.chunks(BLOCK) {
         let mut handed = [0; BLOCK];
-        raw::hand_out(&full, ARCHIVE, 5, &vector_of(&single), &mut handed).unwrap();
+        raw::hand_out(&full, &EMPTY_BASE, ARCHIVE, 5, &vector_of(&single), &mut handed).unwrap();
         assert_eq!(handed[..], *block);
-        raw::take(&mut single, &mut [], ARCHIVE, 0, block).unwrap();
+        raw::take(&mut single, &EMPTY_BASE, &mut [], ARCHIVE, 0, block, &mut []).unwrap();
     }
     assert_eq!(single, full);
 
@@ -374,15 +380,15 @@ fn rows() {
     for (row, taken, stopped) in [(&row, 10, 0), (&damaged, 4, 4)] {
         let (mut copy, mut tree, mut report) = (pattern(LOG), pattern(TREE), pattern(REPORT));
         let before = log.clone();
-        raw::try_row(&log, ARCHIVE, 0, row, &mut copy, &mut tree, &mut report).unwrap();
+        raw::try_row(&log, &EMPTY_BASE, ARCHIVE, 0, row, &mut copy, &mut tree, &mut report).unwrap();
         assert_eq!(log, before);
         assert_eq!(report[..2], [taken, stopped]);
         let mut after = log.clone();
-        let answer = raw::take_row(&mut after, &mut [], ARCHIVE, 0, row);
+        let answer = raw::take_row(&mut after, &EMPTY_BASE, &mut [], ARCHIVE, 0, row, &mut []);
         assert_eq!(answer, Ok(RowTaken { taken, stopped }));
         assert_eq!(after, copy);
         let mut shown = vec![0; TREE];
-        raw::show(&after, &mut shown).unwrap();
+        raw::show(&after, &EMPTY_BASE, &mut shown).unwrap();
         assert_eq!(shown, tree);
     }
 
@@ -393,7 +399,7 @@ fn rows() {
     let try_row = |log: &[u8], unit, row: &[u8], lengths: [usize; 3]| {
         let lent = lengths.map(pattern);
         let [mut copy, mut tree, mut report] = lent.clone();
-        let answer = raw::try_row(log, ARCHIVE, unit, row, &mut copy, &mut tree, &mut report);
+        let answer = raw::try_row(log, &EMPTY_BASE, ARCHIVE, unit, row, &mut copy, &mut tree, &mut report);
         assert_eq!([copy, tree, report], lent);
         answer
     };
@@ -411,7 +417,7 @@ fn rows() {
     assert_eq!(try_row(&unsound, 0, &row, right), refused(19));
     let take_row = |log: &[u8], unit, row: &[u8]| {
         let mut lent = log.to_vec();
-        let answer = raw::take_row(&mut lent, &mut [], ARCHIVE, unit, row);
+        let answer = raw::take_row(&mut lent, &EMPTY_BASE, &mut [], ARCHIVE, unit, row, &mut []);
         assert_eq!(lent, log);
         answer
     };
@@ -426,7 +432,7 @@ fn rows() {
     assert_eq!(take_row(&log, 0, &[]), Ok(none));
     for mut row in wrong(FILE) {
         let before = row.clone();
-        let answer = raw::hand_out_row(&full, ARCHIVE, 8, &held, &mut row);
+        let answer = raw::hand_out_row(&full, &EMPTY_BASE, ARCHIVE, 8, &held, &mut row);
         assert_eq!((answer, row), (refused(1), before));
     }
 }

@@ -1,10 +1,16 @@
 //! The index: made afresh, kept by the calls, and asked, against the tree and the
 //! plain implementation.
 
+use plain::EMPTY_BASE;
 use sab::{Date, Identity, Log, Mark, Refusal, Tree, Unit, Wish, meet, raw};
 use workload::{Chance, Mix, log_of, vector_of, wish};
 
 const ARCHIVE: u32 = 7;
+
+/// Work memory.
+fn work() -> Vec<u8> {
+    vec![0xa5; raw::WORK]
+}
 const DAY: Date = Date::new(2025, 3, 4);
 
 fn refused<T>(number: u8) -> Result<T, Refusal> {
@@ -14,7 +20,7 @@ fn refused<T>(number: u8) -> Result<T, Refusal> {
 /// The index of a log by the plain implementation.
 fn plainly(log: &[u8]) -> Vec<u8> {
     let mut index = vec![0; raw::INDEX];
-    plain::index(log, &mut index).unwrap();
+    plain::index(log, &EMPTY_BASE, &mut index).unwrap();
     index
 }
 
@@ -24,16 +30,16 @@ fn afresh() {
         let mix = [Mix::CONFLICTS, Mix::CASES, Mix::MOVES][seed as usize % 3];
         let log = log_of(60 + 90 * seed as usize, 6, 6, &mix, seed);
         let mut index = vec![7; raw::INDEX];
-        assert_eq!(raw::index(&log, &mut index), Ok(()));
+        assert_eq!(raw::index(&log, &EMPTY_BASE, &mut index, &mut work()), Ok(()));
         assert!(index == plainly(&log));
     }
     let mut index = vec![7; raw::INDEX];
-    assert_eq!(raw::index(&[7; raw::LOG], &mut index), refused(19));
-    assert_eq!(raw::index(&[0; raw::LOG - 1], &mut index), refused(1));
-    assert_eq!(raw::index(&[0; raw::LOG], &mut index[1..]), refused(1));
-    assert_eq!(raw::index(&[0; raw::LOG], &mut []), refused(1));
+    assert_eq!(raw::index(&[7; raw::LOG], &EMPTY_BASE, &mut index, &mut work()), refused(19));
+    assert_eq!(raw::index(&[0; raw::LOG - 1], &EMPTY_BASE, &mut index, &mut work()), refused(1));
+    assert_eq!(raw::index(&[0; raw::LOG], &EMPTY_BASE, &mut index[1..], &mut work()), refused(1));
+    assert_eq!(raw::index(&[0; raw::LOG], &EMPTY_BASE, &mut [], &mut work()), refused(1));
     assert!(index.iter().all(|byte| *byte == 7));
-    assert_eq!(raw::index(&[0; raw::LOG], &mut index), Ok(()));
+    assert_eq!(raw::index(&[0; raw::LOG], &EMPTY_BASE, &mut index, &mut work()), Ok(()));
     assert!(index.iter().all(|byte| *byte == 0));
 }
 
@@ -44,10 +50,10 @@ fn lengths() {
     let before = log_of(20, 2, 6, &Mix::BENCH, 1);
     for length in [1, 512, raw::INDEX - 1, raw::INDEX + 1] {
         let (mut log, mut index) = (before.clone(), vec![7; length]);
-        assert_eq!(raw::start(&mut log, &mut index, ARCHIVE, 8), refused(1));
-        assert_eq!(raw::act(&mut log, &mut index, ARCHIVE, 8, &[]), refused(1));
-        assert_eq!(raw::take(&mut log, &mut index, ARCHIVE, 8, &[]), refused(1));
-        let row = raw::take_row(&mut log, &mut index, ARCHIVE, 8, &[0]);
+        assert_eq!(raw::start(&mut log, &mut EMPTY_BASE.clone(), &mut index, ARCHIVE, 8), refused(1));
+        assert_eq!(raw::act(&mut log, &EMPTY_BASE, &mut index, ARCHIVE, 8, &[], &mut work()), refused(1));
+        assert_eq!(raw::take(&mut log, &EMPTY_BASE, &mut index, ARCHIVE, 8, &[], &mut work()), refused(1));
+        let row = raw::take_row(&mut log, &EMPTY_BASE, &mut index, ARCHIVE, 8, &[0], &mut work());
         assert_eq!(row, refused(1));
         assert_eq!(raw::find(&index, 0, 0, &[0; 32]), refused(1));
         assert_eq!(raw::list(&index, 0, 0), refused(1));
@@ -64,9 +70,9 @@ fn lengths() {
     }
     let mut log = vec![7; raw::LOG];
     let mut index = vec![7; raw::INDEX];
-    assert_eq!(raw::start(&mut log, &mut index, ARCHIVE, 8), refused(21));
+    assert_eq!(raw::start(&mut log, &mut EMPTY_BASE.clone(), &mut index, ARCHIVE, 8), refused(21));
     assert!(index.iter().all(|byte| *byte == 7));
-    assert_eq!(raw::start(&mut log, &mut index, ARCHIVE, 7), Ok(()));
+    assert_eq!(raw::start(&mut log, &mut EMPTY_BASE.clone(), &mut index, ARCHIVE, 7), Ok(()));
     assert!(index.iter().all(|byte| *byte == 0));
 }
 
@@ -80,24 +86,24 @@ fn kept() {
     for _ in 0..1500 {
         let unit = chance.below(8);
         let mut tree = [0; plain::TREE];
-        plain::show(&logs[unit], &mut tree).unwrap();
+        plain::show(&logs[unit], &EMPTY_BASE, &mut tree).unwrap();
         let mut wish = wish(&mut chance, &Mix::MOVES, unit as u8, &tree);
         if chance.one_in(8) {
             wish[chance.below(80)] ^= 1;
         }
         let mut alone = logs[unit].clone();
         let (log, index) = (&mut logs[unit], &mut indexes[unit]);
-        let done = raw::act(log, index, ARCHIVE, unit as u32, &wish);
+        let done = raw::act(log, &EMPTY_BASE, index, ARCHIVE, unit as u32, &wish, &mut work());
         assert_eq!(
             done,
-            raw::act(&mut alone, &mut [], ARCHIVE, unit as u32, &wish)
+            raw::act(&mut alone, &EMPTY_BASE, &mut [], ARCHIVE, unit as u32, &wish, &mut work())
         );
         assert!(*log == alone && *index == plainly(log));
         if chance.one_in(5) {
             let (from, to) = (chance.below(8), chance.below(8));
             let mut row = vec![0; raw::FILE];
             let asked = vector_of(&logs[to]);
-            let blocks = raw::hand_out_row(&logs[from], ARCHIVE, from as u32, &asked, &mut row);
+            let blocks = raw::hand_out_row(&logs[from], &EMPTY_BASE, ARCHIVE, from as u32, &asked, &mut row);
             row.truncate(raw::BLOCK * usize::from(blocks.unwrap()));
             if chance.one_in(4) && !row.is_empty() {
                 let at = chance.below(row.len());
@@ -105,9 +111,9 @@ fn kept() {
             }
             let (log, index) = (&mut logs[to], &mut indexes[to]);
             if chance.one_in(2) {
-                raw::take_row(log, index, ARCHIVE, to as u32, &row).unwrap();
+                raw::take_row(log, &EMPTY_BASE, index, ARCHIVE, to as u32, &row, &mut work()).unwrap();
             } else if let Some(block) = row.chunks(raw::BLOCK).next() {
-                let _ = raw::take(log, index, ARCHIVE, to as u32, block);
+                let _ = raw::take(log, &EMPTY_BASE, index, ARCHIVE, to as u32, block, &mut work());
             }
             assert!(*index == plainly(log));
         }
@@ -154,7 +160,7 @@ fn agrees(log: &Log, tree: &Tree) {
 #[test]
 fn looked_up() {
     let bytes = log_of(300, 5, 6, &Mix::BENCH, 11);
-    let mut log = Log::from_bytes(ARCHIVE, Unit::ALL[3], &bytes).unwrap();
+    let mut log = Log::from_bytes(ARCHIVE, Unit::ALL[3], &bytes, &EMPTY_BASE).unwrap();
     assert!(log.index().is_none());
     log.keep_index().unwrap();
     agrees(&log, &log.show().unwrap());

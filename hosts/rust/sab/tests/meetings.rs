@@ -1,6 +1,7 @@
 //! Careful meetings: they pass all, in the blocks that they need, and notice a
 //! number that was used twice.
 
+use plain::EMPTY_BASE;
 use sab::{
     Asking, Block, Comparison, Date, Identity, Log, Mark, Pass, Refusal, Unit, Vector, Wish, meet,
     pass, raw,
@@ -40,7 +41,7 @@ fn life(units: usize, acts: usize, seed: u64) -> Vec<Log> {
         }
     }
     let logs = life.logs.iter().enumerate();
-    logs.map(|(unit, log)| Log::from_bytes(ARCHIVE, Unit::ALL[unit], log).unwrap())
+    logs.map(|(unit, log)| Log::from_bytes(ARCHIVE, Unit::ALL[unit], log, &EMPTY_BASE).unwrap())
         .collect()
 }
 

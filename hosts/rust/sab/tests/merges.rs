@@ -1,10 +1,16 @@
 //! One file out of two, against the static library.
 
+use plain::EMPTY_BASE;
 use sab::raw::{self, BLOCK, FILE, LOG, WISH};
 use sab::{Log, MergeRefusal, Refusal, merge};
 use workload::{Chance, Mix, Units, log_of, vector_of};
 
 const ARCHIVE: u32 = 0xfedc_ba98;
+
+/// Work memory.
+fn work() -> Vec<u8> {
+    vec![0xa5; raw::WORK]
+}
 
 type Merged = Result<u16, MergeRefusal>;
 
@@ -20,7 +26,7 @@ fn pattern(length: usize) -> Vec<u8> {
 
 fn file_of(log: &[u8], unit: u32) -> Vec<u8> {
     let mut file = vec![0; FILE];
-    let blocks = raw::write_file(log, ARCHIVE, unit, &mut file).unwrap();
+    let blocks = raw::write_file(log, &EMPTY_BASE, ARCHIVE, unit, &mut file).unwrap();
     file.truncate(BLOCK * blocks as usize);
     file
 }
@@ -41,7 +47,7 @@ fn alone(unit: u32, folders: usize, day: u8) -> Vec<u8> {
         wish[..2].copy_from_slice(&[unit as u8, 1]);
         wish[28..32].copy_from_slice(&[0xe9, 7, 3, day]);
         wish[32..36].copy_from_slice(format!("{i:04}").as_bytes());
-        raw::act(&mut log, &mut [], ARCHIVE, unit, &wish).unwrap();
+        raw::act(&mut log, &EMPTY_BASE, &mut [], ARCHIVE, unit, &wish, &mut work()).unwrap();
     }
     log
 }
@@ -97,7 +103,7 @@ fn a_full_file() {
     let file = merge(&file_of(&full, 0), &file_of(&rest, 1)).unwrap();
     assert_eq!(file.len(), FILE);
     let mut log = vec![0; LOG];
-    raw::read_file(&mut log, &file).unwrap();
+    raw::read_file(&mut log, &mut EMPTY_BASE.clone(), &file).unwrap();
     assert_eq!(vector_of(&log), [300, 212, 0, 0, 0, 0, 0, 0]);
     assert_eq!(merge(&file, &file).unwrap(), file);
     // The 213th of unit 1 is the 513th: record 212 of its file, in block 35.
@@ -120,7 +126,7 @@ fn order_of_checks() {
         file
     };
     let mut elsewhere = vec![0; FILE];
-    raw::write_file(&log, ARCHIVE + 1, 2, &mut elsewhere).unwrap();
+    raw::write_file(&log, &EMPTY_BASE, ARCHIVE + 1, 2, &mut elsewhere).unwrap();
     elsewhere.truncate(good.len());
     assert_eq!(merged(&damaged(5), &[]), refused(4, 5, 1));
     assert_eq!(merged(&good[..511], &damaged(0)), refused(2, 0, 1));

@@ -1,6 +1,7 @@
 //! The types around the calls: what they read, write and refuse, and what the
 //! iterators show, against the listing of the library itself.
 
+use plain::EMPTY_BASE;
 use sab::{
     Comparison, Date, Identity, Kind, Log, Mark, Operation, Refusal, Unit, Vector, Wish,
     blocks_for, in_words, raw,
@@ -22,7 +23,7 @@ fn identity(text: &str) -> Identity {
 /// A log with every operation, and with records that stand aside.
 fn a_log() -> Log {
     let bytes = log_of(200, 5, 6, &Mix::MOVES, 11);
-    Log::from_bytes(9, unit(3), &bytes).unwrap()
+    Log::from_bytes(9, unit(3), &bytes, &EMPTY_BASE).unwrap()
 }
 
 #[test]
@@ -319,12 +320,12 @@ fn records_and_entries() {
 #[test]
 fn stored_logs() {
     let log = a_log();
-    assert_eq!(Log::from_bytes(9, unit(3), log.as_bytes()), Ok(log.clone()));
+    assert_eq!(Log::from_bytes(9, unit(3), log.as_bytes(), &EMPTY_BASE), Ok(log.clone()));
     let mut bytes = log.as_bytes().to_vec();
     bytes[1] = 0;
-    assert_eq!(Log::from_bytes(9, unit(3), &bytes), Err(Refusal::new(19)));
+    assert_eq!(Log::from_bytes(9, unit(3), &bytes, &EMPTY_BASE), Err(Refusal::new(19)));
     assert_eq!(
-        Log::from_bytes(9, unit(3), &bytes[1..]),
+        Log::from_bytes(9, unit(3), &bytes[1..], &EMPTY_BASE),
         Err(Refusal::new(1))
     );
     let mut file = log.write_file().unwrap();

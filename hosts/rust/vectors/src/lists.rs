@@ -1,31 +1,30 @@
-//! Call lists: eight logs, one call a line.
+//! Call lists: eight units, one call a line.
 
-use crate::tree;
-use crate::words::{Fault, Words, bytes, hash};
-use library::{Answer, INDEX, Library, REPORT, Trial};
+use crate::words::{self, Fault, Words, bytes, hash};
+use library::{Answer, INDEX, LOG, Library, REPORT, TREE, Trial, empty_base, tree};
 
-const LOG: usize = 40_960;
-
-/// A log and the index that is kept with it.
+/// A log, its base, and the index that is kept with them.
 struct Slot {
     log: Vec<u8>,
+    base: Vec<u8>,
     index: Vec<u8>,
 }
 
-/// The eight logs of a list.
+/// The eight units of a list.
 pub struct Slots([Slot; 8]);
 
 impl Slots {
     pub fn empty() -> Slots {
         Slots(std::array::from_fn(|_| Slot {
             log: vec![0; LOG],
+            base: empty_base(),
             index: vec![0; INDEX],
         }))
     }
 }
 
 /// Bytes of no meaning, which a refused call must leave.
-fn junk(length: usize) -> Vec<u8> {
+pub fn junk(length: usize) -> Vec<u8> {
     (0..length).map(|i| (7 + 31 * i) as u8).collect()
 }
 
@@ -35,7 +34,7 @@ pub fn answer<T>(answer: &Answer<T>) -> [String; 2] {
         Ok(_) => ["0".to_string(), "-".to_string()],
         Err(refusal) => {
             let place = match refusal.number {
-                2..=11 | 20 | 24 | 25 => refusal.place.to_string(),
+                2..=11 | 20 | 24..=31 => refusal.place.to_string(),
                 _ => "-".to_string(),
             };
             [refusal.number.to_string(), place]
@@ -64,7 +63,7 @@ pub fn call(
     let slot: usize = words.number()?;
     let own = slots.0.get_mut(slot).ok_or("no such slot")?;
     match name {
-        "end" => return end(&own.log, words),
+        "end" => return end(library, own, words),
         "list" => return list(library, &own.index, words),
         "find" => return find(library, &own.index, words),
         _ => (),
@@ -75,10 +74,11 @@ pub fn call(
     }
     let mut lent = Slot {
         log: bytes(lent)?,
+        base: empty_base(),
         index: junk(INDEX),
     };
     // Of a log that is not sound there is none.
-    let _ = library.index(&lent.log, &mut lent.index);
+    let _ = library.index(&lent.log, &lent.base, &mut lent.index);
     call_on(library, &mut lent, name, words, shown)
 }
 
@@ -89,38 +89,40 @@ fn call_on(
     mut words: Words,
     shown: &[&str],
 ) -> Result<(), Fault> {
-    let Slot { log, index } = slot;
-    if name == "show" {
-        return show(library, log, words, shown);
+    match name {
+        "show" => return show(library, slot, words, shown),
+        "fold" => return fold(library, slot, words, shown),
+        _ => (),
     }
+    let Slot { log, base, index } = slot;
     if !shown.is_empty() {
         return Err("lines of a tree behind another call".to_string());
     }
     let archive = words.number()?;
     let unit = words.number()?;
-    let (before, listed) = (log.to_vec(), index.to_vec());
+    let (before, based, listed) = (log.to_vec(), base.to_vec(), index.to_vec());
     let mut came: Vec<String> = Vec::new();
     match name {
         "start" => {
             words.equals()?;
-            came.extend(answer(&library.start(log, index, archive, unit)));
+            came.extend(answer(&library.start(log, base, index, archive, unit)));
         }
         "act" => {
             let wish = words.bytes()?;
             words.equals()?;
-            came.extend(answer(&library.act(log, index, archive, unit, &wish)));
+            came.extend(answer(&library.act(log, base, index, archive, unit, &wish)));
         }
         "take" => {
             let block = words.bytes()?;
             words.equals()?;
-            came.extend(answer(&library.take(log, index, archive, unit, &block)));
+            came.extend(answer(&library.take(log, base, index, archive, unit, &block)));
         }
         "handout" => {
             let asked = words.vector()?;
             let lent = words.lent()?;
             words.equals()?;
             let mut block = lent.clone();
-            let given = library.hand_out(log, archive, unit, &asked, &mut block);
+            let given = library.hand_out(log, base, archive, unit, &asked, &mut block);
             came.extend(answer(&given));
             came.push(hash(log));
             if given.is_err() {
@@ -133,13 +135,13 @@ fn call_on(
         "try" => {
             let row = words.bytes()?;
             words.equals()?;
-            came.extend(try_row(library, log, archive, unit, &row)?);
+            came.extend(try_row(library, log, base, archive, unit, &row)?);
         }
         "write" => {
             let lent = words.lent()?;
             words.equals()?;
             let mut file = lent.clone();
-            let count = library.write_file(log, archive, unit, &mut file);
+            let count = library.write_file(log, base, archive, unit, &mut file);
             came.extend(answer(&count));
             came.push(hash(log));
             if let Ok(count) = count {
@@ -157,16 +159,70 @@ fn call_on(
     if came[0] != "0" || matches!(name, "handout" | "try" | "write") {
         kept("log", log, &before)?;
         kept("index", index, &listed)?;
-    } else if fresh(library, log)? != *index {
+    } else if fresh(library, log, base)? != *index {
         return Err("the index is not the one made afresh".into());
+    }
+    if name == "start" && came[0] == "0" {
+        kept("base not empty", base, &empty_base())?;
+    } else {
+        kept("base", base, &based)?;
     }
     words.expect(&came)
 }
 
-/// The index of a log, made afresh.
-fn fresh(library: &dyn Library, log: &[u8]) -> Result<Vec<u8>, Fault> {
+/// Folds, and tells the base as it is left. The index stays right.
+fn fold(
+    library: &dyn Library,
+    slot: &mut Slot,
+    mut words: Words,
+    shown: &[&str],
+) -> Result<(), Fault> {
+    let Slot { log, base, index } = slot;
+    let (archive, unit) = (words.number()?, words.number()?);
+    let list = words.units()?;
+    words.equals()?;
+    let (before, based) = (log.to_vec(), base.to_vec());
+    let given = library.fold(log, base, archive, unit, list);
+    let mut came = answer(&given).to_vec();
+    came.push(hash(log));
+    let Ok(folded) = given else {
+        kept("log", log, &before)?;
+        kept("base", base, &based)?;
+        came.extend(std::iter::repeat_n("-".to_string(), 4));
+        words.expect(&came)?;
+        return tree::same(&[], shown);
+    };
+    if base[0] != list {
+        return Err("another list is stored".to_string());
+    }
+    if fresh(library, log, base)? != *index {
+        return Err("the fold has changed the index".to_string());
+    }
+    // The base alone, with no records behind it.
+    let (bare, mut table) = (vec![0; LOG], junk(TREE));
+    if let Err(refusal) = library.show(&bare, base, &mut table) {
+        return Err(format!("the base is refused: {refusal:?}"));
+    }
+    let lines = tree::lines(&table)?;
+    came.extend([
+        folded.to_string(),
+        words::vector(&base_vector(base)),
+        lines.entries.len().to_string(),
+        lines.asides.len().to_string(),
+    ]);
+    words.expect(&came)?;
+    tree::same(&lines.all(), shown)
+}
+
+/// The vector of a base.
+fn base_vector(base: &[u8]) -> [u16; 8] {
+    std::array::from_fn(|unit| u16::from_le_bytes([base[8 + 2 * unit], base[9 + 2 * unit]]))
+}
+
+/// The index of a log and its base, made afresh.
+fn fresh(library: &dyn Library, log: &[u8], base: &[u8]) -> Result<Vec<u8>, Fault> {
     let mut index = junk(INDEX);
-    match library.index(log, &mut index) {
+    match library.index(log, base, &mut index) {
         Ok(()) => Ok(index),
         Err(refusal) => Err(format!("no index: refused {}", refusal.number)),
     }
@@ -209,25 +265,26 @@ fn identity(bytes: &[u8]) -> String {
 fn try_row(
     library: &dyn Library,
     log: &[u8],
+    base: &[u8],
     archive: u32,
     unit: u32,
     row: &[u8],
 ) -> Result<Vec<String>, Fault> {
     let mut trial = Trial {
         copy: junk(LOG),
-        tree: junk(tree::TREE),
+        tree: junk(TREE),
         report: junk(REPORT),
     };
-    let given = library.try_row(log, archive, unit, row, &mut trial);
+    let given = library.try_row(log, base, archive, unit, row, &mut trial);
     let (mut taken, mut index) = (log.to_vec(), junk(INDEX));
-    let _ = library.index(log, &mut index);
+    let _ = library.index(log, base, &mut index);
     let listed = index.clone();
-    let took = library.take_row(&mut taken, &mut index, archive, unit, row);
+    let took = library.take_row(&mut taken, base, &mut index, archive, unit, row);
     let mut came = answer(&given).to_vec();
     came.push(hash(log));
     if given.is_err() {
         kept("copy", &trial.copy, &junk(LOG))?;
-        kept("tree", &trial.tree, &junk(tree::TREE))?;
+        kept("tree", &trial.tree, &junk(TREE))?;
         kept("report", &trial.report, &junk(REPORT))?;
         kept("log", &taken, log)?;
         kept("index", &index, &listed)?;
@@ -242,16 +299,16 @@ fn try_row(
     if took != Ok(stop) || taken != trial.copy {
         return Err("the take of the row leaves another log".into());
     }
-    if index != fresh(library, &taken)? {
+    if index != fresh(library, &taken, base)? {
         return Err("the take of the row leaves another index".into());
     }
     let pair = |at: usize| u16::from_le_bytes([report[at], report[at + 1]]);
-    let vector: Vec<String> = (0..8).map(|unit| pair(4 + 2 * unit).to_string()).collect();
+    let vector = std::array::from_fn(|unit| pair(4 + 2 * unit));
     let named: Vec<String> = (0..usize::from(pair(2)))
         .map(|i| identity(&report[20 + 4 * i..]))
         .collect();
     let named = if named.is_empty() { "-".to_string() } else { named.join(",") };
-    came.extend([stop.0.to_string(), stop.1.to_string(), vector.join(","), named]);
+    came.extend([stop.0.to_string(), stop.1.to_string(), words::vector(&vector), named]);
     Ok(came)
 }
 
@@ -267,27 +324,21 @@ fn written(expected: &str, block: &[u8]) -> Result<String, Fault> {
 
 fn show(
     library: &dyn Library,
-    log: &mut [u8],
+    slot: &Slot,
     mut words: Words,
     shown: &[&str],
 ) -> Result<(), Fault> {
     words.equals()?;
-    let before = log.to_vec();
-    let lent = junk(tree::TREE);
+    let lent = junk(TREE);
     let mut table = lent.clone();
-    let given = library.show(log, &mut table);
-    kept("log", log, &before)?;
+    let given = library.show(&slot.log, &slot.base, &mut table);
     let mut came = answer(&given).to_vec();
-    came.push(hash(log));
+    came.push(hash(&slot.log));
     if given.is_err() {
         kept("tree", &table, &lent)?;
         came.extend(["-".to_string(), "-".to_string()]);
         words.expect(&came)?;
-        return if shown.is_empty() {
-            Ok(())
-        } else {
-            Err("refused, but a tree expected".into())
-        };
+        return tree::same(&[], shown);
     }
     let lines = tree::lines(&table)?;
     came.extend([
@@ -295,31 +346,20 @@ fn show(
         lines.asides.len().to_string(),
     ]);
     words.expect(&came)?;
-    let lines: Vec<&String> = lines.entries.iter().chain(&lines.asides).collect();
-    if lines.len() != shown.len() {
-        return Err(format!(
-            "{} lines expected, {} came",
-            shown.len(),
-            lines.len()
-        ));
-    }
-    for (expected, came) in shown.iter().zip(lines) {
-        if expected != came {
-            return Err(format!("'{expected}' expected, '{came}' came"));
-        }
-    }
-    Ok(())
+    tree::same(&lines.all(), shown)
 }
 
-/// The slot's record counts and hash at the end of a list.
-fn end(log: &[u8], mut words: Words) -> Result<(), Fault> {
-    let vector = words.vector()?;
-    let mut counts = [0u16; 8];
-    for record in log.chunks(80).take_while(|record| record[2..4] != [0, 0]) {
-        counts[(record[0] & 7) as usize] += 1;
+/// The slot's vector and hash at the end of a list; and its list and the vector
+/// of its base, where these stand behind.
+fn end(library: &dyn Library, slot: &Slot, mut words: Words) -> Result<(), Fault> {
+    let counts = match library.vector(&slot.log, &slot.base) {
+        Ok(counts) => counts,
+        Err(refusal) => return Err(format!("no vector: refused {}", refusal.number)),
+    };
+    let mut came = vec![words::vector(&counts), hash(&slot.log)];
+    if words.word_ahead(2).is_ok() {
+        let list = words::units(slot.base[0]);
+        came.extend([list, words::vector(&base_vector(&slot.base))]);
     }
-    if counts != vector {
-        return Err(format!("counts {vector:?} expected, {counts:?} came"));
-    }
-    words.expect(&[hash(log)])
+    words.expect(&came)
 }

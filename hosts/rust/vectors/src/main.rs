@@ -1,13 +1,13 @@
-//! `vectors [--plain] DIR`: runs the call lists, tables, merges and readout cases
-//! of a directory against the static library, or against the plain
+//! `vectors [--plain] DIR`: runs the call lists, tables, merges, states and readout
+//! cases of a directory against the static library, or against the plain
 //! implementation, and says how many passed and failed. Any failure, also a
 //! directory without a case, gives an exit status other than 0.
 
 mod lists;
 mod merges;
 mod readout;
+mod states;
 mod tables;
-mod tree;
 mod words;
 
 use library::Library;
@@ -120,8 +120,36 @@ fn run_readout(library: &dyn Library, path: &Path) -> Result<(), Fault> {
     readout::case(library, &file, &expected)
 }
 
+/// Each question is a case by itself, asked of the state that stands before it.
+fn run_states(
+    library: &dyn Library,
+    path: &Path,
+    text: &str,
+    tally: &mut Tally,
+) -> Result<(), Fault> {
+    let mut state = states::State::none();
+    for (at, line) in lines(text)?.iter().enumerate() {
+        let what = || format!("{}:{}", path.display(), at + 1);
+        if let Some(question) = line.strip_prefix("? ") {
+            tally.count(what, state.ask(library, question));
+        } else if !line.starts_with('#')
+            && let Err(fault) = state.line(line)
+        {
+            tally.count(what, Err(fault));
+        }
+    }
+    Ok(())
+}
+
 fn run(library: &dyn Library, directory: &Path) -> Tally {
     let mut tally = Tally::default();
+    let states = directory.join("states.txt");
+    if states.exists() {
+        let whole = text(&states).and_then(|text| run_states(library, &states, &text, &mut tally));
+        if whole.is_err() {
+            tally.count(|| states.display().to_string(), whole);
+        }
+    }
     for path in files(&directory.join("lists"), "txt") {
         let whole = text(&path).and_then(|text| run_list(library, &path, &text, &mut tally));
         if whole.is_err() {

@@ -2,9 +2,8 @@
 
 use crate::lists::{answer, kept};
 use crate::words::{Fault, Words, hash};
-use library::{Library, Refusal};
+use library::{LOG, Library, Refusal, empty_base};
 
-const LOG: usize = 40_960;
 const BLOCK: usize = 512;
 
 /// Runs one line.
@@ -45,7 +44,7 @@ fn merge(library: &dyn Library, mut words: Words) -> Result<(), Fault> {
 /// The file reads back as the log that the merge left.
 fn reads_back(library: &dyn Library, file: &[u8], log: &[u8]) -> Result<(), Fault> {
     let mut read = vec![0; LOG];
-    match library.read_file(&mut read, file) {
+    match library.read_file(&mut read, &mut empty_base(), file) {
         Err(refusal) => Err(format!("the merged file is refused: {refusal:?}")),
         Ok(_) if read != log => Err("the lent log is not that of the file".to_string()),
         Ok(_) => Ok(()),

@@ -1,10 +1,8 @@
 //! Readout cases: a file and the listing of it.
 
-use crate::tree;
 use crate::words::Fault;
-use library::{LISTING, Library};
+use library::{BASE, LISTING, LOG, Library, TREE, empty_base, tree};
 
-const LOG: usize = 40_960;
 const FILE: usize = 44_032;
 
 /// Runs one case.
@@ -45,26 +43,30 @@ fn differs(expected: &[u8], came: &[u8]) -> Result<(), Fault> {
 /// The listing by reading the file, showing its tree, and writing it again.
 fn listing(library: &dyn Library, file: &[u8]) -> Result<Vec<u8>, Fault> {
     let lent: Vec<u8> = (0..LOG).map(|i| (3 + 31 * i) as u8).collect();
-    let mut log = lent.clone();
-    let head = match library.read_file(&mut log, file) {
+    let lent_base = crate::lists::junk(BASE);
+    let (mut log, mut base) = (lent.clone(), lent_base.clone());
+    let head = match library.read_file(&mut log, &mut base, file) {
         Ok(head) => head,
         Err(refusal) => {
-            if log != lent {
-                return Err("refused, but the log changed".to_string());
+            if log != lent || base != lent_base {
+                return Err("refused, but log or base changed".to_string());
             }
             let text = format!("refused {} at {}\n", refusal.number, refusal.place);
             return Ok(text.into_bytes());
         }
     };
+    if base != empty_base() {
+        return Err("read, but the base is not empty".to_string());
+    }
     let mut again = vec![0xa5; FILE];
-    let count = library.write_file(&log, head.archive, head.unit.into(), &mut again);
+    let count = library.write_file(&log, &base, head.archive, head.unit.into(), &mut again);
     let (blocks, tail) = again.split_at(file.len());
     let whole = count == Ok((file.len() / 512) as u16);
     if !whole || blocks != file || tail.iter().any(|byte| *byte != 0) {
         return Err("written again, the file differs".to_string());
     }
-    let mut table = vec![0xa5; tree::TREE];
-    if library.show(&log, &mut table).is_err() {
+    let mut table = vec![0xa5; TREE];
+    if library.show(&log, &base, &mut table).is_err() {
         return Err("read, but not shown".to_string());
     }
     let lines = tree::lines(&table)?;

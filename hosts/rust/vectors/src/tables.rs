@@ -3,9 +3,8 @@
 
 use crate::lists::{answer, kept};
 use crate::words::{Fault, Words, hash};
-use library::Library;
+use library::{LOG, Library, empty_base};
 
-const LOG: usize = 40_960;
 const MODULUS: i64 = 65_521;
 
 /// Runs one line.
@@ -45,8 +44,9 @@ pub fn row(library: &dyn Library, line: &str) -> Result<(), Fault> {
         "sound" => {
             let log = words.bytes()?;
             words.equals()?;
-            let asked = library.show(&log, &mut vec![0; crate::tree::TREE]).is_ok();
-            same(asked, library.sound(&log))?;
+            let (base, mut tree) = (empty_base(), vec![0; library::TREE]);
+            let asked = library.show(&log, &base, &mut tree).is_ok();
+            same(asked, library.sound(&log, &base))?;
             words.expect(&[(asked as u8).to_string()])
         }
         "sums" => sums(library, words),
@@ -83,11 +83,11 @@ fn count_by_hand_out(library: &dyn Library, held: &[u16; 8], asked: &[u16; 8]) -
             wish[28..32].copy_from_slice(&[0xe9, 7, 3, 3]);
             let label = format!("{unit}.{number}");
             wish[32..32 + label.len()].copy_from_slice(label.as_bytes());
-            library.act(&mut log, &mut [], 0, unit.into(), &wish).ok()?;
+            library.act(&mut log, &empty_base(), &mut [], 0, unit.into(), &wish).ok()?;
         }
     }
     let mut block = [0; 512];
-    library.hand_out(&log, 0, 0, asked, &mut block).ok()?;
+    library.hand_out(&log, &empty_base(), 0, 0, asked, &mut block).ok()?;
     Some(block[9].into())
 }
 
@@ -99,7 +99,7 @@ fn date_by_act(library: &dyn Library, year: u16, month: u8, day: u8) -> bool {
     wish[30] = month;
     wish[31] = day;
     wish[32] = b'a';
-    library.act(&mut [0; LOG], &mut [], 0, 0, &wish).is_ok()
+    library.act(&mut [0; LOG], &empty_base(), &mut [], 0, 0, &wish).is_ok()
 }
 
 /// A block with the record is not refused as malformed by an empty log.
@@ -109,7 +109,7 @@ fn record_by_take(library: &dyn Library, record: &[u8; 80]) -> bool {
     block[9] = 1;
     block[28..108].copy_from_slice(record);
     seal(&mut block);
-    match library.take(&mut [0; LOG], &mut [], 0, 0, &block) {
+    match library.take(&mut [0; LOG], &empty_base(), &mut [], 0, 0, &block) {
         Ok(()) => true,
         Err(refusal) => matches!(refusal.number, 8 | 9),
     }
@@ -121,7 +121,7 @@ fn stands_by_act(library: &dyn Library, byte: u8) -> bool {
     wish[1] = 1;
     wish[28..32].copy_from_slice(&[0xe9, 7, 3, 3]);
     wish[32..35].copy_from_slice(&[b'a', byte, b'a']);
-    library.act(&mut [0; LOG], &mut [], 0, 0, &wish).is_ok()
+    library.act(&mut [0; LOG], &empty_base(), &mut [], 0, 0, &wish).is_ok()
 }
 
 /// An act of a lent log, whatever the log holds.
@@ -131,7 +131,7 @@ fn wish(library: &dyn Library, mut words: Words) -> Result<(), Fault> {
     let wish = words.bytes()?;
     words.equals()?;
     let before = log.clone();
-    let given = library.act(&mut log, &mut [], archive, unit, &wish);
+    let given = library.act(&mut log, &empty_base(), &mut [], archive, unit, &wish);
     if given.is_err() {
         kept("log", &log, &before)?;
     }
@@ -184,7 +184,7 @@ fn sums(library: &dyn Library, mut words: Words) -> Result<(), Fault> {
         (true, [right[0], right[1] ^ 1]),
     ] {
         put_sums(&mut block, sums);
-        let answer = library.take(&mut [0; LOG], &mut [], 0, 0, &block);
+        let answer = library.take(&mut [0; LOG], &empty_base(), &mut [], 0, 0, &block);
         if answer.is_err_and(|refusal| refusal.number == 4) != wrong {
             return Err(format!("{expected:?} expected, a take says otherwise"));
         }

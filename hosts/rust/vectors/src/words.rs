@@ -79,6 +79,23 @@ impl<'a> Words<'a> {
             .map_err(|_| format!("{word}: not eight counts"))
     }
 
+    /// Units parted by commas, rising, or `-`: bit u for unit u.
+    pub fn units(&mut self) -> Result<u8, Fault> {
+        let word = self.word()?;
+        if word == "-" {
+            return Ok(0);
+        }
+        let mut list = 0;
+        for unit in word.split(',') {
+            let unit: u8 = number(unit)?;
+            if unit > 7 || list >> unit != 0 {
+                return Err(format!("{word}: no rising units"));
+            }
+            list |= 1 << unit;
+        }
+        Ok(list)
+    }
+
     /// The lone `=` before what is expected.
     pub fn equals(&mut self) -> Result<(), Fault> {
         match self.word()? {
@@ -149,6 +166,18 @@ pub fn hash(bytes: &[u8]) -> String {
         (hash ^ *byte as u64).wrapping_mul(0x0000_0100_0000_01b3)
     });
     format!("{hash:016x}")
+}
+
+/// A vector as it is written.
+pub fn vector(counts: &[u16; 8]) -> String {
+    counts.map(|count| count.to_string()).join(",")
+}
+
+/// A list of units as it is written.
+pub fn units(list: u8) -> String {
+    let listed = (0..8).filter(|unit| list >> unit & 1 == 1);
+    let units: Vec<String> = listed.map(|unit| unit.to_string()).collect();
+    if units.is_empty() { "-".to_string() } else { units.join(",") }
 }
 
 /// The beginning of a long word.

@@ -1,7 +1,7 @@
 //! Wishes that mostly fit the tree they are made for.
 
 use crate::Chance;
-use plain::{ASIDE_ROW, ENTRY_ROW, RECORDS, TREE};
+use plain::{ASIDE_ROW, ENTRY_ROW, ROWS, TREE};
 
 /// How often each operation is wished, and among how many labels.
 #[derive(Clone, Copy)]
@@ -66,8 +66,8 @@ fn label(chance: &mut Chance, mix: &Mix, into: &mut [u8]) {
 /// A wish of a unit whose log shows this tree. If nothing stands that the drawn
 /// operation could name, it makes a folder.
 pub fn wish(chance: &mut Chance, mix: &Mix, unit: u8, tree: &[u8; TREE]) -> [u8; 80] {
-    let (entries, _) = tree[4..4 + RECORDS * ENTRY_ROW].as_chunks::<ENTRY_ROW>();
-    let (asides, _) = tree[4 + RECORDS * ENTRY_ROW..].as_chunks::<ASIDE_ROW>();
+    let (entries, _) = tree[4..4 + ROWS * ENTRY_ROW].as_chunks::<ENTRY_ROW>();
+    let (asides, _) = tree[4 + ROWS * ENTRY_ROW..].as_chunks::<ASIDE_ROW>();
     let entries = &entries[..get16(tree, 0)];
     let asides = &asides[..get16(tree, 2)];
     let of_kind = |kind: u8| {

@@ -1,7 +1,7 @@
 //! The plain index against one gathered and sorted from the tree table, and its
 //! look-ups against the words of docs/FORMAT.md, taken slowly.
 
-use plain::{BLOCK, ENTRY_ROW, INDEX, LOG, TREE};
+use plain::{BLOCK, EMPTY_BASE, ENTRY_ROW, INDEX, LOG, TREE};
 use workload::{Chance, Mix, Units, log_of, vector_of, wish};
 
 const ROW: usize = 40;
@@ -19,7 +19,7 @@ fn folded(label: &[u8]) -> Vec<u8> {
 /// The index of a log: the rows of its tree, sorted.
 fn sorted(log: &[u8]) -> Vec<u8> {
     let mut tree = [0; TREE];
-    plain::show(log, &mut tree).expect("a sound log");
+    plain::show(log, &EMPTY_BASE, &mut tree).expect("a sound log");
     let count = usize::from(u16::from_le_bytes([tree[0], tree[1]]));
     let mut rows: Vec<Vec<u8>> = tree[4..]
         .chunks(ENTRY_ROW)
@@ -68,11 +68,11 @@ fn seek(index: &[u8], folder: u64, label: &[u8]) -> usize {
         let row = row(index, at);
         (key(name(row)), folded(&row[4..36])) < (folder, folded(label))
     };
-    halved(&before, 10, 0, rows(index))
+    halved(&before, 11, 0, rows(index))
 }
 
 fn rows(index: &[u8]) -> usize {
-    usize::from(u16::from_le_bytes([index[0], index[1]])).min(512)
+    usize::from(u16::from_le_bytes([index[0], index[1]])).min(1024)
 }
 
 /// What looking up answers in any bytes.
@@ -126,7 +126,7 @@ fn afresh() {
         let mix = MIXES[seed as usize % 4];
         let log = log_of(100 + 34 * seed as usize, 5, 6, &mix, seed);
         let mut index = vec![7; INDEX];
-        plain::index(&log, &mut index).expect("a sound log");
+        plain::index(&log, &EMPTY_BASE, &mut index).expect("a sound log");
         assert!(index == sorted(&log), "seed {seed}");
     }
 }
@@ -146,14 +146,14 @@ fn kept() {
             let (log, index) = (&mut logs[unit], &mut indexes[unit]);
             let before = (log.clone(), index.clone());
             let mut tree = [0; TREE];
-            plain::show(log, &mut tree).expect("a sound log");
+            plain::show(log, &EMPTY_BASE, &mut tree).expect("a sound log");
             let mut wish = wish(&mut chance, &mix, unit as u8, &tree);
             if chance.one_in(8) {
                 wish[chance.below(80)] ^= 1;
             }
-            let done = plain::act(log, index, 7, unit as u8, &wish);
+            let done = plain::act(log, &EMPTY_BASE, index, 7, unit as u8, &wish);
             let mut alone = before.0.clone();
-            assert_eq!(done, plain::act(&mut alone, &mut [], 7, unit as u8, &wish));
+            assert_eq!(done, plain::act(&mut alone, &EMPTY_BASE, &mut [], 7, unit as u8, &wish));
             assert!(alone == *log);
             match done {
                 Ok(()) => accepted += 1,
@@ -164,15 +164,15 @@ fn kept() {
                 let (from, to) = (chance.below(8), chance.below(8));
                 let asked = vector_of(&logs[to]);
                 let mut block = [0; BLOCK];
-                plain::hand_out(&logs[from], 7, from as u8, &asked, &mut block).expect("sound");
+                plain::hand_out(&logs[from], &EMPTY_BASE, 7, from as u8, &asked, &mut block).expect("sound");
                 if chance.one_in(4) {
                     block[chance.below(BLOCK)] ^= 1;
                 }
                 let row = [block; 2].concat();
                 let (log, index) = (&mut logs[to], &mut indexes[to]);
                 let _ = match chance.one_in(2) {
-                    true => plain::take(log, index, 7, to as u8, &block),
-                    false => plain::take_row(log, index, 7, to as u8, &row).map(drop),
+                    true => plain::take(log, &EMPTY_BASE, index, 7, to as u8, &block),
+                    false => plain::take_row(log, &EMPTY_BASE, index, 7, to as u8, &row).map(drop),
                 };
                 assert!(*index == sorted(log), "take, seed {seed}");
             }
@@ -265,11 +265,11 @@ fn lengths() {
     let log = &mut units.logs[0];
     for length in [1, INDEX - 1, INDEX + 1] {
         let mut index = vec![7; length];
-        assert!(plain::start(log, &mut index, 7, 9).is_err_and(|no| no.number == 1));
-        assert!(plain::act(log, &mut index, 7, 9, &[]).is_err_and(|no| no.number == 1));
-        assert!(plain::take(log, &mut index, 7, 9, &[]).is_err_and(|no| no.number == 1));
-        assert!(plain::take_row(log, &mut index, 7, 9, &[1]).is_err_and(|no| no.number == 1));
-        assert!(plain::index(log, &mut index).is_err_and(|no| no.number == 1));
+        assert!(plain::start(log, &mut EMPTY_BASE.clone(), &mut index, 7, 9).is_err_and(|no| no.number == 1));
+        assert!(plain::act(log, &EMPTY_BASE, &mut index, 7, 9, &[]).is_err_and(|no| no.number == 1));
+        assert!(plain::take(log, &EMPTY_BASE, &mut index, 7, 9, &[]).is_err_and(|no| no.number == 1));
+        assert!(plain::take_row(log, &EMPTY_BASE, &mut index, 7, 9, &[1]).is_err_and(|no| no.number == 1));
+        assert!(plain::index(log, &EMPTY_BASE, &mut index).is_err_and(|no| no.number == 1));
         assert_eq!(index, vec![7; length]);
     }
 }

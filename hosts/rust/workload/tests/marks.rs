@@ -1,7 +1,7 @@
 //! Another content mark stays small: of logs drawn by chance, the mark of each make
 //! trace and each store is changed, one at a time, and both trees are compared.
 
-use plain::{ASIDE_ROW, ENTRY_ROW, LOG, RECORD, RECORDS, TREE};
+use plain::{ASIDE_ROW, EMPTY_BASE, ENTRY_ROW, LOG, RECORD, RECORDS, ROWS, TREE};
 use workload::{Mix, log_of};
 
 /// Where the mark stands in a record and in an entry's row.
@@ -23,7 +23,7 @@ struct Counts {
 
 fn shown(log: &[u8]) -> [u8; TREE] {
     let mut table = [0; TREE];
-    plain::show(log, &mut table).expect("a sound log");
+    plain::show(log, &EMPTY_BASE, &mut table).expect("a sound log");
     table
 }
 
@@ -36,7 +36,7 @@ fn entries(table: &[u8; TREE]) -> impl Iterator<Item = &[u8]> {
 }
 
 fn stands_aside(table: &[u8; TREE], identity: &[u8]) -> bool {
-    let mut asides = table[4 + RECORDS * ENTRY_ROW..]
+    let mut asides = table[4 + ROWS * ENTRY_ROW..]
         .chunks(ASIDE_ROW)
         .take(count(table, 2));
     asides.any(|row| row[..4] == *identity)

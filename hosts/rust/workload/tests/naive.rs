@@ -1,6 +1,6 @@
 //! The plain implementation's shortcuts against the paper's words, taken slowly.
 
-use plain::{LOG, RECORD};
+use plain::{EMPTY_BASE, LOG, RECORD};
 use workload::{Chance, Mix, log_of};
 
 fn seen(record: &[u8]) -> [u16; 8] {
@@ -88,7 +88,7 @@ fn sound_logs() {
             round as u64,
         );
         assert_eq!(fault(&log), None);
-        assert!(plain::sound(&log));
+        assert!(plain::sound(&log, &EMPTY_BASE));
         let used = log
             .chunks(RECORD)
             .take_while(|record| number(record) > 0)
@@ -110,7 +110,7 @@ fn sound_logs() {
             }
         }
         let expected = fault(&log);
-        assert_eq!(plain::sound(&log), expected.is_none(), "{expected:?}");
+        assert_eq!(plain::sound(&log, &EMPTY_BASE), expected.is_none(), "{expected:?}");
         if let Some(fault) = expected {
             found[fault as usize] += 1;
         }

@@ -2,7 +2,7 @@
 //! tells whether a log reads otherwise than before labels were compared in any
 //! case.
 
-use plain::{ASIDE_ROW, ENTRY_ROW, RECORD, RECORDS, TREE};
+use plain::{ASIDE_ROW, EMPTY_BASE, ENTRY_ROW, RECORD, ROWS, TREE};
 use workload::{Mix, log_of};
 
 /// When two labels are the same, and whether a rename's object is a holder.
@@ -209,10 +209,10 @@ fn replayed(rule: Rule, log: &[u8]) -> Tree {
 /// What the plain implementation shows.
 fn shown(log: &[u8]) -> Tree {
     let mut table = [0; TREE];
-    plain::show(log, &mut table).expect("a sound log");
+    plain::show(log, &EMPTY_BASE, &mut table).expect("a sound log");
     let count = |at: usize| usize::from(u16::from_le_bytes([table[at], table[at + 1]]));
     let entries = table[4..].chunks(ENTRY_ROW).take(count(0));
-    let asides = table[4 + RECORDS * ENTRY_ROW..].chunks(ASIDE_ROW);
+    let asides = table[4 + ROWS * ENTRY_ROW..].chunks(ASIDE_ROW);
     Tree {
         entries: entries
             .map(|row| Entry {

@@ -153,9 +153,10 @@ fn act(archive: &Archive, unit: Unit, wanted: &Wanted) -> Outcome<Log> {
         refused(refusal, Some(detail))
     })?;
     let wish = wish.to_bytes(unit);
-    let mut bytes = log.as_bytes().to_vec();
-    let header = u32::from(log.unit().number());
-    raw::act(&mut bytes, &mut [], log.archive(), header, &wish).map_err(|refusal| {
+    let (mut bytes, base) = (log.as_bytes().to_vec(), log.base().as_bytes());
+    let (header, mut work) = (u32::from(log.unit().number()), vec![0; raw::WORK]);
+    let acted = raw::act(&mut bytes, base, &mut [], log.archive(), header, &wish, &mut work);
+    acted.map_err(|refusal| {
         if unit != log.unit() {
             let detail = format!("the file is of unit {}, not of unit {unit}", log.unit());
             return Refused {
@@ -173,7 +174,7 @@ fn act(archive: &Archive, unit: Unit, wanted: &Wanted) -> Outcome<Log> {
         };
         refused(refusal, detail)
     })?;
-    Log::from_bytes(log.archive(), log.unit(), &bytes).map_err(of_library(&archive.name, Case::Act))
+    Log::from_bytes(log.archive(), log.unit(), &bytes, base).map_err(of_library(&archive.name, Case::Act))
 }
 
 /// An operation in words, read.

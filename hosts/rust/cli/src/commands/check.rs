@@ -41,6 +41,10 @@ from small letters in labels, has a second line with the records that make the
 difference; it stays good. A file with moves has a line that says how many: an
 analyser before version 5 does not know them and refuses the file.
 
+From 400 records on that are not folded a line says how many places are free; sab
+fold frees some. Of a state file, which sab fold writes, it is always said, and
+behind the records stand how many are folded and the listed units.
+
 A file that a cut left beside this one while it was being replaced is named too;
 it can be removed.",
     options: &[flag("blocks", None, "judge each block by itself too")],
@@ -73,6 +77,7 @@ fn check(session: &mut Session, name: &Path) -> Outcome<()> {
     let good = session.out.ink(Ink::Well, "good");
     let line = format!("{}: {good}: {}", archive.shown(), archive.summary());
     session.out.line(line);
+    archive.tell_room(&mut session.out);
     archive.tell_moves(&mut session.out)?;
     archive.tell_otherwise(&mut session.out)
 }

@@ -96,7 +96,11 @@ fn pair(session: &mut Session, first: &Archive, second: &Archive) -> Status {
     let (words, todo) = match answer {
         Comparison::Identical => {
             let words = session.out.ink(Ink::Well, "identical");
-            (format!("{words}: the same records, byte for byte"), None)
+            let same = match first.folded() + second.folded() {
+                0 => "the same records, byte for byte",
+                _ => "the same records; what is folded is not compared",
+            };
+            (format!("{words}: {same}"), None)
         }
         Comparison::FirstAhead => (
             format!(

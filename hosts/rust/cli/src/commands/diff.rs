@@ -3,7 +3,7 @@
 use super::{Command, Session};
 use crate::archive::Archive;
 use crate::args::flag;
-use crate::failure::{Outcome, of_library};
+use crate::failure::Outcome;
 use crate::json::Object;
 use crate::marks;
 use crate::numbers::{Case, advice};
@@ -42,7 +42,7 @@ fn run(session: &mut Session) -> Outcome<Status> {
     let names = session.args.files(2..=2, "two FILEs")?;
     let first = Archive::read(session.system, &names[0])?;
     let second = Archive::read(session.system, &names[1])?;
-    let (old, new) = (listing(&first)?, listing(&second)?);
+    let (old, new) = (first.listing()?, second.listing()?);
     let (old, new): (Vec<&str>, Vec<&str>) = (old.lines().collect(), new.lines().collect());
     let (old_rest, new_rest) = (old.get(2..).unwrap_or(&[]), new.get(2..).unwrap_or(&[]));
     let lines = differing(old_rest, new_rest);
@@ -116,13 +116,6 @@ fn tell_marks(session: &mut Session, first: &Archive, second: &Archive) -> Outco
         session.out.line(format_args!("  {advice}"));
     }
     Ok(())
-}
-
-fn listing(archive: &Archive) -> Outcome<String> {
-    archive
-        .log
-        .listing()
-        .map_err(of_library(&archive.name, Case::File))
 }
 
 /// What a line is about: its first two words, kind and identity.

@@ -7,7 +7,8 @@ use crate::failure::{Failure, Outcome, Refused, of_library, usage};
 use crate::files;
 use crate::numbers::Case;
 use crate::out::Status;
-use crate::records::{Story, kind_word, state};
+use crate::records::{Story, kind_word, state as aside_state};
+use crate::state;
 use crate::why;
 use sab::raw;
 use std::path::Path;
@@ -59,7 +60,13 @@ fn run(session: &mut Session) -> Outcome<Status> {
 
 fn text(session: &mut Session, name: &Path) -> Outcome<Status> {
     let read = files::read(session.system, name, LIMIT)?;
-    let (mut log, mut tree) = (vec![0; raw::LOG], vec![0; raw::TREE]);
+    if state::is_state(&read.bytes) {
+        let log = judge(name, &read.bytes, read.length)?;
+        let archive = Archive::of(name, log, read.id)?;
+        session.out.bytes(archive.listing()?.as_bytes());
+        return Ok(Status::Yes);
+    }
+    let [mut log, mut tree] = [raw::LOG, raw::TREE].map(|size| vec![0; size]);
     let mut out = vec![0; raw::LISTING];
     let listed = raw::listing(&read.bytes, &mut log, &mut tree, &mut out)
         .map_err(of_library(name, Case::File))?;
@@ -124,7 +131,7 @@ fn csv(session: &mut Session, name: &Path) -> Outcome<Status> {
         session.out.line(format_args!(
             "aside,{},,,,,{},{},{}",
             aside.identity(),
-            state(aside),
+            aside_state(aside),
             aside.reason(),
             aside
                 .marks()

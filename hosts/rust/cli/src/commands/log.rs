@@ -53,6 +53,11 @@ fn run(session: &mut Session) -> Outcome<Status> {
             one(session, &story, record);
             Ok(Status::Yes)
         }
+        None if archive.log.base().has_folded(only) => {
+            let words = format!("record {only} is folded: it is no longer in the log");
+            session.out.complain(Some(&name), words, None);
+            Ok(Status::No)
+        }
         None => {
             let words = format!("no record {only} is held; seen {}", archive.vector);
             session.out.complain(Some(&name), words, None);
@@ -81,6 +86,12 @@ fn all(session: &mut Session, archive: &Archive, story: &Story) {
             record.date(),
             record.unit(),
             story.what(*record)
+        ));
+    }
+    if archive.folded() > 0 {
+        session.out.line(format_args!(
+            "{} folded: only in the base",
+            counted(archive.folded() as usize, "record")
         ));
     }
     let aside = match story.totals().asides {

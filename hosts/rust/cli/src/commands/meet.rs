@@ -146,16 +146,17 @@ fn stop(to: &Path, passed: &Passed) -> Option<Refused> {
     Some(Refused::new(to, *refusal, Case::Taking, detail.clone()))
 }
 
-/// A refusal other than that of a full log ends the command, and nothing is
-/// written.
+/// A refusal ends the command, and nothing is written; but not that of a full log,
+/// a list or a base, which does not keep the other file from taking.
 pub fn deny_refused(to: &Path, passed: &Passed) -> Outcome<()> {
     match stop(to, passed) {
-        Some(refused) if refused.refusal.number != 11 => Err(Failure::Refused(refused)),
+        Some(refused) if !refused.refusal.is_one_sided() => Err(Failure::Refused(refused)),
         _ => Ok(()),
     }
 }
 
-/// Says what stopped a passing, a full log or a limit; no if something did.
+/// Says what stopped a passing, a full log, a list, a base or a limit; no if something
+/// did.
 pub fn tell_end(session: &mut Session, to: &Path, passed: &Passed) -> Status {
     if let Some(refused) = stop(to, passed) {
         refused.tell(&mut session.out);

@@ -3,16 +3,17 @@
 use super::{Command, Session};
 use crate::archive::{Archive, LIMIT};
 use crate::args::value;
-use crate::failure::{Outcome, Refused, of_library, usage};
+use crate::failure::{Failure, Outcome, Refused, of_library, usage};
 use crate::files::{self, Bytes, Over, is_standard};
 use crate::json::Object;
 use crate::meeting::{held_otherwise, twice_words};
 use crate::numbers::Case;
 use crate::out::{Status, shown};
+use crate::state;
 use crate::why::{self, counted};
 use sab::raw::BLOCK;
 use sab::{Log, MergeRefusal};
-use std::path::PathBuf;
+use std::path::{Path, PathBuf};
 
 /// `sab merge`.
 pub const COMMAND: Command = Command {
@@ -50,6 +51,9 @@ fn run(session: &mut Session) -> Outcome<Status> {
         .ok_or_else(|| usage("-o OUT wanted"))?;
     let first = files::read(session.system, &names[0], LIMIT)?;
     let second = files::read(session.system, &names[1], LIMIT)?;
+    for (name, card) in names.iter().zip([&first, &second]) {
+        deny_state(name, card)?;
+    }
     let file = sab::merge(&first.bytes, &second.bytes)
         .map_err(|merging| refused(&names, [&first, &second], merging))?;
     if is_standard(&target) {
@@ -88,6 +92,16 @@ fn run(session: &mut Session) -> Outcome<Status> {
 
 const TOO_MANY: &str = "nothing is lost: keep both cards, together they hold everything; go on as under 11 \
                         (`sab explain 11`)";
+
+/// A merge is of files of the form SAB1.
+fn deny_state(name: &Path, card: &Bytes) -> Outcome<()> {
+    if !state::is_state(&card.bytes) {
+        return Ok(());
+    }
+    let words = "is a state file, with folded records or a list: only cards of the form SAB1 merge";
+    let advice = "sab pass brings the records of one file into the other";
+    Err(Failure::Trouble(files::trouble(name, words).advise(advice)))
+}
 
 /// A refusal with the card at fault: by itself, or beside the other.
 fn refused(names: &[PathBuf], read: [&Bytes; 2], merging: MergeRefusal) -> Refused {

@@ -7,6 +7,7 @@ mod compare;
 mod diff;
 mod explain;
 mod find;
+mod fold;
 mod list;
 mod log;
 mod ls;
@@ -108,6 +109,7 @@ pub const GROUPS: &[(&str, &[&Command])] = &[
             &act::COMMAND,
             &mv::COMMAND,
             &settle::COMMAND,
+            &fold::COMMAND,
         ],
     ),
     ("help", &[&explain::COMMAND, &words::HELP, &words::VERSION]),

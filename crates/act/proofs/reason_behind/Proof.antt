@@ -1,0 +1,23 @@
+use Rattle.tree_lookup.proofs.Working.{works-holds}
+use Rattle.act.proofs.Acting.{reason-laid, laid}
+use borrow.Author.Needs.{needs}
+use Rattle.act.proofs.reason_behind.Statement.{statement}
+use Rattle.act.proofs.reason_behind.Tie as tie
+
+replay-state-requires : tie.Need-replay-state-requires
+replay-state-requires c κs = (search, search, search, search, search, search, search, search, search)
+
+reason-on-requires : tie.Need-reason-on-requires
+reason-on-requires c κs = (search, search (works-holds))
+
+same-length : tie.Need-same-length
+same-length c = search needs
+
+same-length-2 : tie.Need-same-length-2
+same-length-2 c = search needs
+
+returns : tie.Need-returns
+returns c = (search (reason-laid), search (laid))
+
+pub reason-behind-spec : {M : Type 1} → statement M
+reason-behind-spec = tie.close (tie.spec replay-state-requires reason-on-requires same-length same-length-2 returns)

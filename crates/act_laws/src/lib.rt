@@ -1,0 +1,1 @@
+// Laws of acts, on the definitions alone: see proofs/.

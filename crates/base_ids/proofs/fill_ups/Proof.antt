@@ -1,0 +1,56 @@
+use Prim.Native.Nat.{_≤_, _-_}
+use Rattle.base_ids.specs.Ups.{Ups}
+use Rattle.base_ids.proofs.Rooted.{ups-none, ups-more, ups-end}
+use borrow.Author.Needs.{needs}
+use native.Mathlib.Omega.{arith}
+use Rattle.base_ids.proofs.fill_ups.Statement.{statement}
+use Rattle.base_ids.proofs.fill_ups.Tie as tie
+
+abbrev Inv-loop : tie.InvT-loop
+Inv-loop base n heads next ups₀ i₀ ups i = (i ≤ n) × Ups base n ups i
+
+abbrev μ-loop : tie.MeasureT-loop
+μ-loop base n heads next ups₀ i₀ ups i = n - i
+
+loop-holds : tie.Need-loop-holds Inv-loop μ-loop
+loop-holds c = (omega arith, search (ups-none))
+
+inside-at-requires : tie.Need-inside-at-requires Inv-loop μ-loop
+inside-at-requires c κs = search needs
+
+up-of-requires : tie.Need-up-of-requires Inv-loop μ-loop
+up-of-requires c κs = search needs
+
+put-requires : tie.Need-put-requires Inv-loop μ-loop
+put-requires c κs = search needs
+
+add-i : tie.Need-add-i Inv-loop μ-loop
+add-i c = search needs
+
+loop-less : tie.Need-loop-less Inv-loop μ-loop
+loop-less c = search needs
+
+loop-again : tie.Need-loop-again Inv-loop μ-loop
+loop-again c = (omega arith, search (ups-more))
+
+same-length : tie.Need-same-length Inv-loop μ-loop
+same-length c = search needs
+
+returns : tie.Need-returns Inv-loop μ-loop
+returns c = search (ups-end)
+
+pub fill-ups-spec : {M : Type 1} → statement M
+fill-ups-spec =
+    tie.close
+    (tie.spec
+    Inv-loop
+    μ-loop
+    loop-holds
+    inside-at-requires
+    up-of-requires
+    put-requires
+    add-i
+    loop-less
+    loop-again
+    same-length
+    returns)

@@ -1,0 +1,15 @@
+pub mod Numbered
+pub mod Pigeons
+pub mod Plain
+pub mod Rows
+pub mod Trees
+pub mod FromTree
+pub mod LaidRows
+pub mod LaidTree
+pub mod Again
+pub mod Replaying
+pub mod Lists
+pub mod Fresh
+pub mod Folds
+pub mod Claims
+pub mod Examples

@@ -1,0 +1,3 @@
+pub mod Plain
+pub mod Laid
+pub mod Examples

@@ -1,0 +1,1 @@
+// Laws of a sound base; no code.

@@ -1,0 +1,5 @@
+pub mod Rows
+pub mod Listed
+pub mod Roles
+pub mod Labels
+pub mod Entering

@@ -1,0 +1,1 @@
+// Laws of what a run of records leaves: entries that are present, and asides; no code.

@@ -1,0 +1,1 @@
+// No code: laws of the index of a sound state.

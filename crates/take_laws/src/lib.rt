@@ -1,0 +1,1 @@
+// Laws of taking records, on the definitions alone: see proofs/.
