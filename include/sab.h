@@ -162,10 +162,11 @@
  * compiles, with both. A vector of zeros in place of the lowered one compares
  * all that both hold, in at most 86 blocks.
  *
- * A unit that has folded records also sends its base vector, bytes 8 to 23 of its
- * base, before it is asked. A count below it is raised to it, if I hold as many:
- * what is folded at one of the two cannot be compared, and a take passes it over.
- * If I hold fewer, the hand-out is refused with 27.
+ * Where records are folded, no count is lowered below my own base vector, bytes 8 to
+ * 23 of my base; and you send yours before you are asked: a count below it is
+ * raised to it, if I hold as many. What is folded at one of the two cannot be
+ * compared, and a take passes it over. If I hold fewer than you have folded, the
+ * hand-out is refused with 27.
  *
  * What a take's number means for the meeting:
  *

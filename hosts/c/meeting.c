@@ -47,8 +47,8 @@ static void lower(uint8_t *vector)
             put16(vector + 2 * u, get16(vector + 2 * u) - 1);
 }
 
-/* Raises the counts that are below what the other has folded, where so many are
- * held: folded records are not asked for again. */
+/* Raises the counts that are below what one of the two has folded, where so many
+ * are held: folded records are not compared, nor asked for again. */
 static void raise_to_base(uint8_t *vector, const uint8_t *held, const uint8_t *folded)
 {
     int u;
@@ -130,6 +130,7 @@ static int pass(uint8_t from, uint8_t to, int cut)
         stop("vector", r);
     memcpy(asked, held, SAB_VECTOR_BYTES);
     lower(asked);
+    raise_to_base(asked, held, bases[to] + 8);
     raise_to_base(asked, held, bases[from] + 8);
     for (n = 0;; n++) {
         r = sab_hand_out(logs[from], SAB_LOG_BYTES, bases[from], SAB_BASE_BYTES, ARCHIVE, from,

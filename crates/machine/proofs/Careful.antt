@@ -1,7 +1,7 @@
 -- A careful meeting notices a number used twice: what is brought is always next and within what is held, and the last record
 -- that the taker has of a unit in its log is compared.
 -- Assumes nothing.
-use Prim.Native.Nat.{ℕ, zero, suc, _+_, _-_, _*_, _≤_, _<_, max}
+use Prim.Native.Nat.{ℕ, zero, suc, _+_, _-_, _*_, _≤_, _<_, min, max}
 use native.Mathlib.Omega.{arith}
 use mathlib.Core.Path.{_≡_, refl, sym, ap, _∙_, subst}
 use mathlib.Core.Logic.{_⊎_, inl, inr, ⊎-elim}
@@ -43,27 +43,30 @@ use Rattle.take_laws.proofs.Arrival.{takeAll-append}
 use Rattle.call_laws.specs.Keeps.{Good}
 use Rattle.call_laws.proofs.Calls.{guarded-passes, take-done, take-left, take-back}
 use Rattle.call_laws.proofs.Given.{Holds}
-use Rattle.machine.specs.Meeting.{Store, withLog, heldBy, vectorBy, Whole, lackedBy}
-use Rattle.machine.specs.Careful.{lowered, raise, raised, Asking, brought, answer, asking, answered, Twice, Comparable, Noticed, CarefulAsking, CarefulMeeting, Passes, CarefulPassing}
+use Rattle.machine.specs.Meeting.{Store, withLog, heldBy, vectorBy, Whole, lackedBy, Open}
+use Rattle.machine.specs.Careful.{lowered, begun, raise, raised, Asking, brought, answer, asking, answered, Twice, Noticed, CarefulAsking, CarefulMeeting, Passes, CarefulPassing}
 use Rattle.machine.proofs.Tests.{Rising}
 use Rattle.machine.proofs.Cover.{way-all, way-end}
 use Rattle.machine.proofs.Meeting.{sound-rising, rising-lacking, rising-same, Pair, used, all-agree, in-A, W, begin, whole-sound, whole-counts, whole-vector, lacking-held, handed-holds, lacks-all, all-listed, fits, may-meet, none-left}
 
 -- ---- the counts asked with
 
-lowered-length : (v : List ℕ) → length (lowered v) ≡ length v
+lowered-length : (v own other : List ℕ) → length (lowered v own other) ≡ length v
 unfolding lowered
-lowered-length [] = refl
-lowered-length (n ∷ v) = ap suc (lowered-length v)
+lowered-length [] own other = refl
+lowered-length (n ∷ v) own other = ap suc (lowered-length v (drop 1 own) (drop 1 other))
 
-lowered-getD : (v : List ℕ) (u : ℕ) → getD (lowered v) u 0 ≡ getD v u 0 - 1
+behind-first : (v : List ℕ) (u : ℕ) → getD (drop 1 v) u 0 ≡ getD v (suc u) 0
+behind-first [] u = refl
+behind-first (n ∷ v) u = refl
+
+lowered-getD : (v own other : List ℕ) (u : ℕ) → u < length v
+    → getD (lowered v own other) u 0 ≡ max (max (getD v u 0 - 1) (getD own u 0)) (min (getD v u 0) (getD other u 0))
 unfolding lowered
-lowered-getD [] u = omega arith
-lowered-getD (n ∷ v) zero = refl
-lowered-getD (n ∷ v) (suc u) = lowered-getD v u
-
-lowered-held : (l : List Rec) (u : ℕ) → u < 8 → getD (lowered (vectorOf l)) u 0 ≤ count u l
-lowered-held l u k = omega (arith, lowered-getD (vectorOf l) u, vectorOf-getD l u k)
+lowered-getD [] own other u k = absurd (omega arith)
+lowered-getD (n ∷ v) own other zero k = refl
+lowered-getD (n ∷ v) own other (suc u) k =
+    rw (behind-first own u, behind-first other u) at (lowered-getD v (drop 1 own) (drop 1 other) u (omega arith))
 
 raise-length : (v : List ℕ) (r : Rec) → length (raise v r) ≡ length v
 unfolding raise
@@ -381,7 +384,7 @@ take-other list base m r s h f i j a b d =
 
 -- ---- the rounds
 
-module _ (archive a b : ℕ) (sa sb : Store) (a8 : a < 8) (b8 : b < 8) (wa : Whole sa) (wb : Whole sb) (ok : Comparable sa sb) where
+module _ (archive a b : ℕ) (sa sb : Store) (a8 : a < 8) (b8 : b < 8) (wa : Whole sa) (wb : Whole sb) (ok : Open sa sb) where
   abbrev A : List Rec
   A = heldBy sa
 
@@ -403,19 +406,26 @@ module _ (archive a b : ℕ) (sa sb : Store) (a8 : a < 8) (b8 : b < 8) (wa : Who
   counts : Counts base p
   counts = whole-counts sb wb
 
-  lowered-below : (u : ℕ) → u < 8 → getD (lowered (vectorBy sb)) u 0 ≤ getD (vectorBy sb) u 0
-  lowered-below u k = omega (arith, lowered-getD (vectorBy sb) u)
+  begun-getD : (u : ℕ) → u < 8
+      → getD (begun sa sb) u 0 ≡ max (max (getD (vectorBy sb) u 0 - 1) (getD base u 0)) (min (getD (vectorBy sb) u 0) (getD (baseVector (sa .base)) u 0))
+  begun-getD u k =
+      lowered-getD (vectorBy sb) base (baseVector (sa .base)) u (omega (arith, vectorOn-length base (recordsOf (sb .log))))
 
-  above : covers (vectorBy sb) (baseVector (sa .base)) ≡ true
-  above = covers-trans (vectorBy sb) (lowered (vectorBy sb)) (baseVector (sa .base)) (all-covers (vectorBy sb) (lowered (vectorBy sb)) lowered-below) (ok .above)
+  -- no more than is held, and what a has folded is covered
+  begun-below : (u : ℕ) → u < 8 → getD (begun sa sb) u 0 ≤ getD (vectorBy sb) u 0
+  begun-below u k = omega (arith, begun-getD u k, vectorOn-getD base (recordsOf (sb .log)) u k)
+
+  begun-reach : covers (begun sa sb) (baseVector (sa .base)) ≡ true
+  begun-reach =
+      all-covers (begun sa sb) (baseVector (sa .base)) (λ u k. omega (arith, begun-getD u k, covers-at (vectorBy sb) (baseVector (sa .base)) (ok .above) u k))
 
   listed : (r : Rec) → Has r A → isListed list (unit r) ≡ true
-  listed = all-listed sa sb wa wb above (ok .listed)
+  listed = all-listed sa sb wa wb (ok .above) (ok .listed)
 
   over : (r : Rec) → Has r A → count (unit r) B < num r → covers (seenVector r) base ≡ true
   over r i k =
       let h = unit-of [] A r sA i in
-      ok .covering r (subst (Has r) (lacks-all sa sb wa wb above) (lacking-has (vectorOf B) A r i (omega (arith, vectorOf-getD B (unit r) h))))
+      ok .covering r (subst (Has r) (lacks-all sa sb wa wb (ok .above)) (lacking-has (vectorOf B) A r i (omega (arith, vectorOf-getD B (unit r) h))))
 
   -- the counts asked with, and the log of b
   abbrev at : List ℕ → List ℕ → Asking
@@ -518,7 +528,7 @@ module _ (archive a b : ℕ) (sa sb : Store) (a8 : a < 8) (b8 : b < 8) (wa : Who
           arith,
           y,
           union-length A B sA (whole-sound sb wb),
-          ap (λ (l : List Rec). length l) (lacks-all sa sb wa wb above),
+          ap (λ (l : List Rec). length l) (lacks-all sa sb wa wb (ok .above)),
           length-append p (recordsOf (sb .log)),
         ),
       ))
@@ -584,24 +594,24 @@ module _ (archive a b : ℕ) (sa sb : Store) (a8 : a < 8) (b8 : b < 8) (wa : Who
         (round v log l y)
 
   -- at first
-  ready : Ready (lowered (vectorBy sb)) (sb .log) (lacking (lowered (vectorBy sb)) A)
+  ready : Ready (begun sa sb) (sb .log) (lacking (begun sa sb) A)
   ready =
       record {
         good = wb .good;
         asks =
             record {
-              eight = lowered-length (vectorBy sb) ∙ vectorOn-length base (recordsOf (sb .log));
+              eight = lowered-length (vectorBy sb) base (baseVector (sa .base)) ∙ vectorOn-length base (recordsOf (sb .log));
               sound = whole-sound sb wb;
-              counted = λ u k. omega (arith, lowered-below u k, vectorOn-getD base (recordsOf (sb .log)) u k, counts-held base p counts (recordsOf (sb .log)) u k);
+              counted = λ u k. omega (arith, begun-below u k, vectorOn-getD base (recordsOf (sb .log)) u k, counts-held base p counts (recordsOf (sb .log)) u k);
               grown = λ u k. omega arith;
               room = λ u k. omega arith;
             };
-        reach = ok .above;
+        reach = begun-reach;
         left = refl;
         kept = λ r h. h;
       }
 
-  at-first : asking archive a b sa sb 0 ≡ at (lowered (vectorBy sb)) (sb .log)
+  at-first : asking archive a b sa sb 0 ≡ at (begun sa sb) (sb .log)
   unfolding asking
   at-first = refl
 
@@ -647,19 +657,19 @@ module _ (archive a b : ℕ) (sa sb : Store) (a8 : a < 8) (b8 : b < 8) (wa : Who
         (pair .fit) (take 6 l) (drop 6 l) (recordsOf (f .log)) (f .acc) (rw (take-append-drop 6 l) (f .way)) in
         fine-on n l f m acc e w
 
-    fine : (n : ℕ) → Fine n (drop (6 * n) (lacking (lowered (vectorBy sb)) A))
+    fine : (n : ℕ) → Fine n (drop (6 * n) (lacking (begun sa sb) A))
     fine zero =
         record {
-          v = lowered (vectorBy sb);
+          v = begun sa sb;
           log = sb .log;
           is = at-first;
           ready′ = ready;
           acc = p ++ l₀;
-          way = begin A list base p l₀ pair (lowered (vectorBy sb)) (ready .asks .counted);
+          way = begin A list base p l₀ pair (begun sa sb) (ready .asks .counted);
         }
     fine (suc n) =
         let e : 6 * n + 6 ≡ 6 * suc n = omega arith in
-        let l : List Rec = lacking (lowered (vectorBy sb)) A in
+        let l : List Rec = lacking (begun sa sb) A in
         subst (Fine (suc n)) (drop-drop 6 (6 * n) l ∙ ap (λ (i : ℕ). drop i l) e) (fine-next n (drop (6 * n) l) (fine n) .1)
 
     -- in the end b covers a
@@ -676,23 +686,31 @@ module _ (archive a b : ℕ) (sa sb : Store) (a8 : a < 8) (b8 : b < 8) (wa : Who
     passes : Passes archive a b sa sb
     passes =
         record {
-          answers = λ n. fine-next n (drop (6 * n) (lacking (lowered (vectorBy sb)) A)) (fine n) .0;
+          answers = λ n. fine-next n (drop (6 * n) (lacking (begun sa sb) A)) (fine n) .0;
           covering = λ n k.
-              let l : List Rec = lacking (lowered (vectorBy sb)) A in
-              let e : length l ≡ length (lacking (lowered (vectorBy sb)) (recordsOf (sa .log))) = ap (λ (x : List Rec). length x) (lacking-held (lowered (vectorBy sb)) sa wa (ok .above)) in
+              let l : List Rec = lacking (begun sa sb) A in
+              let e : length l ≡ length (lacking (begun sa sb) (recordsOf (sa .log))) = ap (λ (x : List Rec). length x) (lacking-held (begun sa sb) sa wa begun-reach) in
               covers-all n (subst (Fine n) (none-left l n .1 (rw e k)) (fine n));
         }
 
 pub careful-asking : CarefulAsking
 careful-asking archive a b sa sb a8 b8 wa wb ok r s t last =
-    let v : List ℕ = lowered (vectorBy sb) in
+    let v : List ℕ = begun sa sb in
     let l : List Rec = recordsOf (sa .log) in
     let f = formed [] (heldBy sa) r (whole-sound sa wa) (append-has (sa .folded) l r (inr (t .first))) in
     let n : num r ≡ countOn (baseVector (sb .base)) (unit r) (recordsOf (sb .log)) =
     t .same-number ∙ last ∙ ap (λ (u : ℕ). countOn (baseVector (sb .base)) u (recordsOf (sb .log))) (sym (t .same-unit)) in
     let k : getD v (unit r) 0 < num r =
-    omega (arith, n, lowered-getD (vectorBy sb) (unit r), vectorOn-getD (baseVector (sb .base)) (recordsOf (sb .log)) (unit r) (well-unit r f), well-own r f) in
-    let e : lacking v (heldBy sa) ≡ lacking v l = lacking-held v sa wa (ok .above) in
+    omega (
+      arith,
+      n,
+      begun-getD archive a b sa sb a8 b8 wa wb ok (unit r) (well-unit r f),
+      vectorOn-getD (baseVector (sb .base)) (recordsOf (sb .log)) (unit r) (well-unit r f),
+      rw (sym (t .same-unit), sym (t .same-number)) at (s-above archive a b sa sb a8 b8 wa wb ok r s t),
+      above-base (baseVector (sa .base)) [] l r (shed (baseVector (sa .base)) (sa .folded) l (whole-counts sa wa) (whole-sound sa wa)) (t .first),
+      well-own r f,
+    ) in
+    let e : lacking v (heldBy sa) ≡ lacking v l = lacking-held v sa wa (begun-reach archive a b sa sb a8 b8 wa wb ok) in
     search-from archive a b sa sb a8 b8 wa wb ok r s t 86 0 v (sb .log) (lacking v (heldBy sa)) refl
     (omega (arith, ap (λ (x : List Rec). length x) e, lacking-length v l, sound-few (sa .log)))
     (subst (Has r) (sym e) (lacking-has v l r (t .first) k))
@@ -727,4 +745,4 @@ careful-meeting archive a b sa sb a8 b8 wa wb ok r s t c =
 pub careful-passing : CarefulPassing
 careful-passing archive a b sa sb a8 b8 wa wb ok ag fit =
     passes archive a b sa sb a8 b8 wa wb ok
-    (may-meet sa sb wa wb (above archive a b sa sb a8 b8 wa wb ok) ag (ok .listed) (ok .covering) fit)
+    (may-meet sa sb wa wb (ok .above) ag (ok .listed) (ok .covering) fit)

@@ -26,7 +26,7 @@ use Rattle.machine.specs.Callable.{allBelow, isSlice, isVector, callable
 use Rattle.machine.specs.Claim as C
 use Rattle.machine.specs.Meeting as N
 use Rattle.machine.specs.Meeting.{heldBy, Meets}
-use Rattle.machine.specs.Careful.{lowered, Passes}
+use Rattle.machine.specs.Careful.{Passes}
 use Rattle.byte_slice.proofs.Numbers.{and-true}
 use Rattle.byte_slice.proofs.Compare.{same-eq}
 use Rattle.log_laws.specs.Members.{Agree}
@@ -37,7 +37,7 @@ use Rattle.machine.proofs.Steady.{Told, told-bare, told-play}
 use Rattle.machine.proofs.Demand.{play-append, demand}
 use Rattle.machine.proofs.Meeting.{every-meeting}
 use Rattle.machine.proofs.Careful.{careful-passing}
-use Rattle.machine.proofs.Opened.{storeAt, whole-at, may-meet, may-compare}
+use Rattle.machine.proofs.Opened.{storeAt, whole-at, may-meet}
 
 -- a wish of 3 March 2025: unit, operation, object, folder, label, mark
 wish : ℕ → ℕ → List ℕ → List ℕ → List ℕ → List ℕ → List ℕ
@@ -154,7 +154,6 @@ asked s f t =
     ∷ sameBytes (Q.baseVector (t .bases 2)) (vector 2 1 0)
     ∷ P.standsAside (R.identity 0 2) (P.replay (M.held t 2) .asides)
     ∷ W.covers (N.vectorBy (storeAt t 2)) (Q.baseVector (t .bases 1))
-    ∷ W.covers (lowered (N.vectorBy (storeAt t 2))) (Q.baseVector (t .bases 1))
     ∷ eqb (length (N.lackedBy (storeAt t 1) (storeAt t 2))) 1
     ∷ leb (length (N.lackedBy (storeAt t 1) (storeAt t 2)) + length (L.recordsOf (t .logs 2))) 512
     ∷ []
@@ -163,7 +162,7 @@ passed : Bench → Bool
 passed s = quickPassing 7 0 2 (length (s .given)) s passing && every (asked s (quickFlow 7 2 s passing) (quickPlay 7 s passing))
 
 computed : (passed (quickPlay 7 bare before) && sameBytes (numbers (quickOutcomes 7 bare (before ++ passing))) expected) ≡ true
-unfolding wish none plain block file work vector before passing numbers expected every asked passed quick quickPlay quickOutcomes quickPassing quickFlow word long blank sameBytes part padded joined W.coversTo W.covers W.countsAt W.vectorAt W.countBytes W.vectorBytes D.isLeap D.daysOf D.isDate R.identity R.unit R.op R.num R.seen R.seenVector R.identityAt R.selfOf R.objectOf R.folderOf R.dateBytes R.labelOf R.markOf R.textLength R.printable R.isLabel R.usesObject R.usesFolder R.usesLabel R.usesMark R.unused R.names R.objectFits R.folderFits R.labelFits R.markFits R.dateFits R.headFits R.wellFormed R.hasStroke L.rank L.insert L.count L.countsTo L.countsOnTo L.vectorOn L.vectorOf L.byId L.isNext L.isWithin L.allTo L.nowhereAbove L.isClosed L.rises L.recordFault L.soundAfter L.recordsIn L.recordsOf L.soundLogOn L.soundLog L.logBytes L.lacking P.emptyTree P.isPresent P.lower P.labelKey P.sameLabel P.entryOf P.isIn P.isHolder P.holderOf P.hasEntries P.standsAside P.unseen P.freeLabel P.andThen P.isFolder P.folderStands P.judgeMake P.judgeStore P.judgeRemove P.judgeRename P.comesTo P.isBelow P.judgePlace P.judgeMove P.judgeSettle P.judge P.newEntry P.stored P.renamed P.moved P.removed P.changed P.settled P.effect P.apply P.step P.replayFrom P.replay P.presentOnes P.reasonOf P.trim T.identityBytes T.entryRow T.asideRow T.entryRows T.asideRows T.flagged T.entryIn T.asideIn B.firstTo B.secondTo B.headBytes B.bodyBytes B.sealed B.blockOf B.countIn B.archiveIn B.senderIn B.placeIn B.vectorIn B.sumsHold B.headerHolds B.blockFault B.givenFault B.recordAt B.recordsFrom B.blockRecords F.blockCount F.headerOf F.fileBlock F.fileTo F.fileOf F.blockAt Q.bits Q.isListed Q.listsAll Q.baseBytes Q.emptyBase Q.baseEntry Q.baseAside Q.baseEntries Q.baseAsides Q.baseVector Q.baseTree Q.baseIn Q.soundState Q.treeOf O.startOf O.guarded O.stamped O.wishFits O.earlyWish O.actNumber O.acted O.actOf O.handBlock O.handed O.handOf O.written O.writeOf O.takeNew O.takeHeld O.isFolded O.takeOne O.takeAll O.tookAll O.tookBlock O.takeOf G.lastOf G.heardFrom G.heardBy G.heardByAll G.heardRun G.countsAsBase G.longest G.runOf G.foldedBase G.listFits G.folded G.foldBy G.foldOf M.unitOf M.held M.heldVector M.blockGiven M.done M.ifAccepted M.blocksTo M.gives M.uses M.baseLeft M.foldedLeft M.listBy M.folderBy M.put M.fallenBy M.after M.next M.play M.outcomes C.isSome C.holds C.distinct C.passes C.passing C.flowOf C.flow C.lacked C.holdsAll C.firsts C.below C.rising C.zeros C.namesEach C.named C.isAmong C.steady N.lackedBy lowered
+unfolding wish none plain block file work vector before passing numbers expected every asked passed quick quickPlay quickOutcomes quickPassing quickFlow word long blank sameBytes part padded joined W.coversTo W.covers W.countsAt W.vectorAt W.countBytes W.vectorBytes D.isLeap D.daysOf D.isDate R.identity R.unit R.op R.num R.seen R.seenVector R.identityAt R.selfOf R.objectOf R.folderOf R.dateBytes R.labelOf R.markOf R.textLength R.printable R.isLabel R.usesObject R.usesFolder R.usesLabel R.usesMark R.unused R.names R.objectFits R.folderFits R.labelFits R.markFits R.dateFits R.headFits R.wellFormed R.hasStroke L.rank L.insert L.count L.countsTo L.countsOnTo L.vectorOn L.vectorOf L.byId L.isNext L.isWithin L.allTo L.nowhereAbove L.isClosed L.rises L.recordFault L.soundAfter L.recordsIn L.recordsOf L.soundLogOn L.soundLog L.logBytes L.lacking P.emptyTree P.isPresent P.lower P.labelKey P.sameLabel P.entryOf P.isIn P.isHolder P.holderOf P.hasEntries P.standsAside P.unseen P.freeLabel P.andThen P.isFolder P.folderStands P.judgeMake P.judgeStore P.judgeRemove P.judgeRename P.comesTo P.isBelow P.judgePlace P.judgeMove P.judgeSettle P.judge P.newEntry P.stored P.renamed P.moved P.removed P.changed P.settled P.effect P.apply P.step P.replayFrom P.replay P.presentOnes P.reasonOf P.trim T.identityBytes T.entryRow T.asideRow T.entryRows T.asideRows T.flagged T.entryIn T.asideIn B.firstTo B.secondTo B.headBytes B.bodyBytes B.sealed B.blockOf B.countIn B.archiveIn B.senderIn B.placeIn B.vectorIn B.sumsHold B.headerHolds B.blockFault B.givenFault B.recordAt B.recordsFrom B.blockRecords F.blockCount F.headerOf F.fileBlock F.fileTo F.fileOf F.blockAt Q.bits Q.isListed Q.listsAll Q.baseBytes Q.emptyBase Q.baseEntry Q.baseAside Q.baseEntries Q.baseAsides Q.baseVector Q.baseTree Q.baseIn Q.soundState Q.treeOf O.startOf O.guarded O.stamped O.wishFits O.earlyWish O.actNumber O.acted O.actOf O.handBlock O.handed O.handOf O.written O.writeOf O.takeNew O.takeHeld O.isFolded O.takeOne O.takeAll O.tookAll O.tookBlock O.takeOf G.lastOf G.heardFrom G.heardBy G.heardByAll G.heardRun G.countsAsBase G.longest G.runOf G.foldedBase G.listFits G.folded G.foldBy G.foldOf M.unitOf M.held M.heldVector M.blockGiven M.done M.ifAccepted M.blocksTo M.gives M.uses M.baseLeft M.foldedLeft M.listBy M.folderBy M.put M.fallenBy M.after M.next M.play M.outcomes C.isSome C.holds C.distinct C.passes C.passing C.flowOf C.flow C.lacked C.holdsAll C.firsts C.below C.rising C.zeros C.namesEach C.named C.isAmong C.steady N.lackedBy
 computed = refl
 
 -- the types of the entry points can hold the arguments
@@ -185,7 +184,6 @@ record Met (s : Bench) : Type 0 where
   base-2 : Q.baseVector (play 7 s passing .bases 2) ≡ vector 2 1 0
   conflict : P.standsAside (R.identity 0 2) (P.replay (M.held (play 7 s passing) 2) .asides) ≡ true
   above : W.covers (N.vectorBy (storeAt (play 7 s passing) 2)) (Q.baseVector (play 7 s passing .bases 1)) ≡ true
-  below : W.covers (lowered (N.vectorBy (storeAt (play 7 s passing) 2))) (Q.baseVector (play 7 s passing .bases 1)) ≡ true
   one : length (N.lackedBy (storeAt (play 7 s passing) 1) (storeAt (play 7 s passing) 2)) ≡ 1
   fit : length (N.lackedBy (storeAt (play 7 s passing) 1) (storeAt (play 7 s passing) 2)) + length (L.recordsOf (play 7 s passing .logs 2)) ≤ 512
 
@@ -209,9 +207,8 @@ met-at s i e =
       base-2 = same-eq (Q.baseVector (t .bases 2)) (vector 2 1 0) (is 12);
       conflict = is 13;
       above = is 14;
-      below = is 15;
-      one = eqb-true (length (N.lackedBy (storeAt t 1) (storeAt t 2))) 1 (is 16);
-      fit = leb-true (length (N.lackedBy (storeAt t 1) (storeAt t 2)) + length (L.recordsOf (t .logs 2))) 512 (is 17);
+      one = eqb-true (length (N.lackedBy (storeAt t 1) (storeAt t 2))) 1 (is 15);
+      fit = leb-true (length (N.lackedBy (storeAt t 1) (storeAt t 2)) + length (L.recordsOf (t .logs 2))) 512 (is 16);
     }
 
 both : (passed (quickPlay 7 bare before) ≡ true) × (sameBytes (numbers (quickOutcomes 7 bare (before ++ passing))) expected ≡ true)
@@ -266,10 +263,9 @@ met-end m i told =
     let t : Bench = play 7 (play 7 bare before) passing in
     let agree = distinct-agree (t .used) (m .once) in
     let both : Agree (heldBy (storeAt t 1)) (heldBy (storeAt t 2)) = λ x y p q. agree x y (i .stored .kept 1 .from x p) (i .stored .kept 2 .from y q) in
-    let ways = may-meet 7 t i told agree (m .names) (m .firm) 1 2 (m .above) in
-    let compare = may-compare 7 t i told agree (m .names) (m .firm) 1 2 (m .below) in (
+    let ways = may-meet 7 t i told agree (m .names) (m .firm) 1 2 (m .above) in (
       every-meeting 7 1 2 (storeAt t 1) (storeAt t 2) (omega arith) (omega arith) (whole-at 7 t i 1) (whole-at 7 t i 2) both ways (m .fit),
-      careful-passing 7 1 2 (storeAt t 1) (storeAt t 2) (omega arith) (omega arith) (whole-at 7 t i 1) (whole-at 7 t i 2) compare both (m .fit),
+      careful-passing 7 1 2 (storeAt t 1) (storeAt t 2) (omega arith) (omega arith) (whole-at 7 t i 1) (whole-at 7 t i 2) ways both (m .fit),
     )
 
 pub meets-a-folder : Meets 7 1 2 (storeAt (play 7 (play 7 bare before) passing) 1) (storeAt (play 7 (play 7 bare before) passing) 2)

@@ -23,7 +23,6 @@ use Rattle.call_laws.proofs.Given.{base-eight}
 use Rattle.machine.specs.Machine.{Bench, held}
 use Rattle.machine.specs.Claim.{named, isAmong, steady}
 use Rattle.machine.specs.Meeting.{Store, heldBy, vectorBy, Whole, lackedBy, Open}
-use Rattle.machine.specs.Careful.{lowered, Comparable}
 use Rattle.machine.proofs.Reach.{Inv, held-used}
 use Rattle.machine.proofs.Steady.{Told, steady-at, never-26, never-27}
 use Rattle.machine.proofs.Meeting.{whole-vector}
@@ -78,6 +77,3 @@ module _ (archive : ℕ) (s : Bench) (i : Inv archive s) where
 
     pub may-meet : covers (vectorBy (storeAt s b)) (baseVector (s .bases a)) ≡ true → Open (storeAt s a) (storeAt s b)
     may-meet above = record { above = above; listed = listed; covering = covering }
-
-    pub may-compare : covers (lowered (vectorBy (storeAt s b))) (baseVector (s .bases a)) ≡ true → Comparable (storeAt s a) (storeAt s b)
-    may-compare above = record { above = above; listed = listed; covering = covering }

@@ -20,7 +20,7 @@ use Rattle.log_laws.proofs.Tests.{sound-means}
 use Rattle.call_laws.proofs.States.{empty-vector}
 use Rattle.machine.specs.Careful.{lowered, Noticed}
 use Rattle.machine.proofs.Careful.{careful-asking}
-use Rattle.machine.proofs.Unfolded.{unfolded, back, whole, comparable}
+use Rattle.machine.proofs.Unfolded.{unfolded, back, whole, may-meet}
 
 -- record 0.1 makes a folder in the root on 3 March 2025
 make : ℕ → R.Rec
@@ -43,7 +43,7 @@ pub computed :
     (L.soundAfter L.noCounts [] A ≡ true)
     × (L.soundAfter L.noCounts [] B ≡ true)
     × (L.lacking (L.vectorOf B) A ≡ [])
-    × (O.takeAll 255 L.noCounts B (L.lacking (lowered (L.vectorOf B)) A) ≡ O.refused 10)
+    × (O.takeAll 255 L.noCounts B (L.lacking (lowered (L.vectorOf B) L.noCounts L.noCounts) A) ≡ O.refused 10)
     × (sameBytes again lost ≡ false)
     × (R.unit again ≡ R.unit lost)
     × (R.num again ≡ R.num lost)
@@ -61,7 +61,7 @@ noticed =
     let one : 1 ≤ 512 = omega arith in
     let ra : L.recordsOf (L.logBytes A) ≡ A = back A sA one in
     let rb : L.recordsOf (L.logBytes B) ≡ B = back B sB one in
-    careful-asking 7 0 1 (unfolded A) (unfolded B) (omega arith) (omega arith) (whole A sA one) (whole B sB one) (comparable A sA one (unfolded B) refl) again lost
+    careful-asking 7 0 1 (unfolded A) (unfolded B) (omega arith) (omega arith) (whole A sA one) (whole B sB one) (may-meet A sA one (unfolded B) refl) again lost
     (record {
       first = rw ra (inl refl);
       second = rw rb (inl refl);

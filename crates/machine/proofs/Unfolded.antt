@@ -19,7 +19,6 @@ use Rattle.log_laws.proofs.Tests.{vectorOn-none, means-sound}
 use Rattle.take_laws.proofs.Union.{all-eight}
 use Rattle.call_laws.proofs.States.{sound-back, empty-list, empty-vector, fresh-good}
 use Rattle.machine.specs.Meeting.{Store, vectorBy, Whole, lackedBy, Open}
-use Rattle.machine.specs.Careful.{lowered, Comparable}
 
 -- the records l behind an empty base
 abbrev pub unfolded : List Rec → Store
@@ -52,6 +51,3 @@ module _ (A : List Rec) (h : Sound A) (few : length A ≤ 512) (sb : Store) (e :
 
   pub may-meet : Open (unfolded A) sb
   may-meet = record { above = above (vectorBy sb); listed = listed; covering = λ r i. rw e (above _) }
-
-  pub comparable : Comparable (unfolded A) sb
-  comparable = record { above = above (lowered (vectorBy sb)); listed = listed; covering = λ r i. rw e (above _) }

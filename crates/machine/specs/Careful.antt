@@ -1,26 +1,32 @@
--- A careful meeting: the unit that asks begins with every count above 0 lowered by one, so that its last record of each unit is
--- brought again and compared; then it asks on with the counts raised by what was brought. What it notices of a number used twice.
+-- A careful meeting: the unit that asks begins with every count lowered by one, so that its last record of each unit is brought again and
+-- compared, where neither side has folded it; then it asks on with the counts raised by what was brought. What it notices of a number
+-- used twice.
 -- Assumes nothing.
 use Prim.Native.Nat.{ℕ, zero, suc, _+_, _-_, _/_, _≤_, _<_, min, max}
 use mathlib.Core.Path.{_≡_}
 use mathlib.Core.Logic.{_⊎_}
 use mathlib.Core.Bool.{true}
 use mathlib.Core.List.{List, [], _∷_, _++_}
-use lib.ListN.{length, getD, set, replicate}
+use lib.ListN.{length, getD, set, drop, replicate}
 use Rattle.model.specs.Numbers.{notClosed, otherBytes, fullLog}
 use Rattle.model.specs.Vector.{covers}
-use Rattle.model.specs.Record.{Rec, unit, num, seenVector}
+use Rattle.model.specs.Record.{Rec, unit, num}
 use Rattle.model.specs.Log.{countOn, recordsOf, lacking}
 use Rattle.model.specs.Block.{blockRecords}
-use Rattle.base_model.specs.Base.{isListed, baseVector, baseIn}
+use Rattle.base_model.specs.Base.{baseVector, baseIn}
 use Rattle.call_model.specs.Outcome.{Outcome, handOf, taken, takeAll, takeOf}
 use Rattle.log_laws.specs.Members.{Has, Sub, Agree}
-use Rattle.machine.specs.Meeting.{Store, withLog, heldBy, vectorBy, Whole, lackedBy}
+use Rattle.machine.specs.Meeting.{Store, withLog, heldBy, vectorBy, Whole, lackedBy, Open}
 
--- every count above 0 lowered by one
-unfoldable pub lowered : List ℕ → List ℕ
-lowered [] = []
-lowered (n ∷ v) = (n - 1) ∷ lowered v
+-- held counts, each lowered by one: not below own, the base vector of the unit that asks, and, where as many are held, not below other, that
+-- of the unit that is asked
+unfoldable pub lowered : List ℕ → List ℕ → List ℕ → List ℕ
+lowered [] own other = []
+lowered (n ∷ v) own other = max (max (n - 1) (getD own 0 0)) (min n (getD other 0 0)) ∷ lowered v (drop 1 own) (drop 1 other)
+
+-- unit b begins to ask unit a
+abbrev pub begun : Store → Store → List ℕ
+begun sa sb = lowered (vectorBy sb) (baseVector (sb .base)) (baseVector (sa .base))
 
 -- the counts raised to the number of a record, and of each of a list
 unfoldable pub raise : List ℕ → Rec → List ℕ
@@ -45,7 +51,7 @@ answer archive a b sa s = takeOf archive b (s .store .log) (s .store .base) (bro
 
 -- unit b asks: after n blocks
 unfoldable pub asking : ℕ → ℕ → ℕ → Store → Store → ℕ → Asking
-asking archive a b sa sb zero = record { asked = lowered (vectorBy sb); store = sb }
+asking archive a b sa sb zero = record { asked = begun sa sb; store = sb }
 asking archive a b sa sb (suc n) =
     let s : Asking = asking archive a b sa sb n in
     record {
@@ -65,13 +71,6 @@ pub record Twice (A B : List Rec) (r s : Rec) : Type 0 where
   pub same-number : num r ≡ num s
   pub other-bytes : r ≡ s → ⊥
 
--- what b asks for with lowered counts a has not folded, and neither side has folded anything that the other could object to: without this
--- the hand-out is 27, or a record is refused with 26 or 27, and nothing is compared
-pub record Comparable (sa sb : Store) : Type 0 where
-  pub above : covers (lowered (vectorBy sb)) (baseVector (sa .base)) ≡ true
-  pub listed : (r : Rec) → Has r (lackedBy sa sb) → isListed (baseIn (sb .base) .list) (unit r) ≡ true
-  pub covering : (r : Rec) → Has r (lackedBy sa sb) → covers (seenVector r) (baseVector (sb .base)) ≡ true
-
 -- the meeting ends with a refusal: 10, or 9 or 11 before it came to that, 11 only if the two together do not fit
 pub record Noticed (archive a b : ℕ) (sa sb : Store) (r : Rec) : Type 0 where
   pub block : ℕ
@@ -89,7 +88,7 @@ pub record Noticed (archive a b : ℕ) (sa sb : Store) (r : Rec) : Type 0 where
 -- unit b asks unit a, and a has in its log the last record that b has of some unit in its own, with other bytes
 abbrev pub CarefulAsking : Type 0
 CarefulAsking =
-    (archive a b : ℕ) (sa sb : Store) → a < 8 → b < 8 → Whole sa → Whole sb → Comparable sa sb
+    (archive a b : ℕ) (sa sb : Store) → a < 8 → b < 8 → Whole sa → Whole sb → Open sa sb
     → (r s : Rec) → Twice (recordsOf (sa .log)) (recordsOf (sb .log)) r s
     → num s ≡ countOn (baseVector (sb .base)) (unit s) (recordsOf (sb .log)) → Noticed archive a b sa sb r
 
@@ -97,21 +96,21 @@ CarefulAsking =
 -- is in both logs with other bytes: the one or the other is refused
 abbrev pub CarefulMeeting : Type 0
 CarefulMeeting =
-    (archive a b : ℕ) (sa sb : Store) → a < 8 → b < 8 → Whole sa → Whole sb → Comparable sa sb
+    (archive a b : ℕ) (sa sb : Store) → a < 8 → b < 8 → Whole sa → Whole sb → Open sa sb
     → (r s : Rec) → Twice (recordsOf (sa .log)) (recordsOf (sb .log)) r s
     → num r ≡ min (getD (vectorBy sa) (unit r) 0) (getD (vectorBy sb) (unit r) 0)
     → Noticed archive a b sa sb r
-    ⊎ ((grown : List ℕ) → Whole (withLog sb grown) → Sub (recordsOf (sb .log)) (recordsOf grown) → Comparable (withLog sb grown) sa
+    ⊎ ((grown : List ℕ) → Whole (withLog sb grown) → Sub (recordsOf (sb .log)) (recordsOf grown) → Open (withLog sb grown) sa
     → Noticed archive b a (withLog sb grown) sa s)
 
 -- no false alarm: two whole stores that share no identity with different records, whose union fits 512. Nothing is refused, and for
 -- k that the lowered counts lack, k divided by 6 and rounded up blocks pass all
 pub record Passes (archive a b : ℕ) (sa sb : Store) : Type 0 where
   pub answers : (n : ℕ) → answered archive a b sa sb n ≡ 0
-  pub covering : (n : ℕ) → (length (lacking (lowered (vectorBy sb)) (recordsOf (sa .log))) + 5) / 6 ≤ n
+  pub covering : (n : ℕ) → (length (lacking (begun sa sb) (recordsOf (sa .log))) + 5) / 6 ≤ n
       → covers (vectorBy (asking archive a b sa sb n .store)) (vectorBy sa) ≡ true
 
 abbrev pub CarefulPassing : Type 0
 CarefulPassing =
-    (archive a b : ℕ) (sa sb : Store) → a < 8 → b < 8 → Whole sa → Whole sb → Comparable sa sb → Agree (heldBy sa) (heldBy sb)
+    (archive a b : ℕ) (sa sb : Store) → a < 8 → b < 8 → Whole sa → Whole sb → Open sa sb → Agree (heldBy sa) (heldBy sb)
     → length (lackedBy sa sb) + length (recordsOf (sb .log)) ≤ 512 → Passes archive a b sa sb
