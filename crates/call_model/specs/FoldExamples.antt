@@ -12,6 +12,7 @@ use Rattle.model.specs.Record.{Rec, root}
 use Rattle.model.specs.Log.{vectorOf, noCounts, soundAfter, recordsOf}
 use Rattle.model.specs.Replay.{Entry, Aside, Tree, emptyTree, trim, replayFrom, replay}
 use Rattle.model.specs.Examples.{_·_, Standing, makesFolder, makesTrace, stores, removes, renames, settles, sameFlag, sameRecords, showsAsides, A, B, C}
+use Rattle.model.specs.Block.{vectorIn}
 use Rattle.base_model.specs.Base.{baseBytes, baseIn}
 use Rattle.base_model.specs.Examples.{baseAfter}
 use Rattle.call_model.specs.Outcome.{Outcome, Took, refused, taken, takeOne, actNumber, actOf, actWork, workAfter, askedNumber, wholeNumber, roomNumber, startOf, handed, written}
@@ -42,11 +43,11 @@ pub data FoldRow : Type 0 where
   asks : List ℕ → List ℕ → ℕ → FoldRow
   -- a base vector, and the number that the writing of a file answers
   whole : List ℕ → ℕ → FoldRow
-  -- a list, the own unit, a base, and the number that folding a state without records answers behind the guard
-  foldsBy : ℕ → ℕ → List ℕ → ℕ → FoldRow
-  -- the same of a hand-out, with the vector asked for
-  handsOut : List ℕ → List ℕ → ℕ → FoldRow
-  -- the same of the writing of a file
+  -- a list, the own unit, the records of a log, a base; the number that folding answers behind the guard, and how many it folds
+  foldsBy : ℕ → ℕ → List Rec → List ℕ → ℕ → ℕ → FoldRow
+  -- a base, the records of a log, the vector asked of a hand-out; the number that it answers behind the guard, and the vector in the header
+  handsOut : List ℕ → List Rec → List ℕ → ℕ → List ℕ → FoldRow
+  -- a base, and the number that the writing of a file answers behind the guard
   writesOut : List ℕ → ℕ → FoldRow
   -- the number before a replay, and the first byte of a work memory of sevens then
   works : ℕ → ℕ → FoldRow
@@ -54,8 +55,8 @@ pub data FoldRow : Type 0 where
   foldsAt : ℕ → List ℕ → ℕ → ℕ → ℕ → FoldRow
   -- a base, a wish of unit 0; the number, and the first byte of the work memory then
   actsAt : List ℕ → List ℕ → ℕ → ℕ → FoldRow
-  -- how many bytes the base has, the own unit of a start, and the number
-  startsAt : ℕ → ℕ → ℕ → FoldRow
+  -- how many bytes the base has, the own unit of a start; the number, and the first byte of the base, all nines, then
+  startsAt : ℕ → ℕ → ℕ → ℕ → FoldRow
   -- how many records unit 0 has folded, how many the log has, and the number that an act of unit 0 is refused with for want of room
   rooms : ℕ → ℕ → ℕ → FoldRow
 
@@ -111,8 +112,9 @@ right (wishes m u v p l w n) = eqb (actNumber m u v (trim (replay p)) l w) n
 right (asks a v n) = eqb (askedNumber a v) n
 right (rooms c k n) = eqb (roomNumber 0 (c ∷ replicate 7 0) (replicate k (makesTrace 1 (1 · 1) [] root A))) n
 right (whole v n) = eqb (wholeNumber v) n
-right (foldsBy m u base n) = eqb (foldBy m u [] base .number) n
-right (handsOut base v n) = eqb (handed 7 0 [] base v [] .number) n
+right (foldsBy m u l base n k) = eqb (foldBy m u (joined l) base .number) n && eqb (foldBy m u (joined l) base .blocks) k
+right (handsOut base l v n h) =
+    eqb (handed 7 0 (joined l) base v [] .number) n && sameBytes (vectorIn (handed 7 0 (joined l) base v [] .lent)) h
 right (writesOut base n) = eqb (written 7 0 [] base [] .number) n
 right (works n y) = eqb (getD (workAfter n emptyTree (replicate 9 7)) 0 0) y
 right (foldsAt u base k n y) =
@@ -121,7 +123,9 @@ right (foldsAt u base k n y) =
 right (actsAt base w n y) =
     eqb (actOf 0 (replicate 40960 0) base w (replicate 86020 7) .number) n
     && eqb (getD (actWork 0 (replicate 40960 0) base w (replicate 86020 7)) 0 0) y
-right (startsAt k u n) = eqb (startOf u (replicate 40960 9) (replicate k 9) .number) n
+right (startsAt k u n y) =
+    eqb (startOf u (replicate 40960 9) (replicate k 9) .number) n
+    && eqb (getD (startOf u (replicate 40960 9) (replicate k 9) .lent) 0 0) y
 
 unfoldable pub allRight : List FoldRow → Bool
 allRight [] = true
@@ -303,12 +307,18 @@ foldTable =
 unfoldable pub foldCalls : List FoldRow
 foldCalls =
     -- behind the guard: 26 with the list given, 27, 29; an own unit that is not listed hands out and writes, with a short list too
-    foldsBy 254 0 (headOf 255 noCounts) 26
-    ∷ foldsBy 1 0 (headOf 255 noCounts) 0
-    ∷ foldsBy 1 0 (headOf 255 (0 ∷ 1 ∷ replicate 6 0)) 26
-    ∷ foldsBy 3 0 (headOf 2 (0 ∷ 1 ∷ replicate 6 0)) 0
-    ∷ handsOut (headOf 255 (1 ∷ replicate 7 0)) [] 27
-    ∷ handsOut (headOf 2 (0 ∷ 1 ∷ replicate 6 0)) (0 ∷ 1 ∷ []) 0
+    foldsBy 254 0 [] (headOf 255 noCounts) 26 0
+    ∷ foldsBy 1 0 [] (headOf 255 noCounts) 0 0
+    ∷ foldsBy 1 0 [] (headOf 255 (0 ∷ 1 ∷ replicate 6 0)) 26 0
+    ∷ foldsBy 3 0 [] (headOf 2 (0 ∷ 1 ∷ replicate 6 0)) 0 0
+    -- a unit whose records are all in the log is asked for too; the run goes by the list given
+    ∷ foldsBy 5 0 five (headOf 255 noCounts) 26 0
+    ∷ foldsBy 7 0 five (headOf 255 noCounts) 0 2
+    ∷ foldsBy 255 0 five (headOf 7 noCounts) 0 0
+    -- what is asked for covers the base vector, and need not cover what is held; the header's vector counts folded records
+    ∷ handsOut (headOf 255 (1 ∷ replicate 7 0)) [] [] 27 noCounts
+    ∷ handsOut (headOf 2 (0 ∷ 1 ∷ replicate 6 0)) [] (0 ∷ 1 ∷ []) 0 (0 ∷ 1 ∷ replicate 6 0)
+    ∷ handsOut (headOf 255 (1 ∷ 0 ∷ 1 ∷ replicate 5 0)) (take 1 (drop 2 five)) (1 ∷ 0 ∷ 1 ∷ []) 0 (1 ∷ 1 ∷ 1 ∷ replicate 5 0)
     ∷ writesOut (headOf 255 (1 ∷ replicate 7 0)) 29
     ∷ writesOut (headOf 2 noCounts) 0
     -- a call refused before its replay leaves the work memory
@@ -320,7 +330,7 @@ foldCalls =
     ∷ foldsAt 0 (0 ∷ 1 ∷ replicate 43030 0) 86020 19 7
     ∷ actsAt (0 ∷ 1 ∷ replicate 43030 0) (makesTrace 3 (0 · 0) [] root A) 19 7
     -- starting judges neither log nor base
-    ∷ startsAt 43032 0 0
-    ∷ startsAt 43032 8 21
-    ∷ startsAt 43031 8 1
+    ∷ startsAt 43032 0 0 255
+    ∷ startsAt 43032 8 21 9
+    ∷ startsAt 43031 8 1 9
     ∷ []
