@@ -9,10 +9,11 @@ use mathlib.Core.Bool.{Bool, true, false, not}
 use mathlib.Core.List.{List, _++_, append-nil}
 use lib.Dec.{eqb}
 use lib.ListN.{length, take, drop, replicate, length-append, length-take, length-drop, length-replicate}
-use lib.Seq.{take-all, drop-length}
+use lib.Seq.{take-all, drop-length, drop-drop, drop-append-add}
+use borrow.Rule.Slice.PartMut.{putMid}
 use borrow.Author.Tests.{not-true, not-false}
 use Rattle.model.specs.Vector.{covers, blocksFor}
-use Rattle.model.specs.Bytes.{padded, joined, putAt}
+use Rattle.model.specs.Bytes.{part, padded, joined, putAt}
 use Rattle.model.specs.Record.{Rec}
 use Rattle.model.specs.Log.{recordsOf, soundLogOn, lacking}
 use Rattle.model.specs.Block.{headBytes, bodyBytes, sealed, blockOf}
@@ -21,7 +22,7 @@ use Rattle.base_model.specs.Base.{baseVector}
 use Rattle.call_model.specs.Outcome.{outcome}
 use Rattle.byte_slice.proofs.Numbers.{lt-or-ge}
 use Rattle.byte_slice.proofs.Parts.{part-is}
-use Rattle.byte_slice.proofs.PutAt.{put-grows}
+use Rattle.byte_slice.proofs.PutAt.{mid-put, length-put, drop-put-at, part-put, put-grows}
 use Rattle.block_laws.proofs.Fields.{Sized, joined-part}
 use Rattle.encoding_laws.proofs.Logs.{sound-proper-on, proper-sized, sound-records-on}
 use Rattle.base_head.specs.Head.{headed}
@@ -44,6 +45,26 @@ begun m n k e h = omega arith
 pub all-counted : (w : List Rec) (m n : ℕ) → m ≡ length w → n ≡ blocksFor m → n ≡ blocksFor (length w)
 all-counted w m n e f = rw e at f
 
+-- ---- the records, gathered in the row
+
+pub fresh : (d : List ℕ) {e : List ℕ} → length d ≡ 44032 → e ≡ putAt d 3072 (replicate 40960 0) → take 40960 (drop 3072 e) ≡ replicate 40960 0
+unfolding part
+fresh d h p = rw p (rw (length-replicate {A = ℕ} 40960 0) at (part-put d 3072 (replicate 40960 0) (omega arith)))
+
+pub gathered : (e d l : List ℕ) {q : List ℕ} → length e ≡ 44032 → d ≡ putAt e 3072 (replicate 40960 0) → length q ≡ length (take 40960 (drop 3072 d)) → q ≡ padded 40960 l → drop 3072 (putMid 3072 40960 d q) ≡ padded 40960 l
+gathered e d l {q} h f n p =
+    let z : List ℕ = replicate 40960 0 in
+    let lz : 3072 + length z ≤ length e = omega (arith, length-replicate {A = ℕ} 40960 0) in
+    let ld : length d ≡ 44032 = rw f (length-put e 3072 z lz ∙ h) in
+    let lq : length q ≡ 40960 = omega (arith, n, length-take 40960 (drop 3072 d), length-drop 3072 d) in
+    let at : 3072 + length q ≡ length d = omega arith in
+    let x : drop 3072 (putAt d 3072 q) ≡ q = drop-put-at d 3072 q (omega arith) ∙ rw (at, drop-length d, append-nil) in
+    rw (mid-put 3072 40960 d q lq) (x ∙ p)
+
+same-part : (s t : List ℕ) (i j n : ℕ) → drop i s ≡ drop j t → part s i n ≡ part t j n
+unfolding part
+same-part s t i j n e = rw e
+
 -- ---- block k
 
 take-six : (l : List Rec) (n : ℕ) → n ≡ min 6 (length l) → take 6 l ≡ take n l
@@ -61,8 +82,8 @@ module _ (base b v own : List ℕ) (sound : soundLogOn base b ≡ true) where
   unfolding w
   sized = sized-lacking v (recordsOf b) (proper-sized (recordsOf b) (sound-proper-on base (recordsOf b) (sound-records-on base b sound)))
 
-  module _ (a u k m c : ℕ) (recs : List ℕ) {s : List ℕ} (laid : recs ≡ padded 40960 (joined (lacking v (recordsOf b)))) (counted : m ≡ length (lacking v (recordsOf b))) (n : c ≡ min 6 (m - 6 * k)) where
-    pub block-is : 6 * k ≤ m → s ≡ sealed (headBytes (record { archive = a; sender = u; place = 0; vector = own }) c ++ padded 480 (take (480 * k + 80 * c - 480 * k) (drop (480 * k) recs)))
+  module _ (a u k m c : ℕ) (row : List ℕ) {s : List ℕ} (laid : drop (3072 + 480 * k) row ≡ drop (480 * k) (padded 40960 (joined (lacking v (recordsOf b))))) (counted : m ≡ length (lacking v (recordsOf b))) (n : c ≡ min 6 (m - 6 * k)) where
+    pub block-is : 6 * k ≤ m → s ≡ sealed (headBytes (record { archive = a; sender = u; place = 0; vector = own }) c ++ padded 480 (take (3072 + 480 * k + 80 * c - (3072 + 480 * k)) (drop (3072 + 480 * k) row)))
         → s ≡ rowBlock a u own (lacking v (recordsOf b)) k
     unfolding rowBlock headerOf blockOf bodyBytes padded w
     block-is g f =
@@ -70,13 +91,26 @@ module _ (base b v own : List ℕ) (sound : soundLogOn base b ≡ true) where
         let t : List ℕ = replicate (40960 - length (joined w)) 0 in
         let e : 80 * (6 * k) ≡ 480 * k = omega arith in
         let i : length (take 6 l) ≡ c = omega (arith, length-take 6 l, length-drop (6 * k) w) in
-        let j : joined (take 6 l) ≡ take (480 * k + 80 * c - 480 * k) (drop (480 * k) recs) =
-        rw (take-six l c (omega (arith, length-drop (6 * k) w)), part-is recs (480 * k) (80 * c), laid, ← e) (sym (joined-part w (6 * k) c t sized (omega arith))) in
+        let j : joined (take 6 l) ≡ take (3072 + 480 * k + 80 * c - (3072 + 480 * k)) (drop (3072 + 480 * k) row) =
+        rw (take-six l c (omega (arith, length-drop (6 * k) w)), part-is row (3072 + 480 * k) (80 * c), same-part row (joined w ++ t) (3072 + 480 * k) (480 * k) (80 * c) laid, ← e) (sym (joined-part w (6 * k) c t sized (omega arith))) in
         f ∙ rw (j, i)
 
   -- ---- the whole row
 
   module _ (a u : ℕ) (d : List ℕ) (room : length d ≡ 44032) where
+    -- the records of block k are not yet written over
+    pub still-lies : (k n : ℕ) {e : List ℕ} → drop 3072 d ≡ padded 40960 (joined (lacking v (recordsOf b))) → e ≡ rowTo a u own (lacking v (recordsOf b)) k ++ drop (512 * k) d → k < n → n ≤ 86
+        → drop (3072 + 480 * k) e ≡ drop (480 * k) (padded 40960 (joined (lacking v (recordsOf b))))
+    unfolding w
+    still-lies k n laid p h g =
+        let f = rowTo a u own w k in
+        let i : ℕ = 3072 - 32 * k in
+        let lf : length f ≡ 512 * k = length-rowTo a u own w sized k in
+        let at : 3072 + 480 * k ≡ length f + i = omega arith in
+        let to : 512 * k + i ≡ 3072 + 480 * k = omega arith in
+        let x : drop (3072 + 480 * k) (f ++ drop (512 * k) d) ≡ drop i (drop (512 * k) d) = rw at (drop-append-add f (drop (512 * k) d) i) in
+        rw p (x ∙ drop-drop i (512 * k) d ∙ rw (to, ← laid) (sym (drop-drop (480 * k) 3072 d)))
+
     -- one block more
     pub goes-on : (k n : ℕ) {e s o : List ℕ} → o ≡ putAt e (512 * k) s → s ≡ rowBlock a u own (lacking v (recordsOf b)) k
         → e ≡ rowTo a u own (lacking v (recordsOf b)) k ++ drop (512 * k) d → k < n → n ≤ 86

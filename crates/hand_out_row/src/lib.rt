@@ -1,8 +1,8 @@
 // Handing out a row: all blocks of what another unit lacks, with one check of the log.
 ghost use mathlib.Core.Path.{_≡_};
 ghost use mathlib.Core.Bool.{true};
-ghost use Prim.Native.Nat.{_*_, _≤_};
-ghost use lib.ListN.{length, replicate};
+ghost use Prim.Native.Nat.{_+_, _*_, _≤_};
+ghost use lib.ListN.{length, drop};
 ghost use Rattle.model.specs.Vector.{blocksFor};
 ghost use Rattle.model.specs.Lengths.{logSize, fileSize, logPlaces};
 ghost use Rattle.model.specs.Bytes.{padded, joined};
@@ -14,20 +14,12 @@ use block_write::block_of;
 use call_guard::open;
 use hand_out_pick::gather_all;
 use model::FILE_BYTES;
-use model::LOG_BYTES;
 use vector::Vector;
 use vector::covers;
 use write_file::Written;
 use write_file::clear_behind;
 use write_file_blocks::count_at;
 use write_file_blocks::write_at;
-
-// 512 places of 80 bytes, all zero.
-fn fresh_records() -> [u8; 40960]
-    ensures { λ r. ⌜ r ≡ replicate logSize 0 ⌝ }
-{
-    [0u8; LOG_BYTES]
-}
 
 // How many blocks n records are.
 fn row_count(n: usize) -> usize
@@ -37,27 +29,39 @@ fn row_count(n: usize) -> usize
     (n + 5) / 6
 }
 
-// Block k of the n records that the asked vector lacks, which lie one behind another. Base vector, log and asked vector only say which they are.
+// The records that the asked vector lacks are laid one behind another in the row, from byte 3,072 on; their count is returned.
+fn gather_behind(folded: Vector, log: &[u8], used: usize, asked: Vector, out: &mut [u8]) -> usize
+    requires { ⌜ (length (now log) ≡ logSize) × (soundLogOn (folded .counts) (now log) ≡ true) × (used ≡ length (recordsOf (now log))) × (length (now out) ≡ fileSize) ⌝ }
+    ensures counted { λ r. ⌜ (r ≡ length (lacking (asked .counts) (recordsOf (now (log .entry))))) × (r ≤ logPlaces) ⌝ }
+    ensures laid { λ _. ⌜ drop 3072 (now (out .exit)) ≡ padded logSize (joined (lacking (asked .counts) (recordsOf (now (log .entry))))) ⌝ }
+{
+    clear_behind(out, 6);
+    gather_all(folded, log, used, asked, &mut out[3072..FILE_BYTES])
+}
+
+// Block k of the n records that the asked vector lacks, which lie one behind another in the row, from byte 3,072 on; those of the
+// blocks before may be written over. Base vector, log and asked vector only say which they are.
 fn row_block(
     folded: Vector,
     log: &[u8],
     asked: Vector,
-    recs: &[u8],
+    row: &[u8],
     n: usize,
     k: usize,
     held: Vector,
     archive: u32,
     unit: u8,
 ) -> Block
-    requires { ⌜ (soundLogOn (folded .counts) (now log) ≡ true) × (length (now recs) ≡ logSize) × (now recs ≡ padded logSize (joined (lacking (asked .counts) (recordsOf (now log))))) × (n ≡ length (lacking (asked .counts) (recordsOf (now log)))) × (n ≤ logPlaces) × (6 * k ≤ n) ⌝ }
+    requires { ⌜ (soundLogOn (folded .counts) (now log) ≡ true) × (length (now row) ≡ fileSize) × (drop (3072 + 480 * k) (now row) ≡ drop (480 * k) (padded logSize (joined (lacking (asked .counts) (recordsOf (now log)))))) × (n ≡ length (lacking (asked .counts) (recordsOf (now log)))) × (n ≤ logPlaces) × (6 * k ≤ n) ⌝ }
     ensures { λ r. ⌜ r .bytes ≡ rowBlock archive unit (held .counts) (lacking (asked .counts) (recordsOf (now (log .entry)))) k ⌝ }
 {
     let c = count_at(n, k);
-    let at = 480 * k;
-    block_of(archive, unit, c as u8, 0, held, &recs[at..at + 80 * c])
+    let at = 3072 + 480 * k;
+    block_of(archive, unit, c as u8, 0, held, &row[at..at + 80 * c])
 }
 
-// Block after block is written, then zeros; the count of blocks is returned.
+// The records are gathered in the row itself, block after block is written before them, then zeros; the count of blocks is
+// returned. A block is 32 bytes longer than its six records, and 86 * 32 < 3,072: no block reaches records still to be read.
 fn write_row(
     folded: Vector,
     log: &[u8],
@@ -72,12 +76,11 @@ fn write_row(
     ensures counted { λ r. ⌜ r ≡ blocksFor (length (lacking (asked .counts) (recordsOf (now (log .entry))))) ⌝ }
     ensures written { λ _. ⌜ now (out .exit) ≡ padded fileSize (rowOf archive unit (held .counts) (recordsOf (now (log .entry))) (asked .counts)) ⌝ }
 {
-    let mut recs = fresh_records();
-    let m = gather_all(folded, log, used, asked, &mut recs);
+    let m = gather_behind(folded, log, used, asked, out);
     let n = row_count(m);
     let mut k: usize = 0;
     while k < n {
-        let b = row_block(folded, log, asked, &recs, m, k, held, archive, unit);
+        let b = row_block(folded, log, asked, out, m, k, held, archive, unit);
         write_at(out, k, b);
         k += 1;
     }

@@ -10,6 +10,9 @@ count-at-requires c κs = search needs
 mul-at : tie.Need-mul-at
 mul-at c = search needs
 
+add-at : tie.Need-add-at
+add-at c = search needs
+
 cast-block-of : tie.Need-cast-block-of
 cast-block-of c = search needs
 
@@ -40,6 +43,7 @@ row-block-spec =
     (tie.spec
     count-at-requires
     mul-at
+    add-at
     cast-block-of
     mul-block-of
     add-block-of

@@ -1,4 +1,5 @@
-use Rattle.hand_out_row.proofs.Written.{few, begun, all-counted, goes-on, ends}
+use Rattle.hand_out_row.proofs.Written.{few, begun, all-counted, still-lies, goes-on, ends}
+use Rattle.model.specs.Bytes.{padded, joined}
 use Rattle.model.specs.Log.{recordsOf, lacking}
 use Rattle.row_model.specs.Row.{rowTo}
 use lib.ListN.{length, drop}
@@ -11,32 +12,28 @@ use Rattle.hand_out_row.proofs.write_row.Statement.{statement}
 use Rattle.hand_out_row.proofs.write_row.Tie as tie
 
 abbrev Inv-loop : tie.InvT-loop
-Inv-loop folded log used held archive unit asked out₀ recs m n k₀ out k = (k ≤ n) × (n ≤ 86) × (length out ≡ 44032) × (out ≡ rowTo archive unit (held .counts) (lacking (asked .counts) (recordsOf log)) k ++ drop (512 * k) out₀)
+Inv-loop folded log used held archive unit asked out₀ m n k₀ out k = (k ≤ n) × (n ≤ 86) × (length out ≡ 44032) × (length out₀ ≡ 44032) × (drop 3072 out₀ ≡ padded 40960 (joined (lacking (asked .counts) (recordsOf log)))) × (out ≡ rowTo archive unit (held .counts) (lacking (asked .counts) (recordsOf log)) k ++ drop (512 * k) out₀)
 
 abbrev μ-loop : tie.MeasureT-loop
-μ-loop folded log used held archive unit asked out₀ recs m n k₀ out k = n - k
+μ-loop folded log used held archive unit asked out₀ m n k₀ out k = n - k
 
-fresh-records-requires : tie.Need-fresh-records-requires Inv-loop μ-loop
-fresh-records-requires c κs = search needs
-
-slice-aggregate-gather-all : tie.Need-slice-aggregate-gather-all Inv-loop μ-loop
-slice-aggregate-gather-all c = search needs
-
-gather-all-requires : tie.Need-gather-all-requires Inv-loop μ-loop
-gather-all-requires c κs = search needs
+gather-behind-requires : tie.Need-gather-behind-requires Inv-loop μ-loop
+gather-behind-requires c κs = search needs
 
 row-count-requires : tie.Need-row-count-requires Inv-loop μ-loop
 row-count-requires c κs = search needs
 
 loop-holds : tie.Need-loop-holds Inv-loop μ-loop
 unfolding rowTo
-loop-holds c = (omega arith, search (few), search needs, refl)
-
-slice-aggregate-row-block : tie.Need-slice-aggregate-row-block Inv-loop μ-loop
-slice-aggregate-row-block c = search needs
+loop-holds c = (omega arith, search (few), search needs, search needs, search needs, refl)
 
 row-block-requires : tie.Need-row-block-requires Inv-loop μ-loop
-row-block-requires c κs = (search needs, search needs, search needs, search needs, search needs, search (begun))
+row-block-requires c κs =
+    let inside = c .before in
+    let at = inside .before in
+    let pre = at .before .before .before .before .before .before .before .before .pre in
+    let inv = at .loop .inv in
+    (search needs, search needs, still-lies _ _ _ _ (pre .1) _ _ _ (inv .3) _ _ (inv .4) (inv .5) (inside .loop-test .taken) (inv .1), search needs, search needs, search (begun))
 
 write-at-requires : tie.Need-write-at-requires Inv-loop μ-loop
 write-at-requires c κs = search needs
@@ -55,7 +52,7 @@ loop-again c =
     let at = inside .before in
     let pre = at .before .before .before .before .before .before .before .before .pre in
     let inv = at .loop .inv in
-    (omega arith, search needs, search needs, goes-on _ _ _ _ (pre .1) _ _ _ (pre .3) _ _ (write .write-at .ensures) (block .row-block .ensures) (inv .3) (inside .loop-test .taken) (inv .1))
+    (omega arith, search needs, search needs, inv .3, inv .4, goes-on _ _ _ _ (pre .1) _ _ _ (inv .3) _ _ (write .write-at .ensures) (block .row-block .ensures) (inv .5) (inside .loop-test .taken) (inv .1))
 
 clear-behind-requires : tie.Need-clear-behind-requires Inv-loop μ-loop
 clear-behind-requires c κs = search needs
@@ -67,7 +64,14 @@ same-length : tie.Need-same-length Inv-loop μ-loop
 same-length c = search needs
 
 returns : tie.Need-returns Inv-loop μ-loop
-returns c = (search (all-counted), search (ends))
+returns c =
+    let zeros = c .before .before in
+    let left = zeros .before .before in
+    let at = left .before in
+    let gather = at .before .before .before .before in
+    let pre = gather .before .before .before .before .pre in
+    let inv = at .loop .inv in
+    (search (all-counted), ends _ _ _ _ (pre .1) _ _ _ (inv .3) _ _ _ (inv .0) (left .loop-test .left) (inv .1) (at .before .row-count .ensures) (gather .gather-behind .ensures .0 .0) (inv .5) (zeros .clear-behind .ensures))
 
 pub write-row-spec : {M : Type 1} → statement M
 write-row-spec =
@@ -75,12 +79,9 @@ write-row-spec =
     (tie.spec
     Inv-loop
     μ-loop
-    fresh-records-requires
-    slice-aggregate-gather-all
-    gather-all-requires
+    gather-behind-requires
     row-count-requires
     loop-holds
-    slice-aggregate-row-block
     row-block-requires
     write-at-requires
     add-k
