@@ -4,6 +4,7 @@
 use Prim.Native.Nat.{ℕ}
 use mathlib.Core.Bool.{Bool, true, false, _&&_}
 use mathlib.Core.List.{List, [], _∷_, _++_}
+use lib.Dec.{eqb}
 use lib.ListN.{length, take, drop, replicate}
 use Rattle.model.specs.Bytes.{two, sameBytes, padded, joined}
 use Rattle.model.specs.Vector.{vectorBytes}
@@ -12,7 +13,7 @@ use Rattle.model.specs.Log.{vectorOf, noCounts, allTo}
 use Rattle.model.specs.Replay.{Entry, Aside, trim, replay}
 use Rattle.model.specs.Table.{entryRow, entryRows, asideRow, asideRows}
 use Rattle.model.specs.Examples.{_·_, makesTrace, sameFlag, A, B}
-use Rattle.base_model.specs.Base.{Base, isListed, listsAll, baseBytes, asideFits, entryRowFits, baseHeadFits, restBlank, nameNew, idsFit, soundBase, soundState}
+use Rattle.base_model.specs.Base.{Base, isListed, listsAll, baseBytes, asideFits, entryRowFits, baseHeadFits, restBlank, nameNew, idsFit, soundBase, soundState, emptyBase, baseIn, treeOf}
 
 pub data Row : Type 0 where
   -- a list, a unit, and whether it is listed
@@ -35,6 +36,8 @@ pub data Row : Type 0 where
   stands : ℕ → List ℕ → List Rec → Bool → Row
   -- bytes that begin with those of a base, and whether they are a sound one
   sounds : List ℕ → Bool → Row
+  -- the first bytes of a base without records behind it, its list, and how many entries its tree has
+  starts : List ℕ → ℕ → ℕ → Row
 
 -- the base that the records p leave
 unfoldable pub baseAfter : ℕ → List Rec → Base
@@ -75,6 +78,7 @@ right (once v es ss x) =
 right (blanks b n m x) = sameFlag (restBlank b n m) x
 right (stands m v l x) = sameFlag (soundState (joined l) (headOf m v)) x
 right (sounds b x) = sameFlag (soundBase b) x
+right (starts b m n) = eqb (baseIn b .list) m && eqb (length (treeOf [] b .entries)) n
 
 unfoldable pub allRight : List Row → Bool
 allRight [] = true
@@ -184,4 +188,13 @@ table =
     ∷ sounds (headBytesOf (3 ∷ replicate 7 0) 2 ++ (row 1 (0 · 1) root A ++ row 1 (0 · 1) root B)) false
     ∷ sounds (headBytesOf (3 ∷ replicate 7 0) 2 ++ (row 1 (0 · 1) root A ++ row 1 (0 · 2) root A)) false
     ∷ sounds (headBytesOf (3 ∷ replicate 7 0) 1 ++ row 1 (0 · 1) (0 · 2) A) false
+    -- all of a label counts; a mark's first byte; month before day; a row behind those counted, at its last byte
+    ∷ bases (3 ∷ []) (row 1 (0 · 1) root (65 ∷ 65 ∷ []) ∷ row 1 (0 · 2) root (65 ∷ 66 ∷ []) ∷ []) true
+    ∷ bases (3 ∷ []) (row 1 (0 · 1) root (replicate 31 65 ++ (127 ∷ [])) ∷ []) false
+    ∷ bases (3 ∷ []) ((take 56 (row 1 (0 · 1) root A) ++ (1 ∷ replicate 15 0)) ∷ []) false
+    ∷ bases (3 ∷ []) ((take 22 (row 1 (0 · 1) root A) ++ (1 ∷ 31 ∷ drop 24 (row 1 (0 · 1) root A))) ∷ []) true
+    ∷ blanks (replicate 36887 0 ++ (1 ∷ [])) 1 0 false
+    -- at first all eight are listed; the tree of a state goes on from that of its base
+    ∷ starts emptyBase 255 0
+    ∷ starts (headBytesOf (3 ∷ replicate 7 0) 1 ++ row 1 (0 · 1) root A) 255 1
     ∷ []

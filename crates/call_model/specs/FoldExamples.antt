@@ -6,16 +6,17 @@ use mathlib.Core.Bool.{Bool, true, false, _&&_}
 use mathlib.Core.List.{List, [], _∷_, _++_}
 use lib.Dec.{eqb}
 use lib.ListN.{getD, take, drop, replicate}
-use Rattle.model.specs.Bytes.{sameBytes, padded, joined}
+use Rattle.model.specs.Bytes.{word, sameBytes, padded, joined}
 use Rattle.model.specs.Vector.{vectorBytes}
 use Rattle.model.specs.Record.{Rec, root}
 use Rattle.model.specs.Log.{vectorOf, noCounts, soundAfter, recordsOf}
 use Rattle.model.specs.Replay.{Entry, Aside, Tree, emptyTree, trim, replayFrom, replay}
 use Rattle.model.specs.Examples.{_·_, Standing, makesFolder, makesTrace, stores, removes, renames, settles, sameFlag, sameRecords, showsAsides, A, B, C}
-use Rattle.model.specs.Block.{vectorIn}
-use Rattle.base_model.specs.Base.{baseBytes, baseIn}
+use Rattle.model.specs.Block.{blockOf, vectorIn}
+use Rattle.model.specs.File.{headerOf}
+use Rattle.base_model.specs.Base.{emptyBase, baseBytes, baseIn}
 use Rattle.base_model.specs.Examples.{baseAfter}
-use Rattle.call_model.specs.Outcome.{Outcome, Took, refused, taken, takeOne, actNumber, actOf, actWork, workAfter, askedNumber, wholeNumber, roomNumber, startOf, handed, written}
+use Rattle.call_model.specs.Outcome.{Outcome, Took, refused, taken, takeOne, actNumber, actOf, actWork, workAfter, askedNumber, wholeNumber, roomNumber, startOf, handed, written, acted, tookBlock}
 use Rattle.call_model.specs.Fold.{heardBy, longest, runOf, listFits, folded, foldBy, foldOf, foldWork}
 
 -- ---- the rows
@@ -47,11 +48,15 @@ pub data FoldRow : Type 0 where
   foldsBy : ℕ → ℕ → List Rec → List ℕ → ℕ → ℕ → FoldRow
   -- a base, the records of a log, the vector asked of a hand-out; the number that it answers behind the guard, and the vector in the header
   handsOut : List ℕ → List Rec → List ℕ → ℕ → List ℕ → FoldRow
+  -- a base, the records of a block, and the number that the taking of it answers behind the guard
+  tooksIn : List ℕ → List Rec → ℕ → FoldRow
+  -- the own unit's base vector, a wish, and the number in the record that an act leaves
+  stamps : List ℕ → List ℕ → ℕ → FoldRow
   -- a base, and the number that the writing of a file answers behind the guard
   writesOut : List ℕ → ℕ → FoldRow
   -- the number before a replay, and the first byte of a work memory of sevens then
   works : ℕ → ℕ → FoldRow
-  -- the own unit, a base, how many bytes of work memory; the number of a fold by the list 0, and the first of these bytes, sevens, then
+  -- the own unit, a base, how many bytes of work memory; the number of a fold by the list 0, and the first of these bytes, all sevens, then
   foldsAt : ℕ → List ℕ → ℕ → ℕ → ℕ → FoldRow
   -- a base, a wish of unit 0; the number, and the first byte of the work memory then
   actsAt : List ℕ → List ℕ → ℕ → ℕ → FoldRow
@@ -115,6 +120,8 @@ right (whole v n) = eqb (wholeNumber v) n
 right (foldsBy m u l base n k) = eqb (foldBy m u (joined l) base .number) n && eqb (foldBy m u (joined l) base .blocks) k
 right (handsOut base l v n h) =
     eqb (handed 7 0 (joined l) base v [] .number) n && sameBytes (vectorIn (handed 7 0 (joined l) base v [] .lent)) h
+right (tooksIn base rs n) = eqb (tookBlock [] base (blockOf (headerOf 7 0 0 noCounts) rs) 0 .number) n
+right (stamps v w n) = eqb (word (acted 0 [] v w 0 .log) 2) n
 right (writesOut base n) = eqb (written 7 0 [] base [] .number) n
 right (works n y) = eqb (getD (workAfter n emptyTree (replicate 9 7)) 0 0) y
 right (foldsAt u base k n y) =
@@ -169,6 +176,8 @@ foldTable =
     -- a listed unit that never acted has heard of nothing
     ∷ folds 15 0 five 0 [] []
     ∷ folds 255 0 five 0 [] []
+    -- unit 7, listed, has heard of nothing
+    ∷ folds 129 0 (makesTrace 1 (0 · 1) [] root A ∷ []) 0 [] []
     -- the last record of a unit counts as heard by it, and the own unit has heard of all that it holds
     ∷ folds 3 0 (makesTrace 1 (1 · 1) [] root A ∷ []) 1 (1 · 1 ∷ []) []
     ∷ folds 3 0 (makesTrace 1 (0 · 1) [] root A ∷ makesTrace 1 (1 · 1) (1 ∷ []) root B ∷ []) 2 (0 · 1 ∷ 1 · 1 ∷ []) []
@@ -321,6 +330,10 @@ foldCalls =
     ∷ handsOut (headOf 255 (1 ∷ 0 ∷ 1 ∷ replicate 5 0)) (take 1 (drop 2 five)) (1 ∷ 0 ∷ 1 ∷ []) 0 (1 ∷ 1 ∷ 1 ∷ replicate 5 0)
     ∷ writesOut (headOf 255 (1 ∷ replicate 7 0)) 29
     ∷ writesOut (headOf 2 noCounts) 0
+    -- a taken record goes by the list stored; an act numbers on from the base vector
+    ∷ tooksIn (headOf 2 noCounts) (makesTrace 1 (0 · 1) [] root A ∷ []) 26
+    ∷ tooksIn (headOf 1 noCounts) (makesTrace 1 (0 · 1) [] root A ∷ []) 0
+    ∷ stamps (5 ∷ replicate 7 0) (makesTrace 3 (0 · 0) [] root A) 6
     -- a call refused before its replay leaves the work memory
     ∷ works 26 7
     ∷ works 0 0
@@ -329,6 +342,9 @@ foldCalls =
     ∷ foldsAt 8 (0 ∷ 1 ∷ replicate 43030 0) 86020 21 7
     ∷ foldsAt 0 (0 ∷ 1 ∷ replicate 43030 0) 86020 19 7
     ∷ actsAt (0 ∷ 1 ∷ replicate 43030 0) (makesTrace 3 (0 · 0) [] root A) 19 7
+    -- refused with 26, by the list given or the one stored, the work memory is left too
+    ∷ foldsAt 0 emptyBase 86020 26 7
+    ∷ actsAt (254 ∷ replicate 43031 0) (makesTrace 3 (0 · 0) [] root A) 26 7
     -- starting judges neither log nor base
     ∷ startsAt 43032 0 0 255
     ∷ startsAt 43032 8 21 9
