@@ -29,7 +29,7 @@ $(MAN)/sab.3: include/sab.h scripts/man-page
 
 $(MAN)/sab1.5: docs/FORMAT.md scripts/man-page include/sab.h
 	mkdir -p $(MAN)
-	scripts/man-page sab1 5 'the archive file SAB1' $< >$@
+	scripts/man-page sab1 5 'the archive files SAB1 and SAB2' $< >$@
 
 target/sab.pc: include/sab.h
 	mkdir -p target

@@ -24,8 +24,9 @@ static uint8_t log_bytes[SAB_LOG_BYTES], full[SAB_LOG_BYTES], shorter[SAB_LOG_BY
     head[SAB_HEAD_BYTES], asked[SAB_VECTOR_BYTES], held[SAB_VECTOR_BYTES],
     lacks[SAB_LACKS_BYTES], wish[SAB_RECORD_BYTES], row[SAB_FILE_BYTES],
     copy[SAB_LOG_BYTES], report[SAB_REPORT_BYTES], index_bytes[SAB_INDEX_BYTES],
-    range[SAB_RANGE_BYTES], base[SAB_BASE_BYTES], work[SAB_WORK_BYTES];
-static size_t file_length, row_length, index_length, work_length;
+    range[SAB_RANGE_BYTES], base[SAB_BASE_BYTES], work[SAB_WORK_BYTES],
+    sab2[SAB_SAB2_BYTES], out_sab2[SAB_SAB2_BYTES];
+static size_t file_length, sab2_length, row_length, index_length, work_length;
 static uint32_t result;
 
 static void run_compare(void)
@@ -98,6 +99,28 @@ static void run_read_file(void)
                            head, sizeof head);
 }
 
+static void run_write_sab2(void)
+{
+    result = sab_write_sab2(log_bytes, sizeof log_bytes, base, sizeof base, ARCHIVE, 0, out_sab2,
+                            sizeof out_sab2);
+}
+
+static void run_read_sab2(void)
+{
+    result = sab_read_file(log_bytes, sizeof log_bytes, base, sizeof base, sab2, sab2_length,
+                           head, sizeof head);
+}
+
+static void run_to_sab2(void)
+{
+    result = sab_to_sab2(file, file_length, out_sab2, sizeof out_sab2);
+}
+
+static void run_to_sab1(void)
+{
+    result = sab_to_sab1(sab2, sab2_length, out_file, sizeof out_file);
+}
+
 static void run_merge(void)
 {
     result = sab_merge(file, file_length, file, file_length, log_bytes, sizeof log_bytes, out_file,
@@ -137,8 +160,14 @@ static void run_list(void)
 
 static void run_listing(void)
 {
-    result = sab_listing(file, file_length, log_bytes, sizeof log_bytes, tree, sizeof tree,
-                         listing, sizeof listing, length, sizeof length);
+    result = sab_listing(file, file_length, log_bytes, sizeof log_bytes, base, sizeof base, tree,
+                         sizeof tree, listing, sizeof listing, length, sizeof length);
+}
+
+static void run_sab2_listing(void)
+{
+    result = sab_listing(sab2, sab2_length, log_bytes, sizeof log_bytes, base, sizeof base, tree,
+                         sizeof tree, listing, sizeof listing, length, sizeof length);
 }
 
 /* A call; those that keep an index stand twice, without and with one. */
@@ -159,10 +188,15 @@ static const struct entry ENTRIES[] = {
     {"sab_take", run_take, 0},
     {"sab_take, with an index", run_take, 1},
     {"sab_write_file", run_write_file, 0},
+    {"sab_write_sab2", run_write_sab2, 0},
     {"sab_read_file", run_read_file, 0},
+    {"sab_read_file, SAB2", run_read_sab2, 0},
+    {"sab_to_sab2", run_to_sab2, 0},
+    {"sab_to_sab1", run_to_sab1, 0},
     {"sab_merge", run_merge, 0},
     {"sab_show", run_show, 0},
     {"sab_listing", run_listing, 0},
+    {"sab_listing, SAB2", run_sab2_listing, 0},
     {"sab_hand_out_row", run_hand_out_row, 0},
     {"sab_take_row", run_take_row, 0},
     {"sab_take_row, with an index", run_take_row, 1},
@@ -231,6 +265,8 @@ static void prepare(const struct entry *call, size_t records)
     r = sab_write_file(log_bytes, sizeof log_bytes, base, sizeof base, ARCHIVE, 0, file,
                        sizeof file);
     file_length = SAB_BLOCK_BYTES * SAB_COUNT(r);
+    r = sab_to_sab2(file, file_length, sab2, sizeof sab2);
+    sab2_length = SAB_BLOCK_BYTES * SAB_COUNT(r);
     if (call->run == run_take) {
         first(shorter, least(records, FULL - 6));
         sab_vector(shorter, sizeof shorter, base, sizeof base, asked, sizeof asked);

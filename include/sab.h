@@ -67,6 +67,8 @@
  *   over before the first one moves an entry.
  * - Libraries before 6.0.0 have no base. They meet units that fold, as long as
  *   they lack nothing that is folded there; their own logs stay as they are.
+ * - Libraries before 7.0.0 do not know files of the form SAB2, and refuse them
+ *   (3). Blocks are the same for all.
  * - Dates are shown and order nothing.
  *
  * Calls may run at the same time on different buffers. Bytes need no alignment.
@@ -83,12 +85,13 @@
  *
  *     SAB_NUMBER(r)   0 for success, else the number of the refusal, below
  *     SAB_PLACE(r)    the block at fault, counted from 0. The numbers marked P
- *                     below have a place; only sab_read_file, sab_listing and
- *                     sab_merge give another than 0. For the other numbers it
- *                     says nothing
+ *                     below have a place; only sab_read_file, sab_listing,
+ *                     sab_to_sab2, sab_to_sab1 and sab_merge give another than
+ *                     0. For the other numbers it says nothing
  *     SAB_COUNT(r)    what a successful call counted, in 16 bits: the blocks
- *                     written (sab_write_file, sab_merge, sab_hand_out_row), the
- *                     records read (sab_read_file), in the log (sab_vector) or
+ *                     written (sab_write_file, sab_write_sab2, sab_to_sab2,
+ *                     sab_to_sab1, sab_merge, sab_hand_out_row), the records read
+ *                     (sab_read_file), in the log (sab_vector) or
  *                     folded (sab_fold, up to 512), the rows of a folder
  *                     (sab_list), the answer of sab_compare; of sab_take_row two
  *                     numbers; of sab_find the number of the entry, whose unit
@@ -100,13 +103,16 @@
  *
  * Each function checks in the order in which its numbers stand, and returns the
  * first that holds. A buffer that has not the stated length is refused with 1,
- * or with 2 if it is a block, a row or a file given for reading; its bytes are neither
- * read nor written, so with a wrong length, also 0, the pointer may be anything.
- * Only an index, and of a take the work memory, may have 0 bytes: see THE INDEX.
+ * or with 2 if it is a block, a row or a file given for reading; its bytes are
+ * neither read nor written, so with a wrong length, also 0, the pointer may be
+ * anything. But of a file given to sab_read_file or sab_listing the first four
+ * bytes, if it has so many, are read before its length is judged: they choose its
+ * form. Only an index, and of a take the work memory, may have 0 bytes: see THE
+ * INDEX.
  *
  * A unit's log is never lent without its base, and both are of one moment: a base
  * beside a log of another moment is mostly refused with 19, but not always. The
- * log lent to sab_merge or sab_listing is work space, and has none.
+ * log lent to sab_merge, and log and base lent to sab_listing, are work space.
  *
  * Work memory, SAB_WORK_BYTES, is lent to the calls that need a tree to answer.
  * Its bytes mean nothing before the call and nothing after it. It may be the same
@@ -197,7 +203,7 @@
  *
  * - The limit of 512 counts records that are not folded.
  * - A hand-out to a vector that lacks folded records is refused (27).
- * - A file in the form SAB1 cannot be written (29).
+ * - A file of the form SAB1 cannot be written (29); one of the form SAB2 can.
  * - A folded record that comes again is passed over, whatever its bytes: that its
  *   number was used twice is not noticed here any more.
  * - A new record that has not seen all that is folded is refused (27).
@@ -207,13 +213,13 @@
  *
  * Who folds lists the units of the archive, in one byte: bit u for unit u. A list
  * has the own unit and every unit with a record, folded or not (26). After
- * sab_start and sab_read_file all eight are listed. What a listed unit has heard
- * is told by its last record in the log: what that has seen, with the record
- * itself counted; of a unit that has none there, nothing above the base. So a
- * listed unit that has never made a record, or none since the last fold, holds
- * all folding back. A list without such a unit is at your risk: if it makes a
- * record later, that is refused here, with 26, and once it is listed, with 27,
- * unless it has seen all that is folded.
+ * sab_start, and after an SAB1 file is read, all eight are listed. What a listed
+ * unit has heard is told by its last record in the log: what that has seen, with
+ * the record itself counted; of a unit that has none there, nothing above the
+ * base. So a listed unit that has never made a record, or none since the last
+ * fold, holds all folding back. A list without such a unit is at your risk: if it
+ * makes a record later, that is refused here, with 26, and once it is listed, with
+ * 27, unless it has seen all that is folded.
  *
  * Two premises, for who wants meetings that never end with 26 or 27: every list
  * names each unit that ever makes a record, and no unit that folds is started
@@ -268,24 +274,38 @@
  * After sab_read_file or sab_merge, or when a log was changed by a call that was
  * lent no index, sab_index makes it afresh. It is not part of a file and need not
  * be stored. sab_fold, sab_hand_out, sab_hand_out_row, sab_try, sab_write_file,
- * sab_show and sab_vector change no tree and need none.
+ * sab_write_sab2, sab_show and sab_vector change no tree and need none.
  *
  * sab_find and sab_list need the index alone. They end in any bytes, with the
  * answers that docs/FORMAT.md defines; of an index that is not the log's these
  * mean nothing.
  *
  *
+ * FILES
+ *
+ * A file has one of two forms, by its first four bytes. docs/FORMAT.md describes
+ * them.
+ *
+ *     SAB1   the records of a log in which nothing is folded; 1 to 86 blocks.
+ *            It holds no list: read from it, all eight units are listed.
+ *     SAB2   list and base, then the records of the log; 1 to 186 blocks. Every
+ *            state has one such file, which reads back as that state, list and all.
+ *
+ * sab_read_file and sab_listing take both. sab_write_file and sab_write_sab2 write
+ * the one and the other, sab_to_sab2 makes an SAB2 file of an SAB1 file, and
+ * sab_to_sab1 goes back, unless records are folded (29). sab_merge takes SAB1
+ * alone, and blocks that are handed out and taken have the letters SAB1.
+ *
+ *
  * STORAGE
  *
- * Store the file that sab_write_file writes, rather than the bytes of the log:
- * a file has sums, its archive and its unit, and sab_read_file tells if it is
- * whole. The log has none of these; a date or a mark that changed in it is not
- * noticed. (A log that is stored all the same is handed to the next call as it
- * was; a torn one is mostly refused with 19, but not always.)
- *
- * Once records are folded there is no such file (29). Then store log and base
- * together, in one piece, with archive, unit and a sum of your own; never one of
- * them apart from the other.
+ * Store the file that sab_write_sab2 writes, or, as long as nothing is folded and
+ * all eight units are listed, that of sab_write_file, rather than the bytes of log
+ * and base: a file has sums, its archive and its unit, and sab_read_file tells if
+ * it is whole. Log and base have none of these; a date or a mark that changed there
+ * is not noticed. (Where they are stored all the same, store both in one piece,
+ * never one apart from the other, and hand them to the next call as they were; a
+ * torn one is mostly refused with 19, but not always.)
  *
  * - Never write over the only copy. Write a second file, read it back with
  *   sab_read_file, and only then give up the first. After a power cut, read both
@@ -312,10 +332,10 @@ extern "C" {
 
 /* ---- The version of this header and of its calls ---- */
 
-#define SAB_VERSION_MAJOR 6
+#define SAB_VERSION_MAJOR 7
 #define SAB_VERSION_MINOR 0
 #define SAB_VERSION_PATCH 0
-#define SAB_VERSION "6.0.0"
+#define SAB_VERSION "7.0.0"
 
 /* ---- Lengths in bytes ---- */
 
@@ -324,7 +344,8 @@ extern "C" {
 #define SAB_BASE_BYTES 43032     /* list and base: 24 bytes, 512 rows of 72, 512
                                     of 12 */
 #define SAB_BLOCK_BYTES 512      /* a block: up to six records */
-#define SAB_FILE_BYTES 44032     /* lent for writing a file: 86 blocks */
+#define SAB_FILE_BYTES 44032     /* lent for writing an SAB1 file: 86 blocks */
+#define SAB_SAB2_BYTES 95232     /* lent for writing an SAB2 file: 186 blocks */
 #define SAB_TREE_BYTES 86020     /* the tree table */
 #define SAB_WORK_BYTES 86020     /* work memory */
 #define SAB_INDEX_BYTES 40964    /* an index: 1,024 rows of 40 behind 4 bytes */
@@ -332,7 +353,7 @@ extern "C" {
 #define SAB_LACKS_BYTES 8        /* how far two vectors are apart: two numbers */
 #define SAB_HEAD_BYTES 24        /* what a file says of itself */
 #define SAB_REPORT_BYTES 4116    /* the report of a row that is tried */
-#define SAB_LISTING_BYTES 76800  /* lent for a listing; none is longer */
+#define SAB_LISTING_BYTES 172544 /* lent for a listing; none is longer */
 #define SAB_LENGTH_BYTES 4       /* the length of a listing */
 #define SAB_LABEL_BYTES 32       /* a label with the zeros behind it */
 #define SAB_RANGE_BYTES 4        /* the rows of a folder in an index */
@@ -351,10 +372,11 @@ extern "C" {
 
 #define SAB_OK 0u
 #define SAB_BAD_BUFFER 1u     /*   a lent buffer is not of the stated length */
-#define SAB_BAD_LENGTH 2u     /* P a block is not 512 bytes, a file is not 1 to
-                                   86 blocks or a row not 0 to 86; the place is
-                                   0 */
-#define SAB_BAD_LETTERS 3u    /* P a block does not begin with SAB1 */
+#define SAB_BAD_LENGTH 2u     /* P a block is not 512 bytes, an SAB1 file is not 1
+                                   to 86 blocks, an SAB2 file not 1 to 186, or a
+                                   row not 0 to 86; the place is 0 */
+#define SAB_BAD_LETTERS 3u    /* P a block does not begin with SAB1, or in an SAB2
+                                   file with SAB2 */
 #define SAB_BAD_SUM 4u        /* P a sum of a block differs: damaged */
 #define SAB_BAD_HEADER 5u     /* P a header's unit is above 7 or its count above
                                    6, or an unused record place is not zero */
@@ -382,7 +404,8 @@ extern "C" {
 #define SAB_UNSOUND_LOG 19u   /*   the lent log, list or base is not sound: torn,
                                    or not of one state */
 #define SAB_BAD_FILE 20u      /* P a file's blocks disagree, its ranks do not
-                                   rise, or its vector is not its counts */
+                                   rise, or its vector is not its counts, folded
+                                   records with them */
 #define SAB_BAD_UNIT 21u      /*   the call's own unit is above 7 */
 #define SAB_STROKE_IN_LABEL 24u /* P the label of a make, rename or move wish
                                      has a stroke; the place is 0 */
@@ -391,7 +414,8 @@ extern "C" {
                                    standing aside */
 #define SAB_UNLISTED 26u      /* P a list lacks the own unit or one that has a
                                    record, or a record or an act is of a unit
-                                   that is not listed; the place is 0 */
+                                   that is not listed; the place is 0 but for a
+                                   record of a file */
 #define SAB_BELOW_BASE 27u    /* P a new record has not seen all that is folded,
                                    or a vector asked for lacks some of it; the
                                    place is 0 */
@@ -399,6 +423,9 @@ extern "C" {
                                    the place is 0 */
 #define SAB_FOLDED 29u        /* P records are folded: a file of the form SAB1
                                    cannot hold them; the place is 0 */
+#define SAB_BAD_BASE 31u      /* P the list or base of an SAB2 file breaks its
+                                   layout, or is one that a call would refuse
+                                   with 19; the place is 0 */
 
 /* ---- Operations of a record, byte 1 ---- */
 
@@ -690,7 +717,7 @@ uint32_t sab_fold(uint8_t *log, size_t log_len, uint8_t *base, size_t base_len,
                   uint32_t archive, uint32_t unit, uint32_t list,
                   uint8_t *work, size_t work_len);
 
-/* Writes the whole log as a file, if no records are folded. The list is not
+/* Writes the whole log as an SAB1 file, if no records are folded. The list is not
  * written.
  *
  * log       40,960 bytes, only read
@@ -708,32 +735,86 @@ uint32_t sab_write_file(const uint8_t *log, size_t log_len,
                         const uint8_t *base, size_t base_len, uint32_t archive,
                         uint32_t unit, uint8_t *file, size_t file_len);
 
-/* Reads a file, of any archive, into a lent log.
+/* Writes list, base and log as an SAB2 file.
+ *
+ * log       40,960 bytes, only read
+ * base      43,032 bytes, only read
+ * archive   goes into the file
+ * unit      the own unit, which need not be listed; goes into the file
+ * file      95,232 bytes; on 0 every byte is written: SAB_COUNT blocks of 512,
+ *           which are the file, then zeros, which are not part of it
+ *
+ * Returns 0, and SAB_COUNT is the count of blocks, 1 to 186; 1 log, base or file
+ * not of its length; 21 unit above 7; 19 log or base not sound.
+ */
+uint32_t sab_write_sab2(const uint8_t *log, size_t log_len,
+                        const uint8_t *base, size_t base_len, uint32_t archive,
+                        uint32_t unit, uint8_t *file, size_t file_len);
+
+/* Reads a file of either form, of any archive, into a lent log and base.
  *
  * log    40,960 bytes, whose old bytes are not judged; on 0 it holds the file's
  *        records
- * base   43,032 bytes, whose old bytes are not judged; on 0 it is empty, with all
- *        eight units listed
- * file   1 to 86 blocks, 512 to 44,032 bytes, only read
+ * base   43,032 bytes, whose old bytes are not judged; on 0 it holds the list and
+ *        base of an SAB2 file; of an SAB1 file it is empty, with all eight units
+ *        listed
+ * file   1 to 86 blocks, 512 to 44,032 bytes, only read; if its first four bytes
+ *        are SAB2, 1 to 186 blocks, up to 95,232 bytes
  * head   24 bytes; on 0 what the file says of itself:
- *          0-3 archive; 4 unit; 5 zero; 6-7 count of records; 8-23 vector
+ *          0-3 archive; 4 unit; 5 zero; 6-7 count of records, folded ones not
+ *          counted; 8-23 vector, which counts them
  *
  * Returns 0, and SAB_COUNT is the count of records, 0 to 512;
  *    1 log, base or head not of its length;
- *    2 file not of 1 to 86 whole blocks;
+ *    2 file not of 1 to 86 whole blocks, of 186 for SAB2;
  *   then block by block 3 letters, 4 a sum, 5 header, 20 place, unit, archive or
- *   vector unlike the first block's, or a short block that is not the last;
- *   then record by record 11 a 513th, 7 malformed, 20 rank not above the record
- *   before, 8 not next or has seen what does not stand before, 9 not closed;
- *   last 20, at the last block, a vector that is not the record counts.
+ *   vector unlike the first block's, or a count that is not due there;
+ *   then, of SAB2, 31 a list or base that breaks its layout or that would be
+ *   refused with 19;
+ *   then record by record 11 a 513th, 7 malformed, 26 of a unit that is not listed
+ *   (SAB2), 20 rank not above the record before, 8 not next or has seen what is
+ *   neither folded nor stands before, 9 not closed;
+ *   last 20, at the last block, a vector that is not the counts of the records,
+ *   folded ones with them.
  * The place says which block.
  */
 uint32_t sab_read_file(uint8_t *log, size_t log_len, uint8_t *base,
                        size_t base_len, const uint8_t *file, size_t file_len,
                        uint8_t *head, size_t head_len);
 
+/* Makes an SAB2 file of an SAB1 file: the same records, archive and unit, an empty
+ * base, and all eight units listed.
+ *
+ * file   a file of the form SAB1, 512 to 44,032 bytes, only read
+ * out    95,232 bytes; on 0 every byte is written: SAB_COUNT blocks of 512, which
+ *        are the file, then zeros, which are not part of it
+ *
+ * Returns 0, and SAB_COUNT is the count of blocks, 1 to 87; 1 out not of its
+ * length; then the numbers of sab_read_file for SAB1. A file of the form SAB2 is 3
+ * at place 0, or 2 if it has more than 86 blocks.
+ */
+uint32_t sab_to_sab2(const uint8_t *file, size_t file_len, uint8_t *out,
+                     size_t out_len);
+
+/* Makes an SAB1 file of an SAB2 file: the way back. The same records, archive and
+ * unit; the list is lost. What sab_to_sab2 made of a file becomes that file again,
+ * byte for byte.
+ *
+ * file   a file of the form SAB2, 512 to 95,232 bytes, only read
+ * out    44,032 bytes; on 0 every byte is written: SAB_COUNT blocks of 512, which
+ *        are the file, then zeros, which are not part of it
+ *
+ * Returns 0, and SAB_COUNT is the count of blocks, 1 to 86; 1 out not of its
+ * length; then the numbers of sab_read_file for SAB2; last 29, if the file is good
+ * and records are folded, exactly if its base vector is not all zero. A file of
+ * the form SAB1 is 3 at place 0, or 2 if it has more than 186 blocks.
+ */
+uint32_t sab_to_sab1(const uint8_t *file, size_t file_len, uint8_t *out,
+                     size_t out_len);
+
 /* Makes one file of all records of two: the last file of an analyser that is
- * retired and its successor's, say. Both files must be good and of one archive.
+ * retired and its successor's, say. Both files must be good, of the form SAB1, and
+ * of one archive.
  *
  * first    a file, 512 to 44,032 bytes, only read; the result has its unit
  * second   a file, 512 to 44,032 bytes, only read
@@ -751,7 +832,8 @@ uint32_t sab_read_file(uint8_t *log, size_t log_len, uint8_t *base,
  * Returns 0, and SAB_COUNT is the count of blocks, 1 to 86; else SAB_COUNT is
  * the file at fault, 1 or 2:
  *    1 log or file not of its length; SAB_COUNT is 0, for neither;
- *   then all numbers of sab_read_file but 1, for the first file;
+ *   then the numbers of sab_read_file for SAB1, but 1, for the first file (one of
+ *   the form SAB2 is 3 at place 0, or 2 if it has more than 86 blocks);
  *   then the same for the second;
  *   then, for the second,
  *    6 another archive than the first's, place 0;
@@ -860,26 +942,28 @@ uint32_t sab_find(const uint8_t *index, size_t index_len, uint32_t unit,
 uint32_t sab_list(const uint8_t *index, size_t index_len, uint32_t unit,
                   uint32_t number, uint8_t *range, size_t range_len);
 
-/* Lists a file as text, in the form that docs/FORMAT.md gives: archive, unit and
- * count of records; the vector; a line for each entry; a line for each aside. A
- * refused file gives one line, `refused N at P`.
+/* Lists a file of either form as text, as docs/FORMAT.md gives it: archive, unit
+ * and count of records that are not folded; the vector; a line for each entry; a
+ * line for each aside. A refused file gives one line, `refused N at P`.
  *
  * file     the file's bytes, only read
  * log      40,960 bytes, work space; on 0 it holds the file's records
- * tree     86,020 bytes, work space; on 0 it is the tree of that log
- * out      76,800 bytes; on every number but 1 the listing stands at its
+ * base     43,032 bytes, work space; on 0 it holds the file's list and base, as
+ *          sab_read_file leaves them
+ * tree     86,020 bytes, work space; on 0 it is the tree of that log and base
+ * out      172,544 bytes; on every number but 1 the listing stands at its
  *          beginning, and the bytes behind it are as they were
  * length   4 bytes; on every number but 1 the length of the listing
  *
- * Returns 0; 1 log, tree, out or length not of its length, and all is as it was;
- * else the number and place with which sab_read_file refuses the file (2 to 5,
- * 7 to 9, 11, 20), the line of refusal is the listing, and log and tree are as
- * they were.
+ * Returns 0; 1 log, base, tree, out or length not of its length, and all is as it
+ * was; else the number and place with which sab_read_file refuses the file (2 to
+ * 5, 7 to 9, 11, 20, 26, 31), the line of refusal is the listing, and log, base and
+ * tree are as they were.
  */
 uint32_t sab_listing(const uint8_t *file, size_t file_len, uint8_t *log,
-                     size_t log_len, uint8_t *tree, size_t tree_len,
-                     uint8_t *out, size_t out_len, uint8_t *length,
-                     size_t length_len);
+                     size_t log_len, uint8_t *base, size_t base_len,
+                     uint8_t *tree, size_t tree_len, uint8_t *out,
+                     size_t out_len, uint8_t *length, size_t length_len);
 
 #ifdef __cplusplus
 }

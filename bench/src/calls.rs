@@ -5,7 +5,7 @@ use crate::times::clock;
 use crate::big::Big;
 use crate::deep;
 use library::{Library, REPORT, Trial};
-use plain::{BASE, BLOCK, EMPTY_BASE, FILE, INDEX, LOG, RECORD, TREE};
+use plain::{BASE, BLOCK, EMPTY_BASE, FILE, INDEX, LOG, RECORD, SAB2_FILE, TREE};
 use std::hint::black_box;
 use workload::{Chance, Mix, Units, log_of, vector_of};
 
@@ -80,13 +80,15 @@ pub fn cases(log: &[u8], pair: &Pair, big: &Big) -> Vec<Case> {
         );
         case("try a row, the rest", try_row(lent.clone(), log));
         case("write a file", write_file(lent.clone()));
-        case("read a file", read_file(&lent));
+        case("read a file", read_file(file_of(&lent)));
+        case("to SAB2", to_sab2(&lent));
+        case("SAB2 back to SAB1", to_sab1(&lent));
         case("merge, the same file", merge([&lent, &lent]));
         let [one, other] = pair.logs().map(|log| first(log, size / 2));
         case("merge, halves", merge([&one, &other]));
         case("show the tree", show(lent.clone()));
         case("make the index", index(lent.clone()));
-        case("listing", listing(&lent));
+        case("listing", listing(file_of(&lent)));
     }
     let (moves, deep) = (log_of(512, 8, 6, &Mix::MOVES, 1), deep::log());
     for (name, run) in [
@@ -114,6 +116,15 @@ pub fn cases(log: &[u8], pair: &Pair, big: &Big) -> Vec<Case> {
             act_on(log_on.clone(), base.clone(), With::None, new_trace()),
         ),
         ("show the tree, 256 records on 512 folded", show_on(log_on.clone(), base.clone())),
+        (
+            "write an SAB2 file, 256 records on 512 folded",
+            write_sab2(log_on.clone(), base.clone()),
+        ),
+        (
+            "read an SAB2 file, 256 records on 512 folded",
+            read_file(sab2_of(&log_on, &base)),
+        ),
+        ("listing, 256 records on 512 folded", listing(sab2_of(&log_on, &base))),
         ("fold, 256 records on 512 folded", fold(log_on, base, 1)),
     ] {
         let name = name.to_string();
@@ -287,8 +298,36 @@ fn file_of(log: &[u8]) -> Vec<u8> {
     file
 }
 
-fn read_file(log: &[u8]) -> Run {
-    let file = file_of(log);
+/// The SAB2 file of a state.
+fn sab2_of(log: &[u8], base: &[u8]) -> Vec<u8> {
+    let mut file = vec![0; SAB2_FILE];
+    let blocks = plain::write_sab2(log, base, ARCHIVE, 0, &mut file).expect("a sound state");
+    file.truncate(BLOCK * blocks as usize);
+    file
+}
+
+fn write_sab2(log: Vec<u8>, base: Vec<u8>) -> Run {
+    let mut file = vec![0; SAB2_FILE];
+    Box::new(move |library| {
+        Some(clock(|| {
+            library
+                .write_sab2(black_box(&log), black_box(&base), ARCHIVE, 0, &mut file)
+                .unwrap()
+        }))
+    })
+}
+
+fn to_sab2(log: &[u8]) -> Run {
+    let (file, mut out) = (file_of(log), vec![0; SAB2_FILE]);
+    Box::new(move |library| Some(clock(|| library.to_sab2(black_box(&file), &mut out).unwrap())))
+}
+
+fn to_sab1(log: &[u8]) -> Run {
+    let (file, mut out) = (sab2_of(log, &EMPTY_BASE), vec![0; FILE]);
+    Box::new(move |library| Some(clock(|| library.to_sab1(black_box(&file), &mut out).unwrap())))
+}
+
+fn read_file(file: Vec<u8>) -> Run {
     let (mut lent, mut base) = (vec![0; LOG], vec![0; BASE]);
     Box::new(move |library| {
         Some(clock(|| {
@@ -389,8 +428,7 @@ fn list(big: &Big) -> Run {
     })
 }
 
-fn listing(log: &[u8]) -> Run {
-    let file = file_of(log);
+fn listing(file: Vec<u8>) -> Run {
     let mut out = vec![0; library::LISTING];
     Box::new(move |library| {
         library.listing_into(&file, &mut out)?;

@@ -5,7 +5,7 @@ use std::process::ExitCode;
 
 fn run() -> io::Result<()> {
     // One byte more than the longest file tells a longer one.
-    let mut file = [0; plain::FILE + 1];
+    let mut file = [0; plain::SAB2_FILE + 1];
     let mut len = 0;
     let mut input = io::stdin().lock();
     while len < file.len() {

@@ -10,6 +10,7 @@ use lib.ListN.{take}
 use borrow.Author.Tests.{leb-true, eqb-true}
 use Rattle.model.specs.Bytes.{word, sameBytes, blank, part}
 use Rattle.model.specs.Block.{letters, firstTo, secondTo, senderIn, countIn, sumsHold, headerHolds, blockFault}
+use Rattle.run_model.specs.Runs.{blockFaultAs}
 use Rattle.byte_slice.proofs.Numbers.{and-true}
 
 -- the three tests passed
@@ -19,18 +20,22 @@ passed true true false e = absurd (omega arith)
 passed true false t e = absurd (omega arith)
 passed false s t e = absurd (omega arith)
 
-module _ (b : List ℕ) (e : blockFault b ≡ 0) where
-  pub letters-right : sameBytes (take 4 b) letters ≡ true
-  unfolding blockFault
-  letters-right = passed (sameBytes (take 4 b) letters) (sumsHold b) (headerHolds b) e .0
+-- of a block with the letters t
+pub three-passed : (t b : List ℕ) → blockFaultAs t b ≡ 0 → (sameBytes (take 4 b) t ≡ true) × (sumsHold b ≡ true) × (headerHolds b ≡ true)
+unfolding blockFaultAs
+three-passed t b e = passed (sameBytes (take 4 b) t) (sumsHold b) (headerHolds b) e
 
+-- of a block of SAB1
+pub fault-sab1 : (b : List ℕ) → blockFault b ≡ blockFaultAs letters b
+unfolding blockFault blockFaultAs
+fault-sab1 b = refl
+
+module _ (b : List ℕ) (e : blockFault b ≡ 0) where
   pub sums-right : sumsHold b ≡ true
-  unfolding blockFault
-  sums-right = passed (sameBytes (take 4 b) letters) (sumsHold b) (headerHolds b) e .1
+  sums-right = three-passed letters b (rw fault-sab1 at e) .1
 
   pub header-right : headerHolds b ≡ true
-  unfolding blockFault
-  header-right = passed (sameBytes (take 4 b) letters) (sumsHold b) (headerHolds b) e .2
+  header-right = three-passed letters b (rw fault-sab1 at e) .2
 
 pub stored-sums : (b : List ℕ) → sumsHold b ≡ true → (word b 508 ≡ firstTo b 254) × (word b 510 ≡ secondTo b 254)
 unfolding sumsHold

@@ -4,11 +4,13 @@ use Prim.Native.Nat.{ℕ, zero, suc, _+_, _*_, _≤_, _<_}
 use native.Mathlib.Omega.{arith}
 use mathlib.Core.Path.{_≡_, refl, ap, _∙_}
 use mathlib.Core.List.{List, [], _∷_, _++_, append-assoc, append-nil}
-use lib.ListN.{getD, length, take, drop, length-append}
+use lib.ListN.{getD, length, take, drop, length-append, length-take}
 use lib.Seq.{drop-cons, take-append-add}
-use Rattle.model.specs.Bytes.{two, part, padded, joined}
+use Rattle.model.specs.Bytes.{two, four, part, padded, joined}
+use Rattle.model.specs.Vector.{vectorBytes}
 use Rattle.model.specs.Record.{Rec}
-use Rattle.model.specs.Block.{Header, headBytes, bodyBytes, sealed, blockOf, firstTo, secondTo, recordAt, recordsFrom}
+use Rattle.model.specs.Block.{Header, letters, headBytes, bodyBytes, sealed, blockOf, firstTo, secondTo, recordAt, recordsFrom}
+use Rattle.run_model.specs.Runs.{headAs, bodyAs, blockAs}
 use Rattle.vector.proofs.InBytes.{vectorBytes-length}
 use Rattle.byte_slice.proofs.Parts.{part-start, part-behind, part-middle}
 use Rattle.byte_slice.proofs.PutAt.{length-padded}
@@ -24,6 +26,19 @@ pub length-joined : (l : List Rec) → Sized l → length (joined l) ≡ 80 * le
 unfolding joined
 length-joined [] z = refl
 length-joined (r ∷ l) z = omega (arith, length-append r (joined l), z .0, length-joined l (z .1))
+
+pub sized-take : (n : ℕ) (l : List Rec) → Sized l → Sized (take n l)
+sized-take zero l z = tt
+sized-take (suc n) [] z = tt
+sized-take (suc n) (x ∷ l) z = (z .0, sized-take n l (z .1))
+
+pub sized-drop : (n : ℕ) (l : List Rec) → Sized l → Sized (drop n l)
+sized-drop zero l z = z
+sized-drop (suc n) [] z = tt
+sized-drop (suc n) (x ∷ l) z = sized-drop n l (z .1)
+
+pub six : (l : List Rec) → length (take 6 l) ≤ 6
+six l = omega (arith, length-take 6 l)
 
 joined-front : (l : List Rec) (m : ℕ) (t : List ℕ) → Sized l → m ≤ length l → take (80 * m) (joined l ++ t) ≡ joined (take m l)
 unfolding joined
@@ -67,21 +82,31 @@ records-back (x ∷ l) p r i z e =
     rw (append-assoc p x (joined l ++ r)) at (records-back l (p ++ x) r (suc i) (z .1) n) in
     rw (b, here, rest)
 
--- ---- header, body and block
-
-pub length-head : (h : Header) (n : ℕ) → length (headBytes h n) ≡ 28
-unfolding headBytes
-length-head h n = omega (arith, vectorBytes-length (h .vector))
-
-pub length-body : (h : Header) (l : List Rec) → Sized l → length l ≤ 6 → length (bodyBytes h l) ≡ 508
-unfolding bodyBytes
-length-body h l z k =
-    omega (arith, length-append (headBytes h (length l)) (padded 480 (joined l)), length-head h (length l), length-padded 480 (joined l) (omega (arith, length-joined l z)))
+-- ---- header, body and block, under any four letters; SAB1's are a case
 
 pub length-sealed : (b : List ℕ) → length (sealed b) ≡ length b + 4
 unfolding sealed
 length-sealed b = length-append b (two (firstTo b 254) ++ two (secondTo b 254))
 
+module _ (t : List ℕ) (t4 : length t ≡ 4) (h : Header) where
+  pub length-headAs : (n : ℕ) → length (headAs t h n) ≡ 28
+  unfolding headAs
+  length-headAs n =
+      omega (arith, length-append t (four (h .archive) ++ ((h .sender ∷ n ∷ []) ++ (two (h .place) ++ vectorBytes (h .vector)))), vectorBytes-length (h .vector))
+
+  pub length-bodyAs : (l : List Rec) → Sized l → length l ≤ 6 → length (bodyAs t h l) ≡ 508
+  unfolding bodyAs
+  length-bodyAs l z k =
+      omega (arith, length-append (headAs t h (length l)) (padded 480 (joined l)), length-headAs (length l), length-padded 480 (joined l) (omega (arith, length-joined l z)))
+
+  pub length-blockAs : (l : List Rec) → Sized l → length l ≤ 6 → length (blockAs t h l) ≡ 512
+  unfolding blockAs
+  length-blockAs l z k = omega (arith, length-sealed (bodyAs t h l), length-bodyAs l z k)
+
+-- a block of SAB1
+pub block-sab1 : (h : Header) (l : List Rec) → blockOf h l ≡ blockAs letters h l
+unfolding blockAs bodyAs headAs blockOf bodyBytes headBytes
+block-sab1 h l = refl
+
 pub length-block : (h : Header) (l : List Rec) → Sized l → length l ≤ 6 → length (blockOf h l) ≡ 512
-unfolding blockOf
-length-block h l z k = omega (arith, length-sealed (bodyBytes h l), length-body h l z k)
+length-block h l z k = rw block-sab1 (length-blockAs letters refl h l z k)

@@ -11,7 +11,7 @@ use lib.ListN.{getD, length, set, length-set}
 use lib.Seq.{getD-set-same, getD-set-other}
 use borrow.Author.Tests.{eq-eqb, ne-eqb}
 use Rattle.model.specs.Bytes.{word}
-use Rattle.model.specs.Block.{firstTo, blockFault, givenFault}
+use Rattle.model.specs.Block.{sumsHold, firstTo, blockFault, givenFault}
 use Rattle.byte_slice.proofs.Numbers.{lt-or-ge}
 use Rattle.byte_slice.proofs.Words.{word-same}
 use Rattle.block_laws.proofs.Sums.{first-small, first-same, second-same}
@@ -101,11 +101,11 @@ first-differs b i z n h inside p q d e =
 
 -- ---- the block
 
--- of a good block every place and every other value: the block with that byte changed is refused
-pub noticed : (b : List ℕ) (i z : ℕ) → length b ≡ 512 → i < 512 → getD b i 0 < 256 → z < 256 → (getD b i 0 ≡ z → ⊥) → blockFault b ≡ 0 → blockFault (set b i z) ≡ 0 → ⊥
-noticed b i z l h p q d e f =
-    let (s, t) = stored-sums b (sums-right b e) in
-    let (u, v) = stored-sums (set b i z) (sums-right (set b i z) f) in
+-- of a block whose sums hold, whatever its letters, every place and every other value: with that byte changed they do not hold
+pub noticed-sums : (b : List ℕ) (i z : ℕ) → length b ≡ 512 → i < 512 → getD b i 0 < 256 → z < 256 → (getD b i 0 ≡ z → ⊥) → sumsHold b ≡ true → sumsHold (set b i z) ≡ true → ⊥
+noticed-sums b i z l h p q d e f =
+    let (s, t) = stored-sums b e in
+    let (u, v) = stored-sums (set b i z) f in
     let inside : i < length b = omega arith in
     let c = changed-word b i z (i / 2) (halves i) inside p q d in
     ⊎-elim
@@ -122,6 +122,10 @@ noticed b i z l h p q d e f =
     (rw n at (c .differs)) (v ∙ second-same (set b i z) b 254 w ∙ sym t))
     (lt-or-ge i 510))
     (lt-or-ge i 508)
+
+-- so of a good block: the block with that byte changed is refused
+pub noticed : (b : List ℕ) (i z : ℕ) → length b ≡ 512 → i < 512 → getD b i 0 < 256 → z < 256 → (getD b i 0 ≡ z → ⊥) → blockFault b ≡ 0 → blockFault (set b i z) ≡ 0 → ⊥
+noticed b i z l h p q d e f = noticed-sums b i z l h p q d (sums-right b e) (sums-right (set b i z) f)
 
 -- and so it is no block to take
 pub altered-given : (archive : ℕ) (b : List ℕ) (i z : ℕ) → length b ≡ 512 → i < 512 → getD b i 0 < 256 → z < 256 → (getD b i 0 ≡ z → ⊥) → blockFault b ≡ 0 → givenFault archive (set b i z) ≡ 0 → ⊥

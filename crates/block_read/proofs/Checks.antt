@@ -2,7 +2,7 @@
 -- Assumes nothing.
 use Prim.Native.Nat.{ℕ, _+_, _-_, _*_, _≤_, _<_}
 use native.Mathlib.Omega.{arith}
-use mathlib.Core.Path.{_≡_}
+use mathlib.Core.Path.{_≡_, refl, _∙_}
 use mathlib.Core.Bool.{Bool, true, false, not}
 use mathlib.Core.List.{List}
 use lib.Dec.{eqb}
@@ -10,6 +10,7 @@ use lib.ListN.{take, drop}
 use borrow.Author.Tests.{eq-eqb, ne-eqb, le-leb, lt-leb, not-true, not-false}
 use Rattle.model.specs.Bytes.{word, sameBytes, blank, part}
 use Rattle.model.specs.Block.{letters, firstTo, secondTo, senderIn, countIn, sumsHold, headerHolds, blockFault}
+use Rattle.run_model.specs.Runs.{blockFaultAs}
 
 -- ---- the sums
 
@@ -39,20 +40,25 @@ module _ (b : List ℕ) {u : ℕ} (e : u ≡ senderIn b) where
 
 -- ---- all three
 
-module _ (b : List ℕ) {t : Bool} (e : t ≡ sameBytes (take 4 b) letters) where
-  pub bad-letters : not t ≡ true → 3 ≡ blockFault b
-  unfolding blockFault
+module _ (a b : List ℕ) {t : Bool} (e : t ≡ sameBytes (take 4 b) a) where
+  pub bad-letters : not t ≡ true → 3 ≡ blockFaultAs a b
+  unfolding blockFaultAs
   bad-letters h = rw (← e, not-true t h)
 
   module _ {s : Bool} (h : not t ≡ false) (f : s ≡ sumsHold b) where
-    pub bad-sum : not s ≡ true → 4 ≡ blockFault b
-    unfolding blockFault
+    pub bad-sum : not s ≡ true → 4 ≡ blockFaultAs a b
+    unfolding blockFaultAs
     bad-sum g = rw (← e, not-false t h, ← f, not-true s g)
 
-    pub bad-header : {r : Bool} → not s ≡ false → r ≡ headerHolds b → not r ≡ true → 5 ≡ blockFault b
-    unfolding blockFault
+    pub bad-header : {r : Bool} → not s ≡ false → r ≡ headerHolds b → not r ≡ true → 5 ≡ blockFaultAs a b
+    unfolding blockFaultAs
     bad-header {r} g k q = rw (← e, not-false t h, ← f, not-false s g, ← k, not-true r q)
 
-    pub no-fault : {r : Bool} → not s ≡ false → r ≡ headerHolds b → not r ≡ false → 0 ≡ blockFault b
-    unfolding blockFault
+    pub no-fault : {r : Bool} → not s ≡ false → r ≡ headerHolds b → not r ≡ false → 0 ≡ blockFaultAs a b
+    unfolding blockFaultAs
     no-fault {r} g k q = rw (← e, not-false t h, ← f, not-false s g, ← k, not-false r q)
+
+-- the letters SAB1 are a case
+pub fault-sab1 : (b : List ℕ) {n : ℕ} → n ≡ blockFaultAs letters b → n ≡ blockFault b
+unfolding blockFaultAs blockFault
+fault-sab1 b e = e

@@ -3,7 +3,8 @@ ghost use mathlib.Core.Path.{_≡_};
 ghost use Prim.Native.Nat.{_≤_};
 ghost use lib.ListN.{length, take};
 ghost use Rattle.model.specs.Bytes.{sameBytes};
-ghost use Rattle.model.specs.Block.{letters, countIn, archiveIn, senderIn, placeIn, vectorIn, sumsHold, headerHolds, blockFault};
+ghost use Rattle.model.specs.Block.{countIn, archiveIn, senderIn, placeIn, vectorIn, sumsHold, headerHolds, blockFault};
+ghost use Rattle.run_model.specs.Runs.{blockFaultAs};
 use block_sums::block_sums;
 use byte_slice::is_blank;
 use byte_slice::le16;
@@ -12,12 +13,12 @@ use byte_slice::same;
 use vector::Vector;
 use vector::vector_at;
 
-// The letters SAB1 stand first.
-pub fn has_letters(b: &[u8]) -> bool
+// These letters stand first.
+pub fn has_letters(b: &[u8], letters: &[u8; 4]) -> bool
     requires { ⌜ 4 ≤ length (now b) ⌝ }
-    ensures { λ r. ⌜ r ≡ sameBytes (take 4 (now (b .entry))) letters ⌝ }
+    ensures { λ r. ⌜ r ≡ sameBytes (take 4 (now (b .entry))) (now (letters .entry)) ⌝ }
 {
-    same(&b[0..4], b"SAB1")
+    same(&b[0..4], letters)
 }
 
 // The stored sums are those of the words before them.
@@ -88,12 +89,12 @@ pub fn header_holds(b: &[u8]) -> bool
     is_blank(&b[at..508])
 }
 
-// The first of the refusals 3, 4 and 5 that holds, or 0.
-pub fn block_fault(b: &[u8]) -> u8
+// The first of the refusals 3, 4 and 5 that holds of a block with these letters, or 0.
+pub fn block_fault_as(b: &[u8], letters: &[u8; 4]) -> u8
     requires { ⌜ length (now b) ≡ 512 ⌝ }
-    ensures { λ r. ⌜ r ≡ blockFault (now (b .entry)) ⌝ }
+    ensures { λ r. ⌜ r ≡ blockFaultAs (now (letters .entry)) (now (b .entry)) ⌝ }
 {
-    if !has_letters(b) {
+    if !has_letters(b, letters) {
         return 3;
     }
     if !sums_hold(b) {
@@ -103,4 +104,12 @@ pub fn block_fault(b: &[u8]) -> u8
         return 5;
     }
     0
+}
+
+// The same of a block with the letters SAB1.
+pub fn block_fault(b: &[u8]) -> u8
+    requires { ⌜ length (now b) ≡ 512 ⌝ }
+    ensures { λ r. ⌜ r ≡ blockFault (now (b .entry)) ⌝ }
+{
+    block_fault_as(b, b"SAB1")
 }

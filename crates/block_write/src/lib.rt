@@ -5,6 +5,7 @@ ghost use Prim.Native.Nat.{_≤_};
 ghost use lib.ListN.{length, take};
 ghost use Rattle.model.specs.Bytes.{putAt, padded};
 ghost use Rattle.model.specs.Block.{headBytes, sealed, blockOf};
+ghost use Rattle.run_model.specs.Runs.{headAs};
 use block_sums::block_sums;
 use byte_slice::put;
 use byte_slice::put16;
@@ -17,12 +18,21 @@ pub struct Block {
 }
 
 // The first 28 bytes are written.
-pub fn put_header(dst: &mut [u8], archive: u32, unit: u8, count: u8, place: u16, v: Vector)
+pub fn put_header(
+    dst: &mut [u8],
+    letters: &[u8; 4],
+    archive: u32,
+    unit: u8,
+    count: u8,
+    place: u16,
+    v: Vector,
+)
     requires { ⌜ length (now dst) ≡ 512 ⌝ }
-    ensures { λ _. ⌜ now (dst .exit) ≡ putAt (now (dst .entry)) 0 (headBytes (record { archive = archive; sender = unit; place = place; vector = v .counts }) count) ⌝ }
+    ensures written { λ _. ⌜ now (dst .exit) ≡ putAt (now (dst .entry)) 0 (headAs (now (letters .entry)) (record { archive = archive; sender = unit; place = place; vector = v .counts }) count) ⌝ }
+    ensures four { λ _. ⌜ length (now (letters .entry)) ≡ 4 ⌝ }
 {
     let pair = [unit, count];
-    put(dst, 0, b"SAB1");
+    put(dst, 0, letters);
     put32(dst, 4, archive);
     put(dst, 8, &pair);
     put16(dst, 10, place);
@@ -44,7 +54,27 @@ pub fn empty_block(archive: u32, unit: u8, place: u16, v: Vector) -> Block
     ensures { λ r. ⌜ r .bytes ≡ blockOf (record { archive = archive; sender = unit; place = place; vector = v .counts }) [] ⌝ }
 {
     let mut bytes = [0u8; 512];
-    put_header(&mut bytes, archive, unit, 0, place, v);
+    put_header(&mut bytes, b"SAB1", archive, unit, 0, place, v);
+    seal(&mut bytes);
+    Block { bytes }
+}
+
+// A block with these letters, of records or rows that lie one behind another.
+pub fn block_as(
+    letters: &[u8; 4],
+    archive: u32,
+    unit: u8,
+    count: u8,
+    place: u16,
+    v: Vector,
+    recs: &[u8],
+) -> Block
+    requires { ⌜ length (now recs) ≤ 480 ⌝ }
+    ensures { λ r. ⌜ r .bytes ≡ sealed (headAs (now (letters .entry)) (record { archive = archive; sender = unit; place = place; vector = v .counts }) count ++ padded 480 (now (recs .entry))) ⌝ }
+{
+    let mut bytes = [0u8; 512];
+    put_header(&mut bytes, letters, archive, unit, count, place, v);
+    put(&mut bytes, 28, recs);
     seal(&mut bytes);
     Block { bytes }
 }
@@ -54,9 +84,5 @@ pub fn block_of(archive: u32, unit: u8, count: u8, place: u16, v: Vector, recs: 
     requires { ⌜ length (now recs) ≤ 480 ⌝ }
     ensures { λ r. ⌜ r .bytes ≡ sealed (headBytes (record { archive = archive; sender = unit; place = place; vector = v .counts }) count ++ padded 480 (now (recs .entry))) ⌝ }
 {
-    let mut bytes = [0u8; 512];
-    put_header(&mut bytes, archive, unit, count, place, v);
-    put(&mut bytes, 28, recs);
-    seal(&mut bytes);
-    Block { bytes }
+    block_as(b"SAB1", archive, unit, count, place, v, recs)
 }

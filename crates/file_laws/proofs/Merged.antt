@@ -29,7 +29,7 @@ use Rattle.call_laws.specs.Keeps.{GoodLog}
 use Rattle.call_laws.proofs.States.{log-good, sound-back, fresh-good, empty-list, empty-vector}
 use Rattle.call_laws.proofs.Merging.{checked-both, file-sound, file-few, archives-one, files-agree, files-room, files-faultless, Accepted, merge-accepted, accepted-merge, records-both, records-few}
 use Rattle.file_laws.specs.Taking.{TakesBlocks}
-use Rattle.file_laws.proofs.Blocks.{Bytes}
+use Rattle.run_laws.proofs.Again.{Bytes}
 use Rattle.file_laws.proofs.Rewritten.{file-again, length-right, sender-right}
 use Rattle.file_laws.proofs.Taking.{file-taken}
 use Rattle.file_laws.proofs.Written as Written

@@ -10,16 +10,18 @@ use lib.Seq.{drop-drop}
 use borrow.Author.Tests.{eq-eqb}
 use Rattle.model.specs.Record.{Rec}
 use Rattle.model.specs.Log.{recordsOf, logBytes}
-use Rattle.model.specs.Block.{archiveIn, givenFault}
+use Rattle.model.specs.Block.{letters, archiveIn, blockFault, givenFault}
 use Rattle.model.specs.File.{blockCount, fileLength, blocksIn, blockAt, fileRecords, fileFault}
 use Rattle.base_model.specs.Base.{baseIn, baseVector}
 use Rattle.call_model.specs.Outcome.{outcome, Took, refused, taken, takeOne, takeAll, takeOf}
 use Rattle.byte_slice.proofs.Parts.{part-length}
+use Rattle.block_laws.proofs.Faults.{fault-sab1}
 use Rattle.take_laws.proofs.Take.{refused-taken, taken-same, takeAll-nil, takeAll-goes, takeAll-stops}
 use Rattle.call_laws.specs.Keeps.{Good}
 use Rattle.call_laws.proofs.Calls.{takesOn, take-back, take-left, take-done}
 use Rattle.file_laws.specs.Taking.{TakesBlocks}
-use Rattle.file_laws.proofs.Rewritten.{Agreeing, agreeing, lengths, length-right, records-right}
+use Rattle.run_laws.specs.Fits.{Agreeing}
+use Rattle.file_laws.proofs.Rewritten.{agreeing, lengths, length-right, records-right}
 
 -- records taken one after another are taken in two parts
 parted : (p : ℕ) (v : List ℕ) (l rs more m : List Rec) → takeAll p v l (rs ++ more) ≡ taken m → (x : List Rec) × (takeAll p v l rs ≡ taken x) × (takeAll p v x more ≡ taken m)
@@ -42,8 +44,9 @@ module _ (g : List ℕ) (a : fileLength g ≡ true) (e : fileFault g .number ≡
   unfolding givenFault blockAt
   given k h =
       let w : 512 * k + 512 ≤ length g = omega (arith, lengths g a e .0) in
-      let A : Agreeing g (blocksIn g) k = agreeing g a e k h in
-      rw (eq-eqb (length (blockAt g k)) 512 (part-length g (512 * k) 512 w), eq-eqb (archiveIn (blockAt g k)) archive (A .archived), A .good)
+      let A : Agreeing letters 0 g k = agreeing g a e k h in
+      let G : blockFault (blockAt g k) ≡ 0 = fault-sab1 (blockAt g k) ∙ A .good in
+      rw (eq-eqb (length (blockAt g k)) 512 (part-length g (512 * k) 512 w), eq-eqb (archiveIn (blockAt g k)) archive (A .archived), G)
 
   -- the records that the base takes into l
   module _ (base : List ℕ) where

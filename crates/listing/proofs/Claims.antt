@@ -1,38 +1,31 @@
 -- A listing fits the lent text.
 -- Assumes nothing.
-use Prim.Native.Nat.{ℕ, _≤_}
+use Prim.Native.Nat.{ℕ, _+_, _≤_}
 use native.Mathlib.Omega.{arith}
 use mathlib.Core.Path.{_≡_, ap}
-use mathlib.Core.Bool.{true, _&&_}
-use mathlib.Core.List.{List}
-use lib.Dec.{eqb}
-use lib.ListN.{length}
-use borrow.Author.Tests.{eqb-true}
+use mathlib.Core.List.{List, _++_}
+use lib.ListN.{length, take, drop, length-append}
 use Rattle.model.specs.Numbers.{badBuffer}
 use Rattle.model.specs.Bytes.{putAt}
-use Rattle.model.specs.Listing.{listingOf}
-use Rattle.byte_slice.proofs.Numbers.{and-true}
+use Rattle.sab2_model.specs.Calls.{eitherListing, Listed, listed, listingLent, listedRead, readEitherOf, eitherListed}
 use Rattle.tree_laws.proofs.Steps.{cond-elim}
-use Rattle.listing_laws.proofs.Claims.{listing-fits}
-use Rattle.listing.specs.Left.{Left, left, lentWell, readAlone, treeLeft, listedOf}
 
-text-long : (log tree text : List ℕ) → lentWell log tree text ≡ true → length text ≡ 76800
-unfolding lentWell
-text-long log tree text e =
-    let (_, d) = and-true (eqb (length log) 40960) (eqb (length tree) 86020 && eqb (length text) 76800) e in
-    let (_, c) = and-true (eqb (length tree) 86020) (eqb (length text) 76800) d in
-    eqb-true (length text) 76800 c
+-- what is put somewhere is not longer than what is left
+pub put-fits : (d s : List ℕ) → length s ≤ length (putAt d 0 s)
+unfolding putAt
+put-fits d s = omega (arith, length-append (take 0 d) (s ++ drop (0 + length s) d), length-append s (drop (0 + length s) d))
 
--- the length that is answered is at most that of the lent text
-pub answered-length-fits : (f log tree text log′ tree′ text′ : List ℕ) (n p k : ℕ) → left n p k log′ tree′ text′ ≡ listedOf f log tree text → length text′ ≡ length text
-    → k ≤ length text′
-unfolding listedOf
-answered-length-fits f log tree text log′ tree′ text′ n p k e same =
-    let size : k ≡ listedOf f log tree text .size = ap (λ (x : Left). x .size) e in
-    let fits : listedOf f log tree text .size ≤ length text =
-    cond-elim (λ (x : Left). x .size ≤ length text) (lentWell log tree text)
-    (left (readAlone log f .number) (readAlone log f .place) (length (listingOf f)) (readAlone log f .log) (treeLeft f log tree) (putAt text 0 (listingOf f)))
-    (left badBuffer 0 0 log tree text)
-    (λ h. omega (arith, listing-fits f, text-long log tree text h))
+-- the length that is answered is at most that of the text that is left
+pub answered-length-fits : (f log base tree text log′ base′ tree′ text′ : List ℕ) (n p k : ℕ)
+    → listed n p k log′ base′ tree′ text′ ≡ eitherListed f log base tree text → k ≤ length text′
+unfolding eitherListed listedRead
+answered-length-fits f log base tree text log′ base′ tree′ text′ n p k e =
+    let size : k ≡ eitherListed f log base tree text .size = ap (λ (x : Listed). x .size) e in
+    let left : text′ ≡ eitherListed f log base tree text .text = ap (λ (x : Listed). x .text) e in
+    let fits : eitherListed f log base tree text .size ≤ length (eitherListed f log base tree text .text) =
+    cond-elim (λ (x : Listed). x .size ≤ length (x .text)) (listingLent log base tree text)
+    (listedRead (readEitherOf log base f) tree text (eitherListing f))
+    (listed badBuffer 0 0 log base tree text)
+    (λ _. put-fits text (eitherListing f))
     (λ _. omega arith) in
-    omega arith
+    rw (size, left) fits

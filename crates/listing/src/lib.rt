@@ -1,25 +1,28 @@
-// The listing of a file: what `readout` prints, written into lent memory.
+// The listing of a file of either form: what `readout` prints, written into lent memory.
 ghost use mathlib.Core.Path.{_≡_};
 ghost use mathlib.Core.List.{_++_};
 ghost use Prim.Native.Nat.{_≤_};
 ghost use lib.ListN.{length};
-ghost use Rattle.model.specs.Lengths.{logSize, treeSize};
+ghost use Rattle.model.specs.Lengths.{logSize, baseSize, treeSize};
 ghost use Rattle.model.specs.Bytes.{word};
-ghost use Rattle.model.specs.Log.{recordsOf, soundLog};
+ghost use Rattle.model.specs.Log.{recordsOf};
 ghost use Rattle.model.specs.Listing.{headLine, seenLine, treeLines, refusedLine};
 ghost use mathlib.Core.Bool.{true};
+ghost use Rattle.model.specs.Table.{tableBytes};
+ghost use Rattle.base_model.specs.Base.{soundState, heldOn, treeOf};
+ghost use Rattle.sab2_model.specs.Calls.{listingSize, listed, eitherListed};
 ghost use Rattle.line_text.specs.Written.{Wrote};
-ghost use Rattle.listing.specs.Left.{listingSize, Lists, left, listedOf};
+ghost use Rattle.listing.specs.Lists.{Lists};
+use model::BASE_BYTES;
 use model::LOG_BYTES;
 use model::TREE_BYTES;
+use sab2_model::LISTING_BYTES;
+use tree_table::Size;
 use vector::Vector;
-
-// Lent for a listing: none is longer.
-pub const LISTING_BYTES: usize = 76800;
 
 // The lines of an accepted file: its head, its vector and its tree.
 fn file_lines(out: &mut [u8], tree: &[u8], archive: u32, unit: u8, records: u16, v: Vector) -> usize
-    requires { ⌜ (length (now tree) ≡ treeSize) × (word (now tree) 0 ≤ 512) × (word (now tree) 2 ≤ 512)
+    requires { ⌜ (length (now tree) ≡ treeSize) × (word (now tree) 0 ≤ 1024) × (word (now tree) 2 ≤ 1024)
         × (length (headLine archive unit records ++ (seenLine (v .counts) ++ treeLines (now tree))) ≤ length (now out)) ⌝ }
     ensures { λ r. ⌜ Wrote (now (out .entry)) (now (out .exit)) 0 r (headLine archive unit records ++ (seenLine (v .counts) ++ treeLines (now (tree .entry)))) ⌝ }
 {
@@ -28,21 +31,36 @@ fn file_lines(out: &mut [u8], tree: &[u8], archive: u32, unit: u8, records: u16,
     line_tree::tree_lines(out, b, tree)
 }
 
-// The lines of a sound log, behind its archive number, unit, record count and vector; the lent table shows its tree.
-fn log_lines(
+// The tree of a sound state, with so many records in its log and its held vector, in the lent table, which may hold anything before.
+fn lay_state(log: &[u8], base: &[u8], records: u16, held: Vector, tree: &mut [u8])
+    requires { ⌜ (length (now log) ≡ logSize) × (length (now base) ≡ baseSize) × (soundState (now log) (now base) ≡ true) × (records ≡ length (recordsOf (now log))) × (held .counts ≡ heldOn (now log) (now base)) × (length (now tree) ≡ treeSize) ⌝ }
+    ensures { λ _. ⌜ now (tree .exit) ≡ tableBytes (treeOf (now (log .entry)) (now (base .entry))) ⌝ }
+{
+    let head = base_head::head_of(base);
+    let size = Size {
+        entries: head.entries,
+        asides: head.asides,
+    };
+    show_tree::lay_tree(log, records as usize, base, held, size, tree);
+}
+
+// The lines of a sound state, behind its archive number and unit; the lent table shows its tree.
+fn state_lines(
     text: &mut [u8],
     log: &[u8],
+    base: &[u8],
     tree: &mut [u8],
     archive: u32,
     unit: u8,
     records: u16,
-    v: Vector,
+    held: Vector,
 ) -> u32
-    requires { ⌜ (length (now text) ≡ listingSize) × (length (now log) ≡ logSize) × (soundLog (now log) ≡ true) × (records ≡ length (recordsOf (now log))) × (length (now tree) ≡ treeSize) ⌝ }
-    ensures { λ r. ⌜ Lists archive unit records (v .counts) (now (log .entry)) (now (tree .exit)) (now (text .entry)) (now (text .exit)) r ⌝ }
+    requires { ⌜ (length (now text) ≡ listingSize) × (length (now log) ≡ logSize) × (length (now base) ≡ baseSize) × (soundState (now log) (now base) ≡ true) × (records ≡ length (recordsOf (now log))) × (held .counts ≡ heldOn (now log) (now base)) × (length (now tree) ≡ treeSize) × (unit ≤ 7) ⌝ }
+    ensures { λ r. ⌜ Lists archive unit (now (log .entry)) (now (base .entry)) (now (tree .exit)) (now (text .entry)) (now (text .exit)) r ⌝ }
 {
-    show_tree::lay_log(log, records as usize, tree);
-    file_lines(text, tree, archive, unit, records, v) as u32
+    state_tree::small_counts(held);
+    lay_state(log, base, records, held, tree);
+    file_lines(text, tree, archive, unit, records, held) as u32
 }
 
 // The line of a refused file.
@@ -60,33 +78,41 @@ pub struct Listed {
     pub length: u32,
 }
 
-// A file is listed into the lent text, by way of the lent log and tree table; a refused one gives its line. Lent memory that is not of its
-// stated length is 1, and then all is left as it was.
-pub fn listing(file: &[u8], log: &mut [u8], tree: &mut [u8], text: &mut [u8]) -> Listed
-    ensures { λ r. ⌜ left (r .number) (r .place) (r .length) (now (log .exit)) (now (tree .exit)) (now (text .exit)) ≡ listedOf (now (file .entry)) (now (log .entry)) (now (tree .entry)) (now (text .entry)) ⌝ }
+// Lent memory that is not of its stated length.
+fn wrong_lent() -> Listed
+    ensures { λ r. ⌜ (r .number ≡ 1) × (r .place ≡ 0) × (r .length ≡ 0) ⌝ }
+{
+    Listed {
+        number: 1,
+        place: 0,
+        length: 0,
+    }
+}
+
+// A file of either form is listed into the lent text, by way of the lent log, base and tree table; a refused one gives its line. Lent memory
+// that is not of its stated length is 1, and then all is left as it was.
+pub fn listing(
+    file: &[u8],
+    log: &mut [u8],
+    base: &mut [u8],
+    tree: &mut [u8],
+    text: &mut [u8],
+) -> Listed
+    ensures { λ r. ⌜ listed (r .number) (r .place) (r .length) (now (log .exit)) (now (base .exit)) (now (tree .exit)) (now (text .exit)) ≡ eitherListed (now (file .entry)) (now (log .entry)) (now (base .entry)) (now (tree .entry)) (now (text .entry)) ⌝ }
 {
     if log.len() != LOG_BYTES {
-        return Listed {
-            number: 1,
-            place: 0,
-            length: 0,
-        };
+        return wrong_lent();
+    }
+    if base.len() != BASE_BYTES {
+        return wrong_lent();
     }
     if tree.len() != TREE_BYTES {
-        return Listed {
-            number: 1,
-            place: 0,
-            length: 0,
-        };
+        return wrong_lent();
     }
     if text.len() != LISTING_BYTES {
-        return Listed {
-            number: 1,
-            place: 0,
-            length: 0,
-        };
+        return wrong_lent();
     }
-    let r = read_file::read_log(log, file);
+    let r = read_either::read_either(log, base, file);
     if r.number != 0 {
         let n = refuse(text, r.number, r.place);
         return Listed {
@@ -96,7 +122,7 @@ pub fn listing(file: &[u8], log: &mut [u8], tree: &mut [u8], text: &mut [u8]) ->
         };
     }
     let v = r.vector;
-    let n = log_lines(text, log, tree, r.archive, r.unit, r.records, v);
+    let n = state_lines(text, log, base, tree, r.archive, r.unit, r.records, v);
     Listed {
         number: 0,
         place: 0,

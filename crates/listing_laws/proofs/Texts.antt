@@ -15,34 +15,32 @@ use Rattle.byte_slice.proofs.Numbers.{lt-or-ge}
 use Rattle.tree_laws.proofs.Steps.{cond-elim}
 use Rattle.line_text.proofs.Decimal.{one-digit, more-digits, decimal-length}
 
--- a number of up to three digits
-two-digits : (n : ℕ) → n < 100 → length (decimal n) ≤ 2
-two-digits n h =
+-- a digit more
+one-more : (n k : ℕ) → 1 ≤ k → n < 4294967296 → length (decimal (n / 10)) ≤ k → length (decimal n) ≤ k + 1
+one-more n k p h l =
     ⊎-elim
-    (λ (l : n < 10). omega (arith, one-digit n l))
-    (λ (l : 10 ≤ n). omega (arith, more-digits n l (omega arith), one-digit (n / 10) (omega arith)))
+    (λ (a : n < 10). omega (arith, one-digit n a))
+    (λ (a : 10 ≤ n). omega (arith, more-digits n a h))
     (lt-or-ge n 10)
 
+pub two-digits : (n : ℕ) → n < 100 → length (decimal n) ≤ 2
+two-digits n h = one-more n 1 (omega arith) (omega arith) (omega (arith, one-digit (n / 10) (omega arith)))
+
 pub three-digits : (n : ℕ) → n < 1000 → length (decimal n) ≤ 3
-three-digits n h =
-    ⊎-elim
-    (λ (l : n < 10). omega (arith, one-digit n l))
-    (λ (l : 10 ≤ n). omega (arith, more-digits n l (omega arith), two-digits (n / 10) (omega arith)))
-    (lt-or-ge n 10)
+three-digits n h = one-more n 2 (omega arith) (omega arith) (two-digits (n / 10) (omega arith))
+
+pub five-digits : (n : ℕ) → n < 100000 → length (decimal n) ≤ 5
+five-digits n h =
+    one-more n 4 (omega arith) (omega arith)
+    (one-more (n / 10) 3 (omega arith) (omega arith) (one-more (n / 10 / 10) 2 (omega arith) (omega arith) (two-digits (n / 10 / 10 / 10) (omega arith))))
 
 -- an identity's text is as long as its two numbers and a dot
 identity-length : (b : List ℕ) → length (identityText b) ≡ length (decimal (getD b 0 0)) + suc (length (decimal (word b 2)))
 unfolding identityText
 identity-length b = length-append (decimal (getD b 0 0)) (46 ∷ decimal (word b 2))
 
-pub any-identity : (b : List ℕ) → length (identityText b) ≤ 21
-any-identity b = omega (arith, identity-length b, decimal-length (getD b 0 0), decimal-length (word b 2))
-
-pub unit-identity : (b : List ℕ) → getD b 0 0 < 10 → length (identityText b) ≤ 12
-unit-identity b h = omega (arith, identity-length b, one-digit (getD b 0 0) h, decimal-length (word b 2))
-
-pub low-identity : (b : List ℕ) → getD b 0 0 < 10 → word b 2 < 1000 → length (identityText b) ≤ 5
-low-identity b h g = omega (arith, identity-length b, one-digit (getD b 0 0) h, three-digits (word b 2) g)
+pub identity-few : (b : List ℕ) → getD b 0 0 < 10 → word b 2 < 100000 → length (identityText b) ≤ 7
+identity-few b h g = omega (arith, identity-length b, one-digit (getD b 0 0) h, five-digits (word b 2) g)
 
 escaped-length : (t : List ℕ) → length (escaped t) ≤ 2 * length t
 unfolding escaped
@@ -86,15 +84,17 @@ pub disputed-length : (d : ℕ) → length (disputedText d) ≤ 9
 unfolding disputedText
 disputed-length d = cond-elim (λ (s : List ℕ). length s ≤ 9) (eqb d 1) disputedWord [] (λ _. omega arith) (λ _. omega arith)
 
-pub marked-length : (b : List ℕ) → length (markedText b) ≤ 21
+pub marked-length : (b : List ℕ) → getD b 0 0 < 10 → word b 2 < 100000 → length (markedText b) ≤ 7
 unfolding markedText
-marked-length b = cond-elim (λ (s : List ℕ). length s ≤ 21) (blank b) (45 ∷ []) (identityText b) (λ _. omega arith) (λ _. any-identity b)
+marked-length b h g = cond-elim (λ (s : List ℕ). length s ≤ 7) (blank b) (45 ∷ []) (identityText b) (λ _. omega arith) (λ _. identity-few b h g)
 
 pub state-length : (s : ℕ) → length (stateText s) ≤ 8
 unfolding stateText
 state-length s = cond-elim (λ (t : List ℕ). length t ≤ 8) (eqb s 1) openWord settledWord (λ _. omega arith) (λ _. omega arith)
 
-pub counts-length : (v : List ℕ) → length (countsText v) ≤ 11 * length v
+-- a space and up to five digits for each count
+pub counts-length : (v : List ℕ) → ((i : ℕ) → i < length v → getD v i 0 < 100000) → length (countsText v) ≤ 6 * length v
 unfolding countsText
-counts-length [] = omega arith
-counts-length (c ∷ v) = omega (arith, length-append (decimal c) (countsText v), decimal-length c, counts-length v)
+counts-length [] h = omega arith
+counts-length (c ∷ v) h =
+    omega (arith, length-append (decimal c) (countsText v), five-digits c (h 0 (omega arith)), counts-length v (λ i g. h (suc i) (omega arith)))

@@ -19,7 +19,7 @@ use Rattle.log_laws.specs.Members.{Has}
 use Rattle.log_laws.proofs.Counts.{no-counts, formed}
 use Rattle.log_laws.proofs.Tests.{vectorOn-none}
 use Rattle.call_laws.proofs.Merging.{checked-both, file-sound, file-few}
-use Rattle.file_laws.proofs.Records.{length-fileRecords}
+use Rattle.run_laws.proofs.Records.{length-fileRecords}
 use Rattle.file_laws.proofs.Rewritten.{vector-right}
 use Rattle.log_closure.specs.Tables.{Indexed}
 use Rattle.log_check.specs.declared.Layout.the-variants.{File}

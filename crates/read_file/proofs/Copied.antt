@@ -5,21 +5,21 @@ use native.Mathlib.Numerals.{add-one}
 use native.Mathlib.Omega.{arith}
 use mathlib.Core.Path.{_≡_, refl, sym, ap, _∙_}
 use mathlib.Core.List.{List, [], _∷_, _++_, append-nil}
-use lib.ListN.{length, take, drop, replicate}
+use lib.ListN.{length, take, drop, replicate, length-take}
 use borrow.Author.Tests.{lt-leb, le-ltb}
 use Rattle.model.specs.Bytes.{part, joined, putAt}
 use Rattle.model.specs.Log.{logBytes}
 use Rattle.model.specs.Block.{archiveIn, senderIn, vectorIn}
-use Rattle.model.specs.File.{blocksIn, blockAt, blocksFault, recordsCounted, fileRecord, fileRecordsFrom, fileRecords, recordsFault, countsFault, orElse, fileFault}
+use Rattle.model.specs.File.{blocksIn, blockAt, Fault, fault, blocksFault, recordsCounted, fileRecord, fileRecordsFrom, fileRecords, recordsFault, countsFault, orElse, fileFault, checkedFault}
 use Rattle.base_model.specs.Base.{emptyBase}
-use Rattle.call_model.specs.Read.{readBack}
+use Rattle.call_model.specs.Read.{readBack, readOf}
 use Rattle.byte_slice.proofs.Parts.{part-length}
 use Rattle.byte_slice.proofs.PutAt.{put-padded}
 use Rattle.block_laws.proofs.Fields.{Sized, length-joined, joined-append}
 use Rattle.encoding_laws.proofs.Logs.{empty-log}
 use Rattle.call_laws.proofs.Reading.{file-records}
-use Rattle.file_laws.proofs.Records.{length-fileRecords}
-use Rattle.file_laws.proofs.Rewritten.{no-fault}
+use Rattle.run_laws.proofs.Records.{length-fileRecords}
+use Rattle.run_laws.proofs.Passed.{no-fault}
 use Rattle.file_reader.specs.Walk.{recordOrZeros, walkedTo}
 use Rattle.log_check.specs.declared.Layout.the-variants.{File}
 use Rattle.log_check.specs.Places.{offsetOf, laidAt}
@@ -27,7 +27,8 @@ use Rattle.log_check.proofs.Lists.{listed-more}
 use Rattle.read_file_blocks.proofs.Agreement.{blocks-counted}
 use Rattle.read_file_check.specs.Outcome.{readBackOf}
 use Rattle.read_file_check.proofs.Records.{file-listed}
-use Rattle.read_file_check.proofs.Checks.{few-in-blocks}
+use Rattle.read_file_check.proofs.Checks.{few-in-blocks, file-read, right-whole, right-some, right-few, faultless}
+use Rattle.read_file.specs.From.{readFrom}
 
 -- ---- how many
 
@@ -85,7 +86,33 @@ module _ (f : List ℕ) (n : ℕ) (whole : length f ≡ 512 * n) where
 
 -- ---- what `load` answers
 
-pub loaded : (f : List ℕ) {a u k : ℕ} {v o : List ℕ} → a ≡ archiveIn (take (512 - 0) (drop 0 f)) → u ≡ senderIn (take (512 - 0) (drop 0 f)) → v ≡ vectorIn (take (512 - 0) (drop 0 f))
-    → k ≡ recordsCounted f → o ≡ logBytes (fileRecordsFrom f 0 k) → readBackOf 0 0 a u k v o emptyBase ≡ readBack f
-unfolding readBack blockAt part fileRecords
-loaded f ea eu ev ek eo = rw (eo, ek, ea, eu, ev)
+pub loaded : (b f : List ℕ) {a u k : ℕ} {v o : List ℕ} → a ≡ archiveIn b → u ≡ senderIn b → v ≡ vectorIn b → k ≡ recordsCounted f → o ≡ logBytes (fileRecordsFrom f 0 k)
+    → readBackOf 0 0 a u k v o emptyBase ≡ readFrom b f emptyBase
+unfolding readFrom fileRecords
+loaded b f ea eu ev ek eo = rw (eo, ek, ea, eu, ev)
+
+-- ---- an SAB1 file
+
+from-whole : (f : List ℕ) → readFrom (take (512 - 0) (drop 0 f)) f emptyBase ≡ readBack f
+unfolding readFrom readBack blockAt part
+from-whole f = refl
+
+module _ (f : List ℕ) (m q : ℕ) (e : fault m q ≡ checkedFault f) (z : m ≡ 0) where
+  pub few-of-file : recordsCounted f ≤ 6 * (length f / 512)
+  few-of-file = few-in-file f (length f / 512) (right-whole f m q e z) refl (faultless f m q e z) (right-some f m q e z)
+
+  pub few-of-log : recordsCounted f ≤ 512
+  few-of-log = few-in-log f (length f / 512) (right-whole f m q e z) refl (faultless f m q e z)
+
+  pub few-blocks : length f / 512 ≤ 186
+  few-blocks = omega (arith, right-few f m q e z)
+
+  pub first-block : 512 ≤ length f
+  first-block = omega (arith, right-whole f m q e z, right-some f m q e z)
+
+  pub first-lent : length (take (512 - 0) (drop 0 f)) ≡ 512
+  first-lent = omega (arith, first-block, length-take 512 f)
+
+  pub file-loaded : (log : List ℕ) {n p a u k : ℕ} {v o : List ℕ} → length log ≡ 40960 → readBackOf n p a u k v o emptyBase ≡ readFrom (take (512 - 0) (drop 0 f)) f emptyBase
+      → readBackOf n p a u k v o emptyBase ≡ readOf log emptyBase f
+  file-loaded log l r = file-read log f m q l e z (r ∙ from-whole f)

@@ -1,13 +1,14 @@
-// Reading a file into a lent log and base: every check of the file, then its records one at a time; the base becomes empty.
+// Reading an SAB1 file into a lent log and base: every check of the file, then its records one at a time; the base becomes empty.
 ghost use mathlib.Core.Path.{_≡_};
 ghost use Prim.Native.Nat.{_*_, _<_, _≤_};
 ghost use lib.ListN.{length, replicate};
 ghost use Rattle.model.specs.Lengths.{logSize, logPlaces};
 ghost use Rattle.model.specs.Log.{logBytes};
-ghost use Rattle.model.specs.File.{fault, fileRecordsFrom, fileFault};
+ghost use Rattle.model.specs.File.{recordsCounted, fileRecordsFrom};
 ghost use Rattle.base_model.specs.Base.{emptyBase};
-ghost use Rattle.call_model.specs.Read.{readBack, readOf};
+ghost use Rattle.call_model.specs.Read.{readOf};
 ghost use Rattle.read_file_check.specs.Outcome.{readBackOf};
+ghost use Rattle.read_file.specs.From.{readFrom};
 use base_empty::write_empty;
 use block_read::archive_in;
 use block_read::sender_in;
@@ -42,7 +43,7 @@ pub fn copy_records(log: &mut [u8], file: &[u8], n: usize, total: usize)
 }
 
 // A refused file.
-fn refused(number: u8, place: u8) -> ReadFile
+pub fn refused(number: u8, place: u8) -> ReadFile
     ensures { λ r. ⌜ (r .number ≡ number) × (r .place ≡ place) × (r .archive ≡ 0) × (r .unit ≡ 0) × (r .records ≡ 0) × (r .vector .counts ≡ replicate 8 0) ⌝ }
 {
     let none = zero_vector();
@@ -56,16 +57,16 @@ fn refused(number: u8, place: u8) -> ReadFile
     }
 }
 
-// A file without a fault becomes the log.
-fn load(log: &mut [u8], file: &[u8], n: usize) -> ReadFile
-    requires { ⌜ (length (now log) ≡ logSize) × (length (now file) ≡ 512 * n) × (1 ≤ n) × (n ≤ 86) × (fileFault (now file) .number ≡ 0) ⌝ }
-    ensures { λ r. ⌜ readBackOf (r .number) (r .place) (r .archive) (r .unit) (r .records) (r .vector .counts) (now (log .exit)) emptyBase ≡ readBack (now (file .entry)) ⌝ }
+// The records in n blocks of a file become the log; archive, unit and vector stand in its first block.
+pub fn load(log: &mut [u8], block: &[u8], part: &[u8], n: usize) -> ReadFile
+    requires { ⌜ (length (now log) ≡ logSize) × (length (now block) ≡ 512) × (length (now part) ≡ 512 * n) × (n ≤ 186) × (recordsCounted (now part) ≤ 6 * n) × (recordsCounted (now part) ≤ logPlaces) ⌝ }
+    ensures { λ r. ⌜ readBackOf (r .number) (r .place) (r .archive) (r .unit) (r .records) (r .vector .counts) (now (log .exit)) emptyBase ≡ readFrom (now (block .entry)) (now (part .entry)) emptyBase ⌝ }
 {
-    let total = records_counted(file, n);
-    copy_records(log, file, n, total);
-    let archive = archive_in(&file[0..512]);
-    let unit = sender_in(&file[0..512]);
-    let vector = vector_in(&file[0..512]);
+    let total = records_counted(part, n);
+    copy_records(log, part, n, total);
+    let archive = archive_in(block);
+    let unit = sender_in(block);
+    let vector = vector_in(block);
     ReadFile {
         number: 0,
         place: 0,
@@ -89,7 +90,7 @@ pub fn read_log(log: &mut [u8], file: &[u8]) -> ReadFile
         return refused(e.number, e.place);
     }
     let n = file.len() / BLOCK_BYTES;
-    load(log, file, n)
+    load(log, &file[0..512], file, n)
 }
 
 // A file of any archive is read into a lent log and base, whose old bytes are not judged: the log becomes its records, the base empty with

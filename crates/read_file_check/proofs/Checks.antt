@@ -10,13 +10,16 @@ use lib.Dec.{leb, eqb}
 use lib.ListN.{length, take, drop, replicate}
 use borrow.Author.Tests.{eq-eqb, ne-eqb, eqb-true, eqb-false, leb-true, not-true, not-false}
 use Rattle.model.specs.Bytes.{sameBytes, part}
-use Rattle.model.specs.Log.{vectorOf, noCounts}
-use Rattle.model.specs.Block.{vectorIn}
-use Rattle.model.specs.File.{fileLength, blockAt, Fault, fault, blocksFault, recordsCounted, fileRecords, recordsFault, countsFault, orElse, fileFault, checkedFault}
+use Rattle.model.specs.Log.{vectorOf, vectorOn, noCounts}
+use Rattle.model.specs.Block.{letters, vectorIn}
+use Rattle.model.specs.File.{fileLength, blocksIn, blockAt, Fault, fault, blocksFault, recordsCounted, fileRecords, recordsFault, countsFault, orElse, fileFault, checkedFault}
+use Rattle.sab2_model.specs.Sab2.{recordsFaultOn, countsFaultOn}
 use Rattle.call_model.specs.Read.{ReadBack, notRead, readBack, readOf}
 use Rattle.byte_slice.proofs.Numbers.{bool-cases, and-true, and-wrong}
-use Rattle.block_laws.proofs.Faults.{header-right, stored-header}
-use Rattle.file_laws.proofs.Rewritten.{blocks-passed, block-passed}
+use Rattle.block_laws.proofs.Faults.{three-passed, stored-header}
+use Rattle.run_laws.proofs.Passed.{blocks-passed, block-passed}
+use Rattle.run_laws.proofs.Sab1.{blocks-fault-sab1}
+use Rattle.held_laws.proofs.Records.{records-sab1}
 use Rattle.read_file_blocks.proofs.Agreement.{blocks-counted}
 use Rattle.base_model.specs.Base.{emptyBase}
 use Rattle.call_laws.proofs.Reading.{checked-right}
@@ -25,7 +28,7 @@ use Rattle.log_laws.proofs.Tests.{vectorOn-none}
 use Rattle.log_closure.specs.Tables.{tables, Indexed}
 use Rattle.log_check.specs.declared.Layout.the-variants.{File}
 use Rattle.log_check.specs.Places.{laidAt}
-use Rattle.read_file_check.specs.Outcome.{Judges, left, recordsLeft, fileTables, readBackOf}
+use Rattle.read_file_check.specs.Outcome.{Judges, Left, left, recordsLeft, tablesLeft, fileTables, readBackOf}
 
 -- ---- the length
 
@@ -46,7 +49,38 @@ module _ (f : List ℕ) {t : Bool} (e : t ≡ fileLength f) (h : not t ≡ false
   pub few-blocks : length f / 512 ≤ 86
   few-blocks = tests .2
 
--- ---- blocks, records, vector
+-- ---- records, then the vector
+
+module _ (m : ℕ) (v : List ℕ) (p : ℕ) (f : List ℕ) (rn rp : ℕ) (held places seens : List ℕ) (j : Judges m v p f rn rp held places seens) (n : ℕ) (b : List ℕ) where
+  pub record-refused : (rn ≡ 0 → ⊥) → fault rn rp ≡ orElse (recordsFaultOn m v p [] 0 (fileRecords f)) (countsFaultOn v n (vectorIn b) (fileRecords f))
+  unfolding orElse fault
+  record-refused h = sym (rw (← j .first, ne-eqb rn 0 h))
+
+  module _ {w : List ℕ} {t : Bool} (y : rn ≡ 0) (ew : w ≡ vectorIn b) (et : t ≡ sameBytes w held) where
+    compared : t ≡ sameBytes (vectorIn b) (vectorOn v (fileRecords f))
+    compared = rw (← j .holds y .counts, ← ew) et
+
+    pub vector-differs : not t ≡ true → fault 20 (n - 1) ≡ orElse (recordsFaultOn m v p [] 0 (fileRecords f)) (countsFaultOn v n (vectorIn b) (fileRecords f))
+    unfolding orElse fault countsFaultOn
+    vector-differs h = sym (rw (← j .first, y, ← compared, not-true t h))
+
+    pub nothing-refused : not t ≡ false → fault 0 0 ≡ orElse (recordsFaultOn m v p [] 0 (fileRecords f)) (countsFaultOn v n (vectorIn b) (fileRecords f))
+    unfolding orElse fault countsFaultOn
+    nothing-refused h = sym (rw (← j .first, y, ← compared, not-false t h))
+
+module _ (m : ℕ) (v : List ℕ) (p : ℕ) (f : List ℕ) (rn rp : ℕ) (held places seens : List ℕ) (j : Judges m v p f rn rp held places seens) where
+  pub held-indexed : rn ≡ 0 → Indexed v (laidAt File f) (recordsCounted f) (fileRecords f) (vectorOn v (fileRecords f)) places seens
+  held-indexed y = rw (← j .holds y .counts) (j .holds y)
+
+pub tables-left : (v f held places seens places₀ seens₀ : List ℕ) → left held places seens ≡ recordsLeft v f places₀ seens₀ → tables places seens ≡ tablesLeft v f places₀ seens₀
+unfolding tablesLeft
+tables-left v f held places seens places₀ seens₀ e = ap (λ (x : Left). tables (x .places) (x .seens)) e
+
+-- ---- an SAB1 file: blocks, then what they hold
+
+file-held : (f : List ℕ) → fileFault f ≡ orElse (blocksFault f 0 (blocksIn f)) (orElse (recordsFaultOn 255 noCounts 0 [] 0 (fileRecords f)) (countsFaultOn noCounts (blocksIn f) (vectorIn (blockAt f 0)) (fileRecords f)))
+unfolding fileFault countsFault countsFaultOn
+file-held f = rw (records-sab1 (fileRecords f) [] 0, vectorOn-none (fileRecords f))
 
 module _ (f : List ℕ) (n : ℕ) (whole : length f ≡ 512 * n) where
   -- blocks without a fault count no more records than they have places
@@ -54,62 +88,37 @@ module _ (f : List ℕ) (n : ℕ) (whole : length f ≡ 512 * n) where
   unfolding recordsCounted
   few-in-blocks some z =
       let b = blockAt f (n - 1) in
-      let a = block-passed f (n - 1) (blocks-passed f n 0 z (n - 1) (omega arith) (omega arith)) in
-      rw (blocks-counted f n whole) (omega (arith, stored-header b (header-right b (a .good)) .1))
+      let a = block-passed letters 0 f (n - 1) (blocks-passed letters 0 f n 0 (rw (blocks-fault-sab1 f n 0) at z) (n - 1) (omega arith) (omega arith)) in
+      rw (blocks-counted f n whole) (omega (arith, stored-header b (three-passed letters b (a .good) .2) .1))
 
   module _ (bn bp : ℕ) (eb : fault bn bp ≡ blocksFault f 0 n) where
-    pub few-counted : 1 ≤ n → bn ≡ 0 → recordsCounted f ≤ 6 * n
+    pub few-counted : 1 ≤ n → bn ≡ 0 → recordsCounted f ≤ 6 * (n - 0)
     unfolding fault
-    few-counted some z = few-in-blocks some (sym (ap (λ (x : Fault). x .number) eb) ∙ z)
+    few-counted some z = let e : n - 0 ≡ n = omega arith in rw e (few-in-blocks some (sym (ap (λ (x : Fault). x .number) eb) ∙ z))
 
-    blocks-first : fileFault f ≡ orElse (fault bn bp) (orElse (recordsFault [] 0 (fileRecords f)) (countsFault f))
-    unfolding fileFault
-    blocks-first = rw (blocks-counted f n whole, ← eb)
+    blocks-first : fileFault f ≡ orElse (fault bn bp) (orElse (recordsFaultOn 255 noCounts 0 [] 0 (fileRecords f)) (countsFaultOn noCounts n (vectorIn (blockAt f 0)) (fileRecords f)))
+    blocks-first = file-held f ∙ rw (blocks-counted f n whole, ← eb)
 
     pub block-refused : (bn ≡ 0 → ⊥) → fault bn bp ≡ fileFault f
     unfolding orElse fault
     block-refused h = sym (blocks-first ∙ rw (ne-eqb bn 0 h))
 
-    module _ (places₀ seens₀ : List ℕ) where
-      pub unread-left : (bn ≡ 0 → ⊥) → tables places₀ seens₀ ≡ fileTables f places₀ seens₀
+    pub unread-left : (places₀ seens₀ : List ℕ) → (bn ≡ 0 → ⊥) → tables places₀ seens₀ ≡ fileTables f places₀ seens₀
+    unfolding fileTables fault
+    unread-left places₀ seens₀ h = rw (blocks-counted f n whole, ← eb, ne-eqb bn 0 h)
+
+    module _ (z : bn ≡ 0) {v : List ℕ} (none : v ≡ noCounts) where
+      pub held-told : (x y : ℕ) → fault x y ≡ orElse (recordsFaultOn 255 v 0 [] 0 (fileRecords f)) (countsFaultOn v n (vectorIn (take (512 - 0) (drop 0 f))) (fileRecords f)) → fault x y ≡ fileFault f
+      unfolding orElse fault blockAt part
+      held-told x y e = (rw none at e) ∙ sym (blocks-first ∙ rw z)
+
+      pub read-left : (places₀ seens₀ places seens : List ℕ) → tables places seens ≡ tablesLeft v f places₀ seens₀ → tables places seens ≡ fileTables f places₀ seens₀
       unfolding fileTables fault
-      unread-left h = rw (blocks-counted f n whole, ← eb, ne-eqb bn 0 h)
+      read-left places₀ seens₀ places seens e = e ∙ rw (none, blocks-counted f n whole, ← eb, z)
 
-      pub read-left : bn ≡ 0 → (held places seens : List ℕ) → left held places seens ≡ recordsLeft f places₀ seens₀ → tables places seens ≡ fileTables f places₀ seens₀
-      unfolding fileTables fault
-      read-left z held places seens e = rw (blocks-counted f n whole, ← eb, z, ← e)
-
-    module _ (rn rp : ℕ) (held places seens : List ℕ) (z : bn ≡ 0) (j : Judges f rn rp held places seens) where
-      counted : rn ≡ 0 → held ≡ vectorOf (fileRecords f)
-      counted y = j .holds y .counts ∙ vectorOn-none (fileRecords f)
-
-      records-next : fileFault f ≡ orElse (fault rn rp) (countsFault f)
-      unfolding orElse fault
-      records-next = blocks-first ∙ rw (z, ← j .first)
-
-      pub record-refused : (rn ≡ 0 → ⊥) → fault rn rp ≡ fileFault f
-      unfolding orElse fault
-      record-refused h = sym (records-next ∙ rw (ne-eqb rn 0 h))
-
-      module _ {v : List ℕ} {t : Bool} (y : rn ≡ 0) (ev : v ≡ vectorIn (take (512 - 0) (drop 0 f))) (et : t ≡ sameBytes v held) where
-        compared : t ≡ sameBytes (vectorIn (blockAt f 0)) (vectorOf (fileRecords f))
-        unfolding blockAt part
-        compared = rw (← counted y, ← ev) et
-
-        vector-last : fileFault f ≡ countsFault f
-        unfolding orElse fault
-        vector-last = records-next ∙ rw y
-
-        pub vector-differs : not t ≡ true → fault 20 (n - 1) ≡ fileFault f
-        unfolding countsFault
-        vector-differs h = sym (vector-last ∙ rw (← compared, not-true t h, blocks-counted f n whole))
-
-        pub nothing-refused : not t ≡ false → fault 0 0 ≡ fileFault f
-        unfolding countsFault
-        nothing-refused h = sym (vector-last ∙ rw (← compared, not-false t h))
-
-      pub file-indexed : rn ≡ 0 → Indexed noCounts (laidAt File f) (recordsCounted f) (fileRecords f) (vectorOf (fileRecords f)) places seens
-      file-indexed y = rw (← counted y) (j .holds y)
+pub file-indexed : (f : List ℕ) {v : List ℕ} (x : ℕ) (places seens : List ℕ) → v ≡ noCounts → (x ≡ 0 → Indexed v (laidAt File f) (recordsCounted f) (fileRecords f) (vectorOn v (fileRecords f)) places seens) → x ≡ 0
+    → Indexed noCounts (laidAt File f) (recordsCounted f) (fileRecords f) (vectorOf (fileRecords f)) places seens
+file-indexed f x places seens none h z = rw (← vectorOn-none (fileRecords f)) (rw none at (h z))
 
 -- ---- the ways out of `checked_fault`
 

@@ -7,17 +7,19 @@ use mathlib.Core.List.{List, []}
 use lib.Dec.{eqb}
 use Rattle.model.specs.Lengths.{logPlaces}
 use Rattle.model.specs.Log.{noCounts}
-use Rattle.model.specs.File.{fault, blocksIn, blocksFault, recordsCounted, fileRecords, recordsFault}
+use Rattle.model.specs.File.{fault, blocksIn, blocksFault, recordsCounted, fileRecords}
+use Rattle.sab2_model.specs.Sab2.{recordsFaultOn}
 use Rattle.call_model.specs.Read.{ReadBack}
 use Rattle.log_closure.specs.Tables.{Tables, tables, Indexed}
 use Rattle.log_check.specs.declared.Layout.the-variants.{File}
 use Rattle.log_check.specs.Places.{laidAt}
 use Rattle.log_check.specs.InOrder.{Scan, scanOf}
 
--- the first fault of a file's records, or tables that have them all
-pub record Judges (f : List ℕ) (number place : ℕ) (held places seens : List ℕ) : Type 0 where
-  pub first : fault number place ≡ recordsFault [] 0 (fileRecords f)
-  pub holds : number ≡ 0 → Indexed noCounts (laidAt File f) (recordsCounted f) (fileRecords f) held places seens
+-- the first fault of the records in blocks behind a base vector v, with the list m and the place p of the first block, or tables that have
+-- them all
+pub record Judges (m : ℕ) (v : List ℕ) (p : ℕ) (f : List ℕ) (number place : ℕ) (held places seens : List ℕ) : Type 0 where
+  pub first : fault number place ≡ recordsFaultOn m v p [] 0 (fileRecords f)
+  pub holds : number ≡ 0 → Indexed v (laidAt File f) (recordsCounted f) (fileRecords f) held places seens
 
 -- the counts and the tables that a pass leaves
 pub record Left : Type 0 where
@@ -28,17 +30,20 @@ pub record Left : Type 0 where
 abbrev pub left : List ℕ → List ℕ → List ℕ → Left
 left held places seens = record { held = held; places = places; seens = seens }
 
--- the pass over the first 512 records of a file
-unfoldable pub recordsLeft : List ℕ → List ℕ → List ℕ → Left
-recordsLeft f places seens =
-    let s : Scan = scanOf noCounts (laidAt File f) (min (recordsCounted f) logPlaces) places seens in
+-- the pass over the first 512 of these records
+unfoldable pub recordsLeft : List ℕ → List ℕ → List ℕ → List ℕ → Left
+recordsLeft v f places seens =
+    let s : Scan = scanOf v (laidAt File f) (min (recordsCounted f) logPlaces) places seens in
     left (s .held) (s .places) (s .seens)
 
--- the tables that checking a file leaves: no record is judged if a block has a fault
+-- the tables that it leaves
+unfoldable pub tablesLeft : List ℕ → List ℕ → List ℕ → List ℕ → Tables
+tablesLeft v f places seens = tables (recordsLeft v f places seens .places) (recordsLeft v f places seens .seens)
+
+-- the tables that checking an SAB1 file leaves: no record is judged if a block has a fault
 unfoldable pub fileTables : List ℕ → List ℕ → List ℕ → Tables
 fileTables f places seens =
-    let l : Left = recordsLeft f places seens in
-    cond (eqb (blocksFault f 0 (blocksIn f) .number) 0) (tables (l .places) (l .seens)) (tables places seens)
+    cond (eqb (blocksFault f 0 (blocksIn f) .number) 0) (tablesLeft noCounts f places seens) (tables places seens)
 
 -- number, place, archive, unit, record count and vector, with the log and the base left
 abbrev pub readBackOf : ℕ → ℕ → ℕ → ℕ → ℕ → List ℕ → List ℕ → List ℕ → ReadBack

@@ -28,17 +28,18 @@ fn load_named(i: usize, buf: &mut [u8]) -> usize
 // The listing of a file is what was expected.
 fn lists(file: &[u8], expected: &[u8]) -> bool {
     let mut log = [0u8; 40960];
+    let mut base = [0u8; 43032];
     let mut tree = [0u8; 86020];
-    let mut text = [0u8; 76800];
-    let listed = listing::listing(file, &mut log, &mut tree, &mut text);
+    let mut text = [0u8; 172544];
+    let listed = listing::listing(file, &mut log, &mut base, &mut tree, &mut text);
     let n = listed.length as usize;
     byte_slice::same(&text[0..n], expected)
 }
 
 // The case whose two files the arguments i and j name.
 fn passes(i: usize, j: usize) -> bool {
-    let mut file = [0u8; 44033];
-    let mut expected = [0u8; 76801];
+    let mut file = [0u8; 95233];
+    let mut expected = [0u8; 172545];
     let n = load_named(i, &mut file);
     let m = load_named(j, &mut expected);
     lists(&file[0..n], &expected[0..m])

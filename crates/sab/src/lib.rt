@@ -13,6 +13,8 @@ ghost use Rattle.sab_block.specs.Handed.{handedOf};
 ghost use Rattle.sab_row.specs.Rows.{rowHandedOf, triedCall, rowTriedOf};
 ghost use Rattle.sab_fold.specs.Given.{listGiven};
 ghost use Rattle.sab_file.specs.Loaded.{loaded, loadedOf};
+ghost use Rattle.sab2_model.specs.Calls.{writeSab2Of, toSab2Of, toSab1Of};
+ghost use Rattle.sab_convert.specs.Turned.{turned, turnedOf};
 ghost use Rattle.sab_merge.specs.Joined.{joined};
 ghost use Rattle.sab_listing.specs.Printed.{printed, printedOf};
 ghost use Rattle.sab_vectors.specs.Compared.{comparedOf};
@@ -155,7 +157,37 @@ pub extern "C" fn sab_write_file(
     sab_file::write_file(log, base, archive, unit, file)
 }
 
-// Reads a file into a lent log and base; the count is that of its records.
+// Writes list, base and log as an SAB2 file; the count is that of its blocks.
+#[no_mangle]
+pub extern "C" fn sab_write_sab2(
+    log: &[u8],
+    base: &[u8],
+    archive: u32,
+    unit: u32,
+    file: &mut [u8],
+) -> u32
+    ensures { λ r. ⌜ called r (now (log .entry)) (now (file .exit)) ≡ told (writeSab2Of archive unit (now (log .entry)) (now (base .entry)) (now (file .entry))) ⌝ }
+{
+    sab_file::write_sab2(log, base, archive, unit, file)
+}
+
+// Makes an SAB2 file of an SAB1 file; the count is that of its blocks.
+#[no_mangle]
+pub extern "C" fn sab_to_sab2(file: &[u8], out: &mut [u8]) -> u32
+    ensures { λ r. ⌜ turned r (now (out .exit)) ≡ turnedOf (toSab2Of (now (file .entry)) (now (out .entry))) ⌝ }
+{
+    sab_convert::to_sab2(file, out)
+}
+
+// Makes an SAB1 file of an SAB2 file without folded records; the count is that of its blocks.
+#[no_mangle]
+pub extern "C" fn sab_to_sab1(file: &[u8], out: &mut [u8]) -> u32
+    ensures { λ r. ⌜ turned r (now (out .exit)) ≡ turnedOf (toSab1Of (now (file .entry)) (now (out .entry))) ⌝ }
+{
+    sab_convert::to_sab1(file, out)
+}
+
+// Reads a file of either form into a lent log and base; the count is that of the records of the log.
 #[no_mangle]
 pub extern "C" fn sab_read_file(
     log: &mut [u8],
@@ -208,18 +240,19 @@ pub extern "C" fn sab_list(index: &[u8], unit: u32, number: u32, range: &mut [u8
     sab_index::list(index, unit, number, range)
 }
 
-// Lists a file as text, by way of a lent log and tree table.
+// Lists a file of either form as text, by way of a lent log, base and tree table.
 #[no_mangle]
 pub extern "C" fn sab_listing(
     file: &[u8],
     log: &mut [u8],
+    base: &mut [u8],
     tree: &mut [u8],
     out: &mut [u8],
     length: &mut [u8],
 ) -> u32
-    ensures { λ r. ⌜ printed r (now (log .exit)) (now (tree .exit)) (now (out .exit)) (now (length .exit)) ≡ printedOf (now (file .entry)) (now (log .entry)) (now (tree .entry)) (now (out .entry)) (now (length .entry)) ⌝ }
+    ensures { λ r. ⌜ printed r (now (log .exit)) (now (base .exit)) (now (tree .exit)) (now (out .exit)) (now (length .exit)) ≡ printedOf (now (file .entry)) (now (log .entry)) (now (base .entry)) (now (tree .entry)) (now (out .entry)) (now (length .entry)) ⌝ }
 {
-    sab_listing::listing(file, log, tree, out, length)
+    sab_listing::listing(file, log, base, tree, out, length)
 }
 
 // Gives the held vector; the count is that of the records of the log.

@@ -6,7 +6,8 @@ use mathlib.Core.List.{List}
 use lib.Dec.{eqb}
 use lib.ListN.{length}
 use Rattle.model.specs.Numbers.{badBuffer}
-use Rattle.call_model.specs.Read.{ReadBack, readOf}
+use Rattle.call_model.specs.Read.{ReadBack}
+use Rattle.sab2_model.specs.Calls.{readEitherOf}
 use Rattle.sab_words.specs.Words.{packed, headOf}
 
 -- the word returned by a reading; log, base and head as they are left
@@ -23,13 +24,13 @@ loaded w log base head = record { word = w; log = log; base = base; head = head 
 unfoldable pub headLeft : ReadBack → List ℕ → List ℕ
 headLeft b head = cond (eqb (b .number) 0) (headOf (b .archive) (b .sender) (b .records) (b .vector)) head
 
--- reading a file into a lent log and base, with its head
+-- reading a file of either form into a lent log and base, with its head
 unfoldable pub loadedOf : List ℕ → List ℕ → List ℕ → List ℕ → Loaded
 loadedOf log base f head =
     cond (eqb (length head) 24)
     (loaded
-    (packed (readOf log base f .number) (readOf log base f .place) (readOf log base f .records))
-    (readOf log base f .log)
-    (readOf log base f .base)
-    (headLeft (readOf log base f) head))
+    (packed (readEitherOf log base f .number) (readEitherOf log base f .place) (readEitherOf log base f .records))
+    (readEitherOf log base f .log)
+    (readEitherOf log base f .base)
+    (headLeft (readEitherOf log base f) head))
     (loaded (packed badBuffer 0 0) log base head)

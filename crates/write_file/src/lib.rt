@@ -57,7 +57,7 @@ pub fn write_blocks(
 }
 
 // A vector counts no record.
-fn is_zero(v: Vector) -> bool
+pub fn is_zero(v: Vector) -> bool
     ensures { λ r. ⌜ r ≡ blank (v .counts) ⌝ }
 {
     vector::covers(vector::zero_vector(), v)

@@ -1,4 +1,4 @@
-/* Writing a file and reading it. */
+/* Writing an SAB1 file and reading it. */
 
 #include "check.h"
 #include "lent.h"
@@ -152,7 +152,7 @@ static void test_refused_files(struct lent log, struct lent file, struct lent he
 {
     unsigned block;
     for (block = 0; block < 3; block++) {
-        three_blocks(file)[SAB_BLOCK_BYTES * block + 3] = '2';
+        three_blocks(file)[SAB_BLOCK_BYTES * block + 3] = '3';
         CHECK(read_file(log, file, 3 * SAB_BLOCK_BYTES, head) == at(SAB_BAD_LETTERS, block));
         three_blocks(file)[SAB_BLOCK_BYTES * block + 511] ^= 1;
         CHECK(read_file(log, file, 3 * SAB_BLOCK_BYTES, head) == at(SAB_BAD_SUM, block));
@@ -214,14 +214,19 @@ static void test_513(struct lent log, struct lent file, struct lent head)
 
 static void test_lengths(struct lent log, struct lent file, struct lent head)
 {
-    static const size_t not_files[5] = {0, 1, 511, 513, SAB_FILE_BYTES + 512};
+    static const size_t not_files[4] = {4, 511, 513, SAB_FILE_BYTES + 512};
+    static const uint8_t long_file[SAB_FILE_BYTES + 512] = "SAB1";
     int i;
     three_blocks(file);
     note(log);
     note(head);
-    for (i = 0; i < 5; i++)
-        CHECK(sab_read_file(log.bytes, SAB_LOG_BYTES, SPARE_BASE, nowhere(), not_files[i],
+    for (i = 0; i < 4; i++) {
+        /* Fewer than four bytes choose no form. */
+        CHECK(sab_read_file(log.bytes, SAB_LOG_BYTES, SPARE_BASE, nowhere(), (size_t)i, head.bytes,
+                            SAB_HEAD_BYTES) == SAB_BAD_LENGTH);
+        CHECK(sab_read_file(log.bytes, SAB_LOG_BYTES, SPARE_BASE, long_file, not_files[i],
                             head.bytes, SAB_HEAD_BYTES) == SAB_BAD_LENGTH);
+    }
     for (i = 0; i < WRONG_LENGTHS; i++) {
         size_t no_log = wrong_length(SAB_LOG_BYTES, i), no_head = wrong_length(SAB_HEAD_BYTES, i);
         CHECK(sab_read_file(nowhere(), no_log, SPARE_BASE, nowhere(), 0, head.bytes,

@@ -30,6 +30,7 @@ int main(void)
     test_fold();
     test_write_file();
     test_read_file();
+    test_sab2();
     test_merge();
     test_show();
     test_index();

@@ -13,6 +13,7 @@ void test_rows(void);
 void test_fold(void);
 void test_write_file(void);
 void test_read_file(void);
+void test_sab2(void);
 void test_merge(void);
 void test_show(void);
 void test_index(void);

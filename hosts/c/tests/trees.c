@@ -87,7 +87,7 @@ void test_show(void)
 
 /* The buffers of a listing. */
 struct listing {
-    struct lent file, log, tree, out, length;
+    struct lent file, log, base, tree, out, length;
 };
 
 /* Lists the end of the file's buffer, with stated lengths. */
@@ -95,17 +95,19 @@ static uint32_t list(struct listing l, size_t file_length)
 {
     uint32_t r;
     fill(l.log);
+    fill(l.base);
     fill(l.tree);
     fill(l.out);
     fill(l.length);
     note(l.log);
+    note(l.base);
     note(l.tree);
     note(l.out);
     note(l.length);
     only_read(l.file, 1);
     r = sab_listing(l.file.bytes + l.file.length - file_length, file_length, l.log.bytes,
-                    SAB_LOG_BYTES, l.tree.bytes, SAB_TREE_BYTES, l.out.bytes, SAB_LISTING_BYTES,
-                    l.length.bytes, SAB_LENGTH_BYTES);
+                    SAB_LOG_BYTES, l.base.bytes, SAB_BASE_BYTES, l.tree.bytes, SAB_TREE_BYTES,
+                    l.out.bytes, SAB_LISTING_BYTES, l.length.bytes, SAB_LENGTH_BYTES);
     only_read(l.file, 0);
     return r;
 }
@@ -130,10 +132,13 @@ static void test_wrong_buffers(struct listing l)
 {
     int i, wrong;
     for (i = 0; i < WRONG_LENGTHS; i++)
-        for (wrong = 1; wrong < 16; wrong++) {
+        for (wrong = 1; wrong < 32; wrong++) {
             int log = wrong & 1, tree = wrong & 2, out = wrong & 4, length = wrong & 8;
+            int base = wrong & 16;
             CHECK(sab_listing(nowhere(), 0, log ? nowhere() : l.log.bytes,
                               log ? wrong_length(SAB_LOG_BYTES, i) : SAB_LOG_BYTES,
+                              base ? nowhere() : l.base.bytes,
+                              base ? wrong_length(SAB_BASE_BYTES, i) : SAB_BASE_BYTES,
                               tree ? nowhere() : l.tree.bytes,
                               tree ? wrong_length(SAB_TREE_BYTES, i) : SAB_TREE_BYTES,
                               out ? nowhere() : l.out.bytes,
@@ -141,7 +146,7 @@ static void test_wrong_buffers(struct listing l)
                               length ? nowhere() : l.length.bytes,
                               length ? wrong_length(SAB_LENGTH_BYTES, i) : SAB_LENGTH_BYTES) ==
                   SAB_BAD_BUFFER);
-            CHECK(kept(l.log) && kept(l.tree) && kept(l.out) && kept(l.length));
+            CHECK(kept(l.log) && kept(l.base) && kept(l.tree) && kept(l.out) && kept(l.length));
         }
 }
 
@@ -149,11 +154,12 @@ void test_listing(void)
 {
     static uint8_t apart[SAB_LOG_BYTES], all[SAB_LOG_BYTES], whole[SAB_FILE_BYTES],
         tree[SAB_TREE_BYTES];
-    static const size_t not_files[4] = {0, 1, 511, SAB_BLOCK_BYTES + 1};
+    static const size_t not_files[4] = {0, 1, 511, 2 * SAB_BLOCK_BYTES - 1};
     struct listing l;
     int i;
     l.file = lend(2 * SAB_BLOCK_BYTES);
     l.log = lend(SAB_LOG_BYTES);
+    l.base = lend(SAB_BASE_BYTES);
     l.tree = lend(SAB_TREE_BYTES);
     l.out = lend(SAB_LISTING_BYTES);
     l.length = lend(SAB_LENGTH_BYTES);
@@ -163,22 +169,21 @@ void test_listing(void)
     CHECK(list(l, SAB_BLOCK_BYTES) == SAB_OK);
     CHECK(listed(l, BENCH));
     CHECK(memcmp(l.log.bytes, all, SAB_LOG_BYTES) == 0);
+    CHECK(memcmp(l.base.bytes, empty_base(), SAB_BASE_BYTES) == 0);
     expect_tree(tree, all);
     CHECK(memcmp(l.tree.bytes, tree, SAB_TREE_BYTES) == 0);
 
     l.file.bytes[SAB_BLOCK_BYTES + 30] ^= 1;
     CHECK(list(l, SAB_BLOCK_BYTES) == SAB_BAD_SUM);
     CHECK(listed(l, "refused 4 at 0\n"));
-    CHECK(kept(l.log) && kept(l.tree));
+    CHECK(kept(l.log) && kept(l.base) && kept(l.tree));
     memcpy(l.file.bytes, whole, SAB_BLOCK_BYTES);
     CHECK(list(l, 2 * SAB_BLOCK_BYTES) == SAB_BAD_FILE);
     CHECK(listed(l, "refused 20 at 0\n"));
     for (i = 0; i < 4; i++) {
-        list(l, SAB_BLOCK_BYTES);
-        CHECK(sab_listing(nowhere(), not_files[i], l.log.bytes, SAB_LOG_BYTES, l.tree.bytes,
-                          SAB_TREE_BYTES, l.out.bytes, SAB_LISTING_BYTES, l.length.bytes,
-                          SAB_LENGTH_BYTES) == SAB_BAD_LENGTH);
+        CHECK(list(l, not_files[i]) == SAB_BAD_LENGTH);
         CHECK(listed(l, "refused 2 at 0\n"));
+        CHECK(kept(l.log) && kept(l.base) && kept(l.tree));
     }
     note(l.out);
     note(l.length);

@@ -1,6 +1,7 @@
 use Rattle.block_write.proofs.Written.{headed}
-use native.Mathlib.Omega.{arith}
 use borrow.Author.Needs.{needs}
+use lib.ListN.{length}
+use mathlib.Core.Path.{_≡_}
 use Rattle.block_write.proofs.put_header.Statement.{statement}
 use Rattle.block_write.proofs.put_header.Tie as tie
 use Rattle.block_write.proofs.put_header.Reads as reads
@@ -9,10 +10,6 @@ use Rattle.byte_slice.proofs.put.Reads as put-reads
 use Rattle.byte_slice.proofs.put16.Reads as put16-reads
 use Rattle.byte_slice.proofs.put32.Reads as put32-reads
 use Rattle.vector.proofs.put_vector.Reads as put-vector-reads
-
--- src/lib.rt:156:17
-slice-aggregate-put : tie.Need-slice-aggregate-put
-slice-aggregate-put c = search needs
 
 -- src/lib.rt:156:5
 put-requires : tie.Need-put-requires
@@ -23,8 +20,8 @@ put32-requires : tie.Need-put32-requires
 put32-requires c κs = search needs
 
 -- src/lib.rt:158:17
-slice-aggregate-put-2 : tie.Need-slice-aggregate-put-2
-slice-aggregate-put-2 c = search needs
+slice-aggregate-put : tie.Need-slice-aggregate-put
+slice-aggregate-put c = search needs
 
 -- src/lib.rt:158:5
 put-requires-2 : tie.Need-put-requires-2
@@ -46,16 +43,16 @@ same-length c = search needs
 returns : tie.Need-returns
 returns c =
     let a = c .before .before .before .before .before .before .before .before .before .before .before .before .before .before .before .before .before .before .before .before .before .before .before .args in
-    cc (headed (a .dst .now) (a .archive) (a .unit) (a .count) (a .place) (a .v .counts) (omega arith))
+    let n : length (a .letters .now) ≡ 4 = search needs in
+    (cc (headed (a .dst .now) (a .letters .now) (a .archive) (a .unit) (a .count) (a .place) (a .v .counts) (search needs) n), n)
 
 pub put-header-spec : {M : Type 1} → statement M
 put-header-spec =
     tie.close
     (tie.spec
-    slice-aggregate-put
     put-requires
     put32-requires
-    slice-aggregate-put-2
+    slice-aggregate-put
     put-requires-2
     put16-requires
     put-vector-requires

@@ -9,7 +9,7 @@ use Rattle.block_read.proofs.count_in.Reads as count-in-reads
 use Rattle.block_read.proofs.place_in.Reads as place-in-reads
 use Rattle.block_read.proofs.sender_in.Reads as sender-in-reads
 use Rattle.block_read.proofs.vector_in.Reads as vector-in-reads
-use Rattle.read_file_blocks.proofs.count_fits.Reads as count-fits-reads
+use Rattle.read_file_blocks.proofs.count_fits_as.Reads as count-fits-as-reads
 use Rattle.read_file_blocks.proofs.same_counts.Reads as same-counts-reads
 
 -- src/lib.rt:62:8
@@ -69,8 +69,8 @@ count-in-requires : tie.Need-count-in-requires
 count-in-requires c κs = search needs
 
 -- src/lib.rt:74:5
-count-fits-requires : tie.Need-count-fits-requires
-count-fits-requires c κs = search needs
+count-fits-as-requires : tie.Need-count-fits-as-requires
+count-fits-as-requires c κs = search needs
 
 -- src/lib.rt:58:1
 returns-5 : tie.Need-returns-5
@@ -94,5 +94,5 @@ agrees-spec =
     same-counts-requires
     returns-4
     count-in-requires
-    count-fits-requires
+    count-fits-as-requires
     returns-5)

@@ -4,7 +4,7 @@ use Rattle.read_file_blocks.proofs.file_block_fault.Statement.{statemen
 use Rattle.read_file_blocks.proofs.file_block_fault.Tie as tie
 use Rattle.read_file_blocks.proofs.file_block_fault.Reads as reads
 use Rattle.read_file_blocks.proofs.file_block_fault.Lts as lts
-use Rattle.block_read.proofs.block_fault.Reads as block-fault-reads
+use Rattle.block_read.proofs.block_fault_as.Reads as block-fault-as-reads
 use Rattle.read_file_blocks.proofs.agrees.Reads as agrees-reads
 
 -- src/lib.rt:82:14
@@ -12,24 +12,24 @@ mul-at : tie.Need-mul-at
 mul-at c = search needs
 
 -- src/lib.rt:83:40
-add-block-fault : tie.Need-add-block-fault
-add-block-fault c = search needs
+add-block-fault-as : tie.Need-add-block-fault-as
+add-block-fault-as c = search needs
 
 -- src/lib.rt:83:30
-sub-block-fault : tie.Need-sub-block-fault
-sub-block-fault c = search needs
+sub-block-fault-as : tie.Need-sub-block-fault-as
+sub-block-fault-as c = search needs
 
 -- src/lib.rt:83:30
-part-block-fault-start : tie.Need-part-block-fault-start
-part-block-fault-start c = search needs
+part-block-fault-as-start : tie.Need-part-block-fault-as-start
+part-block-fault-as-start c = search needs
 
 -- src/lib.rt:83:30
-part-block-fault-end : tie.Need-part-block-fault-end
-part-block-fault-end c = search needs
+part-block-fault-as-end : tie.Need-part-block-fault-as-end
+part-block-fault-as-end c = search needs
 
 -- src/lib.rt:83:9
-block-fault-requires : tie.Need-block-fault-requires
-block-fault-requires c κs = search needs
+block-fault-as-requires : tie.Need-block-fault-as-requires
+block-fault-as-requires c κs = search needs
 
 -- src/lib.rt:85:9
 returns : tie.Need-returns
@@ -80,11 +80,11 @@ file-block-fault-spec =
     tie.close
     (tie.spec
     mul-at
-    add-block-fault
-    sub-block-fault
-    part-block-fault-start
-    part-block-fault-end
-    block-fault-requires
+    add-block-fault-as
+    sub-block-fault-as
+    part-block-fault-as-start
+    part-block-fault-as-end
+    block-fault-as-requires
     returns
     sub-agrees
     part-agrees-start

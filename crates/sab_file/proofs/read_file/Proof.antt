@@ -9,8 +9,8 @@ pack-requires c κs = search needs
 returns : tie.Need-returns
 returns c = search (head-wrong)
 
-read-file-requires : tie.Need-read-file-requires
-read-file-requires c κs = search needs
+read-either-requires : tie.Need-read-either-requires
+read-either-requires c κs = search needs
 
 pack-requires-2 : tie.Need-pack-requires-2
 pack-requires-2 c κs = search needs
@@ -48,7 +48,7 @@ read-file-spec =
     (tie.spec
     pack-requires
     returns
-    read-file-requires
+    read-either-requires
     pack-requires-2
     same-length
     same-length-2

@@ -5,16 +5,17 @@ use crate::files::{self, Bytes, Held, Over};
 use crate::json::Object;
 use crate::numbers::Case;
 use crate::out::{Out, shown};
-use crate::records::{self, Story};
+use crate::records::Story;
 use crate::state::{self, Fault};
 use crate::system::System;
 use crate::why;
-use sab::{Answer, Log, Tree, Vector, raw};
+use sab::{Answer, Log, Tree, Units, Vector, raw};
+use std::fmt;
 use std::path::{Path, PathBuf};
 
-/// A byte more than the longest file, of either form: who has read so many knows
+/// A byte more than the longest file, of whichever form: who has read so many knows
 /// that it is refused.
-pub const LIMIT: usize = if raw::FILE > state::LENGTH { raw::FILE } else { state::LENGTH } + 1;
+pub const LIMIT: usize = raw::SAB2 + 1;
 
 /// How many records that are not folded a log holds.
 pub const ROOM: usize = 512;
@@ -22,11 +23,59 @@ pub const ROOM: usize = 512;
 /// Records from which on a log is said to fill.
 const FEW: usize = 400;
 
+/// The form of an archive file.
+#[derive(Clone, Copy, Debug, PartialEq, Eq)]
+pub enum Form {
+    /// Records alone.
+    Sab1,
+    /// List and base, then records.
+    Sab2,
+    /// A state file, as version 6 wrote what SAB1 cannot hold.
+    State,
+}
+
+impl Form {
+    /// The form that a file's first bytes choose.
+    pub fn of(bytes: &[u8]) -> Form {
+        match sab::Form::of(bytes) {
+            _ if state::is_state(bytes) => Form::State,
+            sab::Form::Sab1 => Form::Sab1,
+            sab::Form::Sab2 => Form::Sab2,
+        }
+    }
+
+    /// The form in which a log goes into the place of such a file: its own, where
+    /// that loses nothing.
+    pub fn keeping(self, log: &Log) -> Form {
+        match self {
+            Form::Sab1 if !needs_sab2(log) => Form::Sab1,
+            _ => Form::Sab2,
+        }
+    }
+}
+
+impl fmt::Display for Form {
+    fn fmt(&self, f: &mut fmt::Formatter<'_>) -> fmt::Result {
+        f.pad(match self {
+            Form::Sab1 => "SAB1",
+            Form::Sab2 => "SAB2",
+            Form::State => "SABS",
+        })
+    }
+}
+
+/// SAB1 would lose something of a log: records are folded, or its list is short.
+fn needs_sab2(log: &Log) -> bool {
+    !log.base().is_empty() || log.base().units() != Units::ALL
+}
+
 /// An archive file that was accepted.
 pub struct Archive {
     /// Its name, as it was given.
     pub name: PathBuf,
-    /// Its records.
+    /// Its form.
+    pub form: Form,
+    /// Its records, with list and base.
     pub log: Log,
     /// How many records of each unit.
     pub vector: Vector,
@@ -61,11 +110,12 @@ fn judge_state(name: &Path, bytes: &[u8]) -> Outcome<Log> {
 }
 
 impl Archive {
-    /// Of a log that was read from a file.
-    pub fn of(name: &Path, log: Log, id: Option<(u64, u64)>) -> Outcome<Archive> {
+    /// Of a log that was read from a file of a form.
+    pub fn of(name: &Path, form: Form, log: Log, id: Option<(u64, u64)>) -> Outcome<Archive> {
         let vector = log.vector().map_err(of_library(name, Case::File))?;
         Ok(Archive {
             name: name.to_path_buf(),
+            form,
             log,
             vector,
             id,
@@ -76,7 +126,7 @@ impl Archive {
     pub fn read(system: &dyn System, name: &Path) -> Outcome<Archive> {
         let Bytes { bytes, length, id } = files::read(system, name, LIMIT)?;
         let log = judge(name, &bytes, length)?;
-        Archive::of(name, log, id)
+        Archive::of(name, Form::of(&bytes), log, id)
     }
 
     /// The tree of its records.
@@ -84,25 +134,10 @@ impl Archive {
         self.log.show().map_err(of_library(&self.name, Case::File))
     }
 
-    /// The listing: that of the library, or of a state file in the same form. The
-    /// records counted are those that are not folded.
+    /// The listing, by the library. The records counted are those that are not
+    /// folded.
     pub fn listing(&self) -> Outcome<String> {
-        if !state::is_needed(&self.log) {
-            return self.log.listing().map_err(of_library(&self.name, Case::File));
-        }
-        let tree = self.tree()?;
-        let mut lines = vec![
-            format!(
-                "archive {} unit {} records {}",
-                self.log.archive(),
-                self.log.unit(),
-                self.log.records().len()
-            ),
-            format!("seen {}", self.vector),
-        ];
-        lines.extend(tree.entries().map(records::entry_line));
-        lines.extend(tree.asides().map(records::aside_line));
-        Ok(lines.join("\n") + "\n")
+        self.log.listing().map_err(of_library(&self.name, Case::File))
     }
 
     /// Says in a line if it reads otherwise than before version 4.
@@ -145,11 +180,6 @@ impl Archive {
         shown(&self.name)
     }
 
-    /// The form of its file.
-    pub fn form(&self) -> &'static str {
-        if state::is_needed(&self.log) { "SABS" } else { "SAB1" }
-    }
-
     /// How many records are folded.
     pub fn folded(&self) -> u32 {
         self.log.base().vector().sum()
@@ -157,13 +187,13 @@ impl Archive {
 
     /// What `check` says of it, behind its name.
     pub fn summary(&self) -> String {
-        let base = match self.form() {
-            "SAB1" => String::new(),
+        let base = match self.form {
+            Form::Sab1 => String::new(),
             _ => format!(", {} folded, units {}", self.folded(), self.log.base().units()),
         };
         format!(
             "{}, archive {}, unit {}, {}{base}, seen {}",
-            self.form(),
+            self.form,
             self.log.archive(),
             self.log.unit(),
             why::counted(self.log.records().len(), "record"),
@@ -171,12 +201,12 @@ impl Archive {
         )
     }
 
-    /// Says in a line how much room there is, where it becomes scarce or records are
-    /// folded.
+    /// Says in a line how much room there is, where it becomes scarce or the file is
+    /// not SAB1.
     pub fn tell_room(&self, out: &mut Out) {
         let used = self.log.records().len();
         let free = ROOM - used;
-        if used < FEW && !state::is_needed(&self.log) {
+        if used < FEW && self.form == Form::Sab1 {
             return;
         }
         out.object(|| {
@@ -201,7 +231,7 @@ impl Archive {
         let listed: Vec<u16> = listed.map(|unit| unit.number().into()).collect();
         Object::new("archive")
             .text("file", self.shown())
-            .text("form", self.form())
+            .text("form", self.form)
             .number("archive", self.log.archive())
             .number("unit", self.log.unit().number())
             .number("records", self.log.records().len() as u64)
@@ -223,41 +253,41 @@ impl<'a> Own<'a> {
     pub fn open(system: &'a dyn System, name: &Path) -> Outcome<Own<'a>> {
         let held = Held::open(system, name, LIMIT)?;
         let log = judge(name, held.bytes(), Some(held.length()))?;
-        let archive = Archive::of(name, log, Some(held.id()))?;
+        let archive = Archive::of(name, Form::of(held.bytes()), log, Some(held.id()))?;
         Ok(Own { archive, held })
     }
 
-    /// Puts a log in the file's place. Nothing is written if nothing changed.
+    /// Puts a log in the file's place, in the file's own form where that loses
+    /// nothing. Nothing is written if nothing changed.
     pub fn replace(&self, log: &Log, backup: bool) -> Outcome<()> {
         if *log == self.archive.log {
             return Ok(());
         }
-        let file = written(log).map_err(of_library(self.held.name(), Case::File))?;
+        let form = self.archive.form.keeping(log);
+        let file = written(log, form).map_err(of_library(self.held.name(), Case::File))?;
         self.held
             .replace(&file, &|back| reads_back(back, log), backup)?;
         Ok(())
     }
 }
 
-/// The file of a log: SAB1 where it loses nothing, else a state file.
-fn written(log: &Log) -> Answer<Vec<u8>> {
-    match state::is_needed(log) {
-        true => Ok(state::written(log)),
-        false => log.write_file(),
+/// The file of a log in a form.
+pub fn written(log: &Log, form: Form) -> Answer<Vec<u8>> {
+    match form {
+        Form::Sab1 => log.write_file(),
+        Form::Sab2 | Form::State => log.write_sab2(),
     }
 }
 
 /// Whether bytes are the file of a log, by the library.
 fn reads_back(bytes: &[u8], log: &Log) -> bool {
-    match state::is_state(bytes) {
-        true => state::read(bytes).is_ok_and(|read| read == *log),
-        false => Log::read_file(bytes).as_ref() == Ok(log),
-    }
+    Log::read_file(bytes).as_ref() == Ok(log)
 }
 
-/// Writes a log as a new file.
+/// Writes a log as a new file: SAB1 where it loses nothing.
 pub fn create(system: &dyn System, name: &Path, log: &Log) -> Outcome<()> {
-    let file = written(log).map_err(of_library(name, Case::File))?;
+    let form = Form::Sab1.keeping(log);
+    let file = written(log, form).map_err(of_library(name, Case::File))?;
     files::create(system, name, &file, Over::Never, &|back| {
         reads_back(back, log)
     })?;

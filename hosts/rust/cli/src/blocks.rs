@@ -1,18 +1,59 @@
 //! Single blocks, judged by the library and told in words.
 
 use crate::why::counted;
-use sab::{Block, Identity, Log, Refusal, Unit};
+use sab::{Block, Identity, Log, Refusal, Unit, raw};
 
-/// What a block is by itself: whether an empty log would take it, in the block's
-/// own archive. An 8 or 9 then only says that it follows on others.
-pub fn judge_alone(block: &[u8]) -> Result<Block, Refusal> {
-    let block = Block::try_from(block)?;
-    let mut log = Log::start(block.archive(), Unit::ALL[0]);
-    match log.take(block) {
-        Ok(()) => Ok(block),
-        Err(refusal) if refusal.number == 8 || refusal.number == 9 => Ok(block),
+const MODULUS: u32 = 65_521;
+
+/// A block as a log takes it, with the letters SAB1. One of the form SAB2 has the
+/// same places under other letters. Both sums are changed by what the letters
+/// change, so that they are right if they were and wrong if they were not.
+fn with_sab1(block: &[u8]) -> Vec<u8> {
+    let mut block = block.to_vec();
+    let is_sab2 = block.len() == raw::BLOCK && block.starts_with(b"SAB2");
+    let sum = |at: usize| u32::from(u16::from_le_bytes([block[at], block[at + 1]]));
+    if !is_sab2 || sum(508) >= MODULUS || sum(510) >= MODULUS {
+        return block;
+    }
+    // Byte 3, the upper half of the second of 254 words, is one less.
+    let less = 256;
+    let first = (sum(508) + MODULUS - less) % MODULUS;
+    let second = (sum(510) + MODULUS - 253 * less % MODULUS) % MODULUS;
+    block[3] = b'1';
+    block[508..510].copy_from_slice(&(first as u16).to_le_bytes());
+    block[510..512].copy_from_slice(&(second as u16).to_le_bytes());
+    block
+}
+
+/// What is said of a block of rows.
+pub const ROWS: &str = "rows of list and base";
+
+/// A whole block.
+pub enum Whole {
+    /// Of records; one of the form SAB2 with the letters of SAB1, as a log takes it.
+    Records(Box<Block>),
+    /// Of rows of list and base, in an SAB2 file.
+    Rows,
+}
+
+/// What a block is by itself: whether an empty log would take its records, in the
+/// block's own archive. An 8 or 9 then only says that it follows on others. Of rows
+/// of an SAB2 file the first is a malformed record without an operation, which is
+/// judged behind letters, sums and header.
+pub fn judge_alone(block: &[u8]) -> Result<Whole, Refusal> {
+    let taken = Block::try_from(with_sab1(block).as_slice())?;
+    let mut log = Log::start(taken.archive(), Unit::ALL[0]);
+    match log.take(taken) {
+        Ok(()) => Ok(Whole::Records(Box::new(taken))),
+        Err(refusal) if matches!(refusal.number, 8 | 9) => Ok(Whole::Records(Box::new(taken))),
+        Err(refusal) if refusal.number == 7 && is_row(block) => Ok(Whole::Rows),
         Err(refusal) => Err(refusal),
     }
+}
+
+/// Whether the first place of a block has a row of list and base.
+fn is_row(block: &[u8]) -> bool {
+    block.starts_with(b"SAB2") && block[29] == 0
 }
 
 /// The place that a block says it has in its file.

@@ -25,10 +25,10 @@ const STATUSES: &[(&str, &str)] = &[
 ];
 
 const INTRO: &str = "\
-sab works on archive files of bench analysers (SAB1, usually NAME.sab): it checks
-them, shows what is in them, and passes records between them. Every yes, no,
-number, tree and vector is the answer of the proved library; sab opens files,
-asks, and puts the answers into words.";
+sab works on archive files of bench analysers (of the forms SAB1 and SAB2, usually
+NAME.sab): it checks them, shows what is in them, and passes records between them. A
+file that it replaces keeps its form. Every yes, no, number, tree and vector is the
+answer of the proved library; sab opens files, asks, and puts the answers into words.";
 
 const CHECKLIST: &str = "\
 The checklist at a visit, with the two cards van0.sab and van1.sab:

@@ -4,14 +4,15 @@
 //! It never judges. Every yes, no, number, tree and vector is the answer of a
 //! call of the proved library, through the crate `sab`; the program opens files,
 //! asks, writes files safely and puts the answers into words. Records and rows
-//! are decoded only to be printed. Only the sum of a state file, a form of this
-//! program's own, is its own to judge.
+//! are decoded only to be printed. Only the sum of a state file, an old form of
+//! this program's own, is its own to judge.
 
 #![forbid(unsafe_code)]
 #![deny(missing_docs)]
 
 pub mod archive;
 pub mod args;
+pub mod base_rows;
 pub mod blocks;
 pub mod change;
 pub mod commands;

@@ -99,7 +99,7 @@ pub const ROWS: &[Row] = &[
     Row {
         number: 2,
         cause: By {
-            file: Some("a file is not 1 to 86 whole blocks"),
+            file: Some("a file is not 1 to 86 whole blocks, or in the form SAB2 1 to 186"),
             taking: Some("a block is not 512 bytes"),
             act: None,
         },
@@ -111,11 +111,16 @@ pub const ROWS: &[Row] = &[
     },
     Row {
         number: 3,
-        cause: Always("a block does not begin with SAB1"),
+        cause: By {
+            file: Some("a block does not begin with the letters of its form, SAB1 or SAB2"),
+            taking: Some("a block does not begin with SAB1"),
+            act: None,
+        },
         fault: "card",
         advice: Always(
             "not an archive file, or a sector is lost: copy again, then try another unit's card; `sab salvage` \
-             takes the good blocks out of a damaged one",
+             takes the good blocks out of a damaged one. A file of the form SAB2 where SAB1 is asked for: \
+             `sab convert`",
         ),
     },
     Row {
@@ -303,13 +308,13 @@ pub const ROWS: &[Row] = &[
     Row {
         number: 26,
         cause: By {
-            file: None,
+            file: Some("a record is of a unit that is not in the file's list"),
             taking: Some("a record is of a unit that is not in this file's list"),
             act: Some("the list lacks a unit"),
         },
-        fault: "own list; for an act, wish",
+        fault: "own list; in a file, peer; for an act, wish",
         advice: By {
-            file: None,
+            file: Some("the writer was faulty: name the card's unit to the workshop"),
             taking: Some(
                 "if the unit belongs to the archive, list it with `sab fold --units`, and go on as under 27",
             ),
@@ -336,7 +341,23 @@ pub const ROWS: &[Row] = &[
         number: 29,
         cause: Always("records are folded: no file of the form SAB1 can hold them"),
         fault: "own base",
-        advice: Always("keep the state file; use the last card from before the fold"),
+        advice: Always(
+            "keep the file as SAB2; for an analyser that knows SAB1 alone use the last card from before the fold",
+        ),
+    },
+    Row {
+        number: 31,
+        cause: By {
+            file: Some("the list or base of an SAB2 file breaks its layout, or is not sound; the sums are right"),
+            taking: None,
+            act: None,
+        },
+        fault: "peer",
+        advice: By {
+            file: Some("the writer was faulty: name the card's unit to the workshop, and take another unit's card"),
+            taking: None,
+            act: None,
+        },
     },
 ];
 

@@ -1,5 +1,5 @@
-//! State files: a log with its list and base, where no file of the form SAB1 can
-//! hold them.
+//! State files: a log with its list and base, as version 6 kept them. They are read
+//! and no longer written: the form SAB2 has taken their place.
 //!
 //! 0-3 the letters SABS; 4-7 archive; 8 unit; 9-15 zero; 16-23 the sum of all other
 //! bytes, FNV-1a of 64 bits; from 24 on the base, then the log, as the library is
@@ -28,30 +28,12 @@ pub fn is_state(bytes: &[u8]) -> bool {
     bytes.starts_with(LETTERS)
 }
 
-/// Whether a log needs one: records are folded, or its list would be lost.
-pub fn is_needed(log: &Log) -> bool {
-    !log.base().is_empty() || log.base().units() != sab::Units::ALL
-}
-
 /// The sum of all bytes but the sum itself.
 fn sum(bytes: &[u8]) -> u64 {
     let summed = bytes[..16].iter().chain(&bytes[HEAD..]);
     summed.fold(0xcbf2_9ce4_8422_2325, |sum, byte| {
         (sum ^ u64::from(*byte)).wrapping_mul(0x0000_0100_0000_01b3)
     })
-}
-
-/// The state file of a log.
-pub fn written(log: &Log) -> Vec<u8> {
-    let mut bytes = vec![0; HEAD];
-    bytes[..4].copy_from_slice(LETTERS);
-    bytes[4..8].copy_from_slice(&log.archive().to_le_bytes());
-    bytes[8] = log.unit().number();
-    bytes.extend(log.base().as_bytes());
-    bytes.extend(log.as_bytes());
-    let sum = sum(&bytes);
-    bytes[16..HEAD].copy_from_slice(&sum.to_le_bytes());
-    bytes
 }
 
 /// The log in a state file.

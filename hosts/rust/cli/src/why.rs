@@ -3,11 +3,12 @@
 //! The library has judged by then. Here the bytes are only looked at again to
 //! say which of them it was; where nothing is found, nothing is said.
 
+use crate::base_rows::{self, Front};
 use sab::raw::{BLOCK, WISH};
-use sab::{Log, Refusal, Unit, Vector};
+use sab::{Log, Refusal, Unit, Units, Vector};
 
 /// A record's bytes.
-type Bytes = [u8; WISH];
+pub type Bytes = [u8; WISH];
 
 /// What was wrong with a file, of which so many bytes were read and which is
 /// so long.
@@ -21,7 +22,9 @@ pub fn of_file(bytes: &[u8], length: Option<u64>, refusal: Refusal) -> Option<St
             Some(format!("{}: {found}", place_text(place)))
         }
         20 => disagreement(bytes, place),
-        7 | 8 | 9 | 11 => {
+        31 => base_rows::fault(bytes),
+        7 | 8 | 9 | 11 | 26 => {
+            let front = Front::of(bytes);
             let all = records(bytes);
             let before: Vec<&Bytes> = all.iter().map(|(_, record)| *record).collect();
             let mut here = all
@@ -29,7 +32,7 @@ pub fn of_file(bytes: &[u8], length: Option<u64>, refusal: Refusal) -> Option<St
                 .enumerate()
                 .filter(|(_, (at, _))| at / BLOCK == place);
             here.find_map(|(i, (at, record))| {
-                let fault = record_text(record, &before[..i], refusal.number)?;
+                let fault = record_text(record, &before[..i], &front, refusal.number)?;
                 Some(format!(
                     "record {} in bytes {at} to {}: {fault}",
                     identity(record),
@@ -76,7 +79,7 @@ pub fn of_block(block: &[u8], log: &Log, refusal: Refusal) -> Option<String> {
                 let fault = match (refusal.number, held) {
                     (10, Some(held)) if *held != record => Some(other_bytes(held, record)),
                     (10, _) | (_, Some(_)) => None,
-                    (number, None) => record_text(record, &before, number),
+                    (number, None) => record_text(record, &before, &Front::NONE, number),
                 };
                 if let Some(fault) = fault {
                     return Some(format!("record {}: {fault}", identity(record)));
@@ -127,7 +130,7 @@ pub fn of_stroke(wish: &Bytes) -> Option<String> {
 }
 
 /// The block of a file that lies there.
-fn block_at(bytes: &[u8], place: usize) -> Option<&[u8; BLOCK]> {
+pub fn block_at(bytes: &[u8], place: usize) -> Option<&[u8; BLOCK]> {
     let (blocks, _) = bytes.as_chunks();
     blocks.get(place)
 }
@@ -137,7 +140,8 @@ fn place_text(place: usize) -> String {
     format!("block {place}, bytes {first} to {}", first + BLOCK - 1)
 }
 
-fn number16(bytes: &[u8]) -> u16 {
+/// A number of two bytes.
+pub fn number16(bytes: &[u8]) -> u16 {
     u16::from_le_bytes([bytes[0], bytes[1]])
 }
 
@@ -220,10 +224,11 @@ fn block_text(block: &[u8; BLOCK], number: u8) -> Option<String> {
         _ => {
             let begin = 28 + WISH * usize::from(block[9]);
             let at = begin + block[begin..508].iter().position(|byte| *byte != 0)?;
+            let what = if block.starts_with(b"SAB2") { "place" } else { "record" };
             Some(format!(
                 "byte {at} of it is {:02x} behind {}",
                 block[at],
-                counted(block[9].into(), "record")
+                counted(block[9].into(), what)
             ))
         }
     }
@@ -238,8 +243,9 @@ fn in_block(block: &[u8]) -> &[Bytes] {
     &records[..usize::from(block[9]).min(records.len())]
 }
 
-/// The records of a file, with their offsets.
+/// The records of a file, with their offsets. Rows of an SAB2 file are none.
 fn records(bytes: &[u8]) -> Vec<(usize, &Bytes)> {
+    let rows = Front::of(bytes).blocks;
     let (blocks, _) = bytes.as_chunks::<BLOCK>();
     let of_block = |(place, block)| {
         let records: &[Bytes] = in_block(block);
@@ -248,7 +254,7 @@ fn records(bytes: &[u8]) -> Vec<(usize, &Bytes)> {
         records.map(move |(i, record)| (begin + WISH * i, record))
     };
     let blocks = blocks.iter().map(|block| block.as_slice());
-    blocks.enumerate().flat_map(of_block).collect()
+    blocks.enumerate().skip(rows).flat_map(of_block).collect()
 }
 
 fn identity(record: &Bytes) -> String {
@@ -263,13 +269,19 @@ fn seen(record: &Bytes, unit: usize) -> u16 {
     number16(&record[4 + 2 * unit..])
 }
 
-/// What 7, 8, 9 or 11 found in a record, beside those before it.
-fn record_text(record: &Bytes, before: &[&Bytes], number: u8) -> Option<String> {
+/// What 7, 8, 9, 11 or 26 found in a record, beside those before it and behind what
+/// is folded.
+fn record_text(record: &Bytes, before: &[&Bytes], front: &Front, number: u8) -> Option<String> {
     match number {
         7 => malformed(record),
-        8 => not_next(record, before),
+        8 => not_next(record, before, front),
         9 => not_closed(record, before),
         11 => (before.len() >= 512).then(|| "the log has 512".to_string()),
+        26 => {
+            let listed = Units::from_byte(front.list);
+            let unlisted = !listed.contains(unit_of(record));
+            unlisted.then(|| format!("listed are {listed}"))
+        }
         _ => None,
     }
 }
@@ -289,15 +301,15 @@ fn count_of(before: &[&Bytes], unit: usize) -> usize {
     before.iter().filter(of_unit).count()
 }
 
-fn not_next(record: &Bytes, before: &[&Bytes]) -> Option<String> {
+fn not_next(record: &Bytes, before: &[&Bytes], front: &Front) -> Option<String> {
     let unit = usize::from(record[0]);
     let number = usize::from(number16(&record[2..]));
-    let held = count_of(before, unit);
-    if number != held + 1 {
-        return Some(format!("the next of unit {unit} is {unit}.{}", held + 1));
+    let held = |unit: usize| front.folded[unit] + count_of(before, unit);
+    if number != held(unit) + 1 {
+        return Some(format!("the next of unit {unit} is {unit}.{}", held(unit) + 1));
     }
     (0..8).find_map(|unit| {
-        let (wanted, held) = (seen(record, unit), count_of(before, unit));
+        let (wanted, held) = (seen(record, unit), held(unit));
         let above = usize::from(wanted) > held;
         above.then(|| format!("it has seen {unit}.{wanted}, and {held} of unit {unit} are held"))
     })
@@ -391,7 +403,8 @@ fn unnamed(field: &[u8], record: &Bytes, what: &str) -> Option<String> {
     }
 }
 
-fn bad_date(field: &[u8]) -> Option<String> {
+/// What is wrong with a date.
+pub fn bad_date(field: &[u8]) -> Option<String> {
     let (year, month, day) = (number16(field), field[2], field[3]);
     let leap = year % 4 == 0 && (year % 100 != 0 || year % 400 == 0);
     let days = match month {
@@ -407,9 +420,14 @@ fn bad_date(field: &[u8]) -> Option<String> {
 
 fn bad_label(record: &Bytes) -> Option<String> {
     let field = &record[32..64];
-    if !matches!(record[1], 1 | 2 | RENAME | MOVE) {
-        return unused(field, "a label");
+    match record[1] {
+        1 | 2 | RENAME | MOVE => no_label(field),
+        _ => unused(field, "a label"),
     }
+}
+
+/// What is wrong with a label, 32 bytes.
+pub fn no_label(field: &[u8]) -> Option<String> {
     let end = field.iter().position(|byte| *byte == 0).unwrap_or(32);
     let (text, behind) = field.split_at(end);
     if let Some(at) = text.iter().position(|byte| !(0x20..=0x7e).contains(byte)) {
@@ -446,6 +464,7 @@ fn rank(record: &Bytes) -> u32 {
 /// What 20 found at a block.
 fn disagreement(bytes: &[u8], place: usize) -> Option<String> {
     let (first, block) = (block_at(bytes, 0)?, block_at(bytes, place)?);
+    let front = Front::of(bytes);
     let last = bytes.len() / BLOCK - 1;
     let here = place_text(place);
     let own_place = usize::from(number16(&block[10..]));
@@ -465,7 +484,9 @@ fn disagreement(bytes: &[u8], place: usize) -> Option<String> {
         ))
     } else if block[12..28] != first[12..28] {
         Some("its vector is not that of block 0".to_string())
-    } else if count != 6 && place != last {
+    } else if let Some(fault) = front.row_fault(place, count.into(), place == last) {
+        Some(fault)
+    } else if count != 6 && place != last && place >= front.blocks {
         Some(format!(
             "it has {} and is not the last",
             counted(count.into(), "record")
@@ -496,9 +517,16 @@ fn rank_fault(bytes: &[u8], place: usize) -> Option<String> {
 
 fn count_fault(bytes: &[u8], first: &[u8; BLOCK]) -> Option<String> {
     let all: Vec<&Bytes> = records(bytes).iter().map(|(_, record)| *record).collect();
+    let folded = Front::of(bytes).folded;
     (0..8).find_map(|unit| {
-        let (says, has) = (number16(&first[12 + 2 * unit..]), count_of(&all, unit));
-        (usize::from(says) != has)
-            .then(|| format!("the header counts {says} of unit {unit}, the file has {has}"))
+        let says = usize::from(number16(&first[12 + 2 * unit..]));
+        let (has, folded) = (count_of(&all, unit), folded[unit]);
+        let folded_words = match folded {
+            0 => String::new(),
+            some => format!(" and {some} folded"),
+        };
+        (says != has + folded).then(|| {
+            format!("the header counts {says} of unit {unit}, the file has {has}{folded_words}")
+        })
     })
 }

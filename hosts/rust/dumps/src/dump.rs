@@ -26,10 +26,56 @@ fn dump(file: &[u8]) -> String {
         at: 0,
         text: String::new(),
     };
+    let mut rows = Rows::of(file);
     for block in 0..file.len() / 512 {
-        dump.block(block);
+        dump.block(block, &mut rows);
     }
     dump.text
+}
+
+/// What a place of 80 bytes holds.
+enum Row {
+    Head,
+    Entry,
+    /// So many asides.
+    Asides(usize),
+    Record,
+}
+
+/// The rows of list and base that an SAB2 file has in front.
+struct Rows {
+    is_headed: bool,
+    entries: usize,
+    asides: usize,
+}
+
+impl Rows {
+    fn of(file: &[u8]) -> Rows {
+        let is_sab2 = file.starts_with(b"SAB2");
+        let said = |at: usize| if is_sab2 { get16(file, at).into() } else { 0 };
+        Rows {
+            is_headed: is_sab2,
+            entries: said(30),
+            asides: said(32),
+        }
+    }
+
+    /// The next one.
+    fn next(&mut self) -> Row {
+        if self.is_headed {
+            self.is_headed = false;
+            Row::Head
+        } else if self.entries > 0 {
+            self.entries -= 1;
+            Row::Entry
+        } else if self.asides > 0 {
+            let six = self.asides.min(6);
+            self.asides -= six;
+            Row::Asides(six)
+        } else {
+            Row::Record
+        }
+    }
 }
 
 /// The lines of a text that are not those of another.
@@ -54,6 +100,20 @@ fn counts(bytes: &[u8]) -> String {
 
 fn identity(bytes: &[u8]) -> String {
     format!("{}.{}", bytes[0], get16(bytes, 2))
+}
+
+fn date(bytes: &[u8]) -> String {
+    format!(
+        "date {:04}-{:02}-{:02}",
+        get16(bytes, 0),
+        bytes[2],
+        bytes[3]
+    )
+}
+
+fn label(bytes: &[u8]) -> String {
+    let text = bytes.iter().take_while(|byte| **byte != 0);
+    text.map(|byte| *byte as char).collect()
 }
 
 const OPERATIONS: [&str; 8] = [
@@ -114,32 +174,100 @@ impl Dump<'_> {
         }
     }
 
-    fn block(&mut self, place: usize) {
+    fn block(&mut self, place: usize, rows: &mut Rows) {
         let bytes = &self.file[512 * place..512 * (place + 1)];
         let archive = u32::from_le_bytes([bytes[4], bytes[5], bytes[6], bytes[7]]);
-        let records = bytes[9] as usize;
+        let used = bytes[9] as usize;
         self.line(&format!("block {place}"));
-        self.field(4, "letters SAB1");
+        self.field(4, &format!("letters SAB{}", bytes[3] as char));
         self.field(4, &format!("archive {archive}"));
         self.field(1, &format!("unit {}", bytes[8]));
-        self.field(1, &format!("count {records}"));
+        self.field(1, &format!("count {used}"));
         self.field(2, &format!("place {}", get16(bytes, 10)));
         self.field(16, &format!("vector {}", counts(&bytes[12..28])));
-        for i in 0..records {
-            self.record(&bytes[28 + 80 * i..28 + 80 * (i + 1)]);
+        let mut unused = "places without a record";
+        for row in bytes[28..].chunks(80).take(used) {
+            match rows.next() {
+                Row::Record => self.record(row),
+                kind => {
+                    self.row(row, kind);
+                    unused = "places without a row";
+                }
+            }
         }
-        if records < 6 {
-            self.zeros(480 - 80 * records, "places without a record");
+        if used < 6 {
+            self.zeros(480 - 80 * used, unused);
         }
         self.field(2, &format!("first sum {}", get16(bytes, 508)));
         self.field(2, &format!("second sum {}", get16(bytes, 510)));
     }
 
+    /// A row of list and base, and the zeros behind its bytes.
+    fn row(&mut self, row: &[u8], kind: Row) {
+        let end = self.at + 80;
+        match kind {
+            Row::Head => self.head(row),
+            Row::Entry => self.entry(row),
+            Row::Asides(count) => row.chunks(12).take(count).for_each(|row| self.aside(row)),
+            Row::Record => unreachable!("a record is no row"),
+        }
+        if self.at < end {
+            self.zeros(end - self.at, "behind the row");
+        }
+    }
+
+    fn head(&mut self, row: &[u8]) {
+        let listed = (0..8).filter(|unit| row[0] >> unit & 1 == 1);
+        let listed: Vec<String> = listed.map(|unit| unit.to_string()).collect();
+        self.line("head");
+        self.field(1, &format!("list: units {}", listed.join(" ")));
+        self.zeros(1, "zero");
+        self.field(2, &format!("entries {}", get16(row, 2)));
+        self.field(2, &format!("asides {}", get16(row, 4)));
+        self.zeros(2, "zero");
+        self.field(16, &format!("base vector {}", counts(&row[8..24])));
+    }
+
+    fn entry(&mut self, row: &[u8]) {
+        let kind = ["", "folder", "trace"][usize::from(row[0])];
+        self.line(&format!("entry {}", identity(&row[4..8])));
+        self.field(1, &format!("kind {}: {kind}", row[0]));
+        self.zeros(3, "zero");
+        self.field(4, &format!("identity {}", identity(&row[4..8])));
+        self.field(4, &format!("folder {}", identity(&row[8..12])));
+        self.field(
+            4,
+            &format!("last contents record {}", identity(&row[12..16])),
+        );
+        self.field(4, &format!("last place record {}", identity(&row[16..20])));
+        self.field(4, &date(&row[20..24]));
+        self.field(32, &format!("label {}", label(&row[24..56])));
+        self.used(row[0] == 2, 16, "mark", "");
+    }
+
+    fn aside(&mut self, row: &[u8]) {
+        let marks = match row[8..12] {
+            [0, 0, 0, 0] => "nothing".to_string(),
+            _ => identity(&row[8..12]),
+        };
+        self.line(&format!("aside {}", identity(row)));
+        self.field(4, &format!("identity {}", identity(row)));
+        self.field(1, &format!("reason {}", row[4]));
+        self.field(
+            1,
+            &format!(
+                "state {}: {}",
+                row[5],
+                ["", "open", "settled"][usize::from(row[5])]
+            ),
+        );
+        self.zeros(2, "zero");
+        self.field(4, &format!("marks {marks}"));
+    }
+
     fn record(&mut self, record: &[u8]) {
         let operation = record[1];
         let name = OPERATIONS[operation as usize];
-        let label = record[32..64].iter().take_while(|byte| **byte != 0);
-        let label: String = label.map(|byte| *byte as char).collect();
         self.line(&format!("record {}.{}", record[0], get16(record, 2)));
         self.field(1, &format!("unit {}", record[0]));
         self.field(1, &format!("operation {operation}: {name}"));
@@ -152,13 +280,8 @@ impl Dump<'_> {
             "folder",
             &identity(&record[24..28]),
         );
-        let date = format!(
-            "date {:04}-{:02}-{:02}",
-            get16(record, 28),
-            record[30],
-            record[31]
-        );
-        self.field(4, &date);
+        self.field(4, &date(&record[28..32]));
+        let label = label(&record[32..64]);
         self.used(matches!(operation, 1 | 2 | 5 | 7), 32, "label", &label);
         self.used(matches!(operation, 2 | 3), 16, "mark", "");
     }

@@ -3,7 +3,7 @@
 
 use crate::study::{End, Plan, Tally, incorrect};
 use library::{LISTING, Library, Plain, folder_of};
-use plain::{BASE, BLOCK, EMPTY_BASE, FILE, INDEX, LOG, RECORD, TREE};
+use plain::{BASE, BLOCK, EMPTY_BASE, FILE, INDEX, LOG, RECORD, SAB2_FILE, TREE};
 use std::fmt::Debug;
 use workload::{Chance, Mix, log_of, wish};
 
@@ -108,14 +108,16 @@ impl Calls<'_> {
             36..40 => self.fold(slot, unit),
             40..60 => self.hand_out(slot, unit),
             60..84 => self.take(slot, unit),
-            84..88 => self.write_file(slot, unit),
+            84..86 => self.write_file(slot, unit),
+            86..88 => self.write_sab2(slot, unit),
             88..91 => self.read_file(),
             91..93 => self.show(slot),
             93 => self.index(slot),
             94 => self.find(slot),
             95 => self.vector(slot),
             96 => self.listing(),
-            97..99 => self.merge(),
+            97 => self.merge(),
+            98 => self.convert(),
             _ => self.compare(),
         }
     }
@@ -440,6 +442,38 @@ impl Calls<'_> {
             self.files.push(file);
         }
         both.compared("write a file")
+    }
+
+    fn write_sab2(&mut self, slot: usize, unit: u32) -> End {
+        let archive = self.archive();
+        let ((log, _), (base, _)) = (self.log(slot), self.base(slot));
+        let file = self.lent(SAB2_FILE);
+        let both = Both::run(self.library, &[&file, &log, &base], |library, lent| {
+            let [file, log, base] = lent else { unreachable!() };
+            library.write_sab2(log, base, archive, unit, file)
+        });
+        if let Ok(blocks) = both.answers[0] {
+            let file = both.lent[0][0][..BLOCK * blocks as usize].to_vec();
+            self.files.push(file);
+        }
+        both.compared("write an SAB2 file")
+    }
+
+    /// A file, mostly unharmed, as SAB2 or SAB1.
+    fn convert(&mut self) -> End {
+        let file = match self.files.is_empty() || self.chance.one_in(4) {
+            true => self.file(),
+            false => self.chance.pick(&self.files).clone(),
+        };
+        let (sab2, sab1) = (self.lent(SAB2_FILE), self.lent(FILE));
+        Both::run(self.library, &[&sab2], |library, lent| {
+            library.to_sab2(&file, &mut lent[0])
+        })
+        .compared("to SAB2")?;
+        Both::run(self.library, &[&sab1], |library, lent| {
+            library.to_sab1(&file, &mut lent[0])
+        })
+        .compared("to SAB1")
     }
 
     /// A file that was written, mostly harmed.

@@ -13,6 +13,7 @@ mod lists;
 mod orders;
 mod power;
 mod rows;
+mod sab2;
 mod study;
 mod twice;
 mod world;
@@ -24,7 +25,7 @@ use study::{Plan, Tally};
 
 type Study = fn(&dyn Library, &Plan) -> Tally;
 
-const STUDIES: [(&str, Study); 19] = [
+const STUDIES: [(&str, Study); 23] = [
     ("meetings, no fault", cuts::none),
     ("changed byte, block", bytes::blocks),
     ("changed byte, file", bytes::files),
@@ -44,6 +45,10 @@ const STUDIES: [(&str, Study); 19] = [
     ("index kept and asked", index::kept),
     ("units that fold", folds::lives),
     ("changed byte, base", folds::changed),
+    ("SAB2 files, no fault", sab2::whole),
+    ("changed byte, SAB2 file", sab2::changed),
+    ("SAB2 file copied short", sab2::short),
+    ("changed byte under right sums, SAB2 file", sab2::sealed),
 ];
 
 const USAGE: &str = "usage: faults [--long] [--seconds N] [--seed N]";

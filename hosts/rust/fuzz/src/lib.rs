@@ -1,7 +1,7 @@
 //! Harnesses for a coverage-guided fuzzer. Each takes the fuzzer's bytes, makes a
-//! state and a block, row, file, wish, list or index of them, gives both to the static library
-//! and to the plain implementation, and ends the program if an answer or a byte
-//! differs.
+//! state and a block, row, file, wish, list or index of them, gives both to the static
+//! library and to the plain implementation, and ends the program if an answer or a
+//! byte differs.
 
 mod act;
 mod compare;
@@ -12,6 +12,7 @@ mod life;
 mod merge;
 mod read_file;
 mod row;
+mod sab2;
 mod take;
 
 pub use act::act;
@@ -20,6 +21,7 @@ pub use index::index;
 pub use merge::merge;
 pub use read_file::read_file;
 pub use row::row_calls;
+pub use sab2::sab2;
 pub use take::take;
 
 /// The fuzzer's bytes.
@@ -51,3 +53,4 @@ harness!(fuzz_merge, merge::merge);
 harness!(fuzz_row, row::row_calls);
 harness!(fuzz_index, index::index);
 harness!(fuzz_fold, fold::fold);
+harness!(fuzz_sab2, sab2::sab2);

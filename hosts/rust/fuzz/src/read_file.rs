@@ -1,4 +1,4 @@
-//! A file that is mostly good: read, listed, and written again.
+//! An SAB1 file that is mostly good: read, listed, and written again.
 
 use crate::compare::{both, show};
 use crate::input::Input;
@@ -89,6 +89,9 @@ pub fn read_file(data: &[u8]) {
     let Ok(head) = answer else {
         return;
     };
+    if file.starts_with(b"SAB2") {
+        return;
+    }
     assert!(after[1] == EMPTY_BASE, "the base is not empty");
     show(&after[0], &after[1]);
     let room = vec![0xa5; FILE];

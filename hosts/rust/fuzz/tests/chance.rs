@@ -42,6 +42,11 @@ fn folds() {
 }
 
 #[test]
+fn sab2_files() {
+    run(fuzz::sab2, 8);
+}
+
+#[test]
 fn indexes() {
     run(fuzz::index, 6);
 }

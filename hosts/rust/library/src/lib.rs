@@ -91,8 +91,14 @@ pub const INDEX: usize = 40_964;
 /// Bytes of the report of a trial.
 pub const REPORT: usize = 4_116;
 
+/// Bytes lent for an SAB1 file.
+pub const FILE: usize = 44_032;
+
+/// Bytes lent for an SAB2 file.
+pub const SAB2_FILE: usize = 95_232;
+
 /// Bytes lent for a listing; none is longer.
-pub const LISTING: usize = 76_800;
+pub const LISTING: usize = 172_544;
 
 /// The base that a unit has at first: all eight units are listed, and nothing is
 /// folded.
@@ -175,7 +181,18 @@ pub trait Library {
         unit: u32,
         file: &mut [u8],
     ) -> Answer<u16>;
+    fn write_sab2(
+        &self,
+        log: &[u8],
+        base: &[u8],
+        archive: u32,
+        unit: u32,
+        file: &mut [u8],
+    ) -> Answer<u16>;
+    /// A file of either form.
     fn read_file(&self, log: &mut [u8], base: &mut [u8], file: &[u8]) -> Answer<Head>;
+    fn to_sab2(&self, file: &[u8], out: &mut [u8]) -> Answer<u16>;
+    fn to_sab1(&self, file: &[u8], out: &mut [u8]) -> Answer<u16>;
     /// A list has bit u for unit u. How many records were folded.
     fn fold(
         &self,
@@ -311,6 +328,22 @@ macro_rules! entry_points {
         ) -> Answer<u16> {
             $library::write_file(log, base, archive, unit_of(unit), file).map_err(refusal)
         }
+        fn write_sab2(
+            &self,
+            log: &[u8],
+            base: &[u8],
+            archive: u32,
+            unit: u32,
+            file: &mut [u8],
+        ) -> Answer<u16> {
+            $library::write_sab2(log, base, archive, unit_of(unit), file).map_err(refusal)
+        }
+        fn to_sab2(&self, file: &[u8], out: &mut [u8]) -> Answer<u16> {
+            $library::to_sab2(file, out).map_err(refusal)
+        }
+        fn to_sab1(&self, file: &[u8], out: &mut [u8]) -> Answer<u16> {
+            $library::to_sab1(file, out).map_err(refusal)
+        }
         fn fold(
             &self,
             log: &mut [u8],
@@ -428,9 +461,9 @@ mod static_library {
     thread_local! {
         /// Work memory of a call.
         static WORK: RefCell<Vec<u8>> = RefCell::new(vec![0; raw::WORK]);
-        /// Work space of a listing: a log and a tree.
-        static LISTED: RefCell<[Vec<u8>; 2]> =
-            RefCell::new([raw::LOG, raw::TREE].map(|length| vec![0; length]));
+        /// Work space of a listing: a log, a base and a tree.
+        static LISTED: RefCell<[Vec<u8>; 3]> =
+            RefCell::new([raw::LOG, raw::BASE, raw::TREE].map(|length| vec![0; length]));
     }
 
     /// The calls as a trait has them: with work memory of their own.
@@ -440,7 +473,7 @@ mod static_library {
 
         pub use raw::{
             Compared, Head, Range, RowTaken, compare, find, hand_out, hand_out_row, list, merge,
-            read_file, show, start, try_row, vector, write_file,
+            read_file, show, start, to_sab1, to_sab2, try_row, vector, write_file, write_sab2,
         };
 
         /// Work memory is lent to a take with an index, and none without.
@@ -515,8 +548,8 @@ mod static_library {
         entry_points!(calls);
 
         fn listing_into(&self, file: &[u8], out: &mut [u8]) -> Option<usize> {
-            LISTED.with_borrow_mut(|[log, tree]| {
-                let listed = raw::listing(file, log, tree, out).ok()?;
+            LISTED.with_borrow_mut(|[log, base, tree]| {
+                let listed = raw::listing(file, log, base, tree, out).ok()?;
                 Some(listed.length)
             })
         }

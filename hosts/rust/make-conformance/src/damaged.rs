@@ -65,11 +65,11 @@ fn lengths() -> Vec<Case> {
 
 fn letters() -> Vec<Case> {
     let file = base();
-    let first = sealed_at(&file, 0, &[(3, b'2')]);
+    let first = sealed_at(&file, 0, &[(3, b'0')]);
     let second = sealed_at(&file, 1, &[(0, b's')]);
     let padded = [&file[..], &[0; BLOCK]].concat();
     vec![
-        refused(3, 0, "first", "the first block begins with SAB2", first),
+        refused(3, 0, "first", "the first block begins with SAB0", first),
         refused(3, 1, "small", "the last block begins with sAB1", second),
         refused(
             3,

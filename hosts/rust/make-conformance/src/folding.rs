@@ -5,7 +5,7 @@ use crate::kit::{Calls, Written, block_of};
 use make_vectors::examples::{ROOT, record};
 use make_vectors::list::{Lent, List};
 use make_vectors::lists;
-use plain::{BLOCK, FILE};
+use plain::{BLOCK, FILE, LOG, SAB2_FILE};
 
 pub fn list() -> Written {
     let mut calls = Calls::new("folding, and the other calls over a base");
@@ -102,9 +102,10 @@ fn over_a_base(calls: &mut Calls) {
     calls.call(0, "unit 0 shows what it showed", show(0));
     calls.call(26, "fold by 0, 1: of unit 2 there are folded records too", fold(0, 3));
     calls.call(0, "fold by 0, 1, 2, 3: nothing folds, and the list is kept", fold(0, 15));
-    calls.call(29, "a file cannot be written", |list| {
+    calls.call(29, "an SAB1 file cannot be written", |list| {
         list.write(0, Lent::Own, 7, 0, FILE, 9)
     });
+    files(calls);
     calls.call(27, "hand out to a vector of zeros: folded records are lacking", asked(0, [0; 8]));
     calls.call(
         27,
@@ -129,6 +130,32 @@ fn over_a_base(calls: &mut Calls) {
     calls.call(0, "a settle of 1.2, which is not folded", act(0, 6, (1, 2), ""));
     calls.call(18, "a settle of 0.1, which is folded and stands not aside", act(0, 6, (0, 1), ""));
     calls.call(0, "what unit 0 shows now", show(0));
+}
+
+/// The SAB2 file of what is folded and what is left.
+fn files(calls: &mut Calls) {
+    let write = |unit: u8, length: usize| {
+        move |list: &mut List| list.write_sab2(0, Lent::Own, 7, unit, length, 9)
+    };
+    for length in [0, FILE, SAB2_FILE - 1, SAB2_FILE + 1] {
+        let shows = format!("write SAB2: {length} bytes to write, and own unit 8: 1");
+        calls.call(1, &shows, write(8, length));
+    }
+    calls.call(21, "write SAB2: own unit 8", write(8, SAB2_FILE));
+    calls.call(0, "write SAB2: list, base and what is left; zeros behind it", write(0, SAB2_FILE));
+    calls.call(0, "write SAB2: by unit 6, which is not listed", write(6, SAB2_FILE));
+    calls.call(19, "write SAB2: a log that is not sound", |list| {
+        list.write_sab2(0, Lent::Outside(&[1; LOG]), 7, 0, SAB2_FILE, 9)
+    });
+    calls.call(0, "write SAB2: an empty log and an empty base", |list| {
+        list.write_sab2(0, Lent::Outside(&[0; LOG]), 7, 5, SAB2_FILE, 9)
+    });
+    calls.call(0, "the listing of that file", |list| {
+        list.readout2(0, 7, 0);
+        0
+    });
+    calls.call(29, "its way back", |list| list.back(0, 7, 0));
+    calls.call(0, "the way back of unit 3, which holds nothing", |list| list.back(3, 7, 3));
 }
 
 fn takes(calls: &mut Calls) {

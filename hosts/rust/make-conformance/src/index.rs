@@ -13,9 +13,10 @@ Cases for a program that reads or writes the format of docs/FORMAT.md, with the 
     lists/NAME.txt     calls, one a line, with what each must answer and leave
     tables.txt         small functions, one call a line
     merge.txt          merges of two files, one a line
+    convert.txt        files of one form made into the other, one a line
     states.txt         lists and bases written out row by row, and questions to them
 
-The form of a line is told in vectors/README.md. In the lists, tables and merges a line that begins with `#` says what the next line shows.
+The form of a line is told in vectors/README.md. In the lists, tables, merges and conversions a line that begins with `#` says what the next line shows.
 
 A reader only needs the files: give it each `.in` and compare what it prints with the `.out`. In this repository
 
@@ -37,7 +38,7 @@ pub fn page(good: &[Case], damaged: &[Case], lists: &[Written], lines: &[Written
         page += &format!("| {} | {} | {} |\n", case.name, case.file.len(), case.shows);
     }
     page += "\n## Files that are refused\n\n";
-    page += "In most of them a good file of two blocks was changed in one way, and its sums put right again.\n\n";
+    page += "In most of them a good file of two blocks, or of the form SAB2, was changed in one way, and its sums put right again.\n\n";
     page += "| file | answer | what it shows |\n|---|---|---|\n";
     for case in damaged {
         let answer = case.listing.trim_end().trim_start_matches("refused ");

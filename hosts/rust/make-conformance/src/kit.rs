@@ -6,6 +6,7 @@ use make_vectors::readout::listing;
 use plain::{BLOCK, LOG};
 
 /// A file, and what `readout` prints of it.
+#[derive(Clone)]
 pub struct Case {
     pub name: String,
     pub shows: String,

@@ -1,11 +1,12 @@
 //! `make-conformance DIR`: writes the conformance kit into a directory, the same
-//! bytes each time: files with their listings, call lists, tables, merges, states, and
-//! an index that says what each case shows. Each case names its answer, and that the plain
+//! bytes each time: files with their listings, call lists, tables, merges,
+//! conversions, states, and an index that says what each case shows. Each case names its answer, and that the plain
 //! implementation gives it is checked here.
 
 mod acts;
 mod blocks;
 mod calls;
+mod converts;
 mod damaged;
 mod finding;
 mod folding;
@@ -14,6 +15,7 @@ mod index;
 mod kit;
 mod merges;
 mod rows;
+mod sab2;
 mod states;
 mod tables;
 
@@ -23,7 +25,9 @@ use std::io;
 use std::path::Path;
 
 fn write(directory: &Path) -> io::Result<()> {
-    let (good, damaged): (Vec<Case>, Vec<Case>) = (good::all(), damaged::all());
+    let (mut good, mut damaged): (Vec<Case>, Vec<Case>) = (good::all(), damaged::all());
+    good.extend(sab2::all_good());
+    damaged.extend(sab2::all_refused());
     let lists: Vec<Written> = vec![
         blocks::list(),
         acts::list(),
@@ -34,7 +38,7 @@ fn write(directory: &Path) -> io::Result<()> {
         finding::list(),
         folding::list(),
     ];
-    let (tables, merges, states) = (tables::all(), merges::all(), states::all());
+    let lines = [tables::all(), merges::all(), converts::all(), states::all()];
 
     fs::create_dir_all(directory.join("lists"))?;
     fs::create_dir_all(directory.join("readout"))?;
@@ -49,12 +53,12 @@ fn write(directory: &Path) -> io::Result<()> {
             &list.text,
         )?;
     }
-    for lines in [&tables, &merges, &states] {
+    for lines in &lines {
         fs::write(directory.join(format!("{}.txt", lines.name)), &lines.text)?;
     }
     fs::write(
         directory.join("README.md"),
-        index::page(&good, &damaged, &lists, &[tables, merges, states]),
+        index::page(&good, &damaged, &lists, &lines),
     )
 }
 

@@ -4,7 +4,7 @@ use crate::kit::{Shown, Written, changed, sealed_at};
 use make_vectors::chain::{Fields, file_of};
 use make_vectors::examples::ROOT;
 use make_vectors::text::{bytes, hash, lent};
-use plain::{FILE, LOG, MergeRefusal, Refusal};
+use plain::{FILE, LOG, MergeRefusal, Refusal, SAB2_FILE};
 
 type Record = [u8; 80];
 
@@ -185,6 +185,16 @@ fn single_files(merges: &mut Merges) {
         &damaged(0),
     );
     call((2, 0, 2), "a second file of no bytes", &good, &[]);
+    let sab2 = |file: &[u8]| {
+        let mut out = vec![0; SAB2_FILE];
+        let count = plain::to_sab2(file, &mut out).expect("a good file");
+        out.truncate(512 * usize::from(count));
+        out
+    };
+    let most = sab2(&card(0, &[&alone(0, 512)]));
+    call((3, 0, 1), "a first file of the form SAB2, and a second of no bytes: the first", &sab2(&good), &[]);
+    call((3, 0, 2), "a second file of the form SAB2", &good, &sab2(&other));
+    call((2, 0, 2), "a second file of the form SAB2 with 87 blocks", &good, &most);
     call(
         (2, 0, 2),
         "a second file with a byte behind it",

@@ -121,6 +121,18 @@ pub fn moves() -> Vec<[u8; 80]> {
     ]
 }
 
+/// Two units that have heard all but the last record, which settles an aside of
+/// those before.
+pub fn folded() -> Vec<[u8; 80]> {
+    let mut records = paper();
+    records.extend([
+        record(0, &[2, 1], 3, (0, 2), "", 0x33, 6),
+        record(1, &[3, 1], 5, (0, 2), "Gain", 0, 7),
+        record(0, &[3, 2], 6, (1, 1), "", 0, 8),
+    ]);
+    records
+}
+
 /// A settled aside and an open one, whose marked entry was removed.
 pub fn removed() -> Vec<[u8; 80]> {
     vec![

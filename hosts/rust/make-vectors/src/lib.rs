@@ -6,5 +6,6 @@ pub mod examples;
 pub mod list;
 pub mod lists;
 pub mod readout;
+pub mod sab2;
 pub mod tables;
 pub mod text;

@@ -2,7 +2,7 @@
 
 use crate::text::{bytes, hash, lent, units, vector};
 use library::tree;
-use plain::{Answer, EMPTY_BASE, FILE, INDEX, LOG, REPORT, TREE};
+use plain::{Answer, EMPTY_BASE, FILE, INDEX, LOG, REPORT, SAB2_FILE, TREE};
 
 /// The log lent to a call.
 #[derive(Clone, Copy)]
@@ -31,11 +31,11 @@ fn number<T>(answer: &Answer<T>) -> u8 {
 }
 
 /// Number and place; only these numbers have a place.
-fn answer<T>(answer: &Answer<T>) -> String {
+pub fn answer<T>(answer: &Answer<T>) -> String {
     match answer {
         Ok(_) => "0 -".to_string(),
         Err(refusal) => match refusal.number {
-            2..=11 | 20 | 24..=29 => format!("{} {}", refusal.number, refusal.place),
+            2..=11 | 20 | 24..=31 => format!("{} {}", refusal.number, refusal.place),
             number => format!("{number} -"),
         },
     }
@@ -192,6 +192,62 @@ impl List {
             self.given
                 .extend(file.chunks(512).take(count as usize).map(<[u8]>::to_vec));
         }
+        number(&came)
+    }
+
+    /// An SAB2 file, which gives no blocks to take.
+    pub fn write_sab2(
+        &mut self,
+        slot: usize,
+        log: Lent,
+        archive: u32,
+        unit: u8,
+        length: usize,
+        seed: u8,
+    ) -> u8 {
+        let (after, base, word) = self.lent(slot, log);
+        let mut file = lent(length, seed);
+        let came = plain::write_sab2(&after, &base, archive, unit, &mut file);
+        let written = came.map_or("- -".to_string(), |count| {
+            format!("{count} {}", hash(&file))
+        });
+        self.line(format!(
+            "write2 {slot} {word} {archive} {unit} {length}*{seed} = {} {} {written}",
+            answer(&came),
+            hash(&after)
+        ));
+        number(&came)
+    }
+
+    /// The SAB2 file of a slot.
+    fn sab2(&self, slot: usize, archive: u32, unit: u8) -> Vec<u8> {
+        let mut file = vec![0; SAB2_FILE];
+        let (log, base) = (&self.logs[slot], &self.bases[slot]);
+        let count = plain::write_sab2(log, base, archive, unit, &mut file);
+        file.truncate(512 * usize::from(count.expect("a sound state")));
+        file
+    }
+
+    /// The listing of the SAB2 file of a slot.
+    pub fn readout2(&mut self, slot: usize, archive: u32, unit: u8) {
+        let file = self.sab2(slot, archive, unit);
+        let listing = crate::readout::listing(&file);
+        let text = String::from_utf8_lossy(&listing);
+        let count = text.lines().count();
+        self.line(format!("readout2 {slot} {archive} {unit} = {count}"));
+        for line in text.lines() {
+            self.line(format!("> {line}"));
+        }
+    }
+
+    /// The way back from the SAB2 file of a slot.
+    pub fn back(&mut self, slot: usize, archive: u32, unit: u8) -> u8 {
+        let (sab2, mut sab1) = (self.sab2(slot, archive, unit), vec![0; FILE]);
+        let came = plain::to_sab1(&sab2, &mut sab1);
+        let written = came.map_or("- -".to_string(), |count| {
+            format!("{count} {}", hash(&sab1[..512 * usize::from(count)]))
+        });
+        self.line(format!("back {slot} {archive} {unit} = {} {written}", answer(&came)));
         number(&came)
     }
 

@@ -3,7 +3,7 @@
 use crate::chain::{Wished, blocks_of_six, chain, file_of, seal};
 use crate::list::{Lent, List};
 use Lent::{Outside, Own};
-use plain::{BLOCK, FILE, LOG};
+use plain::{BLOCK, FILE, LOG, SAB2_FILE};
 use workload::{Chance, Mix, wish};
 
 pub fn all() -> Vec<(&'static str, String)> {
@@ -134,9 +134,14 @@ fn folding(remark: &str, seed: u64, units: usize, calls: usize, mix: &Mix) -> St
         }
         if call % 40 == 39 {
             list.show(slot, Own);
+            list.write_sab2(slot, Own, archive, own, SAB2_FILE, 1);
+            list.readout2(slot, archive, own);
+            list.back(slot, archive, own);
         }
     }
     assert!(folded > 5);
+    list.readout2(7, archive, 7);
+    list.back(7, archive, 7);
     list.end()
 }
 

@@ -3,8 +3,9 @@
 
 use crate::chain::{Wished, blocks_of_six, chain, file_of, seal};
 use crate::examples;
-use plain::BLOCK;
-use workload::{Mix, log_of};
+use crate::sab2::Sab2;
+use plain::{BLOCK, SAB2_FILE};
+use workload::{Chance, Mix, Units, log_of};
 
 pub struct Case {
     pub name: String,
@@ -13,9 +14,10 @@ pub struct Case {
 
 /// What the plain implementation prints.
 pub fn listing(file: &[u8]) -> Vec<u8> {
-    let mut out = [0; plain::LISTING];
-    let len = plain::listing(file, &mut out);
-    out[..len].to_vec()
+    let mut out = vec![0; plain::LISTING];
+    let len = plain::listing(file, out.first_chunk_mut().expect("its length"));
+    out.truncate(len);
+    out
 }
 
 pub fn all() -> Vec<Case> {
@@ -26,6 +28,7 @@ pub fn all() -> Vec<Case> {
         cases.extend(wrong_records(place));
     }
     cases.extend(wrong_wholes());
+    cases.extend(sab2());
     cases
 }
 
@@ -173,7 +176,7 @@ fn wrong_blocks(place: usize) -> Vec<Case> {
         refused(4, place, &format!("{name}-{}", WHERE[place]), file)
     };
     let mut cases = vec![
-        case(3, "letters", |block| block[3] = b'2'),
+        case(3, "letters", |block| block[3] = b'3'),
         unsealed("header", 10),
         unsealed("body", 200),
         unsealed("first-sum", 508),
@@ -287,6 +290,123 @@ fn wrong_ranks(place: usize) -> Vec<Case> {
         refused(20, place, &format!("{name}-{}", WHERE[place]), file)
     };
     vec![again("rank-equal", 1), again("rank-lower", 3)]
+}
+
+/// A state of which most is folded.
+fn folded() -> Sab2 {
+    let mut chance = Chance::new(41);
+    let mut life = Units::empty(3, 7);
+    for call in 0..220 {
+        let unit = chance.below(3);
+        life.act(&mut chance, &Mix::CONFLICTS, unit);
+        life.pass(unit, chance.below(3));
+        if call == 150 {
+            life.fold(0, 0b111).expect("all are listed");
+        }
+    }
+    let state = Sab2::of(&life.logs[0], &life.bases[0], 7, 0);
+    assert!(state.row_blocks() > 3 && state.records.len() > 18);
+    state
+}
+
+/// SAB2 files, good ones and some for each refusal.
+fn sab2() -> Vec<Case> {
+    let state = folded();
+    let (first, blocks) = (state.row_blocks(), state.file().len() / BLOCK);
+    let good = |name: &str, file: Vec<u8>| {
+        assert!(listing(&file).starts_with(b"archive "), "{name}");
+        let name = format!("good-sab2-{name}");
+        Case { name, file }
+    };
+    let converted = |file: Vec<u8>| {
+        let mut sab2 = vec![0; SAB2_FILE];
+        let count = plain::to_sab2(&file, &mut sab2).expect("a good file");
+        sab2.truncate(BLOCK * usize::from(count));
+        sab2
+    };
+    let records = chain(&(0..512).map(|i| wished(3, 1, None, &i.to_string(), 0)).collect::<Vec<_>>());
+    let mut cases = vec![
+        good("empty", converted(file_of(&[], 1, 1))),
+        good("example", converted(file_of(&examples::paper(), 7, 0))),
+        good("512-records", converted(file_of(&records, 9, 3))),
+        good("folded", state.file()),
+    ];
+    let mut no_records = state.clone();
+    no_records.records.clear();
+    let counts = no_records.rows[0];
+    no_records.vector = std::array::from_fn(|unit| {
+        u16::from_le_bytes([counts[8 + 2 * unit], counts[9 + 2 * unit]])
+    });
+    cases.push(good("no-records", no_records.file()));
+    let file = state.file();
+    for (name, place) in [("rows", 0), ("last-rows", first - 1), ("records", first), ("last", blocks - 1)] {
+        let changed = |seals: bool, change: fn(&mut [u8])| {
+            let mut file = file.clone();
+            let block = &mut file[BLOCK * place..BLOCK * (place + 1)];
+            change(block);
+            if seals {
+                seal(block);
+            }
+            file
+        };
+        let mut case = |number: u8, what: &str, file: Vec<u8>| {
+            cases.push(refused(number, place, &format!("sab2-{what}-{name}"), file));
+        };
+        if place > 0 {
+            case(3, "letters", changed(true, |block| block[3] = b'1'));
+            case(20, "unit", changed(true, |block| block[8] ^= 1));
+            case(20, "archive", changed(true, |block| block[7] = 1));
+            case(20, "vector", changed(true, |block| block[12] ^= 1));
+        }
+        case(4, "body", changed(false, |block| block[200] ^= 0x10));
+        case(4, "sum", changed(false, |block| block[511] ^= 0x10));
+        case(5, "unit", changed(true, |block| block[8] = 8));
+        case(5, "count", changed(true, |block| block[9] = 7));
+        case(20, "place", changed(true, |block| block[10] ^= 1));
+        case(20, "count-zero", changed(true, |block| {
+            block[9] = 0;
+            block[28..508].fill(0);
+        }));
+    }
+    let case = |number: u8, place: usize, name: &str, state: Sab2| {
+        refused(number, place, &format!("sab2-{name}"), state.file())
+    };
+    let head = |changes: &[(usize, u8)]| state.clone().with_row(0, changes);
+    let entry = |changes: &[(usize, u8)]| state.clone().with_row(1, changes);
+    cases.extend([
+        refused(2, 0, "sab2-letters-alone", b"SAB2".to_vec()),
+        refused(2, 0, "sab2-cut", file[..file.len() - 1].to_vec()),
+        refused(2, 0, "sab2-187-blocks", file[..BLOCK].repeat(187)),
+        refused(20, first - 1, "sab2-rows-alone", file[..BLOCK * first].to_vec()),
+        refused(20, first - 2, "sab2-rows-cut", file[..BLOCK * (first - 1)].to_vec()),
+        case(20, 0, "fewer-rows-said", head(&[(2, 0), (4, 0)])),
+        case(31, 0, "head-byte-1", head(&[(1, 1)])),
+        case(31, 0, "head-tail", head(&[(24, 1)])),
+        case(31, 0, "unlisted", head(&[(0, 6)])),
+        case(31, 0, "vector-zero", head(&[(8, 0), (9, 0)])),
+        case(31, 0, "kind", entry(&[(0, 3)])),
+        case(31, 0, "flag", entry(&[(1, 1)])),
+        case(31, 0, "above", entry(&[(6, 0xff), (7, 0xff)])),
+        case(31, 0, "in-itself", {
+            let own: Vec<(usize, u8)> = (0..4).map(|i| (8 + i, state.rows[1][4 + i])).collect();
+            entry(&own)
+        }),
+        case(31, 0, "date", entry(&[(22, 13)])),
+        case(31, 0, "label", entry(&[(24, b' ')])),
+        case(31, 0, "entry-tail", entry(&[(79, 1)])),
+        case(7, first, "malformed", state.clone().with_record(0, &[(1, 9)])),
+        case(8, first + 1, "number", state.clone().with_record(6, &[(18, 1)])),
+        case(20, blocks - 1, "counts", {
+            let mut other = state.clone();
+            other.vector[7] += 1;
+            other
+        }),
+    ]);
+    let mut many = state.clone();
+    many.rows = vec![[0; 80]; 1 + 513];
+    many.rows[0][..4].copy_from_slice(&[7, 0, 1, 2]);
+    cases.push(case(31, 0, "513-entries", many));
+    cases
 }
 
 /// What only a whole file can have.

@@ -90,6 +90,14 @@ impl<'a> Base<'a> {
         let (parts, _) = self.entries[row][24..].as_chunks();
         &parts[0]
     }
+
+    /// Writes the bytes before the rows; the zeros among them stand.
+    pub fn put_head(&self, bytes: &mut [u8]) {
+        bytes[0] = self.list;
+        put16(bytes, 2, self.entries.len() as u16);
+        put16(bytes, 4, self.asides.len() as u16);
+        self.vector.write(bytes, 8);
+    }
 }
 
 /// An identity, unit, zero and number, that is within a vector.
@@ -130,12 +138,22 @@ pub struct Made {
 }
 
 impl Made {
+    /// Zeros: nothing is made.
+    pub fn none() -> Made {
+        Made { bytes: [0; BASE] }
+    }
+
     /// A list and a vector; no rows.
     pub fn of(list: u8, vector: Vector) -> Made {
-        let mut bytes = [0; BASE];
-        bytes[0] = list;
-        vector.write(&mut bytes, 8);
-        Made { bytes }
+        let mut made = Made::none();
+        made.bytes[0] = list;
+        vector.write(&mut made.bytes, 8);
+        made
+    }
+
+    /// The bytes before the rows.
+    pub fn head(&mut self) -> &mut [u8] {
+        &mut self.bytes[..ENTRIES]
     }
 
     /// The rows of entries and of asides.

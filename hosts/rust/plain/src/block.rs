@@ -7,7 +7,12 @@ use crate::{BLOCK, PER_BLOCK, RECORD};
 
 pub type Block = [u8; BLOCK];
 
-const LETTERS: [u8; 4] = *b"SAB1";
+/// What a block begins with.
+pub type Letters = [u8; 4];
+
+pub const SAB1: Letters = *b"SAB1";
+pub const SAB2: Letters = *b"SAB2";
+
 const FIRST_RECORD: usize = 28;
 const SUMS: usize = 508;
 const MODULUS: u32 = 65_521;
@@ -89,8 +94,8 @@ pub fn header(block: &Block) -> Header {
 
 /// The first of 3, 4 and 5 that holds, or 0.
 #[inline]
-pub fn fault(block: &Block) -> u8 {
-    if block[..4] != LETTERS {
+pub fn fault(block: &Block, letters: Letters) -> u8 {
+    if block[..4] != letters {
         return 3;
     }
     let (first, second) = sums(block);
@@ -106,8 +111,8 @@ pub fn fault(block: &Block) -> u8 {
 
 /// Writes a block's header, whose records stand, and its sums.
 #[inline]
-pub fn finish(block: &mut Block, header: &Header, count: usize, place: usize) {
-    block[..4].copy_from_slice(&LETTERS);
+pub fn finish(block: &mut Block, letters: Letters, header: &Header, count: usize, place: usize) {
+    block[..4].copy_from_slice(&letters);
     put32(block, 4, header.archive);
     block[8] = header.unit;
     block[9] = count as u8;
@@ -119,6 +124,13 @@ pub fn finish(block: &mut Block, header: &Header, count: usize, place: usize) {
     let (first, second) = sums(block);
     put16(block, SUMS, first);
     put16(block, SUMS + 2, second);
+}
+
+/// A place of a block, to write.
+#[inline(always)]
+pub fn record_mut(block: &mut Block, i: usize) -> &mut Record {
+    let (records, _) = block[FIRST_RECORD..SUMS].as_chunks_mut();
+    &mut records[i]
 }
 
 /// Lays a record into its place in a block.

@@ -1,25 +1,14 @@
 //! The entry points.
 
 use crate::base::{self, Base, lists_all};
-use crate::block::{self, Block, Header};
+use crate::block::{self, Block, Header, SAB1};
 use crate::bytes::{all_zero, get64};
-use crate::held::{Counts, Places, Store};
+use crate::held::{Counts, Places};
 use crate::index::{self, Before};
 use crate::record::{Fields, Record, body_fits, rank_of, well_formed};
 use crate::replay::{Replay, Source, slot_of};
 use crate::vector::Vector;
-use crate::{
-    Answer, BASE, BLOCK, FILE, LOG, PER_BLOCK, RECORD, RECORDS, TREE, refuse, refuse_at, table,
-};
-
-/// What a file says of itself.
-#[derive(Clone, Copy, Debug, PartialEq, Eq)]
-pub struct Head {
-    pub archive: u32,
-    pub unit: u8,
-    pub records: u16,
-    pub vector: [u16; 8],
-}
+use crate::{Answer, BASE, LOG, PER_BLOCK, RECORD, RECORDS, TREE, refuse, table};
 
 /// Goes once over a lent log behind a base and counts it, if it is sound and
 /// every unit that is counted is listed. Each record is shown to `each` with its
@@ -252,16 +241,12 @@ pub fn hand_out(
         lacked[unit] = place_after(unit, after[unit]);
         count += 1;
     }
-    block::finish(
-        block,
-        &Header {
-            archive,
-            unit,
-            vector: held.vector,
-        },
-        count,
-        0,
-    );
+    let header = Header {
+        archive,
+        unit,
+        vector: held.vector,
+    };
+    block::finish(block, SAB1, &header, count, 0);
     Ok(())
 }
 
@@ -308,7 +293,7 @@ pub fn take_block(
     let Ok(block) = <&Block>::try_from(block) else {
         return refuse(2);
     };
-    match block::fault(block) {
+    match block::fault(block, SAB1) {
         0 => (),
         number => return refuse(number),
     }
@@ -375,144 +360,6 @@ fn lay_in(records: &mut [Record], held: usize, block: &Block, new: &[(u32, usize
         records[at + before] = *block::record(block, i);
         end = at;
     }
-}
-
-/// Writes the whole log as a file, if nothing is folded; answers its count of
-/// blocks.
-pub fn write_file(
-    log: &[u8],
-    base: &[u8],
-    archive: u32,
-    unit: u8,
-    file: &mut [u8],
-) -> Answer<u16> {
-    let (records, base) = (records_of(log)?, base::lent(base)?);
-    if file.len() != FILE {
-        return refuse(1);
-    }
-    unit_fits(unit)?;
-    let (base, held) = open(records, base, &mut Places::none())?;
-    if base.vector != Vector::ZERO {
-        return refuse(29);
-    }
-    let header = Header {
-        archive,
-        unit,
-        vector: held.vector,
-    };
-    Ok(lay_file(&records[..held.all], &header, file))
-}
-
-/// Lays records in the blocks of a lent file, and zeros behind them; the count of
-/// blocks.
-pub fn lay_file(records: &[Record], header: &Header, file: &mut [u8]) -> u16 {
-    let (blocks, _) = file.as_chunks_mut::<BLOCK>();
-    let used = records.len().div_ceil(PER_BLOCK).max(1);
-    for (place, block) in blocks[..used].iter_mut().enumerate() {
-        let first = place * PER_BLOCK;
-        let count = (records.len() - first).min(PER_BLOCK);
-        block::put_records(block, &records[first..first + count]);
-        block::finish(block, header, count, place);
-    }
-    blocks[used..].as_flattened_mut().fill(0);
-    used as u16
-}
-
-/// The blocks of a file, as they keep its records.
-#[derive(Clone, Copy)]
-pub struct Blocks<'a>(pub &'a [Block]);
-
-impl Store for Blocks<'_> {
-    #[inline(always)]
-    fn record(&self, place: usize) -> &Record {
-        block::record(&self.0[place / PER_BLOCK], place % PER_BLOCK)
-    }
-}
-
-/// The blocks of a file of fit length.
-pub fn blocks_of(file: &[u8]) -> Answer<Blocks<'_>> {
-    if file.is_empty() || file.len() > FILE || !file.len().is_multiple_of(BLOCK) {
-        return refuse(2);
-    }
-    Ok(Blocks(file.as_chunks().0))
-}
-
-/// Checks a file, all blocks and then all records, and counts it. Each record is
-/// shown to `each` with its place after its own check.
-#[inline(always)]
-pub fn check_file(
-    blocks: Blocks,
-    places: &mut Places,
-    mut each: impl FnMut(&Places, &Fields, usize),
-) -> Answer<(Header, Counts)> {
-    let Blocks(blocks) = blocks;
-    let last = blocks.len() - 1;
-    let header = block::header(&blocks[0]);
-    for (place, block) in blocks.iter().enumerate() {
-        match block::fault(block) {
-            0 => (),
-            number => return refuse_at(number, place),
-        }
-        let count = block::count(block);
-        let full = count == PER_BLOCK || place == last && (count != 0 || last == 0);
-        if block::place(block) != place || block::header(block) != header || !full {
-            return refuse_at(20, place);
-        }
-    }
-    let mut held = Counts::on(Vector::ZERO);
-    for (place, block) in blocks.iter().enumerate() {
-        for i in 0..block::count(block) {
-            if held.all == RECORDS {
-                return refuse_at(11, place);
-            }
-            let record = block::record(block, i);
-            if !well_formed(record) {
-                return refuse_at(7, place);
-            }
-            let fields = Fields::of(record);
-            if !held.rank_before(&fields) {
-                return refuse_at(20, place);
-            }
-            if !held.are_before(&fields) {
-                return refuse_at(8, place);
-            }
-            if !places.are_closed(&fields) {
-                return refuse_at(9, place);
-            }
-            places.add(&fields, held.all);
-            each(places, &fields, held.all);
-            held.add(&fields);
-        }
-    }
-    if header.vector != held.vector {
-        return refuse_at(20, last);
-    }
-    Ok((header, held))
-}
-
-/// Reads a file into a lent log, and empties its base. Their old bytes are not
-/// judged.
-pub fn read_file(log: &mut [u8], base: &mut [u8], file: &[u8]) -> Answer<Head> {
-    if log.len() != LOG || base.len() != BASE {
-        return refuse(1);
-    }
-    let blocks = blocks_of(file)?;
-    let (header, held) = check_file(blocks, &mut Places::none(), |_, _, _| ())?;
-    base::empty(base);
-    let mut rest = log;
-    for block in blocks.0 {
-        let from = block::records(block);
-        let (part, behind) = rest.split_at_mut(from.len());
-        part.copy_from_slice(from);
-        rest = behind;
-    }
-    rest.fill(0);
-    Ok(Head {
-        archive: header.archive,
-        unit: header.unit,
-        records: held.all as u16,
-        vector: core::array::from_fn(|unit| header.vector.count(unit)),
-    })
 }
 
 /// Shows the tree of a log and its base: every byte of the lent table.

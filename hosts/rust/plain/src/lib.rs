@@ -13,6 +13,7 @@ mod base;
 mod block;
 mod bytes;
 mod calls;
+mod file;
 mod fold;
 mod folded;
 mod held;
@@ -22,18 +23,21 @@ mod merge;
 mod record;
 mod replay;
 mod rows;
+mod sab2;
 mod table;
 mod vector;
 
 pub use base::EMPTY_BASE;
 pub use block::sums;
-pub use calls::{Head, act, hand_out, read_file, show, sound, start, take, vector, write_file};
+pub use calls::{act, hand_out, show, sound, start, take, vector};
+pub use file::{Head, read_file, write_file};
 pub use fold::fold;
 pub use index::{INDEX, Range, find, index, list};
 pub use listing::{LISTING, listing};
 pub use merge::{MergeRefusal, merge};
 pub use record::{is_date, well_formed};
 pub use rows::{REPORT, RowTaken, hand_out_row, take_row, try_row};
+pub use sab2::{SAB2_BLOCKS, SAB2_FILE, to_sab1, to_sab2, write_sab2};
 pub use vector::{Compared, compare};
 
 /// Bytes of a record.
@@ -46,9 +50,9 @@ pub const LOG: usize = RECORDS * RECORD;
 pub const BLOCK: usize = 512;
 /// Records that a block holds.
 pub const PER_BLOCK: usize = 6;
-/// Blocks of the longest file.
+/// Blocks of the longest SAB1 file.
 pub const BLOCKS: usize = 86;
-/// Bytes lent for writing a file.
+/// Bytes lent for writing an SAB1 file.
 pub const FILE: usize = BLOCKS * BLOCK;
 /// Rows of entries, and of asides, that a base holds.
 pub const BASE_ROWS: usize = 512;

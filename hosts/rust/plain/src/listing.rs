@@ -1,20 +1,32 @@
 //! The listing that `readout` prints.
 
-use crate::base;
-use crate::calls::{Blocks, blocks_of, check_file};
+use crate::base::{self, Base, Made};
+use crate::block::Header;
+use crate::file::{Blocks, blocks_of, check_file};
 use crate::held::Places;
 use crate::record::Label;
-use crate::replay::{Kind, ROOT, Replay, Source, slot_of};
-use crate::{Answer, RECORDS};
+use crate::replay::{Kind, ROOT, Replay, Source};
+use crate::sab2::{self, Parts};
+use crate::{Answer, BASE_ROWS, ROWS, refuse};
 
-/// The longest entry line: a trace with a label of 32 quotes, disputed.
-const LINE: usize = b"trace 7.512 in 7.512 \"\" 2025-03-03  disputed\n".len() + 2 * 32 + 32;
-/// No listing is longer than two lines and a line for each record.
-pub const LISTING: usize = 2 * LINE + RECORDS * LINE;
+/// The longest line of an entry: a trace with a label of 32 quotes, disputed.
+const ENTRY_LINE: usize =
+    b"trace 7.65535 in 7.65535 \"\" 2025-03-03  disputed\n".len() + 2 * 32 + 32;
+/// The longest line of an aside.
+const ASIDE_LINE: usize = b"aside 7.65535 reason 25 marks 7.65535 settled\n".len();
+/// No listing is longer than two lines, a line for each row of a base, and a line
+/// of an entry for each record.
+pub const LISTING: usize = (2 + ROWS) * ENTRY_LINE + BASE_ROWS * ASIDE_LINE;
 
-/// Writes the listing of a file, or its line of refusal; answers its length.
+/// Writes the listing of a file of either form, or its line of refusal; answers
+/// its length.
 pub fn listing(file: &[u8], out: &mut [u8; LISTING]) -> usize {
-    match list(file, out) {
+    let listed = if sab2::begins(file) {
+        list_sab2(file, out)
+    } else {
+        list_sab1(file, out)
+    };
+    match listed {
         Ok(len) => len,
         Err(refusal) => {
             let mut line = Line::empty();
@@ -27,7 +39,7 @@ pub fn listing(file: &[u8], out: &mut [u8; LISTING]) -> usize {
     }
 }
 
-fn list(file: &[u8], out: &mut [u8; LISTING]) -> Answer<usize> {
+fn list_sab1(file: &[u8], out: &mut [u8; LISTING]) -> Answer<usize> {
     let blocks = blocks_of(file)?;
     let source = Source {
         base: base::EMPTY,
@@ -38,13 +50,43 @@ fn list(file: &[u8], out: &mut [u8; LISTING]) -> Answer<usize> {
     let (header, held) = check_file(blocks, &mut places, |places, fields, place| {
         replay.step(places, &source, fields, place)
     })?;
+    Ok(put_lines(out, &header, held.all, &replay, &source))
+}
+
+fn list_sab2(file: &[u8], out: &mut [u8; LISTING]) -> Answer<usize> {
+    let parts = Parts::of(file)?;
+    let mut made = Made::none();
+    let base = parts.base(&mut made)?;
+    let mut replay = Replay::root();
+    if !replay.enter(&base) {
+        return refuse(31);
+    }
+    let source = Source {
+        base,
+        store: parts.records,
+    };
+    let mut places = Places::none();
+    let held = parts.check(&base, &mut places, |places, fields, place| {
+        replay.step(places, &source, fields, place)
+    })?;
+    Ok(put_lines(out, &parts.header, held.all, &replay, &source))
+}
+
+/// The lines of an accepted file with so many records that are not folded.
+fn put_lines(
+    out: &mut [u8; LISTING],
+    header: &Header,
+    records: usize,
+    replay: &Replay,
+    source: &Source<Blocks>,
+) -> usize {
     let mut line = Line::empty();
     line.put(b"archive ");
     line.number(header.archive);
     line.put(b" unit ");
     line.number(header.unit as u32);
     line.put(b" records ");
-    line.number(held.all as u32);
+    line.number(records as u32);
     let mut len = line.end(out, 0);
     line.put(b"seen");
     for unit in 0..8 {
@@ -53,19 +95,19 @@ fn list(file: &[u8], out: &mut [u8; LISTING]) -> Answer<usize> {
     }
     len = line.end(out, len);
     let disputed = replay.disputed();
-    for slot in slot_of(0)..slot_of(held.all) {
+    for slot in Replay::slots(&source.base, records) {
         if replay.entries[slot].kind != Kind::Absent {
-            put_entry(&mut line, &replay, &source, slot, disputed[slot]);
+            put_entry(&mut line, replay, source, slot, disputed[slot]);
             len = line.end(out, len);
         }
     }
-    for slot in slot_of(0)..slot_of(held.all) {
-        if replay.fates[slot].reason != 0 {
-            put_aside(&mut line, &replay, slot);
+    for at in Replay::fate_slots(&source.base, records) {
+        if replay.fates[at].reason != 0 {
+            put_aside(&mut line, replay, &source.base, at);
             len = line.end(out, len);
         }
     }
-    Ok(len)
+    len
 }
 
 fn put_entry(
@@ -105,10 +147,10 @@ fn put_entry(
     }
 }
 
-fn put_aside(line: &mut Line, replay: &Replay, slot: usize) {
-    let fate = replay.fates[slot];
+fn put_aside(line: &mut Line, replay: &Replay, base: &Base, at: usize) {
+    let fate = replay.fates[at];
     line.put(b"aside ");
-    line.identity(replay.identities[slot]);
+    line.identity(replay.identity_aside(base, at));
     line.put(b" reason ");
     line.number(fate.reason as u32);
     line.put(b" marks ");

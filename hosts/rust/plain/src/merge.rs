@@ -1,7 +1,7 @@
 //! One file out of two.
 
 use crate::block::Header;
-use crate::calls::{Blocks, blocks_of, check_file, lay_file};
+use crate::file::{Blocks, blocks_of, check_file, lay_file};
 use crate::held::{Counts, Places, Store};
 use crate::record::{Fields, Record, rank_of};
 use crate::{Answer, FILE, LOG, PER_BLOCK, RECORD, RECORDS, Refusal, refuse, refuse_at};

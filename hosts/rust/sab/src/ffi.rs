@@ -130,6 +130,17 @@ unsafe extern "C" {
         file_len: usize,
     ) -> u32;
 
+    pub fn sab_write_sab2(
+        log: *const u8,
+        log_len: usize,
+        base: *const u8,
+        base_len: usize,
+        archive: u32,
+        unit: u32,
+        file: *mut u8,
+        file_len: usize,
+    ) -> u32;
+
     pub fn sab_read_file(
         log: *mut u8,
         log_len: usize,
@@ -139,6 +150,20 @@ unsafe extern "C" {
         file_len: usize,
         head: *mut u8,
         head_len: usize,
+    ) -> u32;
+
+    pub fn sab_to_sab2(
+        file: *const u8,
+        file_len: usize,
+        out: *mut u8,
+        out_len: usize,
+    ) -> u32;
+
+    pub fn sab_to_sab1(
+        file: *const u8,
+        file_len: usize,
+        out: *mut u8,
+        out_len: usize,
     ) -> u32;
 
     pub fn sab_merge(
@@ -213,6 +238,8 @@ unsafe extern "C" {
         file_len: usize,
         log: *mut u8,
         log_len: usize,
+        base: *mut u8,
+        base_len: usize,
         tree: *mut u8,
         tree_len: usize,
         out: *mut u8,

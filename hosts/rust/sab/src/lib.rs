@@ -6,7 +6,8 @@
 //! records alone. A record that does not fit the tree stands aside, with a
 //! reason, at every unit alike. An [`Index`] kept with a log finds a label in a
 //! folder, and lists a folder by label. [`Log::fold`] frees the places of records
-//! that all units have heard of; what these left is the [`Base`] of the log.
+//! that all units have heard of; what these left is the [`Base`] of the log. A log
+//! is kept as a file, of one of two [`Form`]s.
 //! `include/sab.h` is the manual of the calls, and [`raw`] has them over slices.
 //!
 //! A whole meeting of two units that worked apart:
@@ -63,6 +64,7 @@ mod base;
 mod block;
 mod ffi;
 mod fields;
+mod file;
 mod index;
 mod log;
 mod meeting;
@@ -80,6 +82,7 @@ mod work;
 pub use base::Base;
 pub use block::Block;
 pub use fields::{Date, Mark, Operation};
+pub use file::{Form, to_sab1, to_sab2};
 pub use index::{Index, Indexed};
 pub use log::Log;
 pub use meeting::{Asking, Meeting, Pass, meet, pass};

@@ -2,7 +2,7 @@
 
 use crate::{
     Answer, Base, Block, Identity, Index, Record, Records, Refusal, Row, RowTaken, Tree, Trial,
-    Unit, Units, Vector, Wish, raw, work,
+    Unit, Units, Vector, Wish, file, raw, work,
 };
 use std::fmt;
 
@@ -60,10 +60,11 @@ impl Log {
         Ok(log)
     }
 
-    /// The log in a file, of whichever archive and unit wrote it: compare
-    /// [`Log::archive`] and [`Log::unit`] with the ones expected. Only the unit
-    /// itself acts on its log; see [`Log::held_by`]. Nothing is folded, and all
-    /// eight units are listed. Refuses 2 to 5, 7 to 9, 11, 20.
+    /// The log in a file of either [`Form`], of whichever archive and unit wrote it:
+    /// compare [`Log::archive`] and [`Log::unit`] with the ones expected. Only the
+    /// unit itself acts on its log; see [`Log::held_by`]. From SAB1 nothing is folded,
+    /// and all eight units are listed; from SAB2 base and list are those of the file.
+    /// Refuses 2 to 5, 7 to 9, 11, 20, 26, 31.
     pub fn read_file(file: &[u8]) -> Answer<Log> {
         let (mut bytes, mut base) = (boxed(), Base::zeros());
         let head = raw::read_file(&mut *bytes, base.lent(), file)?;
@@ -276,19 +277,38 @@ impl Log {
         Ok(Trial::of(&report, log, Tree::new(tree)))
     }
 
-    /// The whole log as a file, 1 to 86 blocks. Its list is not written. Refuses 29
-    /// if records are folded.
+    /// The whole log as an SAB1 file, 1 to 86 blocks. Its list is not written.
+    /// Refuses 29 if records are folded.
     pub fn write_file(&self) -> Answer<Vec<u8>> {
-        let mut file = vec![0; raw::FILE];
-        let blocks = raw::write_file(
-            &*self.bytes,
-            self.base.as_bytes(),
-            self.archive,
-            self.unit_number(),
-            &mut file,
-        )?;
-        file.truncate(raw::BLOCK * usize::from(blocks));
-        Ok(file)
+        let (archive, unit) = (self.archive, self.unit_number());
+        let base = self.base.as_bytes();
+        file::lent(raw::FILE, |file| {
+            raw::write_file(&*self.bytes, base, archive, unit, file)
+        })
+    }
+
+    /// The log as an SAB2 file, 1 to 186 blocks, with its list and what its folded
+    /// records left. It reads back as this log.
+    ///
+    /// ```
+    /// use sab::{Date, Identity, Log, Unit, Units, Wish};
+    /// # fn main() -> Result<(), sab::Refusal> {
+    /// let mut office = Log::start(7, Unit::ALL[5]);
+    /// let day = Date::new(2025, 3, 3);
+    /// office.act(&Wish::make_folder(Identity::ROOT, "Bench", day)?)?;
+    /// let alone: Units = [office.unit()].into_iter().collect();
+    /// assert_eq!(office.fold(alone)?, 1);
+    /// let card = office.write_sab2()?;
+    /// assert_eq!(Log::read_file(&card)?, office);
+    /// # Ok(())
+    /// # }
+    /// ```
+    pub fn write_sab2(&self) -> Answer<Vec<u8>> {
+        let (archive, unit) = (self.archive, self.unit_number());
+        let base = self.base.as_bytes();
+        file::lent(raw::SAB2, |file| {
+            raw::write_sab2(&*self.bytes, base, archive, unit, file)
+        })
     }
 
     /// The tree of the records held, with those that stand aside.
@@ -296,13 +316,13 @@ impl Log {
         Tree::of(&*self.bytes, self.base.as_bytes())
     }
 
-    /// The listing of the log's file, as docs/FORMAT.md gives it. Refuses 29 if
-    /// records are folded.
+    /// The listing of the log's file, as docs/FORMAT.md gives it; it is the same for
+    /// both forms.
     pub fn listing(&self) -> Answer<String> {
-        let (mut log, mut tree) = (boxed(), vec![0; raw::TREE]);
+        let (mut log, mut base, mut tree) = (boxed(), Base::zeros(), vec![0; raw::TREE]);
         let mut text = vec![0; raw::LISTING];
-        let file = self.write_file()?;
-        let listed = raw::listing(&file, &mut *log, &mut tree, &mut text)?;
+        let file = self.write_sab2()?;
+        let listed = raw::listing(&file, &mut *log, base.lent(), &mut tree, &mut text)?;
         text.truncate(listed.length);
         match listed.refused {
             Some(refusal) => Err(refusal),

@@ -37,9 +37,9 @@ impl fmt::Display for MergeRefusal {
 
 impl Error for MergeRefusal {}
 
-/// Makes one file of all records of two, of one archive, under the unit of the
-/// first: the last card of a unit that is retired and its successor's, say. Which
-/// comes first decides nothing but that unit.
+/// Makes one file of all records of two, both of the form SAB1 and of one archive,
+/// under the unit of the first: the last card of a unit that is retired and its
+/// successor's, say. Which comes first decides nothing but that unit.
 ///
 /// Refuses what reading the first file refuses, then the second; then, of the
 /// second, 6 for another archive, 10 for a record that the first has with other

@@ -20,8 +20,10 @@ pub const BASE: usize = 43_032;
 pub const WISH: usize = 80;
 /// Bytes of a block.
 pub const BLOCK: usize = 512;
-/// Bytes lent for writing a file.
+/// Bytes lent for writing an SAB1 file.
 pub const FILE: usize = 44_032;
+/// Bytes lent for writing an SAB2 file.
+pub const SAB2: usize = 95_232;
 /// Bytes of the tree table.
 pub const TREE: usize = 86_020;
 /// Bytes of work memory.
@@ -31,7 +33,7 @@ pub const INDEX: usize = 40_964;
 /// Bytes of the report of a row that is tried.
 pub const REPORT: usize = 4_116;
 /// Bytes lent for a listing; none is longer.
-pub const LISTING: usize = 76_800;
+pub const LISTING: usize = 172_544;
 
 /// Bytes of a vector.
 pub const VECTOR: usize = 16;
@@ -46,9 +48,9 @@ pub struct Head {
     pub archive: u32,
     /// The unit that wrote it.
     pub unit: u8,
-    /// How many records it has.
+    /// How many records it has, folded ones not counted.
     pub records: u16,
-    /// How many of each unit.
+    /// How many of each unit, folded ones counted.
     pub vector: [u16; 8],
 }
 
@@ -308,7 +310,7 @@ pub fn fold(
     answer(result)
 }
 
-/// Writes the whole log as a file, if nothing is folded; answers its count of
+/// Writes the whole log as an SAB1 file, if nothing is folded; answers its count of
 /// blocks. Refuses 1, 21, 19, 29.
 pub fn write_file(
     log: &[u8],
@@ -332,8 +334,33 @@ pub fn write_file(
     answer(result)
 }
 
-/// Reads a file into a lent log, and empties its base. Their old bytes are not
-/// judged. Refuses 1, 2 to 5, 7 to 9, 11, 20.
+/// Writes list, base and log as an SAB2 file; answers its count of blocks. Refuses
+/// 1, 21, 19.
+pub fn write_sab2(
+    log: &[u8],
+    base: &[u8],
+    archive: u32,
+    unit: u32,
+    file: &mut [u8],
+) -> Answer<u16> {
+    let result = unsafe {
+        ffi::sab_write_sab2(
+            log.as_ptr(),
+            log.len(),
+            base.as_ptr(),
+            base.len(),
+            archive,
+            unit,
+            file.as_mut_ptr(),
+            file.len(),
+        )
+    };
+    answer(result)
+}
+
+/// Reads a file of either form into a lent log and base, whose old bytes are not
+/// judged. SAB1 leaves an empty base with all eight units listed. Refuses 1, 2 to 5,
+/// 7 to 9, 11, 20; of SAB2 also 26 and 31.
 pub fn read_file(log: &mut [u8], base: &mut [u8], file: &[u8]) -> Answer<Head> {
     let mut head = [0; HEAD];
     let result = unsafe {
@@ -359,8 +386,28 @@ pub fn read_file(log: &mut [u8], base: &mut [u8], file: &[u8]) -> Answer<Head> {
     })
 }
 
-/// Makes one file of all records of two, under the archive and unit of the first;
-/// answers its count of blocks. The lent log, whose old bytes are not judged, then
+/// Makes an SAB2 file of an SAB1 file, with an empty base and all eight units
+/// listed; answers its count of blocks. Refuses 1, for `out`; then what reading an
+/// SAB1 file refuses.
+pub fn to_sab2(file: &[u8], out: &mut [u8]) -> Answer<u16> {
+    let result = unsafe {
+        ffi::sab_to_sab2(file.as_ptr(), file.len(), out.as_mut_ptr(), out.len())
+    };
+    answer(result)
+}
+
+/// Makes an SAB1 file of an SAB2 file, whose list is lost; answers its count of
+/// blocks. Refuses 1, for `out`; then what reading an SAB2 file refuses; then 29 if
+/// records are folded.
+pub fn to_sab1(file: &[u8], out: &mut [u8]) -> Answer<u16> {
+    let result = unsafe {
+        ffi::sab_to_sab1(file.as_ptr(), file.len(), out.as_mut_ptr(), out.len())
+    };
+    answer(result)
+}
+
+/// Makes one SAB1 file of all records of two, under the archive and unit of the
+/// first; answers its count of blocks. The lent log, whose old bytes are not judged, then
 /// holds the same records. Refuses 1, for `log` or `file`; then what reading the
 /// first file refuses, then the second; then 6, 10, 11.
 pub fn merge(
@@ -533,12 +580,13 @@ pub struct Listed {
     pub refused: Option<Refusal>,
 }
 
-/// Lists a file as text; a refused file gives one line. `log` and `tree` are work
-/// space, and hold the file's records and their tree if it is accepted. Refuses 1,
-/// for one of these or `out`.
+/// Lists a file of either form as text; a refused file gives one line. `log`, `base`
+/// and `tree` are work space, and hold what the file holds and its tree if it is
+/// accepted. Refuses 1, for one of these or `out`.
 pub fn listing(
     file: &[u8],
     log: &mut [u8],
+    base: &mut [u8],
     tree: &mut [u8],
     out: &mut [u8],
 ) -> Answer<Listed> {
@@ -549,6 +597,8 @@ pub fn listing(
             file.len(),
             log.as_mut_ptr(),
             log.len(),
+            base.as_mut_ptr(),
+            base.len(),
             tree.as_mut_ptr(),
             tree.len(),
             out.as_mut_ptr(),

@@ -13,7 +13,7 @@ use std::fmt;
 /// ```
 #[derive(Clone, Copy, Debug, PartialEq, Eq, Hash)]
 pub struct Refusal {
-    /// The number, 1 to 21 or 24 to 29, but not 17.
+    /// The number, 1 to 21, 24 to 29 or 31, but not 17.
     pub number: u8,
     /// The block at fault, counted from 0. It is 0 for a call with one block, and
     /// for a number that has no place.
@@ -45,9 +45,10 @@ impl Refusal {
         matches!(self.number, 11 | 26 | 27)
     }
 
-    /// The number has a place: 2 to 11, 20, and 24 to 29, which are always at 0.
+    /// The number has a place: 2 to 11, 20, and from 24 on, where it is always 0 but
+    /// for 26 of a file.
     pub const fn has_place(self) -> bool {
-        matches!(self.number, 2..=11 | 20 | 24..=29)
+        matches!(self.number, 2..=11 | 20 | 24..=29 | 31)
     }
 }
 
@@ -68,8 +69,8 @@ pub const fn in_words(number: u8) -> &'static str {
     match number {
         0 => "success",
         1 => "a lent buffer is not of the stated length",
-        2 => "a block is not 512 bytes, or a file is not 1 to 86 blocks",
-        3 => "a block does not begin with SAB1",
+        2 => "a block is not 512 bytes, or a file is not 1 to 86 blocks (SAB2: 186)",
+        3 => "a block does not begin with the letters of its form, SAB1 or SAB2",
         4 => "a sum differs: the block is damaged",
         5 => "a header's unit is above 7 or its count above 6, or an unused place is not zero",
         6 => "the block is of another archive",
@@ -94,6 +95,7 @@ pub const fn in_words(number: u8) -> &'static str {
         27 => "what is folded here or there is lacking on the other side",
         28 => "the unit has used its last number, 65,535",
         29 => "records are folded: a file of the form SAB1 cannot hold them",
+        31 => "the list or base of the file breaks its layout or is not sound",
         _ => "no number of the refusal table",
     }
 }

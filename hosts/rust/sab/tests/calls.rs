@@ -3,7 +3,7 @@
 
 use plain::EMPTY_BASE;
 use sab::Refusal;
-use sab::raw::{self, BLOCK, FILE, Head, LISTING, LOG, Listed, REPORT, RowTaken, TREE, WISH};
+use sab::raw::{self, BASE, BLOCK, FILE, Head, LISTING, LOG, Listed, REPORT, RowTaken, TREE, WISH};
 use workload::{Mix, log_of, vector_of};
 
 const ARCHIVE: u32 = 0xfedc_ba98;
@@ -244,11 +244,12 @@ fn trees() {
         assert_eq!(lent, pattern(TREE));
     }
 
-    let (mut work, mut shown, mut out) = (pattern(LOG), pattern(TREE), pattern(LISTING));
+    let (mut work, mut base, mut shown) = (pattern(LOG), pattern(BASE), pattern(TREE));
+    let mut out = pattern(LISTING);
     let file = file_of(&log);
-    let listed = raw::listing(&file, &mut work, &mut shown, &mut out).unwrap();
+    let listed = raw::listing(&file, &mut work, &mut base, &mut shown, &mut out).unwrap();
     assert_eq!(listed.refused, None);
-    assert!(work == log && shown == tree);
+    assert!(work == log && base == EMPTY_BASE && shown == tree);
     let text = String::from_utf8(out[..listed.length].to_vec()).unwrap();
     assert!(text.starts_with(&format!("archive {ARCHIVE} unit 5 records 40\nseen ")));
     let rows = u16::from_le_bytes([tree[0], tree[1]]) + u16::from_le_bytes([tree[2], tree[3]]);
@@ -260,7 +261,8 @@ fn trees() {
 fn listings_of_refused_files() {
     let mut file = file_of(&a_log());
     file[2 * BLOCK] = b'T';
-    let (mut log, mut tree, mut out) = (pattern(LOG), pattern(TREE), pattern(LISTING));
+    let (mut log, mut base, mut tree) = (pattern(LOG), pattern(BASE), pattern(TREE));
+    let mut out = pattern(LISTING);
     let expected = Listed {
         length: 15,
         refused: Some(Refusal {
@@ -269,34 +271,35 @@ fn listings_of_refused_files() {
         }),
     };
     assert_eq!(
-        raw::listing(&file, &mut log, &mut tree, &mut out),
+        raw::listing(&file, &mut log, &mut base, &mut tree, &mut out),
         Ok(expected)
     );
     assert_eq!(&out[..15], b"refused 3 at 2\n");
-    let nothing = raw::listing(&[], &mut log, &mut tree, &mut out).unwrap();
+    let nothing = raw::listing(&[], &mut log, &mut base, &mut tree, &mut out).unwrap();
     assert_eq!(nothing.refused.map(|refusal| refusal.number), Some(2));
     assert_eq!(&out[..nothing.length], b"refused 2 at 0\n");
-    assert!(log == pattern(LOG) && tree == pattern(TREE));
+    let kept = |log: &[u8], base: &[u8], tree: &[u8]| {
+        log == pattern(LOG) && base == pattern(BASE) && tree == pattern(TREE)
+    };
+    assert!(kept(&log, &base, &tree));
     let before = out.clone();
     for mut log in wrong(LOG) {
-        assert_eq!(
-            raw::listing(&file, &mut log, &mut tree, &mut out),
-            refused(1)
-        );
+        let listed = raw::listing(&file, &mut log, &mut base, &mut tree, &mut out);
+        assert_eq!(listed, refused(1));
+    }
+    for mut base in wrong(BASE) {
+        let listed = raw::listing(&file, &mut log, &mut base, &mut tree, &mut out);
+        assert_eq!(listed, refused(1));
     }
     for mut tree in wrong(TREE) {
-        assert_eq!(
-            raw::listing(&file, &mut log, &mut tree, &mut out),
-            refused(1)
-        );
+        let listed = raw::listing(&file, &mut log, &mut base, &mut tree, &mut out);
+        assert_eq!(listed, refused(1));
     }
     for mut out in wrong(LISTING) {
-        assert_eq!(
-            raw::listing(&file, &mut log, &mut tree, &mut out),
-            refused(1)
-        );
+        let listed = raw::listing(&file, &mut log, &mut base, &mut tree, &mut out);
+        assert_eq!(listed, refused(1));
     }
-    assert!(log == pattern(LOG) && tree == pattern(TREE) && out == before);
+    assert!(kept(&log, &base, &tree) && out == before);
 }
 
 /// A unit is 32 bits: one whose low byte or low half alone would be a unit is

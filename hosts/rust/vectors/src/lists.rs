@@ -1,7 +1,11 @@
 //! Call lists: eight units, one call a line.
 
+use crate::converts::wrote;
+use crate::readout;
 use crate::words::{self, Fault, Words, bytes, hash};
-use library::{Answer, INDEX, LOG, Library, REPORT, TREE, Trial, empty_base, tree};
+use library::{
+    Answer, BASE, FILE, INDEX, LOG, Library, REPORT, SAB2_FILE, TREE, Trial, empty_base, tree,
+};
 
 /// A log, its base, and the index that is kept with them.
 struct Slot {
@@ -66,6 +70,8 @@ pub fn call(
         "end" => return end(library, own, words),
         "list" => return list(library, &own.index, words),
         "find" => return find(library, &own.index, words),
+        "readout2" => return readout2(library, own, words, shown),
+        "back" => return back(library, own, words),
         _ => (),
     }
     let lent = words.word()?;
@@ -137,11 +143,15 @@ fn call_on(
             words.equals()?;
             came.extend(try_row(library, log, base, archive, unit, &row)?);
         }
-        "write" => {
+        "write" | "write2" => {
             let lent = words.lent()?;
             words.equals()?;
             let mut file = lent.clone();
-            let count = library.write_file(log, base, archive, unit, &mut file);
+            let count = if name == "write" {
+                library.write_file(log, base, archive, unit, &mut file)
+            } else {
+                library.write_sab2(log, base, archive, unit, &mut file)
+            };
             came.extend(answer(&count));
             came.push(hash(log));
             if let Ok(count) = count {
@@ -156,7 +166,7 @@ fn call_on(
     if came.len() == 2 {
         came.push(hash(log));
     }
-    if came[0] != "0" || matches!(name, "handout" | "try" | "write") {
+    if came[0] != "0" || matches!(name, "handout" | "try" | "write" | "write2") {
         kept("log", log, &before)?;
         kept("index", index, &listed)?;
     } else if fresh(library, log, base)? != *index {
@@ -212,6 +222,51 @@ fn fold(
     ]);
     words.expect(&came)?;
     tree::same(&lines.all(), shown)
+}
+
+/// The SAB2 file of a slot, with an archive and a unit.
+fn sab2(library: &dyn Library, slot: &Slot, words: &mut Words) -> Result<Vec<u8>, Fault> {
+    let (archive, unit) = (words.number()?, words.number()?);
+    words.equals()?;
+    let (given, file) = wrote(SAB2_FILE, |out| {
+        library.write_sab2(&slot.log, &slot.base, archive, unit, out)
+    })?;
+    match given {
+        Ok(_) => Ok(file),
+        Err(refusal) => Err(format!("not written: refused {}", refusal.number)),
+    }
+}
+
+/// The state of a slot as an SAB2 file, which must read out so, and back as that
+/// state.
+fn readout2(
+    library: &dyn Library,
+    slot: &Slot,
+    mut words: Words,
+    shown: &[&str],
+) -> Result<(), Fault> {
+    let file = sab2(library, slot, &mut words)?;
+    words.expect(&[shown.len().to_string()])?;
+    let expected: String = shown.iter().map(|line| format!("{line}\n")).collect();
+    readout::case(library, &file, expected.as_bytes())?;
+    let (mut log, mut base) = (junk(LOG), junk(BASE));
+    match library.read_file(&mut log, &mut base, &file) {
+        Ok(_) if log == slot.log && base == slot.base => Ok(()),
+        Ok(_) => Err("the file reads back as another state".to_string()),
+        Err(refusal) => Err(format!("written, but refused {}", refusal.number)),
+    }
+}
+
+/// The way back from the SAB2 file of a slot.
+fn back(library: &dyn Library, slot: &Slot, mut words: Words) -> Result<(), Fault> {
+    let sab2 = sab2(library, slot, &mut words)?;
+    let (given, sab1) = wrote(FILE, |out| library.to_sab1(&sab2, out))?;
+    let mut came = answer(&given).to_vec();
+    came.extend(match given {
+        Ok(blocks) => [blocks.to_string(), hash(&sab1)],
+        Err(_) => ["-".to_string(), "-".to_string()],
+    });
+    words.expect(&came)
 }
 
 /// The vector of a base.

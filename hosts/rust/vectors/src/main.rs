@@ -1,8 +1,9 @@
-//! `vectors [--plain] DIR`: runs the call lists, tables, merges, states and readout
-//! cases of a directory against the static library, or against the plain
-//! implementation, and says how many passed and failed. Any failure, also a
+//! `vectors [--plain] DIR`: runs the call lists, tables, merges, conversions, states
+//! and readout cases of a directory against the static library, or against the
+//! plain implementation, and says how many passed and failed. Any failure, also a
 //! directory without a case, gives an exit status other than 0.
 
+mod converts;
 mod lists;
 mod merges;
 mod readout;
@@ -71,11 +72,12 @@ fn run_list(
 }
 
 /// Files whose lines are cases by themselves, and what runs a line.
-const TABLES: [(&str, Row); 4] = [
+const TABLES: [(&str, Row); 5] = [
     ("tables.txt", tables::row),
     ("compare.txt", tables::row),
     ("wishes.txt", tables::row),
     ("merge.txt", merges::row),
+    ("convert.txt", converts::row),
 ];
 
 type Row = fn(&dyn Library, &str) -> Result<(), Fault>;

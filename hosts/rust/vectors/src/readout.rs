@@ -1,11 +1,9 @@
 //! Readout cases: a file and the listing of it.
 
 use crate::words::Fault;
-use library::{BASE, LISTING, LOG, Library, TREE, empty_base, tree};
+use library::{BASE, FILE, LISTING, LOG, Library, SAB2_FILE, TREE, empty_base, tree};
 
-const FILE: usize = 44_032;
-
-/// Runs one case.
+/// Runs one case: a file of either form.
 pub fn case(library: &dyn Library, file: &[u8], expected: &[u8]) -> Result<(), Fault> {
     differs(expected, &listing(library, file)?)?;
     let mut out = vec![0; LISTING];
@@ -41,7 +39,7 @@ fn differs(expected: &[u8], came: &[u8]) -> Result<(), Fault> {
 }
 
 /// The listing by reading the file, showing its tree, and writing it again.
-fn listing(library: &dyn Library, file: &[u8]) -> Result<Vec<u8>, Fault> {
+pub fn listing(library: &dyn Library, file: &[u8]) -> Result<Vec<u8>, Fault> {
     let lent: Vec<u8> = (0..LOG).map(|i| (3 + 31 * i) as u8).collect();
     let lent_base = crate::lists::junk(BASE);
     let (mut log, mut base) = (lent.clone(), lent_base.clone());
@@ -55,11 +53,17 @@ fn listing(library: &dyn Library, file: &[u8]) -> Result<Vec<u8>, Fault> {
             return Ok(text.into_bytes());
         }
     };
-    if base != empty_base() {
+    let is_sab2 = file.starts_with(b"SAB2");
+    if !is_sab2 && base != empty_base() {
         return Err("read, but the base is not empty".to_string());
     }
-    let mut again = vec![0xa5; FILE];
-    let count = library.write_file(&log, &base, head.archive, head.unit.into(), &mut again);
+    let mut again = vec![0xa5; if is_sab2 { SAB2_FILE } else { FILE }];
+    let (archive, unit) = (head.archive, head.unit.into());
+    let count = if is_sab2 {
+        library.write_sab2(&log, &base, archive, unit, &mut again)
+    } else {
+        library.write_file(&log, &base, archive, unit, &mut again)
+    };
     let (blocks, tail) = again.split_at(file.len());
     let whole = count == Ok((file.len() / 512) as u16);
     if !whole || blocks != file || tail.iter().any(|byte| *byte != 0) {

@@ -1,9 +1,9 @@
 //! `sab check`: is a file good?
 
 use super::{Command, Session};
-use crate::archive::{Archive, LIMIT, judge};
+use crate::archive::{Archive, Form, LIMIT, judge};
 use crate::args::flag;
-use crate::blocks::{identities, judge_alone, summary};
+use crate::blocks::{ROWS, Whole, identities, judge_alone, summary};
 use crate::failure::{Outcome, refusal_words};
 use crate::files::{self, is_standard, left_over};
 use crate::json::Object;
@@ -41,9 +41,10 @@ from small letters in labels, has a second line with the records that make the
 difference; it stays good. A file with moves has a line that says how many: an
 analyser before version 5 does not know them and refuses the file.
 
-From 400 records on that are not folded a line says how many places are free; sab
-fold frees some. Of a state file, which sab fold writes, it is always said, and
-behind the records stand how many are folded and the listed units.
+The file may have either form. Of the form SAB2, which sab fold writes and sab
+convert makes, it is said too how many records are folded and which units are
+listed. From 400 records on that are not folded, and always of SAB2, a line says how
+many places are free; sab fold frees some.
 
 A file that a cut left beside this one while it was being replaced is named too;
 it can be removed.",
@@ -72,7 +73,7 @@ fn check(session: &mut Session, name: &Path) -> Outcome<()> {
         tell_blocks(session, name, &read.bytes);
     }
     let log = judge(name, &read.bytes, read.length)?;
-    let archive = Archive::of(name, log, read.id)?;
+    let archive = Archive::of(name, Form::of(&read.bytes), log, read.id)?;
     session.out.object(|| archive.object());
     let good = session.out.ink(Ink::Well, "good");
     let line = format!("{}: {good}: {}", archive.shown(), archive.summary());
@@ -96,15 +97,16 @@ fn tell_blocks(session: &mut Session, name: &Path, bytes: &[u8]) {
                     judged.as_ref().err().map_or(0, |refusal| refusal.number),
                 );
             match &judged {
-                Ok(block) => object
+                Ok(Whole::Records(block)) => object
                     .number("archive", block.archive())
                     .number("unit", block.sender())
                     .texts("records", identities(block)),
-                Err(_) => object,
+                _ => object,
             }
         });
         let words = match &judged {
-            Ok(block) => format!("whole: {}", summary(block)),
+            Ok(Whole::Records(block)) => format!("whole: {}", summary(block)),
+            Ok(Whole::Rows) => format!("whole: {ROWS}"),
             Err(refusal) => {
                 let detail = why::of_block(block, &Log::start(0, Unit::ALL[0]), *refusal);
                 let words = refusal_words(*refusal, Case::Taking, detail.as_deref());

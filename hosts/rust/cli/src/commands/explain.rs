@@ -34,7 +34,7 @@ fn run(session: &mut Session) -> Outcome<Status> {
     }
     let words = session.args.words();
     if words.is_empty() {
-        return Err(usage("N wanted, 1 to 21, 24 or 25"));
+        return Err(usage("N wanted, 1 to 21, 24 to 29 or 31"));
     }
     let rows: Vec<&Row> = words
         .iter()
@@ -51,7 +51,7 @@ fn of_table(word: &str) -> Read<&'static Row> {
     let number = number(word, 1..=u8::MAX, "N").ok();
     number.and_then(row).ok_or_else(|| {
         Usage(format!(
-            "N: {word:?} is no number of the table, 1 to 21, 24 or 25"
+            "N: {word:?} is no number of the table, 1 to 21, 24 to 29 or 31"
         ))
     })
 }

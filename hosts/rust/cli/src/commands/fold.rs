@@ -28,6 +28,7 @@ folded; sab check says how many places are free.
     7.1: unit 7 made the folder \"Bench\" in the root on 2025-03-03
     $ sab fold office.sab --units=7 --own-unit=7
     office.sab: folded 1 record of 1; 0 left, 512 places free; base: 1 entry, 0 asides
+    office.sab: it has the form SAB2 now (sab help convert)
 
 --units names every unit that makes records in this archive, now or later. A unit
 that is left out and makes a record later is refused here for good (26, then 27). A
@@ -35,12 +36,12 @@ listed unit tells by each record that it makes what it has heard; one that has m
 none, or none of late, holds all folding back, and it is said which. Let such a
 unit make a record, a settle or a rename say, and meet it.
 
-A file with folded records, or with a list other than all eight units, has a form
-of its own: SABS, a state file. The commands read and write it as any other; an
-analyser, sab merge and a program that knows SAB1 alone do not (3, 29). Records
-that are folded cannot be compared or handed out any more: a unit that lacks them
-takes from another that has not folded (27), and a unit that was started again
-cannot take its own back. Keep the last card from before: --backup does.
+A file with folded records, or with a list other than all eight units, has the form
+SAB2. All commands but sab merge take it, and replace it in its form; an analyser
+before version 7 refuses it (3), and no SAB1 file can hold what is folded (29).
+Records that are folded cannot be compared or handed out any more: a unit that
+lacks them takes from another that has not folded (27), and a unit that was started
+again cannot take its own back. Keep the last card from before: --backup does.
 
 As sab act, this is for a file whose only home is this machine; --own-unit says each
 time which unit this is.",
@@ -108,6 +109,7 @@ fn tell(session: &mut Session, before: &Archive, log: &Log, folded: usize) -> Ou
     session.out.object(|| {
         let object = Object::new("fold")
             .text("file", before.shown())
+            .text("form", before.form.keeping(log))
             .number("folded", folded as u64)
             .number("left", left as u64)
             .number("entries", base.entries().len() as u64)
@@ -130,6 +132,13 @@ fn tell(session: &mut Session, before: &Archive, log: &Log, folded: usize) -> Ou
     ));
     if let Some(back) = back {
         session.out.line(format_args!("{}: {}", before.shown(), back.words()));
+    }
+    let form = before.form.keeping(log);
+    if form != before.form {
+        session.out.line(format_args!(
+            "{}: it has the form {form} now (sab help convert)",
+            before.shown()
+        ));
     }
     Ok(())
 }

@@ -1,14 +1,13 @@
 //! `sab list`: the listing.
 
 use super::{Command, Session};
-use crate::archive::{Archive, LIMIT, judge};
+use crate::archive::{Archive, Form, LIMIT, judge};
 use crate::args::value;
 use crate::failure::{Failure, Outcome, Refused, of_library, usage};
 use crate::files;
 use crate::numbers::Case;
 use crate::out::Status;
 use crate::records::{Story, kind_word, state as aside_state};
-use crate::state;
 use crate::why;
 use sab::raw;
 use std::path::Path;
@@ -60,15 +59,15 @@ fn run(session: &mut Session) -> Outcome<Status> {
 
 fn text(session: &mut Session, name: &Path) -> Outcome<Status> {
     let read = files::read(session.system, name, LIMIT)?;
-    if state::is_state(&read.bytes) {
+    if Form::of(&read.bytes) == Form::State {
         let log = judge(name, &read.bytes, read.length)?;
-        let archive = Archive::of(name, log, read.id)?;
+        let archive = Archive::of(name, Form::State, log, read.id)?;
         session.out.bytes(archive.listing()?.as_bytes());
         return Ok(Status::Yes);
     }
-    let [mut log, mut tree] = [raw::LOG, raw::TREE].map(|size| vec![0; size]);
+    let [mut log, mut base, mut tree] = [raw::LOG, raw::BASE, raw::TREE].map(|size| vec![0; size]);
     let mut out = vec![0; raw::LISTING];
-    let listed = raw::listing(&read.bytes, &mut log, &mut tree, &mut out)
+    let listed = raw::listing(&read.bytes, &mut log, &mut base, &mut tree, &mut out)
         .map_err(of_library(name, Case::File))?;
     session.out.bytes(&out[..listed.length.min(out.len())]);
     match listed.refused {
@@ -84,7 +83,7 @@ fn text(session: &mut Session, name: &Path) -> Outcome<Status> {
 fn read(session: &Session, name: &Path) -> Outcome<Archive> {
     let read = files::read(session.system, name, LIMIT)?;
     let log = judge(name, &read.bytes, read.length)?;
-    Archive::of(name, log, read.id)
+    Archive::of(name, Form::of(&read.bytes), log, read.id)
 }
 
 fn objects(session: &mut Session, name: &Path) -> Outcome<Status> {

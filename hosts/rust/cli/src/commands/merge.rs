@@ -1,7 +1,7 @@
 //! `sab merge`: one file out of two.
 
 use super::{Command, Session};
-use crate::archive::{Archive, LIMIT};
+use crate::archive::{Archive, Form, LIMIT};
 use crate::args::value;
 use crate::failure::{Failure, Outcome, Refused, of_library, usage};
 use crate::files::{self, Bytes, Over, is_standard};
@@ -9,7 +9,6 @@ use crate::json::Object;
 use crate::meeting::{held_otherwise, twice_words};
 use crate::numbers::Case;
 use crate::out::{Status, shown};
-use crate::state;
 use crate::why::{self, counted};
 use sab::raw::BLOCK;
 use sab::{Log, MergeRefusal};
@@ -29,10 +28,11 @@ OUT has the unit of FIRST; else the order decides nothing of what is written.
     both.sab: SAB1, archive 12, unit 1, 3 records, seen 2 1 0 0 0 0 0 0
     2 records of card1.sab, 1 more of card0.sab
 
-Each card is checked as sab check does it, FIRST wholly before SECOND. Then they
-must be of one archive (6), have the same record under every identity that both
-have (10), and together no more than 512 records (11). A refusal names the card and
-its block, and nothing is written. The cards stay as they are.",
+Both cards are of the form SAB1; one of the form SAB2 is refused (3, or 2). Each is
+checked as sab check does it, FIRST wholly before SECOND. Then they must be of one
+archive (6), have the same record under every identity that both have (10), and
+together no more than 512 records (11). A refusal names the card and its block, and
+nothing is written. The cards stay as they are.",
     options: &[value(
         "output",
         Some('o'),
@@ -66,7 +66,7 @@ fn run(session: &mut Session) -> Outcome<Status> {
     files::create(session.system, &target, &file, Over::Never, &|back| {
         back == file
     })?;
-    let both = Archive::of(&target, log, None)?;
+    let both = Archive::of(&target, Form::Sab1, log, None)?;
     let of_first = held.records().len();
     let more = both.log.records().len() - of_first;
     session.out.object(|| {
@@ -93,14 +93,16 @@ fn run(session: &mut Session) -> Outcome<Status> {
 const TOO_MANY: &str = "nothing is lost: keep both cards, together they hold everything; go on as under 11 \
                         (`sab explain 11`)";
 
-/// A merge is of files of the form SAB1.
+const NOT_MERGED: &str = "sab pass brings the records of one file into the other; sab convert makes SAB1 of it, unless \
+                          records are folded";
+
+/// The library knows nothing of state files.
 fn deny_state(name: &Path, card: &Bytes) -> Outcome<()> {
-    if !state::is_state(&card.bytes) {
+    if Form::of(&card.bytes) != Form::State {
         return Ok(());
     }
-    let words = "is a state file, with folded records or a list: only cards of the form SAB1 merge";
-    let advice = "sab pass brings the records of one file into the other";
-    Err(Failure::Trouble(files::trouble(name, words).advise(advice)))
+    let words = "is a state file of version 6: only cards of the form SAB1 merge";
+    Err(Failure::Trouble(files::trouble(name, words).advise(NOT_MERGED)))
 }
 
 /// A refusal with the card at fault: by itself, or beside the other.
@@ -108,6 +110,13 @@ fn refused(names: &[PathBuf], read: [&Bytes; 2], merging: MergeRefusal) -> Refus
     let MergeRefusal { refusal, file } = merging;
     let which = usize::from(file == 2);
     let (name, card) = (&names[which], read[which]);
+    if Form::of(&card.bytes) == Form::Sab2 {
+        let detail = "it has the form SAB2, and only cards of the form SAB1 merge";
+        return Refused {
+            todo: Some(NOT_MERGED.to_string()),
+            ..Refused::new(name, refusal, Case::File, Some(detail.to_string()))
+        };
+    }
     let [Ok(first), Ok(second)] = read.map(|card| Log::read_file(&card.bytes)) else {
         let detail = why::of_file(&card.bytes, card.length, refusal);
         return Refused::new(name, refusal, Case::File, detail);

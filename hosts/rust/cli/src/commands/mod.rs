@@ -4,6 +4,7 @@ mod act;
 mod asides;
 mod check;
 mod compare;
+mod convert;
 mod diff;
 mod explain;
 mod find;
@@ -112,6 +113,7 @@ pub const GROUPS: &[(&str, &[&Command])] = &[
             &fold::COMMAND,
         ],
     ),
+    ("forms of a file", &[&convert::COMMAND]),
     ("help", &[&explain::COMMAND, &words::HELP, &words::VERSION]),
 ];
 

@@ -3,7 +3,7 @@
 use super::{Command, Session};
 use crate::archive::{self, ROOM};
 use crate::args::{flag, value};
-use crate::blocks::{identities, in_runs, judge_alone, summary};
+use crate::blocks::{ROWS, Whole, identities, in_runs, judge_alone, summary};
 use crate::failure::{Outcome, of_library, refusal_words, usage};
 use crate::files;
 use crate::json::Object;
@@ -50,7 +50,11 @@ Another card of the archive fills the gap, though it is damaged itself:
     mended.sab: SAB1, archive 12, unit 0, 15 records, seen 14 1 0 0 0 0 0 0
 
 With -o the log is written as a new file. Its unit is the one that the blocks
-name, if they all name the same; else --unit says which.",
+name, if they all name the same; else --unit says which.
+
+Of a card of the form SAB2 the records are taken out that are not folded. What is
+folded is missing then, unless another card still has it as records: list and base
+are not mended.",
     options: &[
         flag("blocks", None, "a line for each block, also where many are alike"),
         value("output", Some('o'), "OUT", "the file to write"),
@@ -88,6 +92,8 @@ impl Piece {
 enum State {
     /// A whole block that no log was asked to take yet.
     Whole(Box<Block>),
+    /// A whole block of an SAB2 file that has no records.
+    Rows,
     /// Taken, with so many records that were new.
     Taken(usize),
     /// Whole, but it follows on records that are not held.
@@ -159,7 +165,8 @@ fn cut(file: usize, bytes: &[u8]) -> Vec<Piece> {
     while at < bytes.len() {
         let end = bytes.len().min(at + BLOCK);
         let (length, state) = match judge_alone(&bytes[at..end]) {
-            Ok(block) => (BLOCK, State::Whole(Box::new(block))),
+            Ok(Whole::Records(block)) => (BLOCK, State::Whole(block)),
+            Ok(Whole::Rows) => (BLOCK, State::Rows),
             Err(refusal) => {
                 let next = (at + 1..end).find(|next| whole_at(bytes, *next));
                 let length = next.unwrap_or(end) - at;
@@ -181,7 +188,7 @@ fn cut(file: usize, bytes: &[u8]) -> Vec<Piece> {
 
 /// Whether a whole block begins there.
 fn whole_at(bytes: &[u8], at: usize) -> bool {
-    bytes[at..].starts_with(b"SAB1")
+    (bytes[at..].starts_with(b"SAB1") || bytes[at..].starts_with(b"SAB2"))
         && bytes
             .get(at..at + BLOCK)
             .is_some_and(|block| judge_alone(block).is_ok())
@@ -323,6 +330,7 @@ fn missing(log: &Log, known: &[u16; 8]) -> BTreeSet<Identity> {
 fn state_words(piece: &Piece, missing: &BTreeSet<Identity>, each: bool) -> (String, Option<Ink>) {
     match &piece.state {
         State::Whole(block) => (format!("whole: {}", summary(block)), None),
+        State::Rows => (format!("whole, {ROWS}: no records"), None),
         State::Taken(0) => ("whole, held already".to_string(), None),
         State::Taken(new) if each => (format!("taken, {}", counted(*new, "record")), None),
         State::Taken(_) => ("taken".to_string(), None),
@@ -400,6 +408,7 @@ fn tell_pieces(
 fn object(name: &Path, piece: &Piece) -> Object {
     let (state, number) = match &piece.state {
         State::Whole(_) => ("whole", 0),
+        State::Rows => ("rows", 0),
         State::Taken(_) => ("taken", 0),
         State::Waits(_) => ("waits", 8),
         State::Not(refusal, _) => ("refused", refusal.number),

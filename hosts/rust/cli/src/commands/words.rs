@@ -67,10 +67,10 @@ fn run_version(session: &mut Session) -> Outcome<Status> {
     session.out.object(|| {
         Object::new("version")
             .text("version", version)
-            .texts("forms", ["SAB1"])
+            .texts("forms", ["SAB1", "SAB2"])
     });
     session.out.line(format_args!(
-        "sab {version}, archive files of the form SAB1"
+        "sab {version}, archive files of the forms SAB1 and SAB2"
     ));
     Ok(Status::Yes)
 }

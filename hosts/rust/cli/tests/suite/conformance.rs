@@ -108,12 +108,19 @@ fn the_vectors() {
     files(&vectors).iter().for_each(|file| every_command(file));
 }
 
+/// Whether a file has folded records. What is folded is not compared, so that files
+/// of different lives may meet unnoticed.
+fn is_folded(file: &Path) -> bool {
+    let bytes = fs::read(file).expect("a file of the kit");
+    bytes.starts_with(b"SAB2") && bytes[36..52] != [0; 16]
+}
+
 /// Every good file meets every other of its archive, or is told why not.
 #[test]
 fn meetings() {
     let good: Vec<PathBuf> = files(&kit())
         .into_iter()
-        .filter(|file| file.to_string_lossy().contains("/good-"))
+        .filter(|file| file.to_string_lossy().contains("/good-") && !is_folded(file))
         .collect();
     let folder = Folder::new();
     let (one, other) = (folder.file("one"), folder.file("other"));
@@ -134,7 +141,10 @@ fn meetings() {
                     );
                     assert_eq!(sab(&["check", name, name_other]).0, Status::Yes);
                 }
-                Status::No => assert!(err.contains("refused 11 "), "{err}"),
+                Status::No => {
+                    let told = ["refused 11 ", "refused 26 "];
+                    assert!(told.iter().any(|words| err.contains(words)), "{err}");
+                }
                 Status::Refused => {
                     refused += 1;
                     assert!(

@@ -1,0 +1,3 @@
+pub mod Recast
+pub mod Raised
+pub mod Lowered

@@ -1,0 +1,12 @@
+pub mod Counts
+pub mod Written
+pub mod Rewritten
+pub mod Forms
+pub mod Numbers
+pub mod Ways
+pub mod Empty
+pub mod Altered
+pub mod Calls
+pub mod Listing
+pub mod Claims
+pub mod Example

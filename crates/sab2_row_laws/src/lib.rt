@@ -1,0 +1,1 @@
+// Laws of list and base as rows: see proofs/. No code.

@@ -1,0 +1,41 @@
+use Rattle.call_guard.proofs.Opening.{open-long, open-based, open-used, open-held, open-entries, open-asides, open-buffer}
+use Rattle.write_sab2.proofs.Ways.{write-refused, all-written, state-sound, few-entries, few-asides, used-few}
+use native.Mathlib.Omega.{arith}
+use borrow.Author.Needs.{needs}
+use Rattle.write_sab2.proofs.write_sab2.Statement.{statement}
+use Rattle.write_sab2.proofs.write_sab2.Tie as tie
+use Rattle.write_sab2.proofs.write_sab2.Reads as reads
+use Rattle.write_sab2.proofs.write_sab2.Lts as lts
+use Rattle.call_guard.proofs.open.Reads as open-reads
+use Rattle.write_sab2.proofs.write_state.Reads as write-state-reads
+
+open-requires : tie.Need-open-requires
+open-requires c κs = search needs
+
+returns : tie.Need-returns
+returns c = search (write-refused)
+
+write-state-requires : tie.Need-write-state-requires
+write-state-requires c κs = (
+  search (open-long),
+  search (open-based),
+  search (state-sound),
+  search (open-entries),
+  search (open-asides),
+  search (few-entries),
+  search (few-asides),
+  search (open-used),
+  search (used-few),
+  search (open-held),
+  search (open-buffer),
+)
+
+same-length : tie.Need-same-length
+same-length c = search needs
+
+returns-2 : tie.Need-returns-2
+returns-2 c = search (all-written)
+
+pub write-sab2-spec : {M : Type 1} → statement M
+write-sab2-spec =
+    tie.close (tie.spec open-requires returns write-state-requires same-length returns-2)
