@@ -17,9 +17,8 @@ use Rattle.byte_slice.proofs.Parts.{part-length}
 use Rattle.byte_slice.proofs.PutAt.{put-padded}
 use Rattle.block_laws.proofs.Fields.{Sized, length-joined, joined-append}
 use Rattle.encoding_laws.proofs.Logs.{empty-log}
-use Rattle.call_laws.proofs.Reading.{file-records}
+use Rattle.call_laws.proofs.Reading.{no-fault, file-records}
 use Rattle.run_laws.proofs.Records.{length-fileRecords}
-use Rattle.run_laws.proofs.Passed.{no-fault}
 use Rattle.file_reader.specs.Walk.{recordOrZeros, walkedTo}
 use Rattle.log_check.specs.declared.Layout.the-variants.{File}
 use Rattle.log_check.specs.Places.{offsetOf, laidAt}
