@@ -26,7 +26,7 @@ use Rattle.sab2_laws.proofs.Numbers.{way-29}
 use Rattle.sab2_laws.proofs.Empty.{back-done}
 use Rattle.base_head.specs.Head.{BaseHead, headed, headOf}
 use Rattle.sab2_check.proofs.Behind.{part-is, behind-length, behind-few, behind-fits}
-use Rattle.convert.proofs.Recast.{records-sized, run-whole}
+use Rattle.convert.proofs.Anew.{records-sized, run-whole}
 
 -- ---- the records behind the rows
 

@@ -25,7 +25,7 @@ use Rattle.file_laws.proofs.Rewritten as Sab1
 use Rattle.read_file_check.proofs.Checks.{right-whole, right-some, right-few}
 use Rattle.read_file.proofs.Copied.{few-of-file, few-of-log}
 use Rattle.write_sab2.proofs.Whole.{file-whole}
-use Rattle.convert.proofs.Recast.{records-sized}
+use Rattle.convert.proofs.Anew.{records-sized}
 
 -- ---- the row of an empty base
 
