@@ -16,7 +16,7 @@ use Rattle.convert.proofs.recast_block.Reads as recast-block-reads
 use Rattle.write_file_blocks.proofs.write_at.Reads as write-at-reads
 
 abbrev Inv-loop : tie.InvT-loop
-Inv-loop part total n letters archive unit v first out₀ k₀ out k = 
+Inv-loop part total n letters archive unit v first out₀ k₀ out k =
     (k ≤ n) × (length out ≡ length out₀) × (out ≡ putAt out₀ (512 * first) (runTo letters (headerOf archive unit first (v .counts)) (fileRecords part) k))
 
 abbrev μ-loop : tie.MeasureT-loop
