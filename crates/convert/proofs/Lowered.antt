@@ -4,12 +4,12 @@ use Prim.Native.Nat.{ℕ, _+_, _-_, _*_, _/_, _≤_, _<_}
 use native.Mathlib.Omega.{arith}
 use mathlib.Core.Path.{_≡_, refl, sym, ap, _∙_}
 use mathlib.Core.Bool.{Bool, true, false, not}
-use mathlib.Core.List.{List, []}
+use mathlib.Core.List.{List}
 use lib.ListN.{length, take, drop, replicate}
 use borrow.Author.Tests.{eq-eqb, ne-eqb, not-true, not-false}
 use Rattle.model.specs.Bytes.{blank, part, padded, putAt}
 use Rattle.model.specs.Record.{Rec}
-use Rattle.model.specs.Log.{noCounts, vectorOf, vectorOn}
+use Rattle.model.specs.Log.{noCounts, vectorOf}
 use Rattle.model.specs.Block.{letters, archiveIn, senderIn, vectorIn}
 use Rattle.model.specs.File.{headerOf, blockCount, blockAt, Fault, fault, orElse, recordsCounted, fileRecords, fileOf}
 use Rattle.base_model.specs.Base.{baseVector}

@@ -9,9 +9,9 @@ use lib.ListN.{length, take, drop, replicate}
 use borrow.Author.Tests.{eq-eqb, ne-eqb}
 use Rattle.model.specs.Bytes.{word, part, padded, putAt, joined}
 use Rattle.model.specs.Vector.{blocksFor}
-use Rattle.model.specs.Log.{noCounts, vectorOf, vectorOn}
+use Rattle.model.specs.Log.{vectorOf, vectorOn}
 use Rattle.model.specs.Block.{archiveIn, senderIn, vectorIn, sealed}
-use Rattle.model.specs.File.{headerOf, blockCount, blockAt, blocksIn, Fault, fault, recordsCounted, fileRecords, fileLength, fileFault, checkedFault}
+use Rattle.model.specs.File.{headerOf, blockCount, blockAt, Fault, fault, recordsCounted, fileRecords, fileLength, fileFault, checkedFault}
 use Rattle.base_model.specs.Base.{emptyBase, baseVector}
 use Rattle.run_model.specs.Runs.{letters2, headAs, bodyAs, blockAs, behind, runBlock, runTo}
 use Rattle.sab2_model.specs.Rows.{rowCount, rowStart, rowLong, baseRow, baseRowsFrom, baseRows}
@@ -86,8 +86,8 @@ module _ (f : List ℕ) (z : checkedFault f .number ≡ 0) where
     pub raised-fits : 1 + (total + 5) / 6 < 256
     raised-fits = omega (arith, total-few)
 
-    pub raised-room : (d : List ℕ) → length d ≡ 95232 → 512 * (1 + (total + 5) / 6) ≤ length d
-    raised-room d long = omega (arith, total-few)
+    pub raised-room : (d e : List ℕ) → length d ≡ 95232 → length e ≡ length d → 512 * (1 + (total + 5) / 6) ≤ length e
+    raised-room d e long same = omega (arith, total-few)
 
     vector-is : vectorIn (blockAt f 0) ≡ vectorOf (fileRecords f)
     vector-is = Sab1.vector-right f (right .0) (right .1)
