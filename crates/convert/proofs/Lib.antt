@@ -1,3 +1,3 @@
-pub mod Recast
+pub mod Anew
 pub mod Raised
 pub mod Lowered

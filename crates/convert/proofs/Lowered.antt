@@ -1,15 +1,15 @@
 -- An SAB2 file as SAB1: its records; and the ways out of the call.
 -- Assumes nothing.
-use Prim.Native.Nat.{ℕ, _+_, _-_, _*_, _/_, _≤_}
+use Prim.Native.Nat.{ℕ, _+_, _-_, _*_, _/_, _≤_, _<_}
 use native.Mathlib.Omega.{arith}
 use mathlib.Core.Path.{_≡_, refl, sym, ap, _∙_}
 use mathlib.Core.Bool.{Bool, true, false, not}
-use mathlib.Core.List.{List, []}
+use mathlib.Core.List.{List}
 use lib.ListN.{length, take, drop, replicate}
 use borrow.Author.Tests.{eq-eqb, ne-eqb, not-true, not-false}
 use Rattle.model.specs.Bytes.{blank, part, padded, putAt}
 use Rattle.model.specs.Record.{Rec}
-use Rattle.model.specs.Log.{noCounts, vectorOf, vectorOn}
+use Rattle.model.specs.Log.{noCounts, vectorOf}
 use Rattle.model.specs.Block.{letters, archiveIn, senderIn, vectorIn}
 use Rattle.model.specs.File.{headerOf, blockCount, blockAt, Fault, fault, orElse, recordsCounted, fileRecords, fileOf}
 use Rattle.base_model.specs.Base.{baseVector}
@@ -26,7 +26,7 @@ use Rattle.sab2_laws.proofs.Numbers.{way-29}
 use Rattle.sab2_laws.proofs.Empty.{back-done}
 use Rattle.base_head.specs.Head.{BaseHead, headed, headOf}
 use Rattle.sab2_check.proofs.Behind.{part-is, behind-length, behind-few, behind-fits}
-use Rattle.convert.proofs.Recast.{records-sized, run-whole}
+use Rattle.convert.proofs.Anew.{records-sized, run-whole}
 
 -- ---- the records behind the rows
 
@@ -48,12 +48,18 @@ module _ (f : List ℕ) (z : checkedSab2 f .number ≡ 0) {p : ℕ} (ep : p ≡ 
     pub lowered-many : n ≤ 86
     lowered-many = omega (arith, few-blocks total lowered-few)
 
-    pub lowered : {a u : ℕ} {v d d₁ o : List ℕ} → blank (baseVector (sab2Base f)) ≡ true → length d ≡ 44032
+    pub lowered-fits : n < 256
+    lowered-fits = omega (arith, lowered-many)
+
+    pub lowered-room : (d : List ℕ) → length d ≡ 44032 → 512 * (0 + n) ≤ length d
+    lowered-room d long = omega (arith, lowered-many)
+
+    pub lowered : (d : List ℕ) {a u : ℕ} {v d₁ o : List ℕ} → blank (baseVector (sab2Base f)) ≡ true → length d ≡ 44032
         → a ≡ archiveIn (take (512 - 0) (drop 0 f)) → u ≡ senderIn (take (512 - 0) (drop 0 f)) → v ≡ vectorIn (take (512 - 0) (drop 0 f))
         → d₁ ≡ putAt d (512 * 0) (runTo letters (headerOf a u 0 v) (fileRecords (take (512 * (length f / 512) - 512 * p) (drop (512 * p) f))) n)
         → o ≡ putAt d₁ (512 * n) (replicate (44032 - 512 * n) 0) → o ≡ padded 44032 (asSab1 f)
     unfolding asSab1 fileOf blockAt part sab2Records
-    lowered {a} {u} {v} {d} none long ea eu ev e₁ e =
+    lowered d {a} {u} {v} none long ea eu ev e₁ e =
         let l : List Rec = fileRecords (recordPart f) in
         let nv : baseVector (sab2Base f) ≡ noCounts = blank-none (baseVector (sab2Base f)) (base-eight (sab2Base f)) none in
         let w : v ≡ vectorOf l = ev ∙ (vector-right f z ∙ rw nv (vectorOn-none l)) in

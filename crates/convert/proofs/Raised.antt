@@ -1,6 +1,6 @@
 -- An SAB1 file as SAB2: one row of an empty base, then its records; and the ways out of the call.
 -- Assumes nothing.
-use Prim.Native.Nat.{ℕ, _+_, _-_, _*_, _/_, _≤_}
+use Prim.Native.Nat.{ℕ, _+_, _-_, _*_, _/_, _≤_, _<_}
 use native.Mathlib.Omega.{arith}
 use mathlib.Core.Path.{_≡_, refl, sym, ap, _∙_}
 use mathlib.Core.Bool.{true}
@@ -9,9 +9,9 @@ use lib.ListN.{length, take, drop, replicate}
 use borrow.Author.Tests.{eq-eqb, ne-eqb}
 use Rattle.model.specs.Bytes.{word, part, padded, putAt, joined}
 use Rattle.model.specs.Vector.{blocksFor}
-use Rattle.model.specs.Log.{noCounts, vectorOf, vectorOn}
+use Rattle.model.specs.Log.{vectorOf, vectorOn}
 use Rattle.model.specs.Block.{archiveIn, senderIn, vectorIn, sealed}
-use Rattle.model.specs.File.{headerOf, blockCount, blockAt, blocksIn, Fault, fault, recordsCounted, fileRecords, fileLength, fileFault, checkedFault}
+use Rattle.model.specs.File.{headerOf, blockCount, blockAt, Fault, fault, recordsCounted, fileRecords, fileLength, fileFault, checkedFault}
 use Rattle.base_model.specs.Base.{emptyBase, baseVector}
 use Rattle.run_model.specs.Runs.{letters2, headAs, bodyAs, blockAs, behind, runBlock, runTo}
 use Rattle.sab2_model.specs.Rows.{rowCount, rowStart, rowLong, baseRow, baseRowsFrom, baseRows}
@@ -25,7 +25,7 @@ use Rattle.file_laws.proofs.Rewritten as Sab1
 use Rattle.read_file_check.proofs.Checks.{right-whole, right-some, right-few}
 use Rattle.read_file.proofs.Copied.{few-of-file, few-of-log}
 use Rattle.write_sab2.proofs.Whole.{file-whole}
-use Rattle.convert.proofs.Recast.{records-sized}
+use Rattle.convert.proofs.Anew.{records-sized}
 
 -- ---- the row of an empty base
 
@@ -58,7 +58,7 @@ module _ (f : List ℕ) (z : checkedFault f .number ≡ 0) where
 
   zero-fault : fault 0 (checkedFault f .place) ≡ checkedFault f
   unfolding fault
-  zero-fault = rw (← z)
+  zero-fault = ap (λ (n : ℕ). fault n (checkedFault f .place)) (sym z)
 
   pub whole : length f ≡ 512 * (length f / 512)
   whole = right-whole f 0 (checkedFault f .place) zero-fault refl
@@ -80,6 +80,15 @@ module _ (f : List ℕ) (z : checkedFault f .number ≡ 0) where
     unfolding blockCount
     blocks-enough = omega arith
 
+    pub raised-many : 1 + (total + 5) / 6 ≤ 186
+    raised-many = omega (arith, total-few)
+
+    pub raised-fits : 1 + (total + 5) / 6 < 256
+    raised-fits = omega (arith, total-few)
+
+    pub raised-room : (d e : List ℕ) → length d ≡ 95232 → length e ≡ length d → 512 * (1 + (total + 5) / 6) ≤ length e
+    raised-room d e long same = omega (arith, total-few)
+
     vector-is : vectorIn (blockAt f 0) ≡ vectorOf (fileRecords f)
     vector-is = Sab1.vector-right f (right .0) (right .1)
 
@@ -91,12 +100,12 @@ module _ (f : List ℕ) (z : checkedFault f .number ≡ 0) where
     unfolding sab2Blocks
     raised-blocks = omega (arith, one-block, for-is total, ap blocksFor length-is)
 
-    pub raised : {a u : ℕ} {v d b d₁ d₂ o : List ℕ} → length d ≡ 95232 → a ≡ archiveIn (take (512 - 0) (drop 0 f)) → u ≡ senderIn (take (512 - 0) (drop 0 f)) → v ≡ vectorIn (take (512 - 0) (drop 0 f))
+    pub raised : (d : List ℕ) {a u : ℕ} {v b d₁ d₂ o : List ℕ} → length d ≡ 95232 → a ≡ archiveIn (take (512 - 0) (drop 0 f)) → u ≡ senderIn (take (512 - 0) (drop 0 f)) → v ≡ vectorIn (take (512 - 0) (drop 0 f))
         → b ≡ runBlock letters2 (headerOf a u 0 v) (baseRows emptyBase) 0 → d₁ ≡ putAt d (512 * 0) b
         → d₂ ≡ putAt d₁ (512 * 1) (runTo letters2 (headerOf a u 1 v) (fileRecords f) ((total + 5) / 6))
         → o ≡ putAt d₂ (512 * (1 + (total + 5) / 6)) (replicate (95232 - 512 * (1 + (total + 5) / 6)) 0) → o ≡ padded 95232 (asSab2 f)
     unfolding asSab2 runTo blockAt part
-    raised {a} {u} {v} {d} long ea eu ev eb e₁ e₂ e =
+    raised d {a} {u} {v} long ea eu ev eb e₁ e₂ e =
         let w : v ≡ vectorOn (baseVector emptyBase) (fileRecords f) = ev ∙ (vector-is ∙ sym (rw empty-vector (vectorOn-none (fileRecords f)))) in
         let n : (total + 5) / 6 ≡ blocksFor (length (fileRecords f)) = rw length-is (for-is total) in
         file-whole a u emptyBase v d (fileRecords f) (records-sized f total et total-inside) long one-block n (omega arith) (omega (arith, total-few)) w (e₁ ∙ rw eb) e₂ e ∙ rw (ea, eu)
