@@ -63,8 +63,8 @@ module _ (f : List ℕ) (z : checkedFault f .number ≡ 0) where
   pub checked-some : 1 ≤ length f / 512
   checked-some = some-block f (sym (checked-both f z .0)) refl
 
-  pub checked-few : length f / 512 ≤ 86
-  checked-few = few-blocks f (sym (checked-both f z .0)) refl
+  pub checked-few : length f / 512 ≤ 186
+  checked-few = omega (arith, few-blocks f (sym (checked-both f z .0)) refl)
 
   pub checked-512 : 512 ≤ length f
   checked-512 = omega (arith, checked-some)

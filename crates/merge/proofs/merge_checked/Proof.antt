@@ -11,10 +11,10 @@ use Rattle.merge_join.proofs.join_files.Reads as join-files-reads
 use Rattle.read_file_check.proofs.records_counted.Reads as records-counted-reads
 
 records-counted-requires : tie.Need-records-counted-requires
-records-counted-requires c κs = (search (checked-whole), search (checked-some), search (checked-few))
+records-counted-requires c κs = (search (checked-whole), search (checked-few))
 
 records-counted-requires-2 : tie.Need-records-counted-requires-2
-records-counted-requires-2 c κs = (search (checked-whole), search (checked-some), search (checked-few))
+records-counted-requires-2 c κs = (search (checked-whole), search (checked-few))
 
 vector-of-requires : tie.Need-vector-of-requires
 vector-of-requires c κs = search needs
