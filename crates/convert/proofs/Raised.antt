@@ -1,6 +1,6 @@
 -- An SAB1 file as SAB2: one row of an empty base, then its records; and the ways out of the call.
 -- Assumes nothing.
-use Prim.Native.Nat.{ℕ, _+_, _-_, _*_, _/_, _≤_, _<_}
+use Prim.Native.Nat.{ℕ, _+_, _-_, _*_, _/_, _≤_}
 use native.Mathlib.Omega.{arith}
 use mathlib.Core.Path.{_≡_, refl, sym, ap, _∙_}
 use mathlib.Core.Bool.{true}
@@ -15,7 +15,7 @@ use Rattle.model.specs.File.{headerOf, blockCount, blockAt, Fault, fault, recor
 use Rattle.base_model.specs.Base.{emptyBase, baseVector}
 use Rattle.run_model.specs.Runs.{letters2, headAs, bodyAs, blockAs, behind, runBlock, runTo}
 use Rattle.sab2_model.specs.Rows.{rowCount, rowStart, rowLong, baseRow, baseRowsFrom, baseRows}
-use Rattle.sab2_model.specs.Sab2.{sab2Blocks}
+use Rattle.sab2_model.specs.Sab2.{sab2Of, sab2Blocks}
 use Rattle.sab2_model.specs.Calls.{converted, orConverted, asSab2, toSab2Of}
 use Rattle.log_laws.proofs.Tests.{vectorOn-none}
 use Rattle.run_laws.proofs.Records.{length-fileRecords}
@@ -69,6 +69,10 @@ module _ (f : List ℕ) (z : checkedFault f .number ≡ 0) where
   pub first : 512 ≤ length f
   first = omega (arith, whole, right-some f 0 (checkedFault f .place) zero-fault refl)
 
+  pub raised-vector : {v : List ℕ} → v ≡ vectorIn (take (512 - 0) (drop 0 f)) → v ≡ vectorOf (fileRecords f)
+  unfolding blockAt part
+  raised-vector e = e ∙ Sab1.vector-right f (right .0) (right .1)
+
   module _ {total : ℕ} (et : total ≡ recordsCounted f) where
     pub total-few : total ≤ 512
     total-few = omega (arith, few-of-log f 0 (checkedFault f .place) zero-fault refl)
@@ -80,18 +84,6 @@ module _ (f : List ℕ) (z : checkedFault f .number ≡ 0) where
     unfolding blockCount
     blocks-enough = omega arith
 
-    pub raised-many : 1 + (total + 5) / 6 ≤ 186
-    raised-many = omega (arith, total-few)
-
-    pub raised-fits : 1 + (total + 5) / 6 < 256
-    raised-fits = omega (arith, total-few)
-
-    pub raised-room : (d e : List ℕ) → length d ≡ 95232 → length e ≡ length d → 512 * (1 + (total + 5) / 6) ≤ length e
-    raised-room d e long same = omega (arith, total-few)
-
-    vector-is : vectorIn (blockAt f 0) ≡ vectorOf (fileRecords f)
-    vector-is = Sab1.vector-right f (right .0) (right .1)
-
     length-is : length (fileRecords f) ≡ total
     unfolding fileRecords
     length-is = length-fileRecords f 0 (recordsCounted f) ∙ sym et
@@ -100,15 +92,21 @@ module _ (f : List ℕ) (z : checkedFault f .number ≡ 0) where
     unfolding sab2Blocks
     raised-blocks = omega (arith, one-block, for-is total, ap blocksFor length-is)
 
-    pub raised : (d : List ℕ) {a u : ℕ} {v b d₁ d₂ o : List ℕ} → length d ≡ 95232 → a ≡ archiveIn (take (512 - 0) (drop 0 f)) → u ≡ senderIn (take (512 - 0) (drop 0 f)) → v ≡ vectorIn (take (512 - 0) (drop 0 f))
+    pub raised : (a u : ℕ) (v d : List ℕ) {b d₁ d₂ o : List ℕ} → v ≡ vectorOf (fileRecords f) → length d ≡ 95232
         → b ≡ runBlock letters2 (headerOf a u 0 v) (baseRows emptyBase) 0 → d₁ ≡ putAt d (512 * 0) b
         → d₂ ≡ putAt d₁ (512 * 1) (runTo letters2 (headerOf a u 1 v) (fileRecords f) ((total + 5) / 6))
-        → o ≡ putAt d₂ (512 * (1 + (total + 5) / 6)) (replicate (95232 - 512 * (1 + (total + 5) / 6)) 0) → o ≡ padded 95232 (asSab2 f)
-    unfolding asSab2 runTo blockAt part
-    raised d {a} {u} {v} long ea eu ev eb e₁ e₂ e =
-        let w : v ≡ vectorOn (baseVector emptyBase) (fileRecords f) = ev ∙ (vector-is ∙ sym (rw empty-vector (vectorOn-none (fileRecords f)))) in
+        → o ≡ putAt d₂ (512 * (1 + (total + 5) / 6)) (replicate (95232 - 512 * (1 + (total + 5) / 6)) 0)
+        → o ≡ padded 95232 (sab2Of a u emptyBase (fileRecords f))
+    unfolding runTo
+    raised a u v d ev long eb e₁ e₂ e =
+        let w : v ≡ vectorOn (baseVector emptyBase) (fileRecords f) = ev ∙ sym (rw empty-vector (vectorOn-none (fileRecords f))) in
         let n : (total + 5) / 6 ≡ blocksFor (length (fileRecords f)) = rw length-is (for-is total) in
-        file-whole a u emptyBase v d (fileRecords f) (records-sized f total et total-inside) long one-block n (omega arith) (omega (arith, total-few)) w (e₁ ∙ rw eb) e₂ e ∙ rw (ea, eu)
+        file-whole a u emptyBase v d (fileRecords f) (records-sized f total et total-inside) long one-block n (omega arith) (omega (arith, total-few)) w (e₁ ∙ rw eb) e₂ e
+
+pub raised-as : (f : List ℕ) {a u : ℕ} {o : List ℕ} → a ≡ archiveIn (take (512 - 0) (drop 0 f)) → u ≡ senderIn (take (512 - 0) (drop 0 f))
+    → o ≡ padded 95232 (sab2Of a u emptyBase (fileRecords f)) → o ≡ padded 95232 (asSab2 f)
+unfolding asSab2 blockAt part
+raised-as f ea eu e = e ∙ rw (ea, eu)
 
 -- ---- the ways out
 

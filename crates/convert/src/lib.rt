@@ -5,11 +5,12 @@ ghost use Prim.Native.Nat.{_+_, _*_, _/_, _≤_};
 ghost use lib.ListN.{length};
 ghost use Rattle.model.specs.Lengths.{fileSize, baseSize};
 ghost use Rattle.model.specs.Bytes.{blank, padded, putAt};
+ghost use Rattle.model.specs.Log.{vectorOf};
 ghost use Rattle.model.specs.File.{headerOf, blockCount, recordsCounted, fileRecords, checkedFault};
 ghost use Rattle.base_model.specs.Base.{emptyBase, baseVector};
 ghost use Rattle.run_model.specs.Runs.{letters2, runBlock, runTo};
 ghost use Rattle.sab2_model.specs.Rows.{baseRows};
-ghost use Rattle.sab2_model.specs.Sab2.{sab2Base, sab2Records, sab2Blocks, checkedSab2};
+ghost use Rattle.sab2_model.specs.Sab2.{sab2Of, sab2Blocks, sab2Base, sab2Records, checkedSab2};
 ghost use Rattle.sab2_model.specs.Calls.{sab2Size, converted, asSab2, asSab1, toSab2Of, toSab1Of};
 use base_head::head_of;
 use block_read::archive_in;
@@ -101,6 +102,19 @@ fn empty_rows(archive: u32, unit: u8, v: Vector) -> Block
     block_as(b"SAB2", archive, unit, 1, 0, v, &row)
 }
 
+// The row of an empty base, then the records of an SAB1 file without a fault, then zeros; the count of blocks is returned.
+fn write_raised(file: &[u8], total: usize, archive: u32, unit: u8, v: Vector, out: &mut [u8]) -> u8
+    requires { ⌜ (checkedFault (now file) .number ≡ 0) × (total ≡ recordsCounted (now file)) × (total ≤ 512) × (v .counts ≡ vectorOf (fileRecords (now file))) × (length (now out) ≡ sab2Size) ⌝ }
+    ensures counted { λ r. ⌜ r ≡ sab2Blocks emptyBase (fileRecords (now (file .entry))) ⌝ }
+    ensures written { λ _. ⌜ now (out .exit) ≡ padded sab2Size (sab2Of archive unit emptyBase (fileRecords (now (file .entry)))) ⌝ }
+{
+    let n = (total + 5) / 6;
+    write_at(out, 0, empty_rows(archive, unit, v));
+    recast(file, total, n, b"SAB2", archive, unit, v, 1, out);
+    write_sab2::clear_behind(out, 1 + n);
+    (1 + n) as u8
+}
+
 // An SAB1 file without a fault becomes an SAB2 file; the count of its blocks is returned.
 fn raise(file: &[u8], out: &mut [u8]) -> u8
     requires { ⌜ (checkedFault (now file) .number ≡ 0) × (length (now out) ≡ sab2Size) ⌝ }
@@ -111,11 +125,7 @@ fn raise(file: &[u8], out: &mut [u8]) -> u8
     let unit = sender_in(&file[0..512]);
     let v = vector_in(&file[0..512]);
     let total = records_counted(file, file.len() / BLOCK_BYTES);
-    let n = (total + 5) / 6;
-    write_at(out, 0, empty_rows(archive, unit, v));
-    recast(file, total, n, b"SAB2", archive, unit, v, 1, out);
-    write_sab2::clear_behind(out, 1 + n);
-    (1 + n) as u8
+    write_raised(file, total, archive, unit, v, out)
 }
 
 // An SAB1 file becomes an SAB2 file of the same archive and unit in the lent bytes, with zeros behind the last block: an empty base, all eight

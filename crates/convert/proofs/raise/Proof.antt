@@ -1,4 +1,4 @@
-use Rattle.convert.proofs.Raised.{whole, few, first, total-few, total-inside, blocks-enough, raised-room, raised-many, raised-fits, raised-blocks, raised}
+use Rattle.convert.proofs.Raised.{whole, few, first, total-few, raised-vector, raised-as}
 use native.Mathlib.Omega.{arith}
 use borrow.Author.Needs.{needs}
 use Rattle.convert.proofs.raise.Statement.{statement}
@@ -8,11 +8,8 @@ use Rattle.convert.proofs.raise.Lts as lts
 use Rattle.block_read.proofs.archive_in.Reads as archive-in-reads
 use Rattle.block_read.proofs.sender_in.Reads as sender-in-reads
 use Rattle.block_read.proofs.vector_in.Reads as vector-in-reads
-use Rattle.convert.proofs.empty_rows.Reads as empty-rows-reads
-use Rattle.convert.proofs.recast.Reads as recast-reads
+use Rattle.convert.proofs.write_raised.Reads as write-raised-reads
 use Rattle.read_file_check.proofs.records_counted.Reads as records-counted-reads
-use Rattle.write_file_blocks.proofs.write_at.Reads as write-at-reads
-use Rattle.write_sab2.proofs.clear_behind.Reads as clear-behind-reads
 
 sub-archive-in : tie.Need-sub-archive-in
 sub-archive-in c = search needs
@@ -53,35 +50,14 @@ vector-in-requires c κs = search needs
 records-counted-requires : tie.Need-records-counted-requires
 records-counted-requires c κs = (search (whole), search (few))
 
-add-n : tie.Need-add-n
-add-n c = search needs
-
-empty-rows-requires : tie.Need-empty-rows-requires
-empty-rows-requires c κs = search needs
-
-write-at-requires : tie.Need-write-at-requires
-write-at-requires c κs = search needs
-
-recast-requires : tie.Need-recast-requires
-recast-requires c κs = (search needs, search (total-few), search (total-inside), search (blocks-enough), search needs, search needs, search (raised-room))
-
-add-clear-behind : tie.Need-add-clear-behind
-add-clear-behind c = search needs
-
-clear-behind-requires : tie.Need-clear-behind-requires
-clear-behind-requires c κs = (search needs, search (raised-many))
-
-add-result : tie.Need-add-result
-add-result c = search needs
-
-cast-result : tie.Need-cast-result
-cast-result c = search (raised-fits)
+write-raised-requires : tie.Need-write-raised-requires
+write-raised-requires c κs = (search needs, search needs, search (total-few), search (raised-vector), search needs)
 
 same-length : tie.Need-same-length
 same-length c = search needs
 
 returns : tie.Need-returns
-returns c = (search (raised-blocks), search (raised))
+returns c = (search needs, search (raised-as))
 
 pub raise-spec : {M : Type 1} → statement M
 raise-spec =
@@ -100,13 +76,6 @@ raise-spec =
     part-vector-in-end
     vector-in-requires
     records-counted-requires
-    add-n
-    empty-rows-requires
-    write-at-requires
-    recast-requires
-    add-clear-behind
-    clear-behind-requires
-    add-result
-    cast-result
+    write-raised-requires
     same-length
     returns)
