@@ -5,13 +5,14 @@ use native.Mathlib.Omega.{arith}
 use mathlib.Core.Path.{_≡_, refl, sym, ap, _∙_}
 use mathlib.Core.Logic.{⊎-elim}
 use mathlib.Core.Bool.{true, false, _&&_, _||_}
-use mathlib.Core.List.{List}
+use mathlib.Core.List.{List, _++_}
 use lib.Dec.{eqb, leb}
-use lib.ListN.{getD, length, set, replicate, length-set, length-replicate, getD-replicate}
+use lib.ListN.{getD, length, set, replicate, drop, length-set, length-replicate, getD-replicate}
 use lib.Seq.{getD-set-same, getD-set-other}
 use borrow.Author.Tests.{eq-eqb, ne-eqb, le-leb, lt-leb}
 use Rattle.model.specs.Log.{allTo}
 use Rattle.byte_slice.proofs.Numbers.{lt-or-ge, eq-or-ne, not-both}
+use Rattle.byte_slice.proofs.Parts.{filled}
 use Rattle.base_links.proofs.Links.{all-next, all-ends, all-none, all-false}
 use Rattle.base_climb.specs.Climb.{climbs, climbsFrom, Exact, Known, Away}
 
@@ -133,12 +134,16 @@ module _ (ups : List ℕ) (n i : ℕ) where
 
 -- ---- what is known
 
+-- a table that was filled up to its end
+pub cleared : (d : List ℕ) (i : ℕ) {o : List ℕ} → length d ≡ 1024 → i ≤ 1024 → 1024 ≤ i → o ≡ replicate i 0 ++ drop i d → o ≡ replicate 1024 0
+cleared d i long h g e = e ∙ (filled d 0 i (omega arith) ∙ rw long)
+
 module _ (ups : List ℕ) where
-  pub known-none : Known ups (replicate 512 0)
-  known-none =
-      record {
-        long = length-replicate {A = ℕ} 512 0;
-        far = λ j l h. absurd (omega (arith, getD-replicate {A = ℕ} 512 j 0 0 l));
+  pub known-none : {d : List ℕ} → d ≡ replicate 1024 0 → Known ups d
+  known-none e =
+      rw e record {
+        long = length-replicate {A = ℕ} 1024 0;
+        far = λ j l h. absurd (omega (arith, getD-replicate {A = ℕ} 1024 j 0 0 (omega arith)));
       }
 
   pub known-more : (depths depths′ : List ℕ) (row k : ℕ) → Known ups depths → row < 512 → Exact ups (getD ups row 0) k → depths′ ≡ set depths row (k + 1) → Known ups depths′

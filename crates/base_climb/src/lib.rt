@@ -1,7 +1,7 @@
 // Climbing by a table of rows. How far a row is from the top is kept, so that no row is passed twice.
 ghost use mathlib.Core.Path.{_≡_};
 ghost use Prim.Native.Nat.{_≤_, _<_};
-ghost use lib.ListN.{length, getD};
+ghost use lib.ListN.{length, getD, replicate};
 ghost use Rattle.model.specs.Log.{allTo};
 ghost use Rattle.base_climb.specs.Climb.{climbsFrom, Exact, Known, Away};
 
@@ -49,8 +49,20 @@ fn mark(ups: &[u16], depths: &mut [u16], i: usize, k: usize)
     }
 }
 
-// From each of the first n rows the top is reached by at most n steps.
-pub fn all_climb(ups: &[u16], depths: &mut [u16], n: usize) -> bool
+// Every number becomes zero.
+fn clear(table: &mut [u16])
+    requires { ⌜ length (now table) ≡ 1024 ⌝ }
+    ensures { λ _. ⌜ now (table .exit) ≡ replicate 1024 0 ⌝ }
+{
+    let mut i: usize = 0;
+    while i < 1024 {
+        table[i] = 0;
+        i += 1;
+    }
+}
+
+// The first n rows one after another, by what is known of them.
+fn rows_climb(ups: &[u16], depths: &mut [u16], n: usize) -> bool
     requires { ⌜ (length (now ups) ≡ 512) × (n ≤ 512) × Known (now ups) (now depths) ⌝ }
     ensures { λ r. ⌜ r ≡ allTo n (climbsFrom (now (ups .entry)) n) ⌝ }
 {
@@ -64,4 +76,13 @@ pub fn all_climb(ups: &[u16], depths: &mut [u16], n: usize) -> bool
         i += 1;
     }
     true
+}
+
+// From each of the first n rows the top is reached by at most n steps. The lent table of depths may hold anything before.
+pub fn all_climb(ups: &[u16], depths: &mut [u16], n: usize) -> bool
+    requires { ⌜ (length (now ups) ≡ 512) × (n ≤ 512) × (length (now depths) ≡ 1024) ⌝ }
+    ensures { λ r. ⌜ r ≡ allTo n (climbsFrom (now (ups .entry)) n) ⌝ }
+{
+    clear(depths);
+    rows_climb(ups, depths, n)
 }

@@ -123,9 +123,8 @@ pub fn ids_fit(base: &[u8], n: usize, m: usize) -> bool
     let mut heads = [0u16; 1024];
     let mut next = [0u16; 1024];
     let mut ups = [0u16; 512];
-    let mut depths = [0u16; 512];
     let entries = link_ids(base, n, 0, n, true, &mut heads, &mut next);
     fill_ups(base, n, &heads, &next, &mut ups);
     let all = link_ids(base, n, n, n + m, entries, &mut heads, &mut next);
-    all & base_climb::all_climb(&ups, &mut depths, n)
+    all & base_climb::all_climb(&ups, &mut heads, n)
 }

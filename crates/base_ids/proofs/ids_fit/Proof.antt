@@ -1,4 +1,3 @@
-use Rattle.base_climb.proofs.Climbing.{known-none}
 use Rattle.base_ids.proofs.Ids.{ids-none, ids-start}
 use Rattle.base_ids.proofs.Rooted.{ids-are}
 use native.Mathlib.Omega.{arith}
@@ -46,7 +45,7 @@ slice-aggregate-all-climb-2 : tie.Need-slice-aggregate-all-climb-2
 slice-aggregate-all-climb-2 c = search needs
 
 all-climb-requires : tie.Need-all-climb-requires
-all-climb-requires c κs = (search needs, omega arith, search (known-none))
+all-climb-requires c κs = (search needs, omega arith, search needs)
 
 returns : tie.Need-returns
 returns c = search (ids-are)
