@@ -1,4 +1,5 @@
--- Examples of SAB2 files, as rows of one table. No sum is computed: files are taken in parts, and read without their sums.
+-- Examples of SAB2 files, as rows of one table. No sum is computed: files are taken in parts, and read without their sums. Whole files are
+-- rows of sab2_examples.
 -- Document 02, K11.
 -- Assumes nothing.
 use Prim.Native.Nat.{ℕ, suc, _+_, _*_}
@@ -140,9 +141,10 @@ alike b c =
 
 unfoldable pub isReadBack : ReadBack → ℕ → List ℕ → List Rec → Bool
 isReadBack r u b l =
-    eqb (r .archive) 7
+    eqb (r .number) 0
+    && (eqb (r .archive) 7
     && (eqb (r .sender) u
-    && (eqb (r .records) (length l) && (alike (r .base) b && sameBytes (take 160 (r .log)) (take 160 (logBytes l)))))
+    && (eqb (r .records) (length l) && (alike (r .base) b && sameBytes (take 160 (r .log)) (take 160 (logBytes l))))))
 
 unfoldable pub isNotRead : ReadBack → Fault → Bool
 isNotRead r e = sameFault (fault (r .number) (r .place)) e && (eqb (r .records) 0 && (isLeft (r .log) && isLeft (r .base)))
@@ -160,7 +162,9 @@ right (rows e a n) = eqb (rowCount e a) n
 right (stands e a i at n) = eqb (rowStart e i) at && eqb (rowLong e a i) n
 right (writes u m p l v ls) = isFile S2 u v (sab2Of 7 u (baseOf m p) l) ls && eqb (sab2Blocks (baseOf m p) l) (length ls)
 right (writesInto m p l k) = isWritten (wroteSab2 7 5 [] (baseOf m p) l) k
-right (readsBack m p l) = isReadBack (readSab2 (unsealed2 3 m p l)) 3 (baseOf m p) l
+right (readsBack m p l) =
+    isReadBack (readSab2 (unsealed2 3 m p l)) 3 (baseOf m p) l
+    && sameBytes (readSab2 (unsealed2 3 m p l) .vector) (vectorOn (vectorOf p) l)
 right (fitsFile n b) = sameFlag (sab2Fits n) b
 right (holds l b) = sameFlag (rowsHold l) b
 right (sound b x) = sameFlag (baseStands b) x
@@ -258,7 +262,8 @@ held =
     ∷ holds (headRow 255 noCounts 1 0 ∷ padded 80 (replicate 73 1) ∷ []) false
     ∷ holds (headRow 255 noCounts 0 1 ∷ padded 80 (replicate 12 1) ∷ []) true
     ∷ holds (headRow 255 noCounts 0 1 ∷ padded 80 (replicate 13 1) ∷ []) false
-    -- more than 512
+    -- 512, and more than 512
+    ∷ holds (headRow 255 noCounts 512 512 ∷ []) true
     ∷ holds (headRow 255 noCounts 513 0 ∷ []) false
     ∷ holds (headRow 255 noCounts 0 513 ∷ []) false
     -- the base counts a unit that is not listed; it names an identity above its vector
@@ -292,7 +297,12 @@ forms =
     chooses S2 512 4 0
     ∷ chooses letters 512 4 0
     ∷ chooses (83 ∷ 65 ∷ 66 ∷ 51 ∷ []) 44544 2 0
-    -- a base of another length, before the file; a refusal leaves log and base
+    -- of SAB2 a part of a block and 187 are 2; 4 is asked before 31
+    ∷ chooses S2 511 2 0
+    ∷ chooses S2 95744 2 0
+    ∷ chooses (S2 ++ (replicate 24 0 ++ (255 ∷ 1 ∷ []))) 512 4 0
+    -- a log or base of another length, before the file; a refusal leaves log and base
+    ∷ readsNone 1 43032 [] 1 0
     ∷ readsNone 40960 1 [] 1 0
     ∷ readsNone 40960 43032 [] 2 0
     -- each way has its own letters
@@ -324,8 +334,11 @@ unfoldable pub printed : List Example
 printed =
     -- records not folded are counted; vector, tree and asides are those of all
     prints 3 (firstsTo 2) (settles 4 (0 · 2) (1 ∷ 1 ∷ []) (1 · 1) ∷ []) 1
-    -- a base of another length leaves no text
+    -- a log, base, tree or text of another length leaves no text
+    ∷ lends 1 43032 86020 172544
     ∷ lends 40960 1 86020 172544
+    ∷ lends 40960 43032 1 172544
+    ∷ lends 40960 43032 86020 1
     ∷ []
 
 -- all of them

@@ -1,0 +1,2 @@
+-- Examples of whole files of either form.
+pub mod Examples
