@@ -957,8 +957,8 @@ uint32_t sab_list(const uint8_t *index, size_t index_len, uint32_t unit,
  *
  * Returns 0; 1 log, base, tree, out or length not of its length, and all is as it
  * was; else the number and place with which sab_read_file refuses the file (2 to
- * 5, 7 to 9, 11, 20, 26, 31), the line of refusal is the listing, and log, base and
- * tree are as they were.
+ * 5, 7 to 9, 11, 20, 26, 31), the line of refusal is the listing, log and base are
+ * as they were, and every byte of tree is zero.
  */
 uint32_t sab_listing(const uint8_t *file, size_t file_len, uint8_t *log,
                      size_t log_len, uint8_t *base, size_t base_len,

@@ -7,7 +7,7 @@ use mathlib.Core.Logic.{⊎-elim}
 use mathlib.Core.Bool.{true, false}
 use mathlib.Core.List.{List, _++_}
 use lib.Dec.{eqb}
-use lib.ListN.{length}
+use lib.ListN.{length, replicate}
 use borrow.Author.Tests.{eq-eqb, ne-eqb}
 use Rattle.model.specs.Bytes.{word, putAt}
 use Rattle.model.specs.Log.{recordsOf}
@@ -104,6 +104,9 @@ refused-fits n p text e = omega (arith, refused-line-length n p)
 pub refused-small : {text text′ : List ℕ} {r : ℕ} (n p : ℕ) → Wrote text text′ 0 r (refusedLine n p) → r < 4294967296
 refused-small n p w = omega (arith, refused-line-length n p, w .next)
 
+pub table-cleared : (tree : List ℕ) {o : List ℕ} → length tree ≡ 86020 → o ≡ replicate (length tree) 0 → o ≡ replicate 86020 0
+table-cleared tree h e = e ∙ rw h
+
 -- ---- what reading leaves, of either form
 
 module _ (f : List ℕ) where
@@ -150,16 +153,16 @@ module _ (f log base tree text log′ base′ v : List ℕ) (n p a u k : ℕ) (b
   number-is : n ≡ readEitherOf log base f .number
   number-is = ap (λ (x : ReadBack). x .number) back
 
-  -- a refused file leaves log, base and table
-  pub refused-left : {text′ : List ℕ} {r : ℕ} → (n ≡ 0 → ⊥) → Wrote text text′ 0 r (refusedLine n p)
-      → listed n p r log′ base′ tree text′ ≡ eitherListed f log base tree text
+  -- a refused file leaves log and base, and the table is cleared
+  pub refused-left : {tree′ text′ : List ℕ} {r : ℕ} → (n ≡ 0 → ⊥) → tree′ ≡ replicate 86020 0 → Wrote text text′ 0 r (refusedLine n p)
+      → listed n p r log′ base′ tree′ text′ ≡ eitherListed f log base tree text
   unfolding eitherListed listedRead
-  refused-left {text′} {r} bad w =
+  refused-left {tree′} {text′} {r} bad clear w =
       let bad′ : readEitherOf log base f .number ≡ 0 → ⊥ = λ z. bad (number-is ∙ z) in
       let e : refusedLine n p ≡ eitherListing f =
       ap₂ refusedLine number-is (ap (λ (x : ReadBack). x .place) back) ∙ sym (refused-is log base f long based bad′) in
       let size : r ≡ length (eitherListing f) = w .next ∙ rw e (omega arith) in
-      rw (whole, ne-eqb (readEitherOf log base f .number) 0 bad′, ← back, size, w .bytes, e)
+      rw (whole, ne-eqb (readEitherOf log base f .number) 0 bad′, ← back, clear, size, w .bytes, e)
 
   module _ (z : n ≡ 0) where
     faultless : eitherFault f .number ≡ 0

@@ -2,7 +2,7 @@
 ghost use mathlib.Core.Path.{_≡_};
 ghost use mathlib.Core.List.{_++_};
 ghost use Prim.Native.Nat.{_≤_};
-ghost use lib.ListN.{length};
+ghost use lib.ListN.{length, replicate};
 ghost use Rattle.model.specs.Lengths.{logSize, baseSize, treeSize};
 ghost use Rattle.model.specs.Bytes.{word};
 ghost use Rattle.model.specs.Log.{recordsOf};
@@ -10,12 +10,14 @@ ghost use Rattle.model.specs.Listing.{headLine, seenLine, treeLines, refusedLin
 ghost use mathlib.Core.Bool.{true};
 ghost use Rattle.model.specs.Table.{tableBytes};
 ghost use Rattle.base_model.specs.Base.{soundState, heldOn, treeOf};
-ghost use Rattle.sab2_model.specs.Calls.{listingSize, listed, eitherListed};
+ghost use Rattle.sab2_model.specs.Calls.{readEitherOf, listingSize, listed, eitherListed};
+ghost use Rattle.read_file_check.specs.Outcome.{readBackOf};
 ghost use Rattle.line_text.specs.Written.{Wrote};
 ghost use Rattle.listing.specs.Lists.{Lists};
 use model::BASE_BYTES;
 use model::LOG_BYTES;
 use model::TREE_BYTES;
+use read_file::ReadFile;
 use sab2_model::LISTING_BYTES;
 use tree_table::Size;
 use vector::Vector;
@@ -63,11 +65,21 @@ fn state_lines(
     file_lines(text, tree, archive, unit, records, held) as u32
 }
 
-// The line of a refused file.
-fn refuse(text: &mut [u8], number: u8, place: u8) -> u32
-    requires { ⌜ length (now text) ≡ listingSize ⌝ }
-    ensures { λ r. ⌜ Wrote (now (text .entry)) (now (text .exit)) 0 r (refusedLine number place) ⌝ }
+// A file of either form is read by way of the tree table, whose bytes are not promised.
+fn read_by(file: &[u8], log: &mut [u8], base: &mut [u8], tree: &mut [u8]) -> ReadFile
+    requires { ⌜ length (now tree) ≡ treeSize ⌝ }
+    ensures { λ r. ⌜ readBackOf (r .number) (r .place) (r .archive) (r .unit) (r .records) (r .vector .counts) (now (log .exit)) (now (base .exit)) ≡ readEitherOf (now (log .entry)) (now (base .entry)) (now (file .entry)) ⌝ }
 {
+    read_either::read_beside(log, base, file, &mut tree[0..43032])
+}
+
+// The line of a refused file; the tree table is cleared.
+fn refuse(text: &mut [u8], tree: &mut [u8], number: u8, place: u8) -> u32
+    requires { ⌜ (length (now text) ≡ listingSize) × (length (now tree) ≡ treeSize) ⌝ }
+    ensures line { λ r. ⌜ Wrote (now (text .entry)) (now (text .exit)) 0 r (refusedLine number place) ⌝ }
+    ensures cleared { λ _. ⌜ now (tree .exit) ≡ replicate treeSize 0 ⌝ }
+{
+    byte_slice::clear(tree);
     line_refusal::refused_line(text, 0, number, place) as u32
 }
 
@@ -89,8 +101,37 @@ fn wrong_lent() -> Listed
     }
 }
 
-// A file of either form is listed into the lent text, by way of the lent log, base and tree table; a refused one gives its line. Lent memory
-// that is not of its stated length is 1, and then all is left as it was.
+// A file of either form is listed into lent memory of its stated lengths.
+fn list_file(
+    file: &[u8],
+    log: &mut [u8],
+    base: &mut [u8],
+    tree: &mut [u8],
+    text: &mut [u8],
+) -> Listed
+    requires { ⌜ (length (now log) ≡ logSize) × (length (now base) ≡ baseSize) × (length (now tree) ≡ treeSize) × (length (now text) ≡ listingSize) ⌝ }
+    ensures { λ r. ⌜ listed (r .number) (r .place) (r .length) (now (log .exit)) (now (base .exit)) (now (tree .exit)) (now (text .exit)) ≡ eitherListed (now (file .entry)) (now (log .entry)) (now (base .entry)) (now (tree .entry)) (now (text .entry)) ⌝ }
+{
+    let r = read_by(file, log, base, tree);
+    if r.number != 0 {
+        let n = refuse(text, tree, r.number, r.place);
+        return Listed {
+            number: r.number,
+            place: r.place,
+            length: n,
+        };
+    }
+    let v = r.vector;
+    let n = state_lines(text, log, base, tree, r.archive, r.unit, r.records, v);
+    Listed {
+        number: 0,
+        place: 0,
+        length: n,
+    }
+}
+
+// A file of either form is listed into the lent text, by way of the lent log, base and tree table; a refused one gives its line, leaves log
+// and base, and clears the table. Lent memory that is not of its stated length is 1, and then all is left as it was.
 pub fn listing(
     file: &[u8],
     log: &mut [u8],
@@ -112,20 +153,5 @@ pub fn listing(
     if text.len() != LISTING_BYTES {
         return wrong_lent();
     }
-    let r = read_either::read_either(log, base, file);
-    if r.number != 0 {
-        let n = refuse(text, r.number, r.place);
-        return Listed {
-            number: r.number,
-            place: r.place,
-            length: n,
-        };
-    }
-    let v = r.vector;
-    let n = state_lines(text, log, base, tree, r.archive, r.unit, r.records, v);
-    Listed {
-        number: 0,
-        place: 0,
-        length: n,
-    }
+    list_file(file, log, base, tree, text)
 }

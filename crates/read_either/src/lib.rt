@@ -3,7 +3,7 @@ ghost use mathlib.Core.Path.{_≡_};
 ghost use mathlib.Core.Bool.{true};
 ghost use Prim.Native.Nat.{_≤_};
 ghost use lib.ListN.{length};
-ghost use Rattle.model.specs.Lengths.{logSize};
+ghost use Rattle.model.specs.Lengths.{logSize, baseSize};
 ghost use Rattle.base_model.specs.Base.{emptyBase};
 ghost use Rattle.sab2_model.specs.Sab2.{recordPart, checkedSab2, isSab2};
 ghost use Rattle.sab2_model.specs.Calls.{readEitherOf};
@@ -44,8 +44,8 @@ fn load_behind(log: &mut [u8], file: &[u8]) -> ReadFile
 }
 
 // An SAB2 file: its list and base are gathered and judged in a buffer beside, and copied out once all checks have passed.
-fn read_sab2(log: &mut [u8], base: &mut [u8], file: &[u8]) -> ReadFile
-    requires { ⌜ isSab2 (now file) ≡ true ⌝ }
+fn read_sab2(log: &mut [u8], base: &mut [u8], file: &[u8], beside: &mut [u8]) -> ReadFile
+    requires { ⌜ (isSab2 (now file) ≡ true) × (length (now beside) ≡ baseSize) ⌝ }
     ensures { λ r. ⌜ readBackOf (r .number) (r .place) (r .archive) (r .unit) (r .records) (r .vector .counts) (now (log .exit)) (now (base .exit)) ≡ readEitherOf (now (log .entry)) (now (base .entry)) (now (file .entry)) ⌝ }
 {
     if log.len() != LOG_BYTES {
@@ -54,13 +54,32 @@ fn read_sab2(log: &mut [u8], base: &mut [u8], file: &[u8]) -> ReadFile
     if base.len() != BASE_BYTES {
         return refused(1, 0);
     }
-    let mut beside = [0u8; BASE_BYTES];
-    let e = checked_sab2(file, &mut beside);
+    let e = checked_sab2(file, beside);
     if e.number != 0 {
         return refused(e.number, e.place);
     }
-    put(base, 0, &beside);
+    put(base, 0, beside);
     load_behind(log, file)
+}
+
+// A file of either form, as read_either reads it, by way of a lent buffer, whose bytes are neither judged nor promised.
+pub fn read_beside(log: &mut [u8], base: &mut [u8], file: &[u8], beside: &mut [u8]) -> ReadFile
+    requires { ⌜ length (now beside) ≡ baseSize ⌝ }
+    ensures { λ r. ⌜ readBackOf (r .number) (r .place) (r .archive) (r .unit) (r .records) (r .vector .counts) (now (log .exit)) (now (base .exit)) ≡ readEitherOf (now (log .entry)) (now (base .entry)) (now (file .entry)) ⌝ }
+{
+    if is_sab2(file) {
+        return read_sab2(log, base, file, beside);
+    }
+    read_file::read_file(log, base, file)
+}
+
+// An SAB2 file, by way of a buffer of its own.
+fn read_alone(log: &mut [u8], base: &mut [u8], file: &[u8]) -> ReadFile
+    requires { ⌜ isSab2 (now file) ≡ true ⌝ }
+    ensures { λ r. ⌜ readBackOf (r .number) (r .place) (r .archive) (r .unit) (r .records) (r .vector .counts) (now (log .exit)) (now (base .exit)) ≡ readEitherOf (now (log .entry)) (now (base .entry)) (now (file .entry)) ⌝ }
+{
+    let mut beside = [0u8; BASE_BYTES];
+    read_sab2(log, base, file, &mut beside)
 }
 
 // A file of either form and any archive is read into a lent log and base, whose old bytes are not judged. An SAB1 file leaves the base empty,
@@ -69,7 +88,7 @@ pub fn read_either(log: &mut [u8], base: &mut [u8], file: &[u8]) -> ReadFile
     ensures { λ r. ⌜ readBackOf (r .number) (r .place) (r .archive) (r .unit) (r .records) (r .vector .counts) (now (log .exit)) (now (base .exit)) ≡ readEitherOf (now (log .entry)) (now (base .entry)) (now (file .entry)) ⌝ }
 {
     if is_sab2(file) {
-        return read_sab2(log, base, file);
+        return read_alone(log, base, file);
     }
     read_file::read_file(log, base, file)
 }

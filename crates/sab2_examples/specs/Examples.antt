@@ -49,13 +49,17 @@ pub data Example : Type 0 where
 unfoldable pub isNotWritten : Outcome → ℕ → Bool
 isNotWritten o n = eqb (o .number) n && (eqb (o .blocks) 0 && eqb (getD (o .lent) 0 0) 9)
 
--- this line at the beginning of the text, and the rest of what was lent is left; the base was lent empty
+-- 86,020 bytes, of which the first and the last are zero
+unfoldable pub isBlank : List ℕ → Bool
+isBlank b = eqb (length b) 86020 && (eqb (getD b 0 9) 0 && eqb (getD b 86019 9) 0)
+
+-- this line at the beginning of the text, the rest of it and the base, which was lent empty, are left, and the tree is cleared
 unfoldable pub isListedAs : Listed → Fault → List ℕ → Bool
 isListedAs o e t =
     sameFault (fault (o .number) (o .place)) e
     && (eqb (o .size) (length t)
     && (sameBytes (take (suc (length t)) (o .text)) (t ++ (9 ∷ []))
-    && (eqb (length (o .text)) 172544 && (isLeft (o .tree) && eqb (getD (o .base) 0 0) 255))))
+    && (eqb (length (o .text)) 172544 && (isBlank (o .tree) && eqb (getD (o .base) 0 0) 255))))
 
 unfoldable pub isConverted : Converted → ℕ → Bool
 isConverted o k = eqb (o .number) 0 && eqb (o .blocks) k
@@ -94,7 +98,7 @@ calls =
     writesNone 8 40960 43032 44032 1
     ∷ writesNone 8 40960 43032 95232 21
     ∷ writesNone 3 40960 43032 95232 19
-    -- the line of a refused file; the tree is left
+    -- the line of a refused file; the tree is cleared
     ∷ lists S2 512 4 0
     -- nothing where the input failed
     ∷ outputs true S2 512 []

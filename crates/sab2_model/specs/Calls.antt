@@ -5,7 +5,7 @@ use Prim.Native.Nat.{ℕ}
 use mathlib.Core.Bool.{Bool, cond, _&&_}
 use mathlib.Core.List.{List, [], _++_}
 use lib.Dec.{eqb}
-use lib.ListN.{length}
+use lib.ListN.{length, replicate}
 use Rattle.model.specs.Numbers.{badBuffer}
 use Rattle.model.specs.Lengths.{logSize, fileSize, treeSize, baseSize}
 use Rattle.model.specs.Bytes.{padded, putAt}
@@ -145,11 +145,11 @@ unfoldable pub listingLent : List ℕ → List ℕ → List ℕ → List ℕ →
 listingLent log base tree text =
     eqb (length log) logSize && (eqb (length base) baseSize && (eqb (length tree) treeSize && eqb (length text) listingSize))
 
--- the state that is read and its tree; a refused file leaves log, base and tree [F174]
+-- the state that is read and its tree; a refused file leaves log and base, and the tree is cleared [F174]
 unfoldable pub listedRead : ReadBack → List ℕ → List ℕ → List ℕ → Listed
 listedRead r tree text s =
     listed (r .number) (r .place) (length s) (r .log) (r .base)
-    (cond (eqb (r .number) 0) (showOf (r .log) (r .base) tree .lent) tree)
+    (cond (eqb (r .number) 0) (showOf (r .log) (r .base) tree .lent) (replicate treeSize 0))
     (putAt text 0 s)
 
 -- 1 leaves all; else the listing stands at the beginning of the text, for a refused file its line [F174]

@@ -7,8 +7,8 @@ use Rattle.read_either.proofs.read_either.Tie as tie
 is-sab2-requires : tie.Need-is-sab2-requires
 is-sab2-requires c κs = search needs
 
-read-sab2-requires : tie.Need-read-sab2-requires
-read-sab2-requires c κs = search (is-two)
+read-alone-requires : tie.Need-read-alone-requires
+read-alone-requires c κs = search (is-two)
 
 same-length : tie.Need-same-length
 same-length c = search needs
@@ -34,4 +34,4 @@ returns-2 c = search (as-sab1)
 pub read-either-spec : {M : Type 1} → statement M
 read-either-spec =
     tie.close
-    (tie.spec is-sab2-requires read-sab2-requires same-length same-length-2 returns read-file-requires same-length-3 same-length-4 returns-2)
+    (tie.spec is-sab2-requires read-alone-requires same-length same-length-2 returns read-file-requires same-length-3 same-length-4 returns-2)

@@ -1,4 +1,3 @@
-use Rattle.byte_slice.proofs.PutAt.{put-whole}
 use Rattle.read_either.proofs.Forms.{wrong-log, wrong-base, file-refused, no-fault, file-read}
 use native.Mathlib.Omega.{arith}
 use borrow.Author.Needs.{needs}
@@ -17,20 +16,17 @@ refused-requires-2 c κs = search needs
 returns-2 : tie.Need-returns-2
 returns-2 c = search (wrong-base)
 
-slice-aggregate-checked-sab2 : tie.Need-slice-aggregate-checked-sab2
-slice-aggregate-checked-sab2 c = search needs
-
 checked-sab2-requires : tie.Need-checked-sab2-requires
 checked-sab2-requires c κs = search needs
 
 refused-requires-3 : tie.Need-refused-requires-3
 refused-requires-3 c κs = search needs
 
+same-length : tie.Need-same-length
+same-length c = search needs
+
 returns-3 : tie.Need-returns-3
 returns-3 c = search (file-refused)
-
-slice-aggregate-put : tie.Need-slice-aggregate-put
-slice-aggregate-put c = search needs
 
 put-requires : tie.Need-put-requires
 put-requires c κs = search needs
@@ -38,11 +34,14 @@ put-requires c κs = search needs
 load-behind-requires : tie.Need-load-behind-requires
 load-behind-requires c κs = (search needs, search (no-fault))
 
-same-length : tie.Need-same-length
-same-length c = search needs
-
 same-length-2 : tie.Need-same-length-2
 same-length-2 c = search needs
+
+same-length-3 : tie.Need-same-length-3
+same-length-3 c = search needs
+
+same-length-4 : tie.Need-same-length-4
+same-length-4 c = search needs
 
 returns-4 : tie.Need-returns-4
 returns-4 c = search (file-read)
@@ -50,4 +49,4 @@ returns-4 c = search (file-read)
 pub read-sab2-spec : {M : Type 1} → statement M
 read-sab2-spec =
     tie.close
-    (tie.spec refused-requires returns refused-requires-2 returns-2 slice-aggregate-checked-sab2 checked-sab2-requires refused-requires-3 returns-3 slice-aggregate-put put-requires load-behind-requires same-length same-length-2 returns-4)
+    (tie.spec refused-requires returns refused-requires-2 returns-2 checked-sab2-requires refused-requires-3 same-length returns-3 put-requires load-behind-requires same-length-2 same-length-3 same-length-4 returns-4)

@@ -582,7 +582,8 @@ pub struct Listed {
 
 /// Lists a file of either form as text; a refused file gives one line. `log`, `base`
 /// and `tree` are work space, and hold what the file holds and its tree if it is
-/// accepted. Refuses 1, for one of these or `out`.
+/// accepted; a refused file leaves `log` and `base`, and zeros in `tree`. Refuses 1,
+/// for one of these or `out`.
 pub fn listing(
     file: &[u8],
     log: &mut [u8],
