@@ -5,6 +5,7 @@ pub mod chain;
 pub mod examples;
 pub mod list;
 pub mod lists;
+pub mod long;
 pub mod readout;
 pub mod sab2;
 pub mod tables;

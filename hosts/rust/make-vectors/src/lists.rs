@@ -2,6 +2,7 @@
 
 use crate::chain::{Wished, blocks_of_six, chain, file_of, seal};
 use crate::list::{Lent, List};
+use crate::long;
 use Lent::{Outside, Own};
 use plain::{BLOCK, FILE, LOG, SAB2_FILE};
 use workload::{Chance, Mix, wish};
@@ -50,6 +51,8 @@ pub fn all() -> Vec<(&'static str, String)> {
         ("refusals", refusals()),
         ("full", full()),
         ("reasons", reasons()),
+        ("long-entries", long::entries()),
+        ("long-asides", long::asides()),
     ]
 }
 
