@@ -25,8 +25,10 @@ static uint8_t log_bytes[SAB_LOG_BYTES], full[SAB_LOG_BYTES], shorter[SAB_LOG_BY
     lacks[SAB_LACKS_BYTES], wish[SAB_RECORD_BYTES], row[SAB_FILE_BYTES],
     copy[SAB_LOG_BYTES], report[SAB_REPORT_BYTES], index_bytes[SAB_INDEX_BYTES],
     range[SAB_RANGE_BYTES], base[SAB_BASE_BYTES], work[SAB_WORK_BYTES],
-    sab2[SAB_SAB2_BYTES], out_sab2[SAB_SAB2_BYTES];
-static size_t file_length, sab2_length, row_length, index_length, work_length;
+    sab2[SAB_SAB2_BYTES], out_sab2[SAB_SAB2_BYTES], names[SAB_NAME_BYTES * FULL],
+    theirs[SAB_TREE_BYTES];
+static size_t file_length, sab2_length, row_length, index_length, work_length,
+    names_length;
 static uint32_t result;
 
 static void run_compare(void)
@@ -132,6 +134,12 @@ static void run_show(void)
     result = sab_show(log_bytes, sizeof log_bytes, base, sizeof base, tree, sizeof tree);
 }
 
+static void run_check_order(void)
+{
+    result = sab_check_order(log_bytes, sizeof log_bytes, base, sizeof base, names, names_length,
+                             tree, sizeof tree, theirs, sizeof theirs);
+}
+
 static void run_index(void)
 {
     result = sab_index(log_bytes, sizeof log_bytes, base, sizeof base, index_bytes,
@@ -202,6 +210,7 @@ static const struct entry ENTRIES[] = {
     {"sab_take_row, with an index", run_take_row, 1},
     {"sab_try", run_try, 0},
     {"sab_fold", run_fold, 0},
+    {"sab_check_order", run_check_order, 0},
     {"sab_index", run_index, 0},
     {"sab_find", run_find, 0},
     {"sab_list", run_list, 0},
@@ -248,6 +257,17 @@ static void first(uint8_t *log, size_t records)
     memcpy(log, full, SAB_RECORD_BYTES * records);
 }
 
+/* The names of the first records of the full log, by rank. */
+static void name_all(size_t records)
+{
+    size_t i;
+    for (i = 0; i < records; i++) {
+        memcpy(names + SAB_NAME_BYTES * i, full + SAB_RECORD_BYTES * i, SAB_NAME_BYTES);
+        names[SAB_NAME_BYTES * i + 1] = 0;
+    }
+    names_length = SAB_NAME_BYTES * records;
+}
+
 static size_t least(size_t a, size_t b)
 {
     return a < b ? a : b;
@@ -260,6 +280,7 @@ static void prepare(const struct entry *call, size_t records)
     memset(base, 0, sizeof base);
     base[0] = 255;
     first(log_bytes, records);
+    name_all(records);
     run_vector();
     memset(asked, 0, sizeof asked);
     r = sab_write_file(log_bytes, sizeof log_bytes, base, sizeof base, ARCHIVE, 0, file,

@@ -95,8 +95,9 @@
  *                     folded (sab_fold, up to 512), the rows of a folder
  *                     (sab_list), the answer of sab_compare; of sab_take_row two
  *                     numbers; of sab_find the number of the entry, whose unit
- *                     is the place; of a refused sab_merge, which file is at
- *                     fault; else 0
+ *                     is the place; of sab_check_order the condition that failed,
+ *                     or 0; of a refused sab_merge, which file is at fault;
+ *                     else 0
  *
  * A refused call leaves every byte of every lent buffer as it was, but for work
  * memory. (sab_listing, whose output tells of the refusal, says what it leaves.)
@@ -274,7 +275,8 @@
  * After sab_read_file or sab_merge, or when a log was changed by a call that was
  * lent no index, sab_index makes it afresh. It is not part of a file and need not
  * be stored. sab_fold, sab_hand_out, sab_hand_out_row, sab_try, sab_write_file,
- * sab_write_sab2, sab_show and sab_vector change no tree and need none.
+ * sab_write_sab2, sab_show, sab_check_order and sab_vector change no tree and need
+ * none.
  *
  * sab_find and sab_list need the index alone. They end in any bytes, with the
  * answers that docs/FORMAT.md defines; of an index that is not the log's these
@@ -422,7 +424,8 @@ extern "C" {
 #define SAB_LAST_NUMBER 28u   /* P the own unit has used its last number, 65,535;
                                    the place is 0 */
 #define SAB_FOLDED 29u        /* P records are folded: a file of the form SAB1
-                                   cannot hold them; the place is 0 */
+                                   cannot hold them, nor can an order be checked;
+                                   the place is 0 */
 #define SAB_BAD_BASE 31u      /* P the list or base of an SAB2 file breaks its
                                    layout, or is one that a call would refuse
                                    with 19; the place is 0 */
@@ -889,6 +892,44 @@ uint32_t sab_merge(const uint8_t *first, size_t first_len,
 
 uint32_t sab_show(const uint8_t *log, size_t log_len, const uint8_t *base,
                   size_t base_len, uint8_t *tree, size_t tree_len);
+
+/* Checks the order in which another program replays the records of a log. Three
+ * conditions, each judged wholly before the next:
+ *
+ *   1   the list names each record of the log once, and nothing else
+ *   2   no record stands before one that it has seen
+ *   3   replayed in this order, the records leave the same entries as by rank
+ *       (kind, identity, folder, label, date, mark, and whether disputed) and
+ *       the same set of asides (record, reason, marked entry, open or settled).
+ *       In what order entries and asides stand does not count
+ *
+ * The order by rank is always accepted.
+ *
+ * log      40,960 bytes, only read
+ * base     43,032 bytes, only read; its vector must be all zero
+ * list     the records in the order to be checked, only read: four bytes each,
+ *          unit, zero, number (2). Any length. A part of four bytes at the end, a
+ *          unit above 7 and a set second byte name no record
+ * ours     86,020 bytes; if the first two conditions hold, the tree table of the
+ *          log, as sab_show writes it; else as it was
+ * theirs   86,020 bytes; if the first two conditions hold, the tree table of the
+ *          order, its entries and asides as they came up; else as it was
+ *
+ * Returns 0, and SAB_COUNT is 0 where the order is accepted, else the condition
+ * that failed first; 1 log, base, ours or theirs not of its length; 19 log or base
+ * not sound; 29 records are folded.
+ */
+#define SAB_NAME_BYTES 4          /* a name in an order */
+#define SAB_ORDER_ACCEPTED 0u     /* the count of sab_check_order */
+#define SAB_ORDER_NAMES 1u        /* a record is missing or named twice, or a name
+                                     is no record's */
+#define SAB_ORDER_SEEN 2u         /* a record stands before one that it has seen */
+#define SAB_ORDER_TREE 3u         /* the two tables differ */
+
+uint32_t sab_check_order(const uint8_t *log, size_t log_len,
+                         const uint8_t *base, size_t base_len,
+                         const uint8_t *list, size_t list_len, uint8_t *ours,
+                         size_t ours_len, uint8_t *theirs, size_t theirs_len);
 
 /* Makes the index of a log and its base afresh.
  *

@@ -87,6 +87,7 @@ pub fn cases(log: &[u8], pair: &Pair, big: &Big) -> Vec<Case> {
         let [one, other] = pair.logs().map(|log| first(log, size / 2));
         case("merge, halves", merge([&one, &other]));
         case("show the tree", show(lent.clone()));
+        case("check an order", check_order(lent.clone()));
         case("make the index", index(lent.clone()));
         case("listing", listing(file_of(&lent)));
     }
@@ -357,6 +358,39 @@ fn show_on(log: Vec<u8>, base: Vec<u8>) -> Run {
     Box::new(move |library| {
         Some(clock(|| library.show(black_box(&log), black_box(&base), &mut tree).unwrap()))
     })
+}
+
+/// Checks an order of which all but the rank is asked: the records by unit where they
+/// have not seen each other.
+fn check_order(log: Vec<u8>) -> Run {
+    let list = by_unit(&log);
+    let (mut ours, mut theirs) = (vec![0; TREE], vec![0; TREE]);
+    Box::new(move |library| {
+        Some(clock(|| {
+            let list = black_box(&list);
+            library.check_order(black_box(&log), &EMPTY_BASE, list, &mut ours, &mut theirs).unwrap()
+        }))
+    })
+}
+
+/// The names of the records of a log: of those whose seen stand before, one of the
+/// lowest unit comes next.
+fn by_unit(log: &[u8]) -> Vec<u8> {
+    let (records, _) = log.as_chunks::<RECORD>();
+    let all: usize = vector_of(log).iter().map(|count| usize::from(*count)).sum();
+    let mut left: Vec<&[u8; RECORD]> = records[..all].iter().collect();
+    left.sort_by_key(|record| record[0]);
+    let (mut had, mut list) = ([0u16; 8], Vec::new());
+    while !left.is_empty() {
+        let seen = |record: &&[u8; RECORD], unit: usize| {
+            u16::from_le_bytes([record[4 + 2 * unit], record[5 + 2 * unit]])
+        };
+        let is_next = |record: &&[u8; RECORD]| (0..8).all(|unit| seen(record, unit) <= had[unit]);
+        let next = left.remove(left.iter().position(is_next).expect("a sound log"));
+        had[usize::from(next[0])] += 1;
+        list.extend([next[0], 0, next[2], next[3]]);
+    }
+    list
 }
 
 /// Folds by a list.

@@ -12,6 +12,8 @@ ghost use Rattle.sab_index.specs.Told.{toldStart, toldKept, toldRowKept, folder
 ghost use Rattle.sab_block.specs.Handed.{handedOf};
 ghost use Rattle.sab_row.specs.Rows.{rowHandedOf, triedCall, rowTriedOf};
 ghost use Rattle.sab_fold.specs.Given.{listGiven};
+ghost use Rattle.order_model.specs.Order.{orderOf};
+ghost use Rattle.sab_order.specs.Ordered.{orderCall, toldOrder};
 ghost use Rattle.sab_file.specs.Loaded.{loaded, loadedOf};
 ghost use Rattle.sab2_model.specs.Calls.{writeSab2Of, toSab2Of, toSab1Of};
 ghost use Rattle.sab_convert.specs.Turned.{turned, turnedOf};
@@ -141,6 +143,20 @@ pub extern "C" fn sab_fold(
     ensures { λ r. ⌜ calledBoth r (now (log .exit)) (now (base .exit)) (now (work .exit)) ≡ toldWork (foldOf unit (now (log .entry)) (now (base .entry)) (listGiven list) (now (work .entry))) (foldWork unit (now (log .entry)) (now (base .entry)) (listGiven list) (now (work .entry))) ⌝ }
 {
     sab_fold::fold(log, base, archive, unit, list, work)
+}
+
+// Checks another maker's order; the count is the condition that failed first, 0 where the order is accepted.
+#[no_mangle]
+pub extern "C" fn sab_check_order(
+    log: &[u8],
+    base: &[u8],
+    list: &[u8],
+    ours: &mut [u8],
+    theirs: &mut [u8],
+) -> u32
+    ensures { λ r. ⌜ orderCall r (now (ours .exit)) (now (theirs .exit)) ≡ toldOrder (orderOf (now (log .entry)) (now (base .entry)) (now (list .entry)) (now (ours .entry)) (now (theirs .entry))) ⌝ }
+{
+    sab_order::check_order(log, base, list, ours, theirs)
 }
 
 // Writes the whole log as a file; the count is that of its blocks.

@@ -33,6 +33,7 @@ int main(void)
     test_sab2();
     test_merge();
     test_show();
+    test_check_order();
     test_index();
     test_listing();
     printf("%d passed, %d failed\n", passed, failed);

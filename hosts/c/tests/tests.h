@@ -16,6 +16,7 @@ void test_read_file(void);
 void test_sab2(void);
 void test_merge(void);
 void test_show(void);
+void test_check_order(void);
 void test_index(void);
 void test_listing(void);
 

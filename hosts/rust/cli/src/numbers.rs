@@ -339,7 +339,7 @@ pub const ROWS: &[Row] = &[
     },
     Row {
         number: 29,
-        cause: Always("records are folded: no file of the form SAB1 can hold them"),
+        cause: Always("records are folded: no file of the form SAB1 holds them, and no order is checked"),
         fault: "own base",
         advice: Always(
             "keep the file as SAB2; for an analyser that knows SAB1 alone use the last card from before the fold",

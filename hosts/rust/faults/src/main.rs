@@ -12,6 +12,7 @@ mod index;
 mod lists;
 mod orders;
 mod power;
+mod replays;
 mod rows;
 mod sab2;
 mod study;
@@ -25,7 +26,7 @@ use study::{Plan, Tally};
 
 type Study = fn(&dyn Library, &Plan) -> Tally;
 
-const STUDIES: [(&str, Study); 23] = [
+const STUDIES: [(&str, Study); 24] = [
     ("meetings, no fault", cuts::none),
     ("changed byte, block", bytes::blocks),
     ("changed byte, file", bytes::files),
@@ -49,6 +50,7 @@ const STUDIES: [(&str, Study); 23] = [
     ("changed byte, SAB2 file", sab2::changed),
     ("SAB2 file copied short", sab2::short),
     ("changed byte under right sums, SAB2 file", sab2::sealed),
+    ("another maker's orders", replays::checked),
 ];
 
 const USAGE: &str = "usage: faults [--long] [--seconds N] [--seed N]";

@@ -1,7 +1,7 @@
 //! Harnesses for a coverage-guided fuzzer. Each takes the fuzzer's bytes, makes a
-//! state and a block, row, file, wish, list or index of them, gives both to the static
-//! library and to the plain implementation, and ends the program if an answer or a
-//! byte differs.
+//! state and a block, row, file, wish, list, order or index of them, gives both to the
+//! static library and to the plain implementation, and ends the program if an answer
+//! or a byte differs.
 
 mod act;
 mod compare;
@@ -10,6 +10,7 @@ mod index;
 mod input;
 mod life;
 mod merge;
+mod order;
 mod read_file;
 mod row;
 mod sab2;
@@ -19,6 +20,7 @@ pub use act::act;
 pub use fold::fold;
 pub use index::index;
 pub use merge::merge;
+pub use order::order;
 pub use read_file::read_file;
 pub use row::row_calls;
 pub use sab2::sab2;
@@ -54,3 +56,4 @@ harness!(fuzz_row, row::row_calls);
 harness!(fuzz_index, index::index);
 harness!(fuzz_fold, fold::fold);
 harness!(fuzz_sab2, sab2::sab2);
+harness!(fuzz_order, order::order);

@@ -47,6 +47,11 @@ fn sab2_files() {
 }
 
 #[test]
+fn orders() {
+    run(fuzz::order, 8);
+}
+
+#[test]
 fn indexes() {
     run(fuzz::index, 6);
 }

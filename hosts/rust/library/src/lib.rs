@@ -203,6 +203,15 @@ pub trait Library {
         list: u8,
     ) -> Answer<u16>;
     fn show(&self, log: &[u8], base: &[u8], tree: &mut [u8]) -> Answer<()>;
+    /// The condition that failed first, or 0; a list has four bytes a name.
+    fn check_order(
+        &self,
+        log: &[u8],
+        base: &[u8],
+        list: &[u8],
+        ours: &mut [u8],
+        theirs: &mut [u8],
+    ) -> Answer<u16>;
     fn index(&self, log: &[u8], base: &[u8], index: &mut [u8]) -> Answer<()>;
     /// A folder is given by unit and number; so is the entry.
     fn find(&self, index: &[u8], folder: Folder, label: &[u8]) -> Answer<Option<(u8, u16)>>;
@@ -371,6 +380,16 @@ macro_rules! entry_points {
         fn show(&self, log: &[u8], base: &[u8], tree: &mut [u8]) -> Answer<()> {
             $library::show(log, base, tree).map_err(refusal)
         }
+        fn check_order(
+            &self,
+            log: &[u8],
+            base: &[u8],
+            list: &[u8],
+            ours: &mut [u8],
+            theirs: &mut [u8],
+        ) -> Answer<u16> {
+            $library::check_order(log, base, list, ours, theirs).map_err(refusal)
+        }
         fn index(&self, log: &[u8], base: &[u8], index: &mut [u8]) -> Answer<()> {
             $library::index(log, base, index).map_err(refusal)
         }
@@ -472,8 +491,9 @@ mod static_library {
         use sab::Answer;
 
         pub use raw::{
-            Compared, Head, Range, RowTaken, compare, find, hand_out, hand_out_row, list, merge,
-            read_file, show, start, to_sab1, to_sab2, try_row, vector, write_file, write_sab2,
+            Compared, Head, Range, RowTaken, check_order, compare, find, hand_out, hand_out_row,
+            list, merge, read_file, show, start, to_sab1, to_sab2, try_row, vector, write_file,
+            write_sab2,
         };
 
         /// Work memory is lent to a take with an index, and none without.

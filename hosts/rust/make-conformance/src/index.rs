@@ -14,9 +14,10 @@ Cases for a program that reads or writes the format of docs/FORMAT.md, with the 
     tables.txt         small functions, one call a line
     merge.txt          merges of two files, one a line
     convert.txt        files of one form made into the other, one a line
+    order.txt          orders of another maker, one a line
     states.txt         lists and bases written out row by row, and questions to them
 
-The form of a line is told in vectors/README.md. In the lists, tables, merges and conversions a line that begins with `#` says what the next line shows.
+The form of a line is told in vectors/README.md. In the lists, tables, merges, conversions and orders a line that begins with `#` says what the next line shows.
 
 A reader only needs the files: give it each `.in` and compare what it prints with the `.out`. In this repository
 

@@ -1,7 +1,7 @@
 //! `make-conformance DIR`: writes the conformance kit into a directory, the same
 //! bytes each time: files with their listings, call lists, tables, merges,
-//! conversions, states, and an index that says what each case shows. Each case names its answer, and that the plain
-//! implementation gives it is checked here.
+//! conversions, orders, states, and an index that says what each case shows. Each
+//! case names its answer, and that the plain implementation gives it is checked here.
 
 mod acts;
 mod blocks;
@@ -14,6 +14,7 @@ mod good;
 mod index;
 mod kit;
 mod merges;
+mod orders;
 mod rows;
 mod sab2;
 mod states;
@@ -38,7 +39,13 @@ fn write(directory: &Path) -> io::Result<()> {
         finding::list(),
         folding::list(),
     ];
-    let lines = [tables::all(), merges::all(), converts::all(), states::all()];
+    let lines = [
+        tables::all(),
+        merges::all(),
+        converts::all(),
+        orders::all(),
+        states::all(),
+    ];
 
     fs::create_dir_all(directory.join("lists"))?;
     fs::create_dir_all(directory.join("readout"))?;

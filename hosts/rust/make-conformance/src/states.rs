@@ -124,8 +124,9 @@ enum Asked<'a> {
     Take(u8, &'a [[u8; 80]]),
     HandOut(u8, [u16; 8]),
     Fold(u8, u8),
+    Order(&'a [Id]),
 }
-use Asked::{Act, Fold, HandOut, Show, Take};
+use Asked::{Act, Fold, HandOut, Order, Show, Take};
 
 struct Kit {
     text: String,
@@ -144,9 +145,10 @@ impl Kit {
                 2..=11 | 20 | 24..=29 => "0",
                 _ => "-",
             };
-            self.text += &match log {
-                Some(log) => format!("? {words} = {given} {place} {}\n", hash(&log)),
-                None => format!("? {words} = {given} {place}\n"),
+            self.text += &match (log, question) {
+                (Some(log), _) => format!("? {words} = {given} {place} {}\n", hash(&log)),
+                (None, Order(_)) => format!("? {words} = {given} {place} {}\n", failed(given)),
+                (None, _) => format!("? {words} = {given} {place}\n"),
             };
             answers.push(given.to_string());
         }
@@ -164,6 +166,11 @@ impl Kit {
     }
 }
 
+/// The condition that fails of an order that is asked here: none, or it is refused.
+fn failed(given: u8) -> &'static str {
+    if given == 0 { "0" } else { "-" }
+}
+
 /// The words of a question, its answer, and the log that it leaves.
 fn ask(state: &State, question: &Asked) -> (String, u8, Option<Vec<u8>>) {
     let (mut log, mut base) = (state.log(), state.base());
@@ -172,6 +179,18 @@ fn ask(state: &State, question: &Asked) -> (String, u8, Option<Vec<u8>>) {
         Show => {
             let given = plain::show(&log, &base, &mut vec![0; TREE]);
             return ("show".to_string(), number(given), None);
+        }
+        Order(names) => {
+            let told: Vec<String> = names.iter().map(|(unit, number)| format!("{unit}.{number}")).collect();
+            let name = |(unit, number): &Id| {
+                let [low, high] = number.to_le_bytes();
+                [*unit, 0, low, high]
+            };
+            let list: Vec<u8> = names.iter().flat_map(name).collect();
+            let (mut ours, mut theirs) = (vec![0; TREE], vec![0; TREE]);
+            let given = plain::check_order(&log, &base, &list, &mut ours, &mut theirs);
+            assert!(matches!(given, Ok(0) | Err(_)), "{told:?}");
+            return (format!("order {}", told.join(",")), number(given.map(drop)), None);
         }
         Act(unit, wish) => (
             format!("act 7 {unit} {}", bytes(*wish)),
@@ -261,6 +280,7 @@ fn sound(kit: &mut Kit) {
         (26, Fold(0, 6)),
         (0, Fold(0, 3)),
         (0, Fold(2, 7)),
+        (29, Order(&[(0, 3)])),
     ];
     kit.state("a sound state", &good, &questions);
     let mut other = good.clone();
@@ -275,11 +295,21 @@ fn sound(kit: &mut Kit) {
     let mut other = good;
     other.log = vec![record(1, &[0, 2], 1, ROOT, "Low", 0, 3)];
     kit.state("nor that a record of the log covers the base vector", &other, &[(0, Show)]);
+    let mut none = other;
+    (none.list, none.vector) = (1, [0; 8]);
+    none.entries.clear();
+    none.asides.clear();
+    none.log = vec![record(0, &[], 1, ROOT, "Roof", 0, 3)];
+    kit.state("a short list, and nothing folded: an order is checked", &none, &[(0, Order(&[(0, 1)]))]);
 }
 
 fn lists(kit: &mut Kit) {
     let good = good();
     kit.unsound("no unit listed", &good, |state| state.list = 0);
+    let mut unsound = good.clone();
+    unsound.list = 0;
+    let questions = [(19, Order(&[(0, 3)]))];
+    kit.state("an order by a state that is not sound, with folded records: 19", &unsound, &questions);
     kit.unsound("unit 1 has folded records and is not listed", &good, |state| state.list = 5);
     kit.unsound("unit 3 has a record in the log and is not listed", &good, |state| {
         state.log = vec![record(3, &[2, 2], 1, ROOT, "Roof", 0, 3)];

@@ -119,6 +119,19 @@ unsafe extern "C" {
         work_len: usize,
     ) -> u32;
 
+    pub fn sab_check_order(
+        log: *const u8,
+        log_len: usize,
+        base: *const u8,
+        base_len: usize,
+        list: *const u8,
+        list_len: usize,
+        ours: *mut u8,
+        ours_len: usize,
+        theirs: *mut u8,
+        theirs_len: usize,
+    ) -> u32;
+
     pub fn sab_write_file(
         log: *const u8,
         log_len: usize,

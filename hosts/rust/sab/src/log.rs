@@ -1,8 +1,8 @@
 //! A unit's log.
 
 use crate::{
-    Answer, Base, Block, Identity, Index, Record, Records, Refusal, Row, RowTaken, Tree, Trial,
-    Unit, Units, Vector, Wish, file, raw, work,
+    Answer, Base, Block, Condition, Identity, Index, OrderChecked, Record, Records, Refusal, Row,
+    RowTaken, Tree, Trial, Unit, Units, Vector, Wish, file, raw, work,
 };
 use std::fmt;
 
@@ -178,6 +178,42 @@ impl Log {
         let (log, base) = (&mut *self.bytes, self.base.lent());
         let list = u32::from(units.to_byte());
         work::lent(|work| raw::fold(log, base, archive, unit, list, work))
+    }
+
+    /// Whether the records may be replayed in another order: each named once, none
+    /// before one that it has seen, and the same entries and asides at the end. The
+    /// order by rank is always accepted. Refuses 29 if records are folded.
+    ///
+    /// ```
+    /// use sab::{Condition, Date, Identity, Log, Mark, Unit, Wish, meet};
+    /// # fn main() -> Result<(), sab::Refusal> {
+    /// let day = Date::new(2025, 3, 3);
+    /// let mut van = Log::start(7, Unit::ALL[0]);
+    /// let mut bench = Log::start(7, Unit::ALL[1]);
+    /// let first = van.act(&Wish::make_trace(Identity::ROOT, "Gain", day, Mark([1; 16]))?)?;
+    /// let second = bench.act(&Wish::make_trace(Identity::ROOT, "Gain", day, Mark([2; 16]))?)?;
+    /// meet(&mut van, &mut bench);
+    /// assert_eq!(van.check_order(&[first, second])?.failed, None);
+    /// // The other way round the other trace stands aside.
+    /// let turned = van.check_order(&[second, first])?;
+    /// assert_eq!(turned.failed, Some(Condition::Tree));
+    /// let (ours, theirs) = turned.trees.expect("both were replayed");
+    /// assert!(ours.entry(first).is_some() && theirs.entry(second).is_some());
+    /// assert_eq!(van.check_order(&[first])?.failed, Some(Condition::Names));
+    /// # Ok(())
+    /// # }
+    /// ```
+    pub fn check_order(&self, order: &[Identity]) -> Answer<OrderChecked> {
+        let list: Vec<u8> = order.iter().flat_map(|name| name.to_bytes()).collect();
+        let (mut ours, mut theirs) = (vec![0; raw::TREE], vec![0; raw::TREE]);
+        let base = self.base.as_bytes();
+        let failed = raw::check_order(&*self.bytes, base, &list, &mut ours, &mut theirs)?;
+        let failed = Condition::of(failed);
+        let trees = match failed {
+            Some(Condition::Names | Condition::Seen) => None,
+            None | Some(Condition::Tree) => Some((Tree::new(ours), Tree::new(theirs))),
+        };
+        Ok(OrderChecked { failed, trees })
     }
 
     /// A block of the first six or fewer records, by rank, that the asked vector

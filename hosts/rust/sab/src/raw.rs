@@ -310,6 +310,34 @@ pub fn fold(
     answer(result)
 }
 
+/// Checks another maker's order, four bytes a name; answers the condition that
+/// failed first, 1 to 3, or 0 where the order is accepted. If the first two hold, the
+/// tables show our tree and that of the order; else they stay as they were. Refuses
+/// 1, 19, 29.
+pub fn check_order(
+    log: &[u8],
+    base: &[u8],
+    list: &[u8],
+    ours: &mut [u8],
+    theirs: &mut [u8],
+) -> Answer<u16> {
+    let result = unsafe {
+        ffi::sab_check_order(
+            log.as_ptr(),
+            log.len(),
+            base.as_ptr(),
+            base.len(),
+            list.as_ptr(),
+            list.len(),
+            ours.as_mut_ptr(),
+            ours.len(),
+            theirs.as_mut_ptr(),
+            theirs.len(),
+        )
+    };
+    answer(result)
+}
+
 /// Writes the whole log as an SAB1 file, if nothing is folded; answers its count of
 /// blocks. Refuses 1, 21, 19, 29.
 pub fn write_file(

@@ -94,7 +94,7 @@ pub const fn in_words(number: u8) -> &'static str {
         26 => "a unit is not in the list of the archive's units",
         27 => "what is folded here or there is lacking on the other side",
         28 => "the unit has used its last number, 65,535",
-        29 => "records are folded: a file of the form SAB1 cannot hold them",
+        29 => "records are folded: no file of the form SAB1, and no order to check",
         31 => "the list or base of the file breaks its layout or is not sound",
         _ => "no number of the refusal table",
     }

@@ -1,11 +1,12 @@
-//! `vectors [--plain] DIR`: runs the call lists, tables, merges, conversions, states
-//! and readout cases of a directory against the static library, or against the
+//! `vectors [--plain] DIR`: runs the call lists, tables, merges, conversions, orders,
+//! states and readout cases of a directory against the static library, or against the
 //! plain implementation, and says how many passed and failed. Any failure, also a
 //! directory without a case, gives an exit status other than 0.
 
 mod converts;
 mod lists;
 mod merges;
+mod orders;
 mod readout;
 mod states;
 mod tables;
@@ -78,6 +79,7 @@ const TABLES: [(&str, Row); 5] = [
     ("wishes.txt", tables::row),
     ("merge.txt", merges::row),
     ("convert.txt", converts::row),
+    ("order.txt", orders::row),
 ];
 
 type Row = fn(&dyn Library, &str) -> Result<(), Fault>;

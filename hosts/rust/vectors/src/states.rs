@@ -1,6 +1,7 @@
 //! States: a list, a base and a log written out, and questions to them.
 
 use crate::lists::{answer, junk, kept};
+use crate::orders;
 use crate::words::{Fault, Words, hash};
 use library::{BASE, LOG, Library, TREE};
 
@@ -130,6 +131,11 @@ impl State {
                 kept("tree", &tree, &junk(TREE))?;
             }
             came.extend(answer(&shown));
+            true
+        } else if name == "order" {
+            let list = words.names()?;
+            words.equals()?;
+            came.extend(orders::checked(library, &log, &base, &list)?);
             true
         } else {
             let (archive, unit) = (words.number()?, words.number()?);

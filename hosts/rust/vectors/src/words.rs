@@ -55,6 +55,24 @@ impl<'a> Words<'a> {
         Ok((number(unit)?, number(of_unit)?))
     }
 
+    /// Identities parted by commas, or `-` for none: four bytes each.
+    pub fn names(&mut self) -> Result<Vec<u8>, Fault> {
+        let word = self.word()?;
+        if word == "-" {
+            return Ok(Vec::new());
+        }
+        let mut names = Vec::new();
+        for name in word.split(',') {
+            let (unit, of_unit) = name
+                .split_once('.')
+                .ok_or_else(|| format!("{name}: no identity"))?;
+            let (unit, of_unit): (u8, u16) = (number(unit)?, number(of_unit)?);
+            let [low, high] = of_unit.to_le_bytes();
+            names.extend([unit, 0, low, high]);
+        }
+        Ok(names)
+    }
+
     /// `LENGTH*SEED`: a buffer lent for writing.
     pub fn lent(&mut self) -> Result<Vec<u8>, Fault> {
         let word = self.word()?;

@@ -16,6 +16,7 @@ mod meet;
 mod merge;
 mod mv;
 mod new;
+mod order;
 mod pack;
 mod page;
 mod pass;
@@ -87,6 +88,7 @@ pub const GROUPS: &[(&str, &[&Command])] = &[
             &log::COMMAND,
             &asides::COMMAND,
             &page::COMMAND,
+            &order::COMMAND,
         ],
     ),
     (

@@ -1,0 +1,1 @@
+// Laws of another maker's order: see proofs/Claims.antt. No code.

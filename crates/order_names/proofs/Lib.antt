@@ -1,0 +1,3 @@
+pub mod Names
+pub mod Whole
+pub mod Placed

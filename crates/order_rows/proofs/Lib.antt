@@ -1,0 +1,5 @@
+pub mod Notes
+pub mod Ways
+pub mod Alike
+pub mod Finding
+pub mod Tables
