@@ -335,9 +335,9 @@ extern "C" {
 /* ---- The version of this header and of its calls ---- */
 
 #define SAB_VERSION_MAJOR 7
-#define SAB_VERSION_MINOR 0
+#define SAB_VERSION_MINOR 1
 #define SAB_VERSION_PATCH 0
-#define SAB_VERSION "7.0.0"
+#define SAB_VERSION "7.1.0"
 
 /* ---- Lengths in bytes ---- */
 

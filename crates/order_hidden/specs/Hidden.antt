@@ -14,7 +14,7 @@ use Rattle.tree_laws.specs.Replayed.{Has}
 abbrev pub Storing : ℕ → Rec → Type 0
 Storing k r = ((op r ≤ 2) × (selfOf r ≡ k)) ⊎ ((op r ≡ 3) × (objectOf r ≡ k))
 
--- in an accepted order both are those of rank order [F173]
+-- in an accepted order both are those of rank order [F178]
 abbrev pub HiddenToo : List ℕ → List Rec → Type 0
 HiddenToo ks l =
     failedOf ks l ≡ 0

@@ -20,17 +20,17 @@ use Rattle.tree_laws.specs.Replayed.{Has, selves}
 
 -- ---- the conditions
 
--- each record is named exactly once, and each name is a record's [F171]
+-- each record is named exactly once, and each name is a record's [F176]
 pub record NamesEach (ks : List ℕ) (l : List Rec) : Type 0 where
   pub once : (r : Rec) → Member r l → times (selfOf r) ks ≡ 1
   pub held : (k : ℕ) → Has k ks → (r : Rec) × Member r l × (selfOf r ≡ k)
 
--- of two records the one that stands first has not seen the other [F172]
+-- of two records the one that stands first has not seen the other [F177]
 abbrev pub SeenFirst : List Rec → Type 0
 SeenFirst [] = Unit {0}
 SeenFirst (r ∷ l) = ((s : Rec) → Member s l → seen r (unit s) < num s) × SeenFirst l
 
--- the same entry, as trees with the asides s and t show it [F173]
+-- the same entry, as trees with the asides s and t show it [F178]
 pub record SameEntry (s t : List Aside) (e f : Entry) : Type 0 where
   pub same-made : e .made ≡ f .made
   pub same-kind : e .kind ≡ f .kind
@@ -40,7 +40,7 @@ pub record SameEntry (s t : List Aside) (e f : Entry) : Type 0 where
   pub same-mark : e .mark ≡ f .mark
   pub same-dispute : isDisputed (e .made) s ≡ isDisputed (f .made) t
 
--- every entry of t that is present and every aside of t is one of u [F173]
+-- every entry of t that is present and every aside of t is one of u [F178]
 pub record ShownBy (u t : Tree) : Type 0 where
   pub entries : (e : Entry) → Has e (presentOnes (t .entries)) → (f : Entry) × Has f (presentOnes (u .entries)) × SameEntry (t .asides) (u .asides) e f
   pub asides : (a : Aside) → Has a (t .asides) → Has a (u .asides)
@@ -51,12 +51,12 @@ SameShown t u = ShownBy u t × ShownBy t u
 
 -- ---- the answer
 
--- an order is accepted exactly if all three conditions hold [F174]
+-- an order is accepted exactly if all three conditions hold [F179]
 abbrev pub AcceptedExactly : List ℕ → List Rec → Type 0
 AcceptedExactly ks l =
     (failedOf ks l ≡ 0) ↔ (NamesEach ks l × SeenFirst (inOrderOf ks l) × SameShown (replay l) (replay (inOrderOf ks l)))
 
--- the condition that is answered fails, and those before it hold [F174]
+-- the condition that is answered fails, and those before it hold [F179]
 pub record FirstFailed (ks : List ℕ) (l : List Rec) : Type 0 where
   pub known : (failedOf ks l ≡ 0) ⊎ ((failedOf ks l ≡ 1) ⊎ ((failedOf ks l ≡ 2) ⊎ (failedOf ks l ≡ 3)))
   pub first : failedOf ks l ≡ 1 → NamesEach ks l → ⊥
@@ -79,7 +79,7 @@ pub record Whole (log base ours theirs : List ℕ) : Type 0 where
   pub sound : soundState log base ≡ true
   pub unfolded : blank (baseVector base) ≡ true
 
--- rank order itself is accepted, and both tables show the tree of the state [F177]
+-- rank order itself is accepted, and both tables show the tree of the state [F182]
 abbrev pub RankAccepted : List ℕ → List ℕ → List ℕ → List ℕ → Type 0
 RankAccepted log base ours theirs =
     Whole log base ours theirs

@@ -19,7 +19,7 @@ use Rattle.call_model.specs.Outcome.{guardNumber, wholeNumber}
 
 -- ---- the list: four bytes a name
 
--- the identity in four bytes: unit, zero, number. What is none counts as the root, which is no record [F170]
+-- the identity in four bytes: unit, zero, number. What is none counts as the root, which is no record [F175]
 unfoldable pub nameIn : List ℕ → ℕ
 nameIn b = cond (eqb (length b) 4 && (leb (getD b 0 0) 7 && eqb (getD b 1 0) 0)) (identity (getD b 0 0) (word b 2)) root
 
@@ -31,7 +31,7 @@ unfoldable pub namesFrom : List ℕ → ℕ → ℕ → List ℕ
 namesFrom b i zero = []
 namesFrom b i (suc n) = nameAt b i ∷ namesFrom b (suc i) n
 
--- a part of four bytes behind the last name is a name too, of no record [F170]
+-- a part of four bytes behind the last name is a name too, of no record [F175]
 unfoldable pub nameCount : List ℕ → ℕ
 nameCount b = (length b + 3) / 4
 
@@ -57,7 +57,7 @@ unfoldable pub allHeld : List ℕ → List Rec → Bool
 allHeld [] l = true
 allHeld (k ∷ ks) l = isHeld k l && allHeld ks l
 
--- [F171]
+-- [F176]
 unfoldable pub namesAll : List ℕ → List Rec → Bool
 namesAll ks l = eachOnce ks l && allHeld ks l
 
@@ -80,7 +80,7 @@ unfoldable pub seesNone : Rec → List Rec → Bool
 seesNone r [] = true
 seesNone r (s ∷ l) = not (hasSeen r s) && seesNone r l
 
--- [F172]
+-- [F177]
 unfoldable pub seenFirst : List Rec → Bool
 seenFirst [] = true
 seenFirst (r ∷ l) = seesNone r l && seenFirst l
@@ -91,7 +91,7 @@ unfoldable pub equalFlags : Bool → Bool → Bool
 equalFlags true b = b
 equalFlags false b = not b
 
--- the same entry as a tree shows it: identity, kind, folder, label, date, mark, and whether s and t dispute it [F173]
+-- the same entry as a tree shows it: identity, kind, folder, label, date, mark, and whether s and t dispute it [F178]
 unfoldable pub entryAlike : List Aside → List Aside → Entry → Entry → Bool
 entryAlike s t e f =
     eqb (e .made) (f .made)
@@ -101,7 +101,7 @@ entryAlike s t e f =
     && (sameBytes (e .date) (f .date)
     && (sameBytes (e .mark) (f .mark) && equalFlags (isDisputed (e .made) s) (isDisputed (f .made) t))))))
 
--- the same record, reason, marked entry and state [F173]
+-- the same record, reason, marked entry and state [F178]
 unfoldable pub asideAlike : Aside → Aside → Bool
 asideAlike a b =
     eqb (a .who) (b .who) && (eqb (a .reason) (b .reason) && (eqb (a .marked) (b .marked) && equalFlags (a .isOpen) (b .isOpen)))
@@ -129,13 +129,13 @@ shownWithin t u =
     entriesAmong (t .asides) (u .asides) (presentOnes (t .entries)) (presentOnes (u .entries))
     && asidesAmong (t .asides) (u .asides)
 
--- both ways; in what order they stand does not count [F173]
+-- both ways; in what order they stand does not count [F178]
 unfoldable pub shownAlike : Tree → Tree → Bool
 shownAlike t u = shownWithin t u && shownWithin u t
 
 -- ---- the answer
 
--- 0 accepted, or which of the three conditions failed first: each is judged wholly before the next [F174]
+-- 0 accepted, or which of the three conditions failed first: each is judged wholly before the next [F179]
 unfoldable pub failedOf : List ℕ → List Rec → ℕ
 failedOf ks l =
     cond (namesAll ks l) (cond (seenFirst (inOrderOf ks l)) (cond (shownAlike (replay l) (replay (inOrderOf ks l))) 0 3) 2) 1
@@ -153,7 +153,7 @@ pub record Ordered : Type 0 where
 abbrev pub ordered : ℕ → ℕ → ℕ → List ℕ → List ℕ → Ordered
 ordered n p c ours theirs = record { number = n; place = p; failed = c; ours = ours; theirs = theirs }
 
--- the tables are written where both replays are made: the order is accepted, or the third condition failed [F176]
+-- the tables are written where both replays are made: the order is accepted, or the third condition failed [F181]
 unfoldable pub judgedOrder : List ℕ → List Rec → List ℕ → List ℕ → Ordered
 judgedOrder ks l ours theirs =
     cond (namesAll ks l && seenFirst (inOrderOf ks l))
@@ -163,7 +163,7 @@ judgedOrder ks l ours theirs =
 abbrev pub orderLent : List ℕ → List ℕ → Bool
 orderLent ours theirs = eqb (length ours) treeSize && eqb (length theirs) treeSize
 
--- 1, 19, then 29 where records are folded; no unit is given: 0 passes [F175]
+-- 1, 19, then 29 where records are folded; no unit is given: 0 passes [F180]
 unfoldable pub orderNumber : List ℕ → List ℕ → List ℕ → List ℕ → ℕ
 orderNumber log base ours theirs =
     firstOf (guardNumber 0 log base (orderLent ours theirs) true) (wholeNumber (baseVector base))
@@ -172,7 +172,7 @@ abbrev pub orOrdered : ℕ → List ℕ → List ℕ → Ordered → Ordered
 orOrdered zero ours theirs o = o
 orOrdered (suc n) ours theirs o = ordered (suc n) 0 0 ours theirs
 
--- the order in a list of bytes, checked against a log and its base [F175] [F176]
+-- the order in a list of bytes, checked against a log and its base [F180] [F181]
 unfoldable pub orderOf : List ℕ → List ℕ → List ℕ → List ℕ → List ℕ → Ordered
 orderOf log base list ours theirs =
     orOrdered (orderNumber log base ours theirs) ours theirs (judgedOrder (namesGiven list) (recordsOf log) ours theirs)
