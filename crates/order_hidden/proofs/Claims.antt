@@ -72,7 +72,7 @@ each-held (j ∷ ks) l h =
 
 pub hidden-too : (ks : List ℕ) (l : List Rec) → Sound l → HiddenToo ks l
 hidden-too ks l s ok e f i j q =
-    let (names, first, there, back) = accepted-exactly ks l .0 ok in
+    let (names, first, shown) = accepted-exactly ks l .0 ok in
     let d : Distinct (selves (inOrderOf ks l)) = in-order-distinct ks l (names-apart ks l (all-once ks l (names .once)) (each-held ks l (names .held))) in
     let own = sound-distinct l s in
     let into : (r : Rec) → Member r l → Member r (inOrderOf ks l) = λ r k. named-in-order ks l r s k (omega (arith, names .once r k)) in
@@ -82,8 +82,8 @@ hidden-too ks l s ok e f i j q =
     let x = found (replay l .entries) (makers-distinct l own) e a p in
     let y : entryOf (e .made) (replay (inOrderOf ks l) .entries) ≡ some f =
     subst (λ (k : ℕ). entryOf k (replay (inOrderOf ks l) .entries) ≡ some f) (sym q) (found (replay (inOrderOf ks l) .entries) (makers-distinct (inOrderOf ks l) d) f b o) in
-    let up = same-whos (replay l .asides) (replay (inOrderOf ks l) .asides) (there .asides) in
-    let down = same-whos (replay (inOrderOf ks l) .asides) (replay l .asides) (back .asides) in (
+    let up = same-whos (replay l .asides) (replay (inOrderOf ks l) .asides) (shown .0 .asides) in
+    let down = same-whos (replay (inOrderOf ks l) .asides) (replay l .asides) (shown .1 .asides) in (
       same-last (λ (z : Entry). z .contents) Storing contents-step storing-makes store-saw l s
           l (inOrderOf ks l) (λ r k. k) onto into onto own d up down (e .made) e f x y,
       same-last (λ (z : Entry). z .placing) Placing placing-step placing-makes place-saw l s

@@ -73,7 +73,7 @@ fn run_list(
 }
 
 /// Files whose lines are cases by themselves, and what runs a line.
-const TABLES: [(&str, Row); 5] = [
+const TABLES: [(&str, Row); 6] = [
     ("tables.txt", tables::row),
     ("compare.txt", tables::row),
     ("wishes.txt", tables::row),
