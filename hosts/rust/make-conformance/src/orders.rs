@@ -140,6 +140,7 @@ fn trees(orders: &mut Orders) {
     let (a, b, c) = ((0, 1), (1, 1), (2, 1));
     orders.order(0, "one label twice, by rank", &clash(), &[a, b]);
     orders.order(3, "exchanged: the other trace stands aside", &clash(), &[b, a]);
+    orders.order(1, "that, and one named twice: the first condition", &clash(), &[b, a, a]);
     let three = [trace(0, &[], "A"), trace(1, &[], "A"), trace(2, &[], "A")];
     orders.order(0, "two asides exchanged: a set", &three, &[a, c, b]);
     orders.order(3, "three of one label, another one first", &three, &[b, a, c]);
@@ -207,4 +208,7 @@ fn full(orders: &mut Orders) {
     orders.order(2, "the last two exchanged", &records, &names);
     names[511] = names[0];
     orders.order(1, "the last name is the first again", &records, &names);
+    let mut names: Vec<Id> = (1..=RECORDS as u16).map(|number| (0, number)).collect();
+    names.push((0, 1));
+    orders.order(1, "513 names: all by rank, and the first again", &records, &names);
 }

@@ -9,7 +9,7 @@ use crate::numbers::Case;
 use crate::out::{Ink, Status, shown};
 use crate::records::{aside_line, entry_line};
 use crate::why::counted;
-use sab::{Condition, Identity, Record, Tree};
+use sab::{Condition, Identity, Record, Refusal, Tree};
 use std::collections::BTreeMap;
 use std::path::Path;
 
@@ -34,12 +34,13 @@ the next:
     bench.sab: -: not accepted: condition 2 fails: no record stands before one that it has seen
     -: line 1: 0.2 stands before 0.1 (line 1), which it has seen
 
-The order by rank, in which sab log prints the records, is always accepted. Of an
-order that fails the first condition it is said which name is the first wrong one
-and which records are not named; of one that fails the second, the first record that
-comes too early; of one that fails the third, the lines in which the two listings
-differ, - by rank and + in this order. A unit or number that no record can have, as
-9.1, is the name of no record.
+The order by rank, in which sab log prints the records, is always accepted. If
+records are folded, no order is checked (29). Of an order that fails the first
+condition it is said which name is the first wrong one and which records are not
+named; of one that fails the second, the first record that comes too early; of one
+that fails the third, the lines in which the two listings differ, - by rank and + in
+this order. A unit or number that no record can have, as 9.1, is the name of no
+record.
 
 FILE is only read. FILE or LIST may be - for standard input.",
     options: &[],
@@ -50,6 +51,9 @@ FILE is only read. FILE or LIST may be - for standard input.",
 
 /// A byte more than the longest list.
 const LIMIT: usize = (1 << 20) + 1;
+
+/// What to do about folded records.
+const UNFOLDED: &str = "an order names every record: check it on the last card from before the fold";
 
 /// How many of a kind are told.
 const TOLD: usize = 20;
@@ -73,7 +77,7 @@ fn run(session: &mut Session) -> Outcome<Status> {
     let checked = archive
         .log
         .check_order(&order)
-        .map_err(|refusal| Refused::new(&files[0], refusal, Case::File, None))?;
+        .map_err(|refusal| refused(&archive, refusal))?;
     let records: Vec<Record> = archive.log.records().collect();
     let lines = match (&checked.trees, checked.failed) {
         (_, Some(Condition::Names)) => misnamed(&files[1], &names, &records),
@@ -97,8 +101,9 @@ fn run(session: &mut Session) -> Outcome<Status> {
         (None, trees) => {
             let yes = session.out.ink(Ink::Well, "accepted");
             let held = counted(records.len(), "record");
+            let leave = if records.len() == 1 { "leaves" } else { "leave" };
             let left = trees.as_ref().map_or(String::new(), |(tree, _)| left(tree));
-            format!("{yes}: {held} in this order leave the same {left}")
+            format!("{yes}: {held} in this order {leave} the same {left}")
         }
     };
     let files = format!("{}: {}", archive.shown(), shown(&files[1]));
@@ -107,6 +112,15 @@ fn run(session: &mut Session) -> Outcome<Status> {
         session.out.line(line);
     }
     Ok(Status::no_if(checked.failed.is_some()))
+}
+
+/// A refusal, with how many records are folded if that is its cause.
+fn refused(archive: &Archive, refusal: Refusal) -> Refused {
+    let folded = (refusal.number == 29).then(|| counted(archive.folded() as usize, "record"));
+    Refused {
+        todo: folded.is_some().then(|| UNFOLDED.to_string()),
+        ..Refused::new(&archive.name, refusal, Case::File, folded)
+    }
 }
 
 /// What a tree has.
