@@ -5,7 +5,7 @@ use Prim.Native.Nat.{ℕ}
 use mathlib.Core.Bool.{Bool, true, false, cond, _&&_, _||_}
 use mathlib.Core.List.{List, [], _∷_, _++_}
 use lib.Dec.{eqb}
-use lib.ListN.{take, replicate}
+use lib.ListN.{getD, take, replicate}
 use Rattle.model.specs.Bytes.{word, sameBytes}
 use Rattle.model.specs.Record.{Rec, root}
 use Rattle.model.specs.Log.{noCounts, soundAfter, logBytes}
@@ -27,6 +27,8 @@ pub data Example : Type 0 where
   besides : List Aside → List Aside → Bool → Example
   -- the records of a log, the bytes of a list, the condition that fails first, and how many entries and asides the tables then count
   leaves : List Rec → List ℕ → ℕ → ℕ → ℕ → Example
+  -- the records of a log, the bytes of a list, and the units that made the first entries of our table and of theirs
+  shows : List Rec → List ℕ → ℕ → ℕ → Example
   -- the list of units, the base vector, the first byte of a log of zeros, and the number that the empty order gets
   answers : ℕ → List ℕ → ℕ → ℕ → Example
   -- how many bytes are lent for our tree and for theirs, and the number then
@@ -71,6 +73,10 @@ unfoldable pub isLeaving : Ordered → ℕ → ℕ → ℕ → Bool
 isLeaving o c e a =
     isAnswer o 0 c && cond (eqb c 1 || eqb c 2) (areLeft o) (counts (o .ours) e a && counts (o .theirs) e a)
 
+-- the first entries of the tables were made by units u and w
+unfoldable pub isShowing : Ordered → ℕ → ℕ → Bool
+isShowing o u w = eqb (getD (o .ours) 8 0) u && eqb (getD (o .theirs) 8 0) w
+
 unfoldable pub isRefused : Ordered → ℕ → Bool
 isRefused o n = isAnswer o n 0 && areLeft o
 
@@ -80,6 +86,7 @@ right (judges l ks c) = soundAfter noCounts [] l && eqb (failedOf ks l) c
 right (sames t u b) = equalFlags (shownAlike t u) b && equalFlags (shownAlike u t) b
 right (besides s t b) = equalFlags (entryAlike s t traceA traceA) b
 right (leaves l b c e a) = isLeaving (orderOf (logBytes l) emptyBase b (replicate 86020 9) (replicate 86020 9)) c e a
+right (shows l b u w) = isShowing (orderOf (logBytes l) emptyBase b (replicate 86020 9) (replicate 86020 9)) u w
 right (answers m v x n) =
     isAnswer (orderOf (x ∷ replicate 40959 0) (baseBytes (record { list = m; vector = v; tree = emptyTree })) [] (replicate 86020 9) (replicate 86020 9)) n 0
 right (lends a b n) = isRefused (orderOf (1 ∷ replicate 40959 0) emptyBase [] (replicate a 9) (replicate b 9)) n
@@ -121,6 +128,7 @@ table =
     ∷ gives (0 ∷ 0 ∷ 1 ∷ 0 ∷ 3 ∷ 0 ∷ 2 ∷ 1 ∷ []) (0 · 1 ∷ 3 · 258 ∷ [])
     ∷ gives (0 ∷ 0 ∷ 1 ∷ 0 ∷ 1 ∷ []) (0 · 1 ∷ root ∷ [])
     ∷ gives (1 ∷ 0 ∷ 1 ∷ []) (root ∷ [])
+    ∷ gives (7 ∷ 0 ∷ 1 ∷ 0 ∷ []) (7 · 1 ∷ [])
     ∷ gives (8 ∷ 0 ∷ 1 ∷ 0 ∷ []) (root ∷ [])
     ∷ gives (0 ∷ 1 ∷ 1 ∷ 0 ∷ []) (root ∷ [])
     -- the empty order of an empty log
@@ -138,11 +146,12 @@ table =
     ∷ judges apart (0 · 1 ∷ 1 · 1 ∷ 2 · 1 ∷ []) 1
     ∷ judges apart (0 · 1 ∷ 1 · 1 ∷ root ∷ []) 1
     ∷ judges apart (0 · 1 ∷ 1 · 1 ∷ 0 · 2 ∷ []) 1
-    -- one that stands before a record it has seen, also of its own unit, also with another between
+    -- one that stands before a record it has seen, also of its own unit, also with another between or in front
     ∷ judges behind (0 · 1 ∷ 1 · 1 ∷ []) 0
     ∷ judges behind (1 · 1 ∷ 0 · 1 ∷ []) 2
     ∷ judges (makesTrace 3 (0 · 1) [] root A ∷ makesTrace 3 (0 · 2) (1 ∷ []) root B ∷ []) (0 · 2 ∷ 0 · 1 ∷ []) 2
     ∷ judges (makesTrace 3 (0 · 1) [] root A ∷ makesTrace 3 (2 · 1) [] root C ∷ makesTrace 3 (1 · 1) (1 ∷ []) root B ∷ []) (1 · 1 ∷ 2 · 1 ∷ 0 · 1 ∷ []) 2
+    ∷ judges (makesTrace 3 (0 · 1) [] root A ∷ makesTrace 3 (2 · 1) [] root C ∷ makesTrace 3 (1 · 1) (1 ∷ []) root B ∷ []) (2 · 1 ∷ 1 · 1 ∷ 0 · 1 ∷ []) 2
     -- what a record has not seen may follow it
     ∷ judges (makesTrace 3 (0 · 1) [] root A ∷ makesTrace 3 (0 · 2) (1 ∷ []) root B ∷ makesTrace 3 (1 · 1) (1 ∷ []) root C ∷ []) (0 · 1 ∷ 1 · 1 ∷ 0 · 2 ∷ []) 0
     -- the first condition before the second, the second before the third
@@ -165,6 +174,12 @@ table =
     ∷ sames (oneTrace []) (tree (entry (0 · 1) 2 root B (1 ∷ []) (7 ∷ []) ∷ []) []) false
     ∷ sames (oneTrace []) (tree (entry (0 · 1) 2 root A (2 ∷ []) (7 ∷ []) ∷ []) []) false
     ∷ sames (oneTrace []) (tree (entry (0 · 1) 2 root A (1 ∷ []) (8 ∷ []) ∷ []) []) false
+    -- to the last byte, capitals and small letters apart, and of every entry
+    ∷ sames (oneTrace []) (tree (entry (0 · 1) 2 root (97 ∷ []) (1 ∷ []) (7 ∷ []) ∷ []) []) false
+    ∷ sames (tree (entry (0 · 1) 2 root (65 ∷ 66 ∷ []) (1 ∷ []) (7 ∷ []) ∷ []) []) (tree (entry (0 · 1) 2 root (65 ∷ 67 ∷ []) (1 ∷ []) (7 ∷ []) ∷ []) []) false
+    ∷ sames (tree (entry (0 · 1) 2 root A (1 ∷ 2 ∷ []) (7 ∷ []) ∷ []) []) (tree (entry (0 · 1) 2 root A (1 ∷ 3 ∷ []) (7 ∷ []) ∷ []) []) false
+    ∷ sames (tree (entry (0 · 1) 2 root A (1 ∷ []) (7 ∷ 7 ∷ []) ∷ []) []) (tree (entry (0 · 1) 2 root A (1 ∷ []) (7 ∷ 8 ∷ []) ∷ []) []) false
+    ∷ sames (tree (traceA ∷ entry (1 · 1) 2 root B (1 ∷ []) (7 ∷ []) ∷ []) []) (tree (traceA ∷ entry (1 · 1) 2 root B (1 ∷ []) (8 ∷ []) ∷ []) []) false
     -- a removed entry is not shown
     ∷ sames (tree [] []) (tree (entry (0 · 1) 0 root A (1 ∷ []) (7 ∷ []) ∷ []) []) true
     -- a set has no order
@@ -175,6 +190,7 @@ table =
     ∷ sames (oneTrace (standing (1 · 1) 12 root true ∷ [])) (oneTrace (standing (1 · 1) 13 root true ∷ [])) false
     ∷ sames (oneTrace (standing (1 · 1) 15 (0 · 2) true ∷ [])) (oneTrace (standing (1 · 1) 15 (0 · 3) true ∷ [])) false
     ∷ sames (oneTrace (standing (1 · 1) 12 root true ∷ [])) (oneTrace (standing (1 · 1) 12 root false ∷ [])) false
+    ∷ sames (oneTrace (standing (1 · 1) 12 root true ∷ standing (1 · 2) 12 root true ∷ [])) (oneTrace (standing (1 · 1) 12 root true ∷ standing (1 · 2) 13 root true ∷ [])) false
     -- whether it is disputed
     ∷ besides (standing (1 · 1) 15 (0 · 1) true ∷ []) (standing (1 · 2) 17 (0 · 1) true ∷ []) true
     ∷ besides (standing (1 · 1) 15 (0 · 1) true ∷ []) [] false
@@ -184,6 +200,8 @@ table =
     ∷ leaves clash (1 ∷ 0 ∷ 1 ∷ 0 ∷ 0 ∷ 0 ∷ 1 ∷ 0 ∷ []) 3 1 1
     ∷ leaves behind (1 ∷ 0 ∷ 1 ∷ 0 ∷ 0 ∷ 0 ∷ 1 ∷ 0 ∷ []) 2 0 0
     ∷ leaves behind (0 ∷ 0 ∷ 1 ∷ 0 ∷ 1 ∷ 0 ∷ 1 ∷ 0 ∷ 7 ∷ []) 1 0 0
+    -- our tree in the first table, that of the order in the second
+    ∷ shows clash (1 ∷ 0 ∷ 1 ∷ 0 ∷ 0 ∷ 0 ∷ 1 ∷ 0 ∷ []) 0 1
     -- folded records, behind a log that is not sound; a short list alone is none
     ∷ answers 255 (1 ∷ replicate 7 0) 0 29
     ∷ answers 255 (replicate 7 0 ++ (1 ∷ [])) 0 29
