@@ -24,9 +24,11 @@ text: identities as 0.1, in that order, parted by blanks, commas or lines; # beg
 a remark to the end of its line. Three conditions are checked, each wholly before
 the next:
 
-1. each record of the file is named once, and nothing else is named
-2. no record stands before one that it has seen
-3. replayed in this order, the records leave the same entries and the same asides
+    1  each record of the file is named once, and nothing else is named
+    2  no record stands before one that it has seen
+    3  replayed in this order, the records leave the same entries and the same asides
+
+It says whether the order is accepted, or which condition fails first and where:
 
     $ echo '0.1 0.2 1.1' | sab order bench.sab -
     bench.sab: -: accepted: 3 records in this order leave the same 2 entries and 1 aside
