@@ -924,7 +924,7 @@ uint32_t sab_show(const uint8_t *log, size_t log_len, const uint8_t *base,
 #define SAB_ORDER_NAMES 1u        /* a record is missing or named twice, or a name
                                      is no record's */
 #define SAB_ORDER_SEEN 2u         /* a record stands before one that it has seen */
-#define SAB_ORDER_TREE 3u         /* the two tables differ */
+#define SAB_ORDER_TREE 3u         /* the two tables show another tree */
 
 uint32_t sab_check_order(const uint8_t *log, size_t log_len,
                          const uint8_t *base, size_t base_len,

@@ -2,7 +2,7 @@
 -- Document 02, K12.
 -- Assumes nothing.
 use Prim.Native.Nat.{ℕ}
-use mathlib.Core.Bool.{Bool, true, false, cond, _&&_, _||_}
+use mathlib.Core.Bool.{Bool, true, false, cond, not, _&&_, _||_}
 use mathlib.Core.List.{List, [], _∷_, _++_}
 use lib.Dec.{eqb}
 use lib.ListN.{getD, take, replicate}
@@ -12,7 +12,7 @@ use Rattle.model.specs.Log.{noCounts, soundAfter, logBytes}
 use Rattle.model.specs.Replay.{Entry, Aside, Tree, emptyTree}
 use Rattle.base_model.specs.Base.{emptyBase, baseBytes}
 use Rattle.model.specs.Examples.{_·_, makesTrace, stores, renames, settles, A, B, C}
-use Rattle.order_model.specs.Order.{namesGiven, equalFlags, entryAlike, shownAlike, failedOf, Ordered, orderOf}
+use Rattle.order_model.specs.Order.{namesGiven, entryAlike, shownAlike, failedOf, Ordered, orderOf}
 
 -- ---- the rows
 
@@ -31,6 +31,8 @@ pub data Example : Type 0 where
   shows : List Rec → List ℕ → ℕ → ℕ → Example
   -- the list of units, the base vector, the first byte of a log of zeros, and the number that the empty order gets
   answers : ℕ → List ℕ → ℕ → ℕ → Example
+  -- a base vector with all units listed and a log of zeros, the bytes of a list, and the number that refuses it
+  refuses : List ℕ → List ℕ → ℕ → Example
   -- how many bytes are lent for our tree and for theirs, and the number then
   lends : ℕ → ℕ → ℕ → Example
 
@@ -80,15 +82,21 @@ isShowing o u w = eqb (getD (o .ours) 8 0) u && eqb (getD (o .theirs) 8 0) w
 unfoldable pub isRefused : Ordered → ℕ → Bool
 isRefused o n = isAnswer o n 0 && areLeft o
 
+-- what is found is what the row says
+unfoldable pub agrees : Bool → Bool → Bool
+agrees x b = cond b x (not x)
+
 unfoldable pub right : Example → Bool
 right (gives b ks) = sameBytes (namesGiven b) ks
 right (judges l ks c) = soundAfter noCounts [] l && eqb (failedOf ks l) c
-right (sames t u b) = equalFlags (shownAlike t u) b && equalFlags (shownAlike u t) b
-right (besides s t b) = equalFlags (entryAlike s t traceA traceA) b
+right (sames t u b) = agrees (shownAlike t u) b && agrees (shownAlike u t) b
+right (besides s t b) = agrees (entryAlike s t traceA traceA) b
 right (leaves l b c e a) = isLeaving (orderOf (logBytes l) emptyBase b (replicate 86020 9) (replicate 86020 9)) c e a
 right (shows l b u w) = isShowing (orderOf (logBytes l) emptyBase b (replicate 86020 9) (replicate 86020 9)) u w
 right (answers m v x n) =
     isAnswer (orderOf (x ∷ replicate 40959 0) (baseBytes (record { list = m; vector = v; tree = emptyTree })) [] (replicate 86020 9) (replicate 86020 9)) n 0
+right (refuses v b n) =
+    isRefused (orderOf (replicate 40960 0) (baseBytes (record { list = 255; vector = v; tree = emptyTree })) b (replicate 86020 9) (replicate 86020 9)) n
 right (lends a b n) = isRefused (orderOf (1 ∷ replicate 40959 0) emptyBase [] (replicate a 9) (replicate b 9)) n
 
 unfoldable pub allRight : List Example → Bool
@@ -191,6 +199,8 @@ table =
     ∷ sames (oneTrace (standing (1 · 1) 15 (0 · 2) true ∷ [])) (oneTrace (standing (1 · 1) 15 (0 · 3) true ∷ [])) false
     ∷ sames (oneTrace (standing (1 · 1) 12 root true ∷ [])) (oneTrace (standing (1 · 1) 12 root false ∷ [])) false
     ∷ sames (oneTrace (standing (1 · 1) 12 root true ∷ standing (1 · 2) 12 root true ∷ [])) (oneTrace (standing (1 · 1) 12 root true ∷ standing (1 · 2) 13 root true ∷ [])) false
+    -- an aside more, which marks none
+    ∷ sames (oneTrace (standing (1 · 1) 12 root true ∷ [])) (oneTrace []) false
     -- whether it is disputed
     ∷ besides (standing (1 · 1) 15 (0 · 1) true ∷ []) (standing (1 · 2) 17 (0 · 1) true ∷ []) true
     ∷ besides (standing (1 · 1) 15 (0 · 1) true ∷ []) [] false
@@ -202,13 +212,19 @@ table =
     ∷ leaves behind (0 ∷ 0 ∷ 1 ∷ 0 ∷ 1 ∷ 0 ∷ 1 ∷ 0 ∷ 7 ∷ []) 1 0 0
     -- our tree in the first table, that of the order in the second
     ∷ shows clash (1 ∷ 0 ∷ 1 ∷ 0 ∷ 0 ∷ 0 ∷ 1 ∷ 0 ∷ []) 0 1
+    -- also where it is accepted
+    ∷ shows apart (1 ∷ 0 ∷ 1 ∷ 0 ∷ 0 ∷ 0 ∷ 1 ∷ 0 ∷ []) 0 1
     -- folded records, behind a log that is not sound; a short list alone is none
-    ∷ answers 255 (1 ∷ replicate 7 0) 0 29
     ∷ answers 255 (replicate 7 0 ++ (1 ∷ [])) 0 29
     ∷ answers 255 (1 ∷ replicate 7 0) 1 19
     ∷ answers 0 noCounts 0 0
+    -- before the conditions, and both tables are left
+    ∷ refuses (1 ∷ replicate 7 0) [] 29
+    ∷ refuses (1 ∷ replicate 7 0) (7 ∷ []) 29
     -- the lengths first
     ∷ lends 86019 86020 1
+    ∷ lends 86021 86020 1
+    ∷ lends 86020 86019 1
     ∷ lends 86020 86021 1
     ∷ lends 86020 86020 19
     ∷ []
