@@ -7,11 +7,11 @@ use Prim.Native.Nat.{ℕ, zero, suc}
 abbrev pub badBuffer : ℕ
 badBuffer = 1
 
--- a block is not 512 bytes, or a file not 1 to 86 blocks
+-- what is given for reading is not of its length: a block of 512 bytes, a file of 1 to 86 blocks; or a row, an SAB2 file, a plan not of theirs
 abbrev pub badLength : ℕ
 badLength = 2
 
--- the letters are not SAB1
+-- the letters are not SAB1, or SAB2 or PLN1 where these are asked for
 abbrev pub badLetters : ℕ
 badLetters = 3
 

@@ -284,7 +284,8 @@ unfoldable pub replayFrom : Tree → List Rec → Tree
 replayFrom t [] = t
 replayFrom t (r ∷ l) = replayFrom (step t r) l
 
--- records taken as they stand, from the root alone on. They have to stand in rank order, as in a sound log: nothing is sorted here [F16]
+-- records taken as they stand, from the root alone on: nothing is sorted here. The tree of a log is that of its records in rank order, as a sound log has
+-- them; another maker's order is replayed so too [F16]
 unfoldable pub replay : List Rec → Tree
 replay l = replayFrom emptyTree l
 

@@ -1,3 +1,4 @@
+-- The same behind the records held, whose tree is laid in a work memory of zeros by a register of zeros.
 use Rattle.tree_lookup.proofs.Working.{works-holds}
 use Rattle.act.proofs.Acting.{reason-laid, laid}
 use borrow.Author.Needs.{needs}
@@ -10,14 +11,8 @@ replay-state-requires c κs = (search, search, search, search, search, search, s
 reason-on-requires : tie.Need-reason-on-requires
 reason-on-requires c κs = (search, search (works-holds))
 
-same-length : tie.Need-same-length
-same-length c = search needs
-
-same-length-2 : tie.Need-same-length-2
-same-length-2 c = search needs
-
 returns : tie.Need-returns
 returns c = (search (reason-laid), search (laid))
 
 pub reason-behind-spec : {M : Type 1} → statement M
-reason-behind-spec = tie.close (tie.spec replay-state-requires reason-on-requires same-length same-length-2 returns)
+reason-behind-spec = tie.close (tie.spec replay-state-requires reason-on-requires (λ c. search needs) (λ c. search needs) returns)

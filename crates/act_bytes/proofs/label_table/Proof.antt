@@ -1,3 +1,4 @@
+-- The table.
 use mathlib.Core.Path.{refl}
 use Rattle.act_bytes.specs.Table.{mayStand}
 use Rattle.act_bytes.proofs.Table.{rightTo, table-right}

@@ -1,3 +1,4 @@
+-- 28 if the unit has used its last number, 11 if the log is full; or 0.
 use Rattle.act_wish.proofs.Stamping.{last-used, log-full, room-left}
 use Rattle.act_wish.proofs.room_number.Statement.{statement}
 use Rattle.act_wish.proofs.room_number.Tie as tie

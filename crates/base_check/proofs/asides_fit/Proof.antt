@@ -1,3 +1,4 @@
+-- The rows of m asides.
 use Prim.Native.Nat.{_≤_, _-_}
 use mathlib.Core.Path.{_≡_}
 use Rattle.model.specs.Log.{allTo}
@@ -17,21 +18,6 @@ abbrev μ-loop : tie.MeasureT-loop
 loop-holds : tie.Need-loop-holds Inv-loop μ-loop
 loop-holds c = (omega arith, search (asides-start))
 
-mul-aside-fits : tie.Need-mul-aside-fits Inv-loop μ-loop
-mul-aside-fits c = search needs
-
-add-aside-fits : tie.Need-add-aside-fits Inv-loop μ-loop
-add-aside-fits c = search needs
-
-aside-fits-requires : tie.Need-aside-fits-requires Inv-loop μ-loop
-aside-fits-requires c κs = search needs
-
-add-i : tie.Need-add-i Inv-loop μ-loop
-add-i c = search needs
-
-loop-less : tie.Need-loop-less Inv-loop μ-loop
-loop-less c = search needs
-
 loop-again : tie.Need-loop-again Inv-loop μ-loop
 loop-again c = (omega arith, search (asides-next))
 
@@ -41,14 +27,5 @@ returns c = search (asides-end)
 pub asides-fit-spec : {M : Type 1} → statement M
 asides-fit-spec =
     tie.close
-    (tie.spec
-    Inv-loop
-    μ-loop
-    loop-holds
-    mul-aside-fits
-    add-aside-fits
-    aside-fits-requires
-    add-i
-    loop-less
-    loop-again
-    returns)
+    (tie.spec Inv-loop μ-loop loop-holds (λ c. search needs) (λ c. search needs) (λ c κs. search needs) (λ c. search needs)
+    (λ c. search needs) loop-again returns)

@@ -1,3 +1,4 @@
+-- The rows of n entries.
 use Prim.Native.Nat.{_≤_, _-_}
 use mathlib.Core.Path.{_≡_}
 use Rattle.model.specs.Log.{allTo}
@@ -17,21 +18,6 @@ abbrev μ-loop : tie.MeasureT-loop
 loop-holds : tie.Need-loop-holds Inv-loop μ-loop
 loop-holds c = (omega arith, search (entries-start))
 
-mul-entry-fits : tie.Need-mul-entry-fits Inv-loop μ-loop
-mul-entry-fits c = search needs
-
-add-entry-fits : tie.Need-add-entry-fits Inv-loop μ-loop
-add-entry-fits c = search needs
-
-entry-fits-requires : tie.Need-entry-fits-requires Inv-loop μ-loop
-entry-fits-requires c κs = search needs
-
-add-i : tie.Need-add-i Inv-loop μ-loop
-add-i c = search needs
-
-loop-less : tie.Need-loop-less Inv-loop μ-loop
-loop-less c = search needs
-
 loop-again : tie.Need-loop-again Inv-loop μ-loop
 loop-again c = (omega arith, search (entries-next))
 
@@ -41,14 +27,5 @@ returns c = search (entries-end)
 pub entries-fit-spec : {M : Type 1} → statement M
 entries-fit-spec =
     tie.close
-    (tie.spec
-    Inv-loop
-    μ-loop
-    loop-holds
-    mul-entry-fits
-    add-entry-fits
-    entry-fits-requires
-    add-i
-    loop-less
-    loop-again
-    returns)
+    (tie.spec Inv-loop μ-loop loop-holds (λ c. search needs) (λ c. search needs) (λ c κs. search needs) (λ c. search needs)
+    (λ c. search needs) loop-again returns)

@@ -1,3 +1,4 @@
+-- How far row i is from the top;
 use Prim.Native.Nat.{_-_}
 use Rattle.base_climb.proofs.Climbing.{Climbing, climb-starts, climb-top, climb-known, climb-lost, climb-over, climb-end, climb-goes}
 use borrow.Author.Needs.{needs}
@@ -10,9 +11,6 @@ Inv-loop ups depths n i q₀ t₀ q t = Climbing ups n i t q
 abbrev μ-loop : tie.MeasureT-loop
 μ-loop ups depths n i q₀ t₀ q t = n - t
 
-number-at-requires : tie.Need-number-at-requires Inv-loop μ-loop
-number-at-requires c κs = search needs
-
 loop-holds : tie.Need-loop-holds Inv-loop μ-loop
 loop-holds c = search (climb-starts)
 
@@ -22,29 +20,8 @@ returns c = search (climb-top)
 returns-2 : tie.Need-returns-2 Inv-loop μ-loop
 returns-2 c = search (climb-lost)
 
-sub-number-at : tie.Need-sub-number-at Inv-loop μ-loop
-sub-number-at c = search needs
-
-number-at-requires-2 : tie.Need-number-at-requires-2 Inv-loop μ-loop
-number-at-requires-2 c κs = search needs
-
-add-result : tie.Need-add-result Inv-loop μ-loop
-add-result c = search needs
-
 returns-3 : tie.Need-returns-3 Inv-loop μ-loop
 returns-3 c = search (climb-known)
-
-sub-number-at-2 : tie.Need-sub-number-at-2 Inv-loop μ-loop
-sub-number-at-2 c = search needs
-
-number-at-requires-3 : tie.Need-number-at-requires-3 Inv-loop μ-loop
-number-at-requires-3 c κs = search needs
-
-add-t : tie.Need-add-t Inv-loop μ-loop
-add-t c = search needs
-
-loop-less : tie.Need-loop-less Inv-loop μ-loop
-loop-less c = search needs
 
 loop-again : tie.Need-loop-again Inv-loop μ-loop
 loop-again c = search (climb-goes)
@@ -58,21 +35,6 @@ returns-5 c = search (climb-over)
 pub depth-of-spec : {M : Type 1} → statement M
 depth-of-spec =
     tie.close
-    (tie.spec
-    Inv-loop
-    μ-loop
-    number-at-requires
-    loop-holds
-    returns
-    returns-2
-    sub-number-at
-    number-at-requires-2
-    add-result
-    returns-3
-    sub-number-at-2
-    number-at-requires-3
-    add-t
-    loop-less
-    loop-again
-    returns-4
-    returns-5)
+    (tie.spec Inv-loop μ-loop (λ c κs. search needs) loop-holds returns returns-2 (λ c. search needs) (λ c κs. search needs)
+    (λ c. search needs) returns-3 (λ c. search needs) (λ c κs. search needs) (λ c. search needs) (λ c. search needs)
+    loop-again returns-4 returns-5)

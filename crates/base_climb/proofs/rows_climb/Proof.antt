@@ -1,3 +1,4 @@
+-- The first n rows one after another, by what is known of them.
 use Prim.Native.Nat.{_≤_, _-_}
 use mathlib.Core.Path.{_≡_}
 use mathlib.Core.Bool.{true}
@@ -18,29 +19,14 @@ abbrev μ-loop : tie.MeasureT-loop
 loop-holds : tie.Need-loop-holds Inv-loop μ-loop
 loop-holds c = (omega arith, search (all-start), search needs)
 
-depth-of-requires : tie.Need-depth-of-requires Inv-loop μ-loop
-depth-of-requires c κs = search needs
-
-same-length : tie.Need-same-length Inv-loop μ-loop
-same-length c = search needs
-
 returns : tie.Need-returns Inv-loop μ-loop
 returns c = search (all-lost)
 
 mark-requires : tie.Need-mark-requires Inv-loop μ-loop
 mark-requires c κs = (search needs, omega arith, omega arith, search needs, search (away-exact))
 
-add-i : tie.Need-add-i Inv-loop μ-loop
-add-i c = search needs
-
-loop-less : tie.Need-loop-less Inv-loop μ-loop
-loop-less c = search needs
-
 loop-again : tie.Need-loop-again Inv-loop μ-loop
 loop-again c = (omega arith, search (all-goes), search needs)
-
-same-length-2 : tie.Need-same-length-2 Inv-loop μ-loop
-same-length-2 c = search needs
 
 returns-2 : tie.Need-returns-2 Inv-loop μ-loop
 returns-2 c = search (all-end)
@@ -48,16 +34,5 @@ returns-2 c = search (all-end)
 pub rows-climb-spec : {M : Type 1} → statement M
 rows-climb-spec =
     tie.close
-    (tie.spec
-    Inv-loop
-    μ-loop
-    loop-holds
-    depth-of-requires
-    same-length
-    returns
-    mark-requires
-    add-i
-    loop-less
-    loop-again
-    same-length-2
-    returns-2)
+    (tie.spec Inv-loop μ-loop loop-holds (λ c κs. search needs) (λ c. search needs) returns mark-requires (λ c. search needs)
+    (λ c. search needs) loop-again (λ c. search needs) returns-2)

@@ -1,10 +1,8 @@
+-- The list names the unit.
 use Rattle.base_head.proofs.Listed.{bit-some, listed-is}
 use borrow.Author.Needs.{needs}
 use Rattle.base_head.proofs.is_listed.Statement.{statement}
 use Rattle.base_head.proofs.is_listed.Tie as tie
-
-array-read-result : tie.Need-array-read-result
-array-read-result c = search needs
 
 div-result : tie.Need-div-result
 div-result c = search (bit-some)
@@ -13,4 +11,4 @@ returns : tie.Need-returns
 returns c = search (listed-is)
 
 pub is-listed-spec : {M : Type 1} → statement M
-is-listed-spec = tie.close (tie.spec array-read-result div-result returns)
+is-listed-spec = tie.close (tie.spec (λ c. search needs) div-result returns)

@@ -1,3 +1,4 @@
+-- Of the first i identities the last that is k, and one;
 use Rattle.base_ids.proofs.Ids.{Seeks, seek-starts, seek-low, seek-goes, seek-found, seek-ends}
 use borrow.Author.Needs.{needs}
 use native.Mathlib.Omega.{arith}
@@ -10,29 +11,11 @@ Inv-loop base n k heads next i h q₀ q = Seeks base n k i q
 abbrev μ-loop : tie.MeasureT-loop
 μ-loop base n k heads next i h q₀ q = q
 
-link-requires : tie.Need-link-requires Inv-loop μ-loop
-link-requires c κs = search needs
-
-number-at-requires : tie.Need-number-at-requires Inv-loop μ-loop
-number-at-requires c κs = search needs
-
 loop-holds : tie.Need-loop-holds Inv-loop μ-loop
 loop-holds c = search (seek-starts)
 
-sub-id-at : tie.Need-sub-id-at Inv-loop μ-loop
-sub-id-at c = search needs
-
-id-at-requires : tie.Need-id-at-requires Inv-loop μ-loop
-id-at-requires c κs = search needs
-
 returns : tie.Need-returns Inv-loop μ-loop
 returns c = (search (seek-found), omega arith)
-
-sub-number-at : tie.Need-sub-number-at Inv-loop μ-loop
-sub-number-at c = search needs
-
-number-at-requires-2 : tie.Need-number-at-requires-2 Inv-loop μ-loop
-number-at-requires-2 c κs = search needs
 
 loop-less : tie.Need-loop-less Inv-loop μ-loop
 loop-less c = search (seek-low)
@@ -46,17 +29,5 @@ returns-2 c = (search (seek-ends), omega arith)
 pub before-spec : {M : Type 1} → statement M
 before-spec =
     tie.close
-    (tie.spec
-    Inv-loop
-    μ-loop
-    link-requires
-    number-at-requires
-    loop-holds
-    sub-id-at
-    id-at-requires
-    returns
-    sub-number-at
-    number-at-requires-2
-    loop-less
-    loop-again
-    returns-2)
+    (tie.spec Inv-loop μ-loop (λ c κs. search needs) (λ c κs. search needs) loop-holds (λ c. search needs)
+    (λ c κs. search needs) returns (λ c. search needs) (λ c κs. search needs) loop-less loop-again returns-2)

@@ -1,3 +1,4 @@
+-- The table of the entries' folders.
 use Prim.Native.Nat.{_≤_, _-_}
 use Rattle.base_ids.specs.Ups.{Ups}
 use Rattle.base_ids.proofs.Rooted.{ups-none, ups-more, ups-end}
@@ -15,26 +16,8 @@ abbrev μ-loop : tie.MeasureT-loop
 loop-holds : tie.Need-loop-holds Inv-loop μ-loop
 loop-holds c = (omega arith, search (ups-none))
 
-inside-at-requires : tie.Need-inside-at-requires Inv-loop μ-loop
-inside-at-requires c κs = search needs
-
-up-of-requires : tie.Need-up-of-requires Inv-loop μ-loop
-up-of-requires c κs = search needs
-
-put-requires : tie.Need-put-requires Inv-loop μ-loop
-put-requires c κs = search needs
-
-add-i : tie.Need-add-i Inv-loop μ-loop
-add-i c = search needs
-
-loop-less : tie.Need-loop-less Inv-loop μ-loop
-loop-less c = search needs
-
 loop-again : tie.Need-loop-again Inv-loop μ-loop
 loop-again c = (omega arith, search (ups-more))
-
-same-length : tie.Need-same-length Inv-loop μ-loop
-same-length c = search needs
 
 returns : tie.Need-returns Inv-loop μ-loop
 returns c = search (ups-end)
@@ -42,15 +25,5 @@ returns c = search (ups-end)
 pub fill-ups-spec : {M : Type 1} → statement M
 fill-ups-spec =
     tie.close
-    (tie.spec
-    Inv-loop
-    μ-loop
-    loop-holds
-    inside-at-requires
-    up-of-requires
-    put-requires
-    add-i
-    loop-less
-    loop-again
-    same-length
-    returns)
+    (tie.spec Inv-loop μ-loop loop-holds (λ c κs. search needs) (λ c κs. search needs) (λ c κs. search needs)
+    (λ c. search needs) (λ c. search needs) loop-again (λ c. search needs) returns)

@@ -1,3 +1,4 @@
+-- Where the folder f stands:
 use Rattle.base_ids.proofs.Rooted.{up-root, up-none, up-other, up-folder}
 use native.Mathlib.Omega.{arith}
 use borrow.Author.Needs.{needs}
@@ -7,17 +8,8 @@ use Rattle.base_ids.proofs.up_of.Tie as tie
 returns : tie.Need-returns
 returns c = (search (up-root), omega arith)
 
-before-requires : tie.Need-before-requires
-before-requires c κs = search needs
-
 returns-2 : tie.Need-returns-2
 returns-2 c = (search (up-none), omega arith)
-
-sub-kind-at : tie.Need-sub-kind-at
-sub-kind-at c = search needs
-
-kind-at-requires : tie.Need-kind-at-requires
-kind-at-requires c κs = search needs
 
 returns-3 : tie.Need-returns-3
 returns-3 c = (search (up-other), omega arith)
@@ -28,4 +20,4 @@ returns-4 c = (search (up-folder), omega arith)
 pub up-of-spec : {M : Type 1} → statement M
 up-of-spec =
     tie.close
-    (tie.spec returns before-requires returns-2 sub-kind-at kind-at-requires returns-3 returns-4)
+    (tie.spec returns (λ c κs. search needs) returns-2 (λ c. search needs) (λ c κs. search needs) returns-3 returns-4)

@@ -1,3 +1,4 @@
+-- The labels of all entries.
 use Prim.Native.Nat.{_≤_, _-_}
 use mathlib.Core.Path.{_≡_, refl}
 use lib.ListN.{length}
@@ -20,17 +21,8 @@ loop-holds c = (omega arith, refl, search)
 enter-label-requires : tie.Need-enter-label-requires Inv-loop μ-loop
 enter-label-requires c κs = (search, search, search, search)
 
-add-i : tie.Need-add-i Inv-loop μ-loop
-add-i c = search needs
-
-loop-less : tie.Need-loop-less Inv-loop μ-loop
-loop-less c = search needs
-
 loop-again : tie.Need-loop-again Inv-loop μ-loop
 loop-again c = (omega arith, search needs, search)
-
-same-length : tie.Need-same-length Inv-loop μ-loop
-same-length c = search needs
 
 returns : tie.Need-returns Inv-loop μ-loop
 returns c = (search (loaded), search (loaded-nodes))
@@ -38,11 +30,5 @@ returns c = (search (loaded), search (loaded-nodes))
 pub enter-labels-spec : {M : Type 1} → statement M
 enter-labels-spec =
     tie.close
-    (tie.spec Inv-loop μ-loop
-    loop-holds
-    enter-label-requires
-    add-i
-    loop-less
-    loop-again
-    same-length
-    returns)
+    (tie.spec Inv-loop μ-loop loop-holds enter-label-requires (λ c. search needs) (λ c. search needs) loop-again
+    (λ c. search needs) returns)

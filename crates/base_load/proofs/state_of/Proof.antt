@@ -1,6 +1,5 @@
+-- The state of an aside.
 use Rattle.base_load.proofs.Rows.{is-open, is-settled}
-use borrow.Author.Needs.{needs}
-use native.Mathlib.Omega.{arith}
 use Rattle.base_load.proofs.state_of.Statement.{statement}
 use Rattle.base_load.proofs.state_of.Tie as tie
 
@@ -13,6 +12,4 @@ returns-2 c = search (is-settled)
 pub state-of-spec : {M : Type 1} → statement M
 state-of-spec =
     tie.close
-    (tie.spec
-    returns
-    returns-2)
+    (tie.spec returns returns-2)

@@ -1,3 +1,4 @@
+-- The bytes from one place up to another move up, the last byte first, so that the places may overlap.
 use Prim.Native.Nat.{_≤_, _-_, _+_}
 use native.Mathlib.Nat.{sub-self}
 use mathlib.Core.Path.{_≡_, refl}
@@ -9,8 +10,6 @@ use borrow.Author.Needs.{needs}
 use native.Mathlib.Omega.{arith}
 use Rattle.byte_slice.proofs.move_run.Statement.{statement}
 use Rattle.byte_slice.proofs.move_run.Tie as tie
-use Rattle.byte_slice.proofs.move_run.Reads as reads
-use Rattle.byte_slice.proofs.move_run.Lts as lts
 
 abbrev Inv-loop : tie.InvT-loop
 Inv-loop buf₀ from to by i₀ buf i = (from ≤ i) × (i ≤ to) × (length buf ≡ length buf₀) × (buf ≡ putAt buf₀ (i + by) (part buf₀ i (to - i)))
@@ -18,42 +17,15 @@ Inv-loop buf₀ from to by i₀ buf i = (from ≤ i) × (i ≤ to) × (length bu
 abbrev μ-loop : tie.MeasureT-loop
 μ-loop buf₀ from to by i₀ buf i = i
 
--- src/lib.rt:122:5
 loop-holds : tie.Need-loop-holds Inv-loop μ-loop
 loop-holds c = (omega arith, omega arith, refl, rw (sub-self, part-none, put-nil))
 
--- src/lib.rt:123:9
-sub-i : tie.Need-sub-i Inv-loop μ-loop
-sub-i c = search needs
-
--- src/lib.rt:124:23
-slice-read-buf : tie.Need-slice-read-buf Inv-loop μ-loop
-slice-read-buf c = search needs
-
--- src/lib.rt:124:13
-add-buf : tie.Need-add-buf Inv-loop μ-loop
-add-buf c = search needs
-
--- src/lib.rt:124:9
-slice-write-buf : tie.Need-slice-write-buf Inv-loop μ-loop
-slice-write-buf c = search needs
-
--- src/lib.rt:122:5
-loop-less : tie.Need-loop-less Inv-loop μ-loop
-loop-less c = search needs
-
--- src/lib.rt:122:5
 loop-again : tie.Need-loop-again Inv-loop μ-loop
 loop-again c =
     let l = c .before .before .loop in
     let a = c .before .before .before .args in
     (omega arith, omega arith, simp length-set (l .inv .2), moved (a .buf .now) (l .buf) (l .i) (a .to) (a .by) (omega arith) (omega arith) (omega arith) (omega arith) (l .inv .3))
 
--- src/lib.rt:117:1
-same-length : tie.Need-same-length Inv-loop μ-loop
-same-length c = search needs
-
--- src/lib.rt:117:1
 returns : tie.Need-returns Inv-loop μ-loop
 returns c =
     let l = c .before .loop in
@@ -63,15 +35,5 @@ returns c =
 pub move-run-spec : {M : Type 1} → statement M
 move-run-spec =
     tie.close
-    (tie.spec
-    Inv-loop
-    μ-loop
-    loop-holds
-    sub-i
-    slice-read-buf
-    add-buf
-    slice-write-buf
-    loop-less
-    loop-again
-    same-length
-    returns)
+    (tie.spec Inv-loop μ-loop loop-holds (λ c. search needs) (λ c. search needs) (λ c. search needs) (λ c. search needs)
+    (λ c. search needs) loop-again (λ c. search needs) returns)

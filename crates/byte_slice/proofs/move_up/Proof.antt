@@ -1,3 +1,4 @@
+-- The bytes from one place up to another move up: the last 16 are read before they are written, and so on, and then the rest.
 use Prim.Native.Nat.{_≤_, _-_, _+_}
 use mathlib.Core.Path.{_≡_, refl}
 use lib.ListN.{length}
@@ -26,45 +27,8 @@ loop-again c = (omega arith, omega arith, search needs, search (move-next))
 returns : tie.Need-returns Inv-loop μ-loop
 returns c = search (move-more)
 
-sub-loop : tie.Need-sub-loop Inv-loop μ-loop
-sub-loop c = search needs
-
-sub-i : tie.Need-sub-i Inv-loop μ-loop
-sub-i c = search needs
-
-read-16-requires : tie.Need-read-16-requires Inv-loop μ-loop
-read-16-requires c κs = search needs
-
-add-put-run : tie.Need-add-put-run Inv-loop μ-loop
-add-put-run c = search needs
-
-slice-aggregate-put-run : tie.Need-slice-aggregate-put-run Inv-loop μ-loop
-slice-aggregate-put-run c = search needs
-
-loop-less : tie.Need-loop-less Inv-loop μ-loop
-loop-less c = search needs
-
-move-run-requires : tie.Need-move-run-requires Inv-loop μ-loop
-move-run-requires c κs = search needs
-
-same-length : tie.Need-same-length Inv-loop μ-loop
-same-length c = search needs
-
 pub move-up-spec : {M : Type 1} → statement M
 move-up-spec =
     tie.close
-    (tie.spec
-    Inv-loop
-    μ-loop
-    loop-holds
-    sub-loop
-    sub-i
-    read-16-requires
-    add-put-run
-    slice-aggregate-put-run
-    put-run-requires
-    loop-less
-    loop-again
-    move-run-requires
-    same-length
-    returns)
+    (tie.spec Inv-loop μ-loop loop-holds (λ c. search needs) (λ c. search needs) (λ c κs. search needs) (λ c. search needs)
+    (λ c. search needs) put-run-requires (λ c. search needs) loop-again (λ c κs. search needs) (λ c. search needs) returns)

@@ -1,47 +1,14 @@
+-- A number is written in four bytes, the lowest first.
 use Rattle.byte_slice.proofs.Words.{put-halves}
 use borrow.Author.Needs.{needs}
 use Rattle.byte_slice.proofs.put32.Statement.{statement}
 use Rattle.byte_slice.proofs.put32.Tie as tie
-use Rattle.byte_slice.proofs.put32.Reads as reads
-use Rattle.byte_slice.proofs.put32.Lts as lts
-use Rattle.byte_slice.proofs.put16.Reads as put16-reads
 
--- src/lib.rt:101:20
-cast-put16 : tie.Need-cast-put16
-cast-put16 c = search needs
-
--- src/lib.rt:101:5
-put16-requires : tie.Need-put16-requires
-put16-requires c κs = search needs
-
--- src/lib.rt:102:16
-add-put16 : tie.Need-add-put16
-add-put16 c = search needs
-
--- src/lib.rt:102:24
-cast-put16-2 : tie.Need-cast-put16-2
-cast-put16-2 c = search needs
-
--- src/lib.rt:102:5
-put16-requires-2 : tie.Need-put16-requires-2
-put16-requires-2 c κs = search needs
-
--- src/lib.rt:97:1
-same-length : tie.Need-same-length
-same-length c = search needs
-
--- src/lib.rt:97:1
 returns : tie.Need-returns
 returns c = search (put-halves)
 
 pub put32-spec : {M : Type 1} → statement M
 put32-spec =
     tie.close
-    (tie.spec
-    cast-put16
-    put16-requires
-    add-put16
-    cast-put16-2
-    put16-requires-2
-    same-length
-    returns)
+    (tie.spec (λ c. search needs) (λ c κs. search needs) (λ c. search needs) (λ c. search needs) (λ c κs. search needs)
+    (λ c. search needs) returns)

@@ -1,3 +1,5 @@
+-- 1 for a log, a base or another lent buffer that is not of its stated length, 21 for a unit above 7, 2 for a row of blocks; or
+-- 0.
 use Rattle.call_answer.proofs.Guards.{log-length, base-length, lent-length, unit-above, row-length, early-passes}
 use Rattle.call_answer.proofs.early_number.Statement.{statement}
 use Rattle.call_answer.proofs.early_number.Tie as tie

@@ -1,10 +1,8 @@
+-- A state that was checked:
 use Rattle.call_guard.proofs.Opening.{not-sound, is-sound}
 use borrow.Author.Needs.{needs}
 use Rattle.call_guard.proofs.judged.Statement.{statement}
 use Rattle.call_guard.proofs.judged.Tie as tie
-
-refused-requires : tie.Need-refused-requires
-refused-requires c κs = search needs
 
 returns : tie.Need-returns
 returns c = search (not-sound)
@@ -13,4 +11,4 @@ returns-2 : tie.Need-returns-2
 returns-2 c = search (is-sound)
 
 pub judged-spec : {M : Type 1} → statement M
-judged-spec = tie.close (tie.spec refused-requires returns returns-2)
+judged-spec = tie.close (tie.spec (λ c κs. search needs) returns returns-2)

@@ -1,3 +1,4 @@
+-- The first n blocks of so many records that stand in blocks are written anew, from a place of the lent file on.
 use Prim.Native.Nat.{_-_, _*_, _≤_}
 use mathlib.Core.Path.{_≡_}
 use lib.ListN.{length}
@@ -10,10 +11,6 @@ use borrow.Author.Needs.{needs}
 use native.Mathlib.Omega.{arith}
 use Rattle.convert.proofs.recast.Statement.{statement}
 use Rattle.convert.proofs.recast.Tie as tie
-use Rattle.convert.proofs.recast.Reads as reads
-use Rattle.convert.proofs.recast.Lts as lts
-use Rattle.convert.proofs.recast_block.Reads as recast-block-reads
-use Rattle.write_file_blocks.proofs.write_at.Reads as write-at-reads
 
 abbrev Inv-loop : tie.InvT-loop
 Inv-loop part total n letters archive unit v first out₀ k₀ out k =
@@ -28,23 +25,8 @@ loop-holds c = (omega arith, search needs, search (run-none))
 recast-block-requires : tie.Need-recast-block-requires Inv-loop μ-loop
 recast-block-requires c κs = (search needs, search needs, search needs, search (recast-begun), search needs)
 
-add-write-at : tie.Need-add-write-at Inv-loop μ-loop
-add-write-at c = search needs
-
-write-at-requires : tie.Need-write-at-requires Inv-loop μ-loop
-write-at-requires c κs = search needs
-
-add-k : tie.Need-add-k Inv-loop μ-loop
-add-k c = search needs
-
-loop-less : tie.Need-loop-less Inv-loop μ-loop
-loop-less c = search needs
-
 loop-again : tie.Need-loop-again Inv-loop μ-loop
 loop-again c = (omega arith, search needs, search (recast-more))
-
-same-length : tie.Need-same-length Inv-loop μ-loop
-same-length c = search needs
 
 returns : tie.Need-returns Inv-loop μ-loop
 returns c = search (run-all)
@@ -52,15 +34,5 @@ returns c = search (run-all)
 pub recast-spec : {M : Type 1} → statement M
 recast-spec =
     tie.close
-    (tie.spec
-    Inv-loop
-    μ-loop
-    loop-holds
-    recast-block-requires
-    add-write-at
-    write-at-requires
-    add-k
-    loop-less
-    loop-again
-    same-length
-    returns)
+    (tie.spec Inv-loop μ-loop loop-holds recast-block-requires (λ c. search needs) (λ c κs. search needs) (λ c. search needs)
+    (λ c. search needs) loop-again (λ c. search needs) returns)

@@ -1,4 +1,5 @@
-use Rattle.fold.proofs.Folding.{log-sound, held-on, run-few, run-is}
+-- The run that folds, replayed into the work memory.
+use Rattle.fold.proofs.Folding.{log-sound, held-on, run-is}
 use borrow.Author.Needs.{needs}
 use native.Mathlib.Omega.{arith}
 use Rattle.fold.proofs.run_in.Statement.{statement}
@@ -7,20 +8,10 @@ use Rattle.fold.proofs.run_in.Tie as tie
 heard-run-requires : tie.Need-heard-run-requires
 heard-run-requires c κs = (search, search (log-sound), search, search, search (held-on), search)
 
-fold-tree-requires : tie.Need-fold-tree-requires
-fold-tree-requires c κs = search needs
-
-same-length : tie.Need-same-length
-same-length c = search needs
-
 returns : tie.Need-returns
 returns c = ((search (run-is), omega arith), search)
 
 pub run-in-spec : {M : Type 1} → statement M
 run-in-spec =
     tie.close
-    (tie.spec
-    heard-run-requires
-    fold-tree-requires
-    same-length
-    returns)
+    (tie.spec heard-run-requires (λ c κs. search needs) (λ c. search needs) returns)

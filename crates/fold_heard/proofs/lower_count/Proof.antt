@@ -1,3 +1,4 @@
+-- The lower of two counts.
 use Rattle.fold_heard.proofs.Lowest.{lower-first, lower-second}
 use Prim.Native.Nat.{_-_}
 use Rattle.fold_heard.proofs.lower_count.Statement.{statement}

@@ -1,3 +1,4 @@
+-- The base vector with the first n records counted.
 use lib.ListN.{take}
 use Rattle.model.specs.Log.{vectorOn, recordsOf}
 use Rattle.fold_log.proofs.Counts.{counts-start, counts-unit, counts-next, counts-end, counts-few}
@@ -17,29 +18,8 @@ abbrev μ-loop : tie.MeasureT-loop
 loop-holds : tie.Need-loop-holds Inv-loop μ-loop
 loop-holds c = (omega arith, search (counts-few), search (counts-start, needs))
 
-mul-at : tie.Need-mul-at Inv-loop μ-loop
-mul-at c = search needs
-
-add-count-to : tie.Need-add-count-to Inv-loop μ-loop
-add-count-to c = search needs
-
-sub-count-to : tie.Need-sub-count-to Inv-loop μ-loop
-sub-count-to c = search needs
-
-part-count-to-start : tie.Need-part-count-to-start Inv-loop μ-loop
-part-count-to-start c = search needs
-
-part-count-to-end : tie.Need-part-count-to-end Inv-loop μ-loop
-part-count-to-end c = search needs
-
 count-to-requires : tie.Need-count-to-requires Inv-loop μ-loop
 count-to-requires c κs = (search needs, search (counts-unit))
-
-add-i : tie.Need-add-i Inv-loop μ-loop
-add-i c = search needs
-
-loop-less : tie.Need-loop-less Inv-loop μ-loop
-loop-less c = search needs
 
 loop-again : tie.Need-loop-again Inv-loop μ-loop
 loop-again c = (omega arith, omega arith, search (counts-next))
@@ -50,17 +30,5 @@ returns c = search (counts-end)
 pub counted-spec : {M : Type 1} → statement M
 counted-spec =
     tie.close
-    (tie.spec
-    Inv-loop
-    μ-loop
-    loop-holds
-    mul-at
-    add-count-to
-    sub-count-to
-    part-count-to-start
-    part-count-to-end
-    count-to-requires
-    add-i
-    loop-less
-    loop-again
-    returns)
+    (tie.spec Inv-loop μ-loop loop-holds (λ c. search needs) (λ c. search needs) (λ c. search needs) (λ c. search needs)
+    (λ c. search needs) count-to-requires (λ c. search needs) (λ c. search needs) loop-again returns)

@@ -1,3 +1,4 @@
+-- The longer run, if so many entries and asides have room in a base.
 use Rattle.fold_run.proofs.Counting.{room-not, room-no-asides, room-both}
 use Prim.Native.Nat.{_-_}
 use Rattle.fold_run.proofs.better.Statement.{statement}

@@ -1,3 +1,4 @@
+-- The first n records of a log are replayed from the tree that a table holds on, all of whose entries are present.
 use mathlib.Core.Path.{refl}
 use lib.ListN.{length}
 use Rattle.model.specs.Log.{recordsOf}
@@ -34,26 +35,11 @@ offset-requires c κs = omega arith
 add-op-of : tie.Need-add-op-of Inv-loop μ-loop
 add-op-of c = omega arith
 
-sub-op-of : tie.Need-sub-op-of Inv-loop μ-loop
-sub-op-of c = search needs
-
-part-op-of-start : tie.Need-part-op-of-start Inv-loop μ-loop
-part-op-of-start c = search needs
-
 part-op-of-end : tie.Need-part-op-of-end Inv-loop μ-loop
 part-op-of-end c = search (turn-inside)
 
-op-of-requires : tie.Need-op-of-requires Inv-loop μ-loop
-op-of-requires c κs = search needs
-
 add-step : tie.Need-add-step Inv-loop μ-loop
 add-step c = omega arith
-
-sub-step : tie.Need-sub-step Inv-loop μ-loop
-sub-step c = search needs
-
-part-step-start : tie.Need-part-step-start Inv-loop μ-loop
-part-step-start c = search needs
 
 part-step-end : tie.Need-part-step-end Inv-loop μ-loop
 part-step-end c = search (turn-inside)
@@ -64,23 +50,8 @@ step-requires c κs = (search (turn-takes), search (turn-holds), search (turn-en
 count-after-requires : tie.Need-count-after-requires Inv-loop μ-loop
 count-after-requires c κs = search (run-few)
 
-add-i : tie.Need-add-i Inv-loop μ-loop
-add-i c = search needs
-
-better-requires : tie.Need-better-requires Inv-loop μ-loop
-better-requires c κs = search needs
-
-loop-less : tie.Need-loop-less Inv-loop μ-loop
-loop-less c = search needs
-
 loop-again : tie.Need-loop-again Inv-loop μ-loop
 loop-again c = (omega arith, search needs, search needs, omega arith, search (turn-goes), search (run-next), search (best-next))
-
-same-length : tie.Need-same-length Inv-loop μ-loop
-same-length c = search needs
-
-same-length-2 : tie.Need-same-length-2 Inv-loop μ-loop
-same-length-2 c = search needs
 
 returns : tie.Need-returns Inv-loop μ-loop
 returns c = ((search (best-ends), search (best-within)), search (works-end))
@@ -88,26 +59,6 @@ returns c = ((search (best-ends), search (best-within)), search (works-end))
 pub longest-run-spec : {M : Type 1} → statement M
 longest-run-spec =
     tie.close
-    (tie.spec
-    Inv-loop
-    μ-loop
-    loop-holds
-    offset-requires
-    add-op-of
-    sub-op-of
-    part-op-of-start
-    part-op-of-end
-    op-of-requires
-    add-step
-    sub-step
-    part-step-start
-    part-step-end
-    step-requires
-    count-after-requires
-    add-i
-    better-requires
-    loop-less
-    loop-again
-    same-length
-    same-length-2
-    returns)
+    (tie.spec Inv-loop μ-loop loop-holds offset-requires add-op-of (λ c. search needs) (λ c. search needs) part-op-of-end
+    (λ c κs. search needs) add-step (λ c. search needs) (λ c. search needs) part-step-end step-requires count-after-requires
+    (λ c. search needs) (λ c κs. search needs) (λ c. search needs) loop-again (λ c. search needs) (λ c. search needs) returns)

@@ -1,11 +1,9 @@
+-- The first n records of a state replayed, into a table and a register of zeros.
 use Rattle.fold_tree.proofs.Tables.{run-loads, run-lies, run-plays, run-holds, run-entries, run-asides, run-both, run-nodes, run-replayed}
 use Prim.Native.Nat.{_-_}
 use borrow.Author.Needs.{needs}
 use Rattle.fold_tree.proofs.replay_run.Statement.{statement}
 use Rattle.fold_tree.proofs.replay_run.Tie as tie
-
-small-counts-requires : tie.Need-small-counts-requires
-small-counts-requires c κs = search needs
 
 load-requires : tie.Need-load-requires
 load-requires c κs = (search (run-loads), search, search)
@@ -16,22 +14,10 @@ replay-requires c κs =
     let s = c .before .before .before .before .before .before .before .before .before .small-counts .ensures in
     (search (run-lies), search (run-plays _ _ _ _ _ w _ s), search (run-holds), search (run-entries), search (run-asides), search (run-both), search (run-nodes))
 
-same-length : tie.Need-same-length
-same-length c = search needs
-
-same-length-2 : tie.Need-same-length-2
-same-length-2 c = search needs
-
 returns : tie.Need-returns
 returns c = search (run-replayed)
 
 pub replay-run-spec : {M : Type 1} → statement M
 replay-run-spec =
     tie.close
-    (tie.spec
-    small-counts-requires
-    load-requires
-    replay-requires
-    same-length
-    same-length-2
-    returns)
+    (tie.spec (λ c κs. search needs) load-requires replay-requires (λ c. search needs) (λ c. search needs) returns)

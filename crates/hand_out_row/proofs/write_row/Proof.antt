@@ -1,3 +1,5 @@
+-- The records are gathered in the row itself, block after block is written before them, then zeros; the count of blocks is
+-- returned.
 use Rattle.hand_out_row.proofs.Written.{few, begun, all-counted, still-lies, goes-on, ends}
 use Rattle.model.specs.Bytes.{padded, joined}
 use Rattle.model.specs.Log.{recordsOf, lacking}
@@ -17,12 +19,6 @@ Inv-loop folded log used held archive unit asked out₀ m n k₀ out k = (k ≤ 
 abbrev μ-loop : tie.MeasureT-loop
 μ-loop folded log used held archive unit asked out₀ m n k₀ out k = n - k
 
-gather-behind-requires : tie.Need-gather-behind-requires Inv-loop μ-loop
-gather-behind-requires c κs = search needs
-
-row-count-requires : tie.Need-row-count-requires Inv-loop μ-loop
-row-count-requires c κs = search needs
-
 loop-holds : tie.Need-loop-holds Inv-loop μ-loop
 unfolding rowTo
 loop-holds c = (omega arith, search (few), search needs, search needs, search needs, refl)
@@ -35,15 +31,6 @@ row-block-requires c κs =
     let inv = at .loop .inv in
     (search needs, search needs, still-lies _ _ _ _ (pre .1) _ _ _ (inv .3) _ _ (inv .4) (inv .5) (inside .loop-test .taken) (inv .1), search needs, search needs, search (begun))
 
-write-at-requires : tie.Need-write-at-requires Inv-loop μ-loop
-write-at-requires c κs = search needs
-
-add-k : tie.Need-add-k Inv-loop μ-loop
-add-k c = search needs
-
-loop-less : tie.Need-loop-less Inv-loop μ-loop
-loop-less c = search needs
-
 loop-again : tie.Need-loop-again Inv-loop μ-loop
 loop-again c =
     let write = c .before .before in
@@ -53,15 +40,6 @@ loop-again c =
     let pre = at .before .before .before .before .before .before .before .before .pre in
     let inv = at .loop .inv in
     (omega arith, search needs, search needs, inv .3, inv .4, goes-on _ _ _ _ (pre .1) _ _ _ (inv .3) _ _ (write .write-at .ensures) (block .row-block .ensures) (inv .5) (inside .loop-test .taken) (inv .1))
-
-clear-behind-requires : tie.Need-clear-behind-requires Inv-loop μ-loop
-clear-behind-requires c κs = search needs
-
-cast-result : tie.Need-cast-result Inv-loop μ-loop
-cast-result c = search needs
-
-same-length : tie.Need-same-length Inv-loop μ-loop
-same-length c = search needs
 
 returns : tie.Need-returns Inv-loop μ-loop
 returns c =
@@ -76,18 +54,6 @@ returns c =
 pub write-row-spec : {M : Type 1} → statement M
 write-row-spec =
     tie.close
-    (tie.spec
-    Inv-loop
-    μ-loop
-    gather-behind-requires
-    row-count-requires
-    loop-holds
-    row-block-requires
-    write-at-requires
-    add-k
-    loop-less
-    loop-again
-    clear-behind-requires
-    cast-result
-    same-length
-    returns)
+    (tie.spec Inv-loop μ-loop (λ c κs. search needs) (λ c κs. search needs) loop-holds row-block-requires
+    (λ c κs. search needs) (λ c. search needs) (λ c. search needs) loop-again (λ c κs. search needs) (λ c. search needs)
+    (λ c. search needs) returns)

@@ -1,12 +1,10 @@
+-- The vector of a lent state is written into 16 lent bytes.
 use Rattle.call_guard.proofs.Opening.{call-refused}
 use Rattle.held_vector.specs.Held.{heldOf}
 use Rattle.held_vector.proofs.Counts.{vector-fits, few-used, counted}
 use borrow.Author.Needs.{needs}
 use Rattle.held_vector.proofs.held_vector.Statement.{statement}
 use Rattle.held_vector.proofs.held_vector.Tie as tie
-
-open-requires : tie.Need-open-requires
-open-requires c κs = search needs
 
 returns : tie.Need-returns
 unfolding heldOf
@@ -18,12 +16,9 @@ put-vector-requires c κs = search (vector-fits, needs)
 cast-t12 : tie.Need-cast-t12
 cast-t12 c = record { fits = search (few-used) }
 
-same-length : tie.Need-same-length
-same-length c = search needs
-
 returns-2 : tie.Need-returns-2
 returns-2 c = search (counted)
 
 pub held-vector-spec : {M : Type 1} → statement M
 held-vector-spec =
-    tie.close (tie.spec open-requires returns put-vector-requires cast-t12 same-length returns-2)
+    tie.close (tie.spec (λ c κs. search needs) returns put-vector-requires cast-t12 (λ c. search needs) returns-2)

@@ -1,5 +1,5 @@
+-- No bytes, or those of an index.
 use Rattle.keep_lent.proofs.Lent.{no-bytes, some-bytes}
-use borrow.Author.Needs.{needs}
 use Rattle.keep_lent.proofs.index_fits.Statement.{statement}
 use Rattle.keep_lent.proofs.index_fits.Tie as tie
 

@@ -1,5 +1,5 @@
+-- An index, and memory to work in as long as a tree table.
 use Rattle.keep_lent.proofs.Lent.{lent-wrong, lent-some}
-use borrow.Author.Needs.{needs}
 use Rattle.keep_lent.proofs.index_lent.Statement.{statement}
 use Rattle.keep_lent.proofs.index_lent.Tie as tie
 

@@ -1,3 +1,4 @@
+-- Bytes are written in hexadecimal.
 use Prim.Native.Nat.{_-_, _≤_}
 use mathlib.Core.Path.{_≡_, refl}
 use lib.ListN.{length, take}
@@ -9,9 +10,6 @@ use borrow.Author.Needs.{needs}
 use native.Mathlib.Omega.{arith}
 use Rattle.line_quote.proofs.put_hex.Statement.{statement}
 use Rattle.line_quote.proofs.put_hex.Tie as tie
-use Rattle.line_quote.proofs.put_hex.Reads as reads
-use Rattle.line_quote.proofs.put_hex.Lts as lts
-use Rattle.line_quote.proofs.put_hex_byte.Reads as put-hex-byte-reads
 
 abbrev Inv-loop : tie.InvT-loop
 Inv-loop out₀ at b m₀ i₀ out m i = (i ≤ length b) × (length out ≡ length out₀) × Wrote out₀ out at m (hexText (take i b))
@@ -19,16 +17,10 @@ Inv-loop out₀ at b m₀ i₀ out m i = (i ≤ length b) × (length out ≡ len
 abbrev μ-loop : tie.MeasureT-loop
 μ-loop out₀ at b m₀ i₀ out m i = length b - i
 
--- src/lib.rt:37:5
 loop-holds : tie.Need-loop-holds Inv-loop μ-loop
 unfolding hexText
 loop-holds c = (omega arith, refl, wrote-none (c .before .before .args .out .now) (c .before .before .args .at))
 
--- src/lib.rt:38:34
-shared-slice-read-put-hex-byte : tie.Need-shared-slice-read-put-hex-byte Inv-loop μ-loop
-shared-slice-read-put-hex-byte c = search needs
-
--- src/lib.rt:38:9
 put-hex-byte-requires : tie.Need-put-hex-byte-requires Inv-loop μ-loop
 unfolding hexText
 put-hex-byte-requires c κs =
@@ -36,15 +28,6 @@ put-hex-byte-requires c κs =
     let l = c .before .before .before .loop in
     omega (arith, text-room hexText hex-append (a .b .now) (l .i) (omega arith))
 
--- src/lib.rt:39:9
-add-i : tie.Need-add-i Inv-loop μ-loop
-add-i c = search needs
-
--- src/lib.rt:37:5
-loop-less : tie.Need-loop-less Inv-loop μ-loop
-loop-less c = search needs
-
--- src/lib.rt:37:5
 loop-again : tie.Need-loop-again Inv-loop μ-loop
 loop-again c =
     let a = c .before .before .before .before .before .before .before .before .before .args in
@@ -55,11 +38,6 @@ loop-again c =
       wrote-next hexText hex-append (a .out .now) (l .out) (k .last .0) (a .b .now) (a .at) (l .m) (k .result) (l .i) (c .before .before .before .before .before .before .before .before .before .pre) (omega arith) (l .inv .2) (k .ensures),
     )
 
--- src/lib.rt:31:1
-same-length : tie.Need-same-length Inv-loop μ-loop
-same-length c = search needs
-
--- src/lib.rt:31:1
 returns : tie.Need-returns Inv-loop μ-loop
 returns c =
     let a = c .before .before .before .before .args in
@@ -69,14 +47,5 @@ returns c =
 pub put-hex-spec : {M : Type 1} → statement M
 put-hex-spec =
     tie.close
-    (tie.spec
-    Inv-loop
-    μ-loop
-    loop-holds
-    shared-slice-read-put-hex-byte
-    put-hex-byte-requires
-    add-i
-    loop-less
-    loop-again
-    same-length
-    returns)
+    (tie.spec Inv-loop μ-loop loop-holds (λ c. search needs) put-hex-byte-requires (λ c. search needs) (λ c. search needs)
+    loop-again (λ c. search needs) returns)

@@ -1,3 +1,4 @@
+-- How many digits a number has.
 use Prim.Native.Nat.{_+_, _-_, _<_}
 use mathlib.Core.Path.{_≡_}
 use lib.ListN.{length}
@@ -7,8 +8,6 @@ use borrow.Author.Needs.{needs}
 use native.Mathlib.Omega.{arith}
 use Rattle.line_text.proofs.digits.Statement.{statement}
 use Rattle.line_text.proofs.digits.Tie as tie
-use Rattle.line_text.proofs.digits.Reads as reads
-use Rattle.line_text.proofs.digits.Lts as lts
 
 abbrev Inv-loop : tie.InvT-loop
 Inv-loop n k₀ left₀ k left = (left < 4294967296) × (k + length (decimal left) ≡ length (decimal n) + 1)
@@ -16,25 +15,17 @@ Inv-loop n k₀ left₀ k left = (left < 4294967296) × (k + length (decimal lef
 abbrev μ-loop : tie.MeasureT-loop
 μ-loop n k₀ left₀ k left = left
 
--- src/lib.rt:34:5
 loop-holds : tie.Need-loop-holds Inv-loop μ-loop
 loop-holds c = (omega arith, omega arith)
 
--- src/lib.rt:36:9
 add-k : tie.Need-add-k Inv-loop μ-loop
 add-k c = omega (arith, decimal-length (c .before .before .args .n))
 
--- src/lib.rt:34:5
-loop-less : tie.Need-loop-less Inv-loop μ-loop
-loop-less c = search needs
-
--- src/lib.rt:34:5
 loop-again : tie.Need-loop-again Inv-loop μ-loop
 loop-again c = (omega arith, omega (arith, more-digits (c .before .loop .left) (c .loop-test .taken) (c .before .loop .inv .0)))
 
--- src/lib.rt:29:1
 returns : tie.Need-returns Inv-loop μ-loop
 returns c = omega (arith, one-digit (c .before .loop .left) (c .loop-test .left))
 
 pub digits-spec : {M : Type 1} → statement M
-digits-spec = tie.close (tie.spec Inv-loop μ-loop loop-holds add-k loop-less loop-again returns)
+digits-spec = tie.close (tie.spec Inv-loop μ-loop loop-holds add-k (λ c. search needs) loop-again returns)

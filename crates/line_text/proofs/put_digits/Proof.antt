@@ -1,3 +1,4 @@
+-- The last k digits of a number are written, the last first.
 use Prim.Native.Nat.{_+_, _-_, _<_, _≤_}
 use mathlib.Core.Path.{_≡_, refl, sym, _∙_}
 use lib.ListN.{length, take, drop, length-set}
@@ -10,9 +11,6 @@ use borrow.Author.Needs.{needs}
 use native.Mathlib.Omega.{arith}
 use Rattle.line_text.proofs.put_digits.Statement.{statement}
 use Rattle.line_text.proofs.put_digits.Tie as tie
-use Rattle.line_text.proofs.put_digits.Reads as reads
-use Rattle.line_text.proofs.put_digits.Lts as lts
-use Rattle.line_text.proofs.digit.Reads as digit-reads
 
 abbrev Inv-loop : tie.InvT-loop
 Inv-loop out₀ at n k left₀ i₀ out left i =
@@ -25,7 +23,6 @@ Inv-loop out₀ at n k left₀ i₀ out left i =
 abbrev μ-loop : tie.MeasureT-loop
 μ-loop out₀ at n k left₀ i₀ out left i = i
 
--- src/lib.rt:56:5
 loop-holds : tie.Need-loop-holds Inv-loop μ-loop
 loop-holds c =
     let a = c .before .args in
@@ -38,27 +35,6 @@ loop-holds c =
       sym (rw (k, drop-length) (put-nil (a .out .now) (a .at + length D))),
     )
 
--- src/lib.rt:57:9
-sub-i : tie.Need-sub-i Inv-loop μ-loop
-sub-i c = search needs
-
--- src/lib.rt:58:23
-digit-requires : tie.Need-digit-requires Inv-loop μ-loop
-digit-requires c κs = search needs
-
--- src/lib.rt:58:13
-add-out : tie.Need-add-out Inv-loop μ-loop
-add-out c = search needs
-
--- src/lib.rt:58:9
-slice-write-out : tie.Need-slice-write-out Inv-loop μ-loop
-slice-write-out c = search needs
-
--- src/lib.rt:56:5
-loop-less : tie.Need-loop-less Inv-loop μ-loop
-loop-less c = search needs
-
--- src/lib.rt:56:5
 loop-again : tie.Need-loop-again Inv-loop μ-loop
 loop-again c =
     let a = c .before .before .before .before .args in
@@ -73,11 +49,6 @@ loop-again c =
       digit-put (a .out .now) (l .out) D (a .at) (l .i) (c .digit .result) pos (l .inv .1) (omega arith) (l .inv .4) (c .digit .ensures ∙ sym (last-digit D (l .left) (l .i) (l .inv .0) pos (l .inv .1) e)),
     )
 
--- src/lib.rt:50:1
-same-length : tie.Need-same-length Inv-loop μ-loop
-same-length c = search needs
-
--- src/lib.rt:50:1
 returns : tie.Need-returns Inv-loop μ-loop
 returns c =
     let a = c .before .before .before .args in
@@ -89,15 +60,5 @@ returns c =
 pub put-digits-spec : {M : Type 1} → statement M
 put-digits-spec =
     tie.close
-    (tie.spec
-    Inv-loop
-    μ-loop
-    loop-holds
-    sub-i
-    digit-requires
-    add-out
-    slice-write-out
-    loop-less
-    loop-again
-    same-length
-    returns)
+    (tie.spec Inv-loop μ-loop loop-holds (λ c. search needs) (λ c κs. search needs) (λ c. search needs) (λ c. search needs)
+    (λ c. search needs) loop-again (λ c. search needs) returns)

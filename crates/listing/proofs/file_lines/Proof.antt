@@ -1,3 +1,4 @@
+-- The lines of an accepted file: its head, its vector and its tree.
 use Rattle.listing.proofs.Whole.{head-fits, vector-fits, tree-fits, wrote-whole}
 use borrow.Author.Needs.{needs}
 use Rattle.listing.proofs.file_lines.Statement.{statement}
@@ -12,13 +13,10 @@ seen-line-requires c κs = search (vector-fits)
 tree-lines-requires : tie.Need-tree-lines-requires
 tree-lines-requires c κs = (search needs, search needs, search needs, search (tree-fits))
 
-same-length : tie.Need-same-length
-same-length c = search needs
-
 returns : tie.Need-returns
 returns c = search (wrote-whole)
 
 pub file-lines-spec : {M : Type 1} → statement M
 file-lines-spec =
     tie.close
-    (tie.spec head-line-requires seen-line-requires tree-lines-requires same-length returns)
+    (tie.spec head-line-requires seen-line-requires tree-lines-requires (λ c. search needs) returns)

@@ -1,3 +1,4 @@
+-- A vector is written into a row.
 use Prim.Native.Nat.{_≤_, _-_, _*_}
 use native.Mathlib.Numerals.{add-one}
 use mathlib.Core.Path.{_≡_, refl, _∙_}
@@ -18,39 +19,12 @@ abbrev μ-loop : tie.MeasureT-loop
 loop-holds : tie.Need-loop-holds Inv-loop μ-loop
 loop-holds c = (omega arith, refl, search (paste-zero))
 
-mul-seens : tie.Need-mul-seens Inv-loop μ-loop
-mul-seens c = search needs
-
-element-copy-out-seens : tie.Need-element-copy-out-seens Inv-loop μ-loop
-element-copy-out-seens c = search needs
-
-mul-seens-2 : tie.Need-mul-seens-2 Inv-loop μ-loop
-mul-seens-2 c = search needs
-
-add-seens : tie.Need-add-seens Inv-loop μ-loop
-add-seens c = search needs
-
-mul-seens-3 : tie.Need-mul-seens-3 Inv-loop μ-loop
-mul-seens-3 c = search needs
-
-slice-write-seens : tie.Need-slice-write-seens Inv-loop μ-loop
-slice-write-seens c = search needs
-
-add-v : tie.Need-add-v Inv-loop μ-loop
-add-v c = search needs
-
-loop-less : tie.Need-loop-less Inv-loop μ-loop
-loop-less c = search needs
-
 loop-again : tie.Need-loop-again Inv-loop μ-loop
 loop-again c =
     let l = c .before .before .loop in
     let a = c .before .before .before .args in
     let n : length (a .t3 .counts) ≡ 8 = search needs in
     (omega arith, simp length-set (l .inv .1), rw (l .inv .2, add-one) (paste-suc (a .seens .now) (8 * a .p) (a .t3 .counts) (l .v) 0 (omega arith) (omega arith)))
-
-same-length : tie.Need-same-length Inv-loop μ-loop
-same-length c = search needs
 
 returns : tie.Need-returns Inv-loop μ-loop
 returns c =
@@ -63,18 +37,5 @@ returns c =
 pub put-row-spec : {M : Type 1} → statement M
 put-row-spec =
     tie.close
-    (tie.spec
-    Inv-loop
-    μ-loop
-    loop-holds
-    mul-seens
-    element-copy-out-seens
-    mul-seens-2
-    add-seens
-    mul-seens-3
-    slice-write-seens
-    add-v
-    loop-less
-    loop-again
-    same-length
-    returns)
+    (tie.spec Inv-loop μ-loop loop-holds (λ c. search needs) (λ c. search needs) (λ c. search needs) (λ c. search needs)
+    (λ c. search needs) (λ c. search needs) (λ c. search needs) (λ c. search needs) loop-again (λ c. search needs) returns)

@@ -1,10 +1,8 @@
+-- The first of 7, 20, 8 and 9 that holds of a record behind others, or 0.
 use Rattle.log_admit.proofs.Faults.{formed, fault-malformed, fault-low, fault-joins}
 use borrow.Author.Needs.{needs}
 use Rattle.log_admit.proofs.record_fault.Statement.{statement}
 use Rattle.log_admit.proofs.record_fault.Tie as tie
-
-well-formed-requires : tie.Need-well-formed-requires
-well-formed-requires c κs = search needs
 
 returns : tie.Need-returns
 returns c = search (fault-malformed)
@@ -20,4 +18,4 @@ returns-3 c = search (fault-joins)
 
 pub record-fault-spec : {M : Type 1} → statement M
 record-fault-spec =
-    tie.close (tie.spec well-formed-requires returns returns-2 join-fault-requires returns-3)
+    tie.close (tie.spec (λ c κs. search needs) returns returns-2 join-fault-requires returns-3)

@@ -1,28 +1,8 @@
+-- Where record i stands.
 use Rattle.log_check.proofs.Places.{offset-log, offset-file}
 use borrow.Author.Needs.{needs}
 use Rattle.log_check.proofs.offset.Statement.{statement}
 use Rattle.log_check.proofs.offset.Tie as tie
-
-enum-told : tie.Need-enum-told
-enum-told c = search needs
-
-mul-result : tie.Need-mul-result
-mul-result c = search needs
-
-enum-told-2 : tie.Need-enum-told-2
-enum-told-2 c = search needs
-
-mul-result-2 : tie.Need-mul-result-2
-mul-result-2 c = search needs
-
-mul-result-3 : tie.Need-mul-result-3
-mul-result-3 c = search needs
-
-add-result : tie.Need-add-result
-add-result c = search needs
-
-add-result-2 : tie.Need-add-result-2
-add-result-2 c = search needs
 
 returns : tie.Need-returns
 returns c = (search (offset-log), search needs)
@@ -33,13 +13,5 @@ returns-2 c = (search (offset-file), search needs)
 pub offset-spec : {M : Type 1} → statement M
 offset-spec =
     tie.close
-    (tie.spec
-    enum-told
-    mul-result
-    enum-told-2
-    mul-result-2
-    mul-result-3
-    add-result
-    add-result-2
-    returns
-    returns-2)
+    (tie.spec (λ c. search needs) (λ c. search needs) (λ c. search needs) (λ c. search needs) (λ c. search needs)
+    (λ c. search needs) (λ c. search needs) returns returns-2)

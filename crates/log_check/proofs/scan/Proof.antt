@@ -1,3 +1,4 @@
+-- The first n records are judged one after another, and noted up to the first that has a fault.
 use Prim.Native.Nat.{_≤_, _-_}
 use native.Mathlib.Nat.{sub-zero}
 use mathlib.Core.Path.{_≡_}
@@ -23,23 +24,8 @@ Inv-loop base bytes layout n places₀ seens₀ none b₀ i₀ places seens b i 
 abbrev μ-loop : tie.MeasureT-loop
 μ-loop base bytes layout n places₀ seens₀ none b₀ i₀ places seens b i = n - i
 
-zero-vector-requires : tie.Need-zero-vector-requires Inv-loop μ-loop
-zero-vector-requires c κs = search needs
-
 loop-holds : tie.Need-loop-holds Inv-loop μ-loop
 loop-holds c = (omega arith, search needs, search needs, search needs, rw sub-zero, search (left-none), search (passed-none, needs))
-
-offset-requires : tie.Need-offset-requires Inv-loop μ-loop
-offset-requires c κs = search needs
-
-add-admit : tie.Need-add-admit Inv-loop μ-loop
-add-admit c = search needs
-
-sub-admit : tie.Need-sub-admit Inv-loop μ-loop
-sub-admit c = search needs
-
-part-admit-start : tie.Need-part-admit-start Inv-loop μ-loop
-part-admit-start c = search needs
 
 part-admit-end : tie.Need-part-admit-end Inv-loop μ-loop
 part-admit-end c = search (laid-inside)
@@ -47,31 +33,13 @@ part-admit-end c = search (laid-inside)
 admit-requires : tie.Need-admit-requires Inv-loop μ-loop
 admit-requires c κs = (search needs, search needs, search needs, search needs, search (passed-placed), search (passed-spare))
 
-same-length : tie.Need-same-length Inv-loop μ-loop
-same-length c = search needs
-
-same-length-2 : tie.Need-same-length-2 Inv-loop μ-loop
-same-length-2 c = search needs
-
 returns : tie.Need-returns Inv-loop μ-loop
 returns c = (search (scan-left), search (scan-stops))
-
-add-i : tie.Need-add-i Inv-loop μ-loop
-add-i c = search needs
-
-loop-less : tie.Need-loop-less Inv-loop μ-loop
-loop-less c = search needs
 
 loop-again : tie.Need-loop-again Inv-loop μ-loop
 loop-again c =
     let passed = c .before .before .before .before .before .before .before .before .before .before .before .before .before .loop .inv .6 in
     (omega arith, search needs, search needs, search needs, search (scan-first), search (scan-more), search (scan-passed, passed))
-
-same-length-3 : tie.Need-same-length-3 Inv-loop μ-loop
-same-length-3 c = search needs
-
-same-length-4 : tie.Need-same-length-4 Inv-loop μ-loop
-same-length-4 c = search needs
 
 returns-2 : tie.Need-returns-2 Inv-loop μ-loop
 returns-2 c = (search (left-ends), search (scan-ends))
@@ -79,23 +47,6 @@ returns-2 c = (search (left-ends), search (scan-ends))
 pub scan-spec : {M : Type 1} → statement M
 scan-spec =
     tie.close
-    (tie.spec
-    Inv-loop
-    μ-loop
-    zero-vector-requires
-    loop-holds
-    offset-requires
-    add-admit
-    sub-admit
-    part-admit-start
-    part-admit-end
-    admit-requires
-    same-length
-    same-length-2
-    returns
-    add-i
-    loop-less
-    loop-again
-    same-length-3
-    same-length-4
-    returns-2)
+    (tie.spec Inv-loop μ-loop (λ c κs. search needs) loop-holds (λ c κs. search needs) (λ c. search needs) (λ c. search needs)
+    (λ c. search needs) part-admit-end admit-requires (λ c. search needs) (λ c. search needs) returns (λ c. search needs)
+    (λ c. search needs) loop-again (λ c. search needs) (λ c. search needs) returns-2)

@@ -1,3 +1,4 @@
+-- How many places stand before the first that is all zero.
 use Prim.Native.Nat.{_≤_, _+_, _-_, _*_}
 use mathlib.Core.Path.{_≡_}
 use lib.ListN.{length, drop}
@@ -17,32 +18,8 @@ abbrev μ-loop : tie.MeasureT-loop
 loop-holds : tie.Need-loop-holds Inv-loop μ-loop
 loop-holds c = (omega arith, search (used-none))
 
-mul-at : tie.Need-mul-at Inv-loop μ-loop
-mul-at c = search needs
-
-add-is-free : tie.Need-add-is-free Inv-loop μ-loop
-add-is-free c = search needs
-
-sub-is-free : tie.Need-sub-is-free Inv-loop μ-loop
-sub-is-free c = search needs
-
-part-is-free-start : tie.Need-part-is-free-start Inv-loop μ-loop
-part-is-free-start c = search needs
-
-part-is-free-end : tie.Need-part-is-free-end Inv-loop μ-loop
-part-is-free-end c = search needs
-
-is-free-requires : tie.Need-is-free-requires Inv-loop μ-loop
-is-free-requires c κs = search needs
-
 returns : tie.Need-returns Inv-loop μ-loop
 returns c = (search (used-stops), omega arith)
-
-add-i : tie.Need-add-i Inv-loop μ-loop
-add-i c = search needs
-
-loop-less : tie.Need-loop-less Inv-loop μ-loop
-loop-less c = search needs
 
 loop-again : tie.Need-loop-again Inv-loop μ-loop
 loop-again c = (omega arith, search (used-next))
@@ -53,18 +30,5 @@ returns-2 c = (search (used-ends), omega arith)
 pub used-spec : {M : Type 1} → statement M
 used-spec =
     tie.close
-    (tie.spec
-    Inv-loop
-    μ-loop
-    loop-holds
-    mul-at
-    add-is-free
-    sub-is-free
-    part-is-free-start
-    part-is-free-end
-    is-free-requires
-    returns
-    add-i
-    loop-less
-    loop-again
-    returns-2)
+    (tie.spec Inv-loop μ-loop loop-holds (λ c. search needs) (λ c. search needs) (λ c. search needs) (λ c. search needs)
+    (λ c. search needs) (λ c κs. search needs) returns (λ c. search needs) (λ c. search needs) loop-again returns-2)

@@ -1,3 +1,4 @@
+-- A quick test before `is_closed`, which it spares where every row is covered.
 use Prim.Native.Nat.{_≤_, _-_}
 use mathlib.Core.Path.{_≡_, refl}
 use mathlib.Core.Bool.{true}
@@ -19,17 +20,8 @@ loop-holds : tie.Need-loop-holds Inv-loop μ-loop
 unfolding allTo
 loop-holds c = (omega arith, refl)
 
-unit-covered-requires : tie.Need-unit-covered-requires Inv-loop μ-loop
-unit-covered-requires c κs = search needs
-
 returns : tie.Need-returns Inv-loop μ-loop
 returns c = search (unit-open)
-
-add-u : tie.Need-add-u Inv-loop μ-loop
-add-u c = search needs
-
-loop-less : tie.Need-loop-less Inv-loop μ-loop
-loop-less c = search needs
 
 loop-again : tie.Need-loop-again Inv-loop μ-loop
 loop-again c = (omega arith, search (units-next))
@@ -40,4 +32,5 @@ returns-2 c = search (units-all)
 pub all-covered-spec : {M : Type 1} → statement M
 all-covered-spec =
     tie.close
-    (tie.spec Inv-loop μ-loop loop-holds unit-covered-requires returns add-u loop-less loop-again returns-2)
+    (tie.spec Inv-loop μ-loop loop-holds (λ c κs. search needs) returns (λ c. search needs) (λ c. search needs) loop-again
+    returns-2)

@@ -1,3 +1,4 @@
+-- The k records in recs, which rise in rank, are put in by rank among the n records of a log that rise too.
 use Prim.Native.Nat.{_≤_}
 use mathlib.Core.Path.{_≡_, refl}
 use lib.ListN.{length}
@@ -34,96 +35,11 @@ loop-again c =
 returns : tie.Need-returns Inv-loop μ-loop
 returns c = search (merging-ends)
 
-sub-last : tie.Need-sub-last Inv-loop μ-loop
-sub-last c = search needs
-
-mul-at : tie.Need-mul-at Inv-loop μ-loop
-mul-at c = search needs
-
-add-rank-of : tie.Need-add-rank-of Inv-loop μ-loop
-add-rank-of c = search needs
-
-sub-rank-of : tie.Need-sub-rank-of Inv-loop μ-loop
-sub-rank-of c = search needs
-
-part-rank-of-start : tie.Need-part-rank-of-start Inv-loop μ-loop
-part-rank-of-start c = search needs
-
-part-rank-of-end : tie.Need-part-rank-of-end Inv-loop μ-loop
-part-rank-of-end c = search needs
-
-rank-of-requires : tie.Need-rank-of-requires Inv-loop μ-loop
-rank-of-requires c κs = search needs
-
-place-behind-requires : tie.Need-place-behind-requires Inv-loop μ-loop
-place-behind-requires c κs = search needs
-
-mul-move-up : tie.Need-mul-move-up Inv-loop μ-loop
-mul-move-up c = search needs
-
-mul-move-up-2 : tie.Need-mul-move-up-2 Inv-loop μ-loop
-mul-move-up-2 c = search needs
-
-mul-move-up-3 : tie.Need-mul-move-up-3 Inv-loop μ-loop
-mul-move-up-3 c = search needs
-
-move-up-requires : tie.Need-move-up-requires Inv-loop μ-loop
-move-up-requires c κs = search needs
-
-add-put : tie.Need-add-put Inv-loop μ-loop
-add-put c = search needs
-
-mul-put : tie.Need-mul-put Inv-loop μ-loop
-mul-put c = search needs
-
-add-put-2 : tie.Need-add-put-2 Inv-loop μ-loop
-add-put-2 c = search needs
-
-sub-put : tie.Need-sub-put Inv-loop μ-loop
-sub-put c = search needs
-
-part-put-start : tie.Need-part-put-start Inv-loop μ-loop
-part-put-start c = search needs
-
-part-put-end : tie.Need-part-put-end Inv-loop μ-loop
-part-put-end c = search needs
-
-put-requires : tie.Need-put-requires Inv-loop μ-loop
-put-requires c κs = search needs
-
-loop-less : tie.Need-loop-less Inv-loop μ-loop
-loop-less c = search needs
-
-same-length : tie.Need-same-length Inv-loop μ-loop
-same-length c = search needs
-
 pub insert-records-spec : {M : Type 1} → statement M
 insert-records-spec =
     tie.close
-    (tie.spec
-    Inv-loop
-    μ-loop
-    loop-holds
-    sub-last
-    mul-at
-    add-rank-of
-    sub-rank-of
-    part-rank-of-start
-    part-rank-of-end
-    rank-of-requires
-    place-behind-requires
-    mul-move-up
-    mul-move-up-2
-    mul-move-up-3
-    move-up-requires
-    add-put
-    mul-put
-    add-put-2
-    sub-put
-    part-put-start
-    part-put-end
-    put-requires
-    loop-less
-    loop-again
-    same-length
-    returns)
+    (tie.spec Inv-loop μ-loop loop-holds (λ c. search needs) (λ c. search needs) (λ c. search needs) (λ c. search needs)
+    (λ c. search needs) (λ c. search needs) (λ c κs. search needs) (λ c κs. search needs) (λ c. search needs)
+    (λ c. search needs) (λ c. search needs) (λ c κs. search needs) (λ c. search needs) (λ c. search needs) (λ c. search needs)
+    (λ c. search needs) (λ c. search needs) (λ c. search needs) (λ c κs. search needs) (λ c. search needs) loop-again
+    (λ c. search needs) returns)

@@ -1,3 +1,4 @@
+-- The place behind the last of the first n records that ranks no higher than k.
 use Prim.Native.Nat.{_≤_}
 use mathlib.Core.Path.{_≡_, refl}
 use Rattle.log_check.specs.declared.Layout.the-variants.{Log}
@@ -18,35 +19,8 @@ abbrev μ-loop : tie.MeasureT-loop
 loop-holds : tie.Need-loop-holds Inv-loop μ-loop
 loop-holds c = (omega arith, refl)
 
-sub-at : tie.Need-sub-at Inv-loop μ-loop
-sub-at c = search needs
-
-mul-at : tie.Need-mul-at Inv-loop μ-loop
-mul-at c = search needs
-
-add-rank-of : tie.Need-add-rank-of Inv-loop μ-loop
-add-rank-of c = search needs
-
-sub-rank-of : tie.Need-sub-rank-of Inv-loop μ-loop
-sub-rank-of c = search needs
-
-part-rank-of-start : tie.Need-part-rank-of-start Inv-loop μ-loop
-part-rank-of-start c = search needs
-
-part-rank-of-end : tie.Need-part-rank-of-end Inv-loop μ-loop
-part-rank-of-end c = search needs
-
-rank-of-requires : tie.Need-rank-of-requires Inv-loop μ-loop
-rank-of-requires c κs = search needs
-
 returns : tie.Need-returns Inv-loop μ-loop
 returns c = (search (behind-stops), search needs)
-
-sub-i : tie.Need-sub-i Inv-loop μ-loop
-sub-i c = search needs
-
-loop-less : tie.Need-loop-less Inv-loop μ-loop
-loop-less c = search needs
 
 loop-again : tie.Need-loop-again Inv-loop μ-loop
 loop-again c = (omega arith, search (behind-next))
@@ -57,19 +31,6 @@ returns-2 c = (search (behind-none), search needs)
 pub place-behind-spec : {M : Type 1} → statement M
 place-behind-spec =
     tie.close
-    (tie.spec
-    Inv-loop
-    μ-loop
-    loop-holds
-    sub-at
-    mul-at
-    add-rank-of
-    sub-rank-of
-    part-rank-of-start
-    part-rank-of-end
-    rank-of-requires
-    returns
-    sub-i
-    loop-less
-    loop-again
+    (tie.spec Inv-loop μ-loop loop-holds (λ c. search needs) (λ c. search needs) (λ c. search needs) (λ c. search needs)
+    (λ c. search needs) (λ c. search needs) (λ c κs. search needs) returns (λ c. search needs) (λ c. search needs) loop-again
     returns-2)

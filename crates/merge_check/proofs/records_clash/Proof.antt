@@ -1,12 +1,8 @@
+-- The first of 10 and 11 that holds of the records of two files.
 use Rattle.merge_check.proofs.Clash.{fine-few, fine-laid, fine-formed, bytes-differ, room-told}
 use borrow.Author.Needs.{needs}
-use native.Mathlib.Omega.{arith}
 use Rattle.merge_check.proofs.records_clash.Statement.{statement}
 use Rattle.merge_check.proofs.records_clash.Tie as tie
-use Rattle.merge_check.proofs.records_clash.Reads as reads
-use Rattle.merge_check.proofs.records_clash.Lts as lts
-use Rattle.merge_check.proofs.bytes_fault.Reads as bytes-fault-reads
-use Rattle.merge_check.proofs.room_fault.Reads as room-fault-reads
 
 bytes-fault-requires : tie.Need-bytes-fault-requires
 bytes-fault-requires c κs = (search (fine-few), search (fine-laid), search needs, search (fine-laid), search (fine-formed))
@@ -23,8 +19,4 @@ returns-2 c = search (room-told)
 pub records-clash-spec : {M : Type 1} → statement M
 records-clash-spec =
     tie.close
-    (tie.spec
-    bytes-fault-requires
-    returns
-    room-fault-requires
-    returns-2)
+    (tie.spec bytes-fault-requires returns room-fault-requires returns-2)

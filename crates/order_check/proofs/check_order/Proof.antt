@@ -1,50 +1,18 @@
+-- Another maker's order is checked against a log.
 use Rattle.call_guard.proofs.Opening.{open-long, open-used}
 use Rattle.order_check.proofs.Ways.{order-refused, order-lent, order-folded, order-sound, order-held, order-places, order-passes}
 use borrow.Author.Needs.{needs}
 use Rattle.order_check.proofs.check_order.Statement.{statement}
 use Rattle.order_check.proofs.check_order.Tie as tie
 
-fresh-places-requires : tie.Need-fresh-places-requires
-fresh-places-requires c κs = search needs
-
-fresh-seens-requires : tie.Need-fresh-seens-requires
-fresh-seens-requires c κs = search needs
-
-slice-aggregate-open-order : tie.Need-slice-aggregate-open-order
-slice-aggregate-open-order c = search needs
-
-slice-aggregate-open-order-2 : tie.Need-slice-aggregate-open-order-2
-slice-aggregate-open-order-2 c = search needs
-
-open-order-requires : tie.Need-open-order-requires
-open-order-requires c κs = search needs
-
-same-length : tie.Need-same-length
-same-length c = search needs
-
-same-length-2 : tie.Need-same-length-2
-same-length-2 c = search needs
-
 returns : tie.Need-returns
 returns c = order-refused _ _ _ _ (c .before .before .before .before .open-order .ensures .0) _ (c .if1 .taken)
-
-is-zero-requires : tie.Need-is-zero-requires
-is-zero-requires c κs = search needs
-
-same-length-3 : tie.Need-same-length-3
-same-length-3 c = search needs
-
-same-length-4 : tie.Need-same-length-4
-same-length-4 c = search needs
 
 returns-2 : tie.Need-returns-2
 returns-2 c =
     let i = c .before .before .before .before in
     let o = i .before .before .before .before in
     order-folded _ _ _ _ (o .open-order .ensures .0) (i .if1 .left) _ (c .before .is-zero .ensures) _ (c .if2 .taken)
-
-slice-aggregate-judge-order : tie.Need-slice-aggregate-judge-order
-slice-aggregate-judge-order c = search needs
 
 judge-order-requires : tie.Need-judge-order-requires
 judge-order-requires c κs =
@@ -66,12 +34,6 @@ judge-order-requires c κs =
       lent .1,
     )
 
-same-length-5 : tie.Need-same-length-5
-same-length-5 c = search needs
-
-same-length-6 : tie.Need-same-length-6
-same-length-6 c = search needs
-
 returns-3 : tie.Need-returns-3
 returns-3 c =
     let j = c .before .before .before .before in
@@ -83,21 +45,6 @@ returns-3 c =
 pub check-order-spec : {M : Type 1} → statement M
 check-order-spec =
     tie.close
-    (tie.spec
-    fresh-places-requires
-    fresh-seens-requires
-    slice-aggregate-open-order
-    slice-aggregate-open-order-2
-    open-order-requires
-    same-length
-    same-length-2
-    returns
-    is-zero-requires
-    same-length-3
-    same-length-4
-    returns-2
-    slice-aggregate-judge-order
-    judge-order-requires
-    same-length-5
-    same-length-6
-    returns-3)
+    (tie.spec (λ c κs. search needs) (λ c κs. search needs) (λ c. search needs) (λ c. search needs) (λ c κs. search needs)
+    (λ c. search needs) (λ c. search needs) returns (λ c κs. search needs) (λ c. search needs) (λ c. search needs) returns-2
+    (λ c. search needs) judge-order-requires (λ c. search needs) (λ c. search needs) returns-3)

@@ -1,5 +1,5 @@
+-- The two lent tables have their stated lengths.
 use Rattle.order_check.proofs.Ways.{ours-wrong, theirs-decide}
-use borrow.Author.Needs.{needs}
 use Rattle.order_check.proofs.lent_fits.Statement.{statement}
 use Rattle.order_check.proofs.lent_fits.Tie as tie
 

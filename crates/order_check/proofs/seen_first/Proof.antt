@@ -1,5 +1,5 @@
+-- The second condition, of a list that meets the first.
 use Rattle.order_check.proofs.Ways.{given-long, given-few, given-named, given-units, given-seen}
-use borrow.Author.Needs.{needs}
 use Rattle.order_check.proofs.seen_first.Statement.{statement}
 use Rattle.order_check.proofs.seen_first.Tie as tie
 

@@ -1,3 +1,4 @@
+-- How many names: a part of four bytes behind the last is a name too.
 use native.Mathlib.Omega.{arith}
 use Rattle.order_model.specs.Order.{nameCount}
 use borrow.Author.Needs.{needs}
@@ -8,12 +9,9 @@ returns : tie.Need-returns
 unfolding nameCount
 returns c = omega arith
 
-add-result : tie.Need-add-result
-add-result c = search needs
-
 returns-2 : tie.Need-returns-2
 unfolding nameCount
 returns-2 c = omega arith
 
 pub count-names-spec : {M : Type 1} → statement M
-count-names-spec = tie.close (tie.spec returns add-result returns-2)
+count-names-spec = tie.close (tie.spec returns (λ c. search needs) returns-2)

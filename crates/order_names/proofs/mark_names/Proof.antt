@@ -1,8 +1,9 @@
+-- Each of the first n names is ours, and none has a mark before its turn.
 use borrow.Author.Tests.{not-true, not-false}
 use native.Mathlib.Nat.{sub-zero}
 use Prim.Native.Nat.{_≤_, _-_}
 use native.Mathlib.Omega.{arith}
-use mathlib.Core.Path.{_≡_, refl}
+use mathlib.Core.Path.{_≡_}
 use lib.ListN.{length}
 use borrow.Author.Needs.{needs}
 use Rattle.order_model.specs.Order.{namesFrom}
@@ -23,12 +24,6 @@ loop-holds c = (omega arith, search needs, rw sub-zero)
 
 name-at-requires : tie.Need-name-at-requires Inv-loop μ-loop
 name-at-requires c κs = omega arith
-
-mark-requires : tie.Need-mark-requires Inv-loop μ-loop
-mark-requires c κs = search needs
-
-same-length : tie.Need-same-length Inv-loop μ-loop
-same-length c = search needs
 
 returns : tie.Need-returns Inv-loop μ-loop
 returns c =
@@ -52,9 +47,6 @@ loop-again c =
     let m = c .before .before .before .mark in
     (omega arith, search (marks-long), marks-go (a .held .counts) (o .marks) (a .list .now) (o .i) (a .n) (k .result) _ (m .result) _ (omega arith) (k .ensures .0) (m .ensures .0) (not-false (m .result) (c .if1 .left)) (m .ensures .1) (o .inv .2))
 
-same-length-2 : tie.Need-same-length-2 Inv-loop μ-loop
-same-length-2 c = search needs
-
 returns-2 : tie.Need-returns-2 Inv-loop μ-loop
 returns-2 c =
     let a = c .before .before .before .before .args in
@@ -64,16 +56,5 @@ returns-2 c =
 pub mark-names-spec : {M : Type 1} → statement M
 mark-names-spec =
     tie.close
-    (tie.spec
-    Inv-loop
-    μ-loop
-    loop-holds
-    name-at-requires
-    mark-requires
-    same-length
-    returns
-    add-i
-    loop-less
-    loop-again
-    same-length-2
-    returns-2)
+    (tie.spec Inv-loop μ-loop loop-holds name-at-requires (λ c κs. search needs) (λ c. search needs) returns add-i loop-less
+    loop-again (λ c. search needs) returns-2)

@@ -1,3 +1,4 @@
+-- The list names each of the n records of a sound log once, and nothing else.
 use native.Mathlib.Omega.{arith}
 use mathlib.Core.Path.{refl}
 use Rattle.encoding_laws.proofs.Logs.{sound-few}
@@ -7,16 +8,10 @@ use borrow.Author.Needs.{needs}
 use Rattle.order_names.proofs.names_all.Statement.{statement}
 use Rattle.order_names.proofs.names_all.Tie as tie
 
-count-names-requires : tie.Need-count-names-requires
-count-names-requires c κs = search needs
-
 returns : tie.Need-returns
 returns c =
     let t = c .before .before .before .before in
     names-differ (t .args .log .now) (t .args .list .now) (t .args .n) (c .before .count-names .result) (t .pre .1) (t .pre .2) (c .before .count-names .ensures) (c .if1 .taken)
-
-slice-aggregate-mark-names : tie.Need-slice-aggregate-mark-names
-slice-aggregate-mark-names c = search needs
 
 mark-names-requires : tie.Need-mark-names-requires
 mark-names-requires c κs =
@@ -33,9 +28,4 @@ returns-2 c =
 pub names-all-spec : {M : Type 1} → statement M
 names-all-spec =
     tie.close
-    (tie.spec
-    count-names-requires
-    returns
-    slice-aggregate-mark-names
-    mark-names-requires
-    returns-2)
+    (tie.spec (λ c κs. search needs) returns (λ c. search needs) mark-names-requires returns-2)

@@ -1,3 +1,4 @@
+-- Where the record that the name at place i names stands in a log, by the table of positions.
 use native.Mathlib.Omega.{arith}
 use Rattle.order_names.proofs.Names.{place-is, place-low, named-bytes, named-table, named-some, named-few}
 use borrow.Author.Needs.{needs}
@@ -7,12 +8,6 @@ use Rattle.order_names.proofs.place_named.Tie as tie
 name-at-requires : tie.Need-name-at-requires
 name-at-requires c κs = search (named-bytes)
 
-cast-position : tie.Need-cast-position
-cast-position c = search needs
-
-cast-position-2 : tie.Need-cast-position-2
-cast-position-2 c = search needs
-
 position-requires : tie.Need-position-requires
 position-requires c κs = (search (named-table), omega arith, search (named-some), search (named-few))
 
@@ -20,4 +15,4 @@ returns : tie.Need-returns
 returns c = (search (place-is), search (place-low))
 
 pub place-named-spec : {M : Type 1} → statement M
-place-named-spec = tie.close (tie.spec name-at-requires cast-position cast-position-2 position-requires returns)
+place-named-spec = tie.close (tie.spec name-at-requires (λ c. search needs) (λ c. search needs) position-requires returns)

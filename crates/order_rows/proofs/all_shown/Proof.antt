@@ -1,3 +1,4 @@
+-- Each of the n rows of a is shown by b.
 use borrow.Author.Needs.{needs}
 use Prim.Native.Nat.{_≤_, _-_}
 use native.Mathlib.Omega.{arith}
@@ -24,12 +25,6 @@ is-shown-requires c κs = (search needs, search needs, search needs, omega arith
 returns : tie.Need-returns Inv-loop μ-loop
 returns c = search (all-stop)
 
-add-i : tie.Need-add-i Inv-loop μ-loop
-add-i c = search needs
-
-loop-less : tie.Need-loop-less Inv-loop μ-loop
-loop-less c = search needs
-
 loop-again : tie.Need-loop-again Inv-loop μ-loop
 loop-again c = (omega arith, search (all-more))
 
@@ -39,13 +34,5 @@ returns-2 c = search (all-done)
 pub all-shown-spec : {M : Type 1} → statement M
 all-shown-spec =
     tie.close
-    (tie.spec
-    Inv-loop
-    μ-loop
-    loop-holds
-    is-shown-requires
-    returns
-    add-i
-    loop-less
-    loop-again
+    (tie.spec Inv-loop μ-loop loop-holds is-shown-requires returns (λ c. search needs) (λ c. search needs) loop-again
     returns-2)

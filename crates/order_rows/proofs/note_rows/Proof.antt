@@ -1,3 +1,4 @@
+-- The n rows of a table are noted by the slots of their identities, each as one above its number.
 use borrow.Author.Needs.{needs}
 use Prim.Native.Nat.{_≤_, _-_}
 use native.Mathlib.Omega.{arith}
@@ -21,20 +22,8 @@ key-at-requires c κs = (search (row-long), search (row-low))
 slot-of-requires : tie.Need-slot-of-requires Inv-loop μ-loop
 slot-of-requires c κs = search (row-slotted)
 
-add-i : tie.Need-add-i Inv-loop μ-loop
-add-i c = search needs
-
 short-requires : tie.Need-short-requires Inv-loop μ-loop
 short-requires c κs = search (row-short)
-
-mul-notes : tie.Need-mul-notes Inv-loop μ-loop
-mul-notes c = search needs
-
-slice-write-notes : tie.Need-slice-write-notes Inv-loop μ-loop
-slice-write-notes c = search needs
-
-loop-less : tie.Need-loop-less Inv-loop μ-loop
-loop-less c = search needs
 
 loop-again : tie.Need-loop-again Inv-loop μ-loop
 loop-again c = (omega arith, search (notes-more))
@@ -48,17 +37,5 @@ returns c = search (notes-all)
 pub note-rows-spec : {M : Type 1} → statement M
 note-rows-spec =
     tie.close
-    (tie.spec
-    Inv-loop
-    μ-loop
-    loop-holds
-    key-at-requires
-    slot-of-requires
-    add-i
-    short-requires
-    mul-notes
-    slice-write-notes
-    loop-less
-    loop-again
-    same-length
-    returns)
+    (tie.spec Inv-loop μ-loop loop-holds key-at-requires slot-of-requires (λ c. search needs) short-requires
+    (λ c. search needs) (λ c. search needs) (λ c. search needs) loop-again same-length returns)

@@ -1,5 +1,5 @@
+-- Each row of a is shown by b.
 use Rattle.order_rows.proofs.Ways.{entries-differ, asides-decide, table-entries, table-asides}
-use borrow.Author.Needs.{needs}
 use Rattle.order_rows.proofs.table_within.Statement.{statement}
 use Rattle.order_rows.proofs.table_within.Tie as tie
 

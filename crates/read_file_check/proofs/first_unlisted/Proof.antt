@@ -1,3 +1,4 @@
+-- The first of n records of a unit that the list does not name, or n.
 use Rattle.read_file_check.specs.Listed.{unlistedFrom}
 use Rattle.log_check.specs.Places.{laidAt}
 use Rattle.log_check.specs.declared.Layout.the-variants.{File}
@@ -9,10 +10,6 @@ use borrow.Author.Needs.{needs}
 use native.Mathlib.Omega.{arith}
 use Rattle.read_file_check.proofs.first_unlisted.Statement.{statement}
 use Rattle.read_file_check.proofs.first_unlisted.Tie as tie
-use Rattle.read_file_check.proofs.first_unlisted.Reads as reads
-use Rattle.read_file_check.proofs.first_unlisted.Lts as lts
-use Rattle.log_check.proofs.offset.Reads as offset-reads
-use Rattle.read_file_check.proofs.names.Reads as names-reads
 
 abbrev Inv-loop : tie.InvT-loop
 Inv-loop part list n i₀ i = (i ≤ n) × (unlistedFrom list (laidAt File part) i (n - i) ≡ unlistedFrom list (laidAt File part) 0 n)
@@ -23,23 +20,11 @@ abbrev μ-loop : tie.MeasureT-loop
 loop-holds : tie.Need-loop-holds Inv-loop μ-loop
 loop-holds c = (omega arith, rw sub-zero)
 
-offset-requires : tie.Need-offset-requires Inv-loop μ-loop
-offset-requires c κs = search needs
-
 shared-slice-read-names : tie.Need-shared-slice-read-names Inv-loop μ-loop
 shared-slice-read-names c = search (laid-index)
 
-names-requires : tie.Need-names-requires Inv-loop μ-loop
-names-requires c κs = search needs
-
 returns : tie.Need-returns Inv-loop μ-loop
 returns c = (search (list-stops), omega arith)
-
-add-i : tie.Need-add-i Inv-loop μ-loop
-add-i c = search needs
-
-loop-less : tie.Need-loop-less Inv-loop μ-loop
-loop-less c = search needs
 
 loop-again : tie.Need-loop-again Inv-loop μ-loop
 loop-again c = (omega arith, search (list-goes-on))
@@ -50,15 +35,5 @@ returns-2 c = (search (list-ends), omega arith)
 pub first-unlisted-spec : {M : Type 1} → statement M
 first-unlisted-spec =
     tie.close
-    (tie.spec
-    Inv-loop
-    μ-loop
-    loop-holds
-    offset-requires
-    shared-slice-read-names
-    names-requires
-    returns
-    add-i
-    loop-less
-    loop-again
-    returns-2)
+    (tie.spec Inv-loop μ-loop loop-holds (λ c κs. search needs) shared-slice-read-names (λ c κs. search needs) returns
+    (λ c. search needs) (λ c. search needs) loop-again returns-2)

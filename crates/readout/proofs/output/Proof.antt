@@ -1,3 +1,4 @@
+-- What is printed of the bytes that were read, written into the lent text: their listing, or nothing where a read failed.
 use Rattle.listing.proofs.Output.{failed-output, listed-output}
 use borrow.Author.Needs.{needs}
 use Rattle.readout.proofs.output.Statement.{statement}
@@ -5,24 +6,6 @@ use Rattle.readout.proofs.output.Tie as tie
 
 returns : tie.Need-returns
 returns c = search (failed-output)
-
-slice-aggregate-listing : tie.Need-slice-aggregate-listing
-slice-aggregate-listing c = search needs
-
-slice-aggregate-listing-2 : tie.Need-slice-aggregate-listing-2
-slice-aggregate-listing-2 c = search needs
-
-slice-aggregate-listing-3 : tie.Need-slice-aggregate-listing-3
-slice-aggregate-listing-3 c = search needs
-
-listing-requires : tie.Need-listing-requires
-listing-requires c κs = search needs
-
-cast-result : tie.Need-cast-result
-cast-result c = search needs
-
-same-length : tie.Need-same-length
-same-length c = search needs
 
 returns-2 : tie.Need-returns-2
 returns-2 c =
@@ -33,12 +16,5 @@ returns-2 c =
 pub output-spec : {M : Type 1} → statement M
 output-spec =
     tie.close
-    (tie.spec
-    returns
-    slice-aggregate-listing
-    slice-aggregate-listing-2
-    slice-aggregate-listing-3
-    listing-requires
-    cast-result
-    same-length
-    returns-2)
+    (tie.spec returns (λ c. search needs) (λ c. search needs) (λ c. search needs) (λ c κs. search needs) (λ c. search needs)
+    (λ c. search needs) returns-2)

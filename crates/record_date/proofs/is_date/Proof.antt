@@ -1,3 +1,4 @@
+-- A real date of the years 1990 to 2199.
 use Rattle.record_date.proofs.Date.{too-early, too-late, month-below, month-above, no-day, day-within, day-above, february-above, leap-day}
 use native.Mathlib.Omega.{arith}
 use borrow.Author.Needs.{needs}
@@ -19,9 +20,6 @@ returns-4 c = search (month-above)
 returns-5 : tie.Need-returns-5
 returns-5 c = search (no-day)
 
-days-requires : tie.Need-days-requires
-days-requires c κs = search needs
-
 returns-6 : tie.Need-returns-6
 returns-6 c = day-within _ _ _ (omega arith) (omega arith) (omega arith) _ (c .before .days .ensures) (omega arith)
 
@@ -31,11 +29,8 @@ returns-7 c = search (day-above)
 returns-8 : tie.Need-returns-8
 returns-8 c = search (february-above)
 
-is-leap-requires : tie.Need-is-leap-requires
-is-leap-requires c κs = search needs
-
 returns-9 : tie.Need-returns-9
 returns-9 c = search (leap-day)
 
 pub is-date-spec : {M : Type 1} → statement M
-is-date-spec = tie.close (tie.spec returns returns-2 returns-3 returns-4 returns-5 days-requires returns-6 returns-7 returns-8 is-leap-requires returns-9)
+is-date-spec = tie.close (tie.spec returns returns-2 returns-3 returns-4 returns-5 (λ c κs. search needs) returns-6 returns-7 returns-8 (λ c κs. search needs) returns-9)

@@ -1,18 +1,14 @@
+-- A year of 366 days.
 use Rattle.record_date.proofs.Date.{leap-four, leap-hundred, not-four}
 use Rattle.record_date.proofs.is_leap.Statement.{statement}
 use Rattle.record_date.proofs.is_leap.Tie as tie
-use Rattle.record_date.proofs.is_leap.Reads as reads
-use Rattle.record_date.proofs.is_leap.Lts as lts
 
--- src/lib.rt:9:1
 returns : tie.Need-returns
 returns c = search (leap-four)
 
--- src/lib.rt:9:1
 returns-2 : tie.Need-returns-2
 returns-2 c = search (leap-hundred)
 
--- src/lib.rt:9:1
 returns-3 : tie.Need-returns-3
 returns-3 c = search (not-four)
 

@@ -1,13 +1,9 @@
+-- In a label y may stand behind x: a zero behind no space, or a byte of hexadecimal 20 to 7E behind no zero.
 use mathlib.Core.Path.{refl}
 use Rattle.record_label.specs.Follow.{follows}
-use borrow.Author.Needs.{needs}
-use native.Mathlib.Omega.{arith}
 use Rattle.record_label.proofs.follows.Statement.{statement}
 use Rattle.record_label.proofs.follows.Tie as tie
-use Rattle.record_label.proofs.follows.Reads as reads
-use Rattle.record_label.proofs.follows.Lts as lts
 
--- src/lib.rt:59:1
 returns : tie.Need-returns
 unfolding follows
 returns c = refl

@@ -1,3 +1,4 @@
+-- A to Z as a to z.
 use Rattle.record_label.proofs.Same.{capital-fits, lower-capital, lower-other}
 use Rattle.record_label.proofs.lower.Statement.{statement}
 use Rattle.record_label.proofs.lower.Tie as tie

@@ -1,11 +1,9 @@
+-- The makes and move.
 use mathlib.Core.Path.{refl}
 use Rattle.model.specs.Record.{usesFolder}
 use Rattle.record_uses.proofs.uses_folder.Statement.{statement}
 use Rattle.record_uses.proofs.uses_folder.Tie as tie
-use Rattle.record_uses.proofs.uses_folder.Reads as reads
-use Rattle.record_uses.proofs.uses_folder.Lts as lts
 
--- src/lib.rt:22:1
 returns : tie.Need-returns
 unfolding usesFolder
 returns c = refl

@@ -1,3 +1,4 @@
+-- The makes, rename and move.
 use mathlib.Core.Path.{refl}
 use Rattle.model.specs.Record.{usesLabel}
 use Rattle.record_uses.proofs.uses_label.Statement.{statement}

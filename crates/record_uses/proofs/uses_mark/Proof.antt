@@ -1,14 +1,11 @@
+-- Make trace and store.
 use Rattle.record_uses.proofs.Tests.{make-mark, other-mark}
 use Rattle.record_uses.proofs.uses_mark.Statement.{statement}
 use Rattle.record_uses.proofs.uses_mark.Tie as tie
-use Rattle.record_uses.proofs.uses_mark.Reads as reads
-use Rattle.record_uses.proofs.uses_mark.Lts as lts
 
--- src/lib.rt:36:1
 returns : tie.Need-returns
 returns c = search (make-mark)
 
--- src/lib.rt:36:1
 returns-2 : tie.Need-returns-2
 returns-2 c = search (other-mark)
 

@@ -1,11 +1,9 @@
+-- Store, remove, rename, settle and move.
 use mathlib.Core.Path.{refl}
 use Rattle.model.specs.Record.{usesObject}
 use Rattle.record_uses.proofs.uses_object.Statement.{statement}
 use Rattle.record_uses.proofs.uses_object.Tie as tie
-use Rattle.record_uses.proofs.uses_object.Reads as reads
-use Rattle.record_uses.proofs.uses_object.Lts as lts
 
--- src/lib.rt:15:1
 returns : tie.Need-returns
 unfolding usesObject
 returns c = refl

@@ -1,3 +1,4 @@
+-- The bytes of row i.
 use Rattle.sab2_model.specs.Rows.{rowCount}
 use Rattle.model.specs.Vector.{blocksFor}
 use Rattle.sab2_rows.proofs.Places.{head-start, head-long, entry-start, entry-long, aside-start, aside-short, aside-long}
@@ -5,32 +6,12 @@ use native.Mathlib.Omega.{arith}
 use borrow.Author.Needs.{needs}
 use Rattle.sab2_rows.proofs.row_part.Statement.{statement}
 use Rattle.sab2_rows.proofs.row_part.Tie as tie
-use Rattle.sab2_rows.proofs.row_part.Reads as reads
-use Rattle.sab2_rows.proofs.row_part.Lts as lts
 
 returns : tie.Need-returns
 returns c = (search (head-start), search (head-long), omega arith, omega arith)
 
-sub-t7 : tie.Need-sub-t7
-sub-t7 c = search needs
-
-mul-t8 : tie.Need-mul-t8
-mul-t8 c = search needs
-
-add-t9 : tie.Need-add-t9
-add-t9 c = search needs
-
 returns-2 : tie.Need-returns-2
 returns-2 c = (search (entry-start), search (entry-long), omega arith, omega arith)
-
-sub-k : tie.Need-sub-k
-sub-k c = search needs
-
-sub-k-2 : tie.Need-sub-k-2
-sub-k-2 c = search needs
-
-mul-left : tie.Need-mul-left
-mul-left c = search needs
 
 mul-left-2 : tie.Need-mul-left-2
 unfolding rowCount blocksFor
@@ -67,20 +48,5 @@ returns-4 c = (search (aside-start), search (aside-long), omega arith, omega ari
 pub row-part-spec : {M : Type 1} → statement M
 row-part-spec =
     tie.close
-    (tie.spec
-    returns
-    sub-t7
-    mul-t8
-    add-t9
-    returns-2
-    sub-k
-    sub-k-2
-    mul-left
-    mul-left-2
-    sub-left
-    mul-t12
-    add-t13
-    returns-3
-    mul-t11
-    add-t10
-    returns-4)
+    (tie.spec returns (λ c. search needs) (λ c. search needs) (λ c. search needs) returns-2 (λ c. search needs)
+    (λ c. search needs) (λ c. search needs) mul-left-2 sub-left mul-t12 add-t13 returns-3 mul-t11 add-t10 returns-4)

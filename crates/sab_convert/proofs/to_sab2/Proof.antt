@@ -1,19 +1,8 @@
+-- An SAB1 file as SAB2; the count is that of its blocks.
 use Rattle.sab_convert.proofs.Turns.{turns}
 use borrow.Author.Needs.{needs}
 use Rattle.sab_convert.proofs.to_sab2.Statement.{statement}
 use Rattle.sab_convert.proofs.to_sab2.Tie as tie
-
-to-sab2-requires : tie.Need-to-sab2-requires
-to-sab2-requires c κs = search needs
-
-wide-requires : tie.Need-wide-requires
-wide-requires c κs = search needs
-
-pack-requires : tie.Need-pack-requires
-pack-requires c κs = search needs
-
-same-length : tie.Need-same-length
-same-length c = search needs
 
 returns : tie.Need-returns
 returns c = search (turns)
@@ -21,4 +10,4 @@ returns c = search (turns)
 pub to-sab2-spec : {M : Type 1} → statement M
 to-sab2-spec =
     tie.close
-    (tie.spec to-sab2-requires wide-requires pack-requires same-length returns)
+    (tie.spec (λ c κs. search needs) (λ c κs. search needs) (λ c κs. search needs) (λ c. search needs) returns)

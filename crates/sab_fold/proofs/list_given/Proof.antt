@@ -1,3 +1,4 @@
+-- The list in a byte.
 use Rattle.sab_fold.proofs.Calls.{above, within}
 use borrow.Author.Needs.{needs}
 use Rattle.sab_fold.proofs.list_given.Statement.{statement}
@@ -6,11 +7,8 @@ use Rattle.sab_fold.proofs.list_given.Tie as tie
 returns : tie.Need-returns
 returns c = search (above)
 
-cast-result : tie.Need-cast-result
-cast-result c = search needs
-
 returns-2 : tie.Need-returns-2
 returns-2 c = search (within)
 
 pub list-given-spec : {M : Type 1} → statement M
-list-given-spec = tie.close (tie.spec returns cast-result returns-2)
+list-given-spec = tie.close (tie.spec returns (λ c. search needs) returns-2)

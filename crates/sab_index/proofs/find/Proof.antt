@@ -1,22 +1,8 @@
+-- Looks up a label in a folder; the place is the unit of the entry, the count its number, and 0 for none.
 use Rattle.sab_index.proofs.Calls.{finds}
 use borrow.Author.Needs.{needs}
 use Rattle.sab_index.proofs.find.Statement.{statement}
 use Rattle.sab_index.proofs.find.Tie as tie
-
-folder-asked-requires : tie.Need-folder-asked-requires
-folder-asked-requires c κs = search needs
-
-find-requires : tie.Need-find-requires
-find-requires c κs = search needs
-
-unit-in-requires : tie.Need-unit-in-requires
-unit-in-requires c κs = search needs
-
-number-in-requires : tie.Need-number-in-requires
-number-in-requires c κs = search needs
-
-pack-requires : tie.Need-pack-requires
-pack-requires c κs = search needs
 
 returns : tie.Need-returns
 returns c = search (finds)
@@ -24,10 +10,5 @@ returns c = search (finds)
 pub find-spec : {M : Type 1} → statement M
 find-spec =
     tie.close
-    (tie.spec
-    folder-asked-requires
-    find-requires
-    unit-in-requires
-    number-in-requires
-    pack-requires
-    returns)
+    (tie.spec (λ c κs. search needs) (λ c κs. search needs) (λ c κs. search needs) (λ c κs. search needs)
+    (λ c κs. search needs) returns)

@@ -1,3 +1,4 @@
+-- The folder asked, as one number.
 use Rattle.sab_index.proofs.Calls.{far-unit, far-number, near}
 use borrow.Author.Needs.{needs}
 use Rattle.sab_index.proofs.folder_asked.Statement.{statement}
@@ -9,14 +10,8 @@ returns c = search (far-unit)
 returns-2 : tie.Need-returns-2
 returns-2 c = search (far-number)
 
-mul-result : tie.Need-mul-result
-mul-result c = search needs
-
-add-result : tie.Need-add-result
-add-result c = search needs
-
 returns-3 : tie.Need-returns-3
 returns-3 c = search (near)
 
 pub folder-asked-spec : {M : Type 1} → statement M
-folder-asked-spec = tie.close (tie.spec returns returns-2 mul-result add-result returns-3)
+folder-asked-spec = tie.close (tie.spec returns returns-2 (λ c. search needs) (λ c. search needs) returns-3)

@@ -1,31 +1,11 @@
+-- Hands out all blocks of what the asked vector lacks; the count is that of the blocks.
 use Rattle.sab_row.proofs.Calls.{asks-wrong, hands}
 use borrow.Author.Needs.{needs}
 use Rattle.sab_row.proofs.hand_out_row.Statement.{statement}
 use Rattle.sab_row.proofs.hand_out_row.Tie as tie
 
-pack-requires : tie.Need-pack-requires
-pack-requires c κs = search needs
-
 returns : tie.Need-returns
 returns c = search (asks-wrong)
-
-vector-at-requires : tie.Need-vector-at-requires
-vector-at-requires c κs = search needs
-
-narrow-requires : tie.Need-narrow-requires
-narrow-requires c κs = search needs
-
-hand-out-row-requires : tie.Need-hand-out-row-requires
-hand-out-row-requires c κs = search needs
-
-wide-requires : tie.Need-wide-requires
-wide-requires c κs = search needs
-
-pack-requires-2 : tie.Need-pack-requires-2
-pack-requires-2 c κs = search needs
-
-same-length : tie.Need-same-length
-same-length c = search needs
 
 returns-2 : tie.Need-returns-2
 returns-2 c = search (hands)
@@ -33,13 +13,5 @@ returns-2 c = search (hands)
 pub hand-out-row-spec : {M : Type 1} → statement M
 hand-out-row-spec =
     tie.close
-    (tie.spec
-    pack-requires
-    returns
-    vector-at-requires
-    narrow-requires
-    hand-out-row-requires
-    wide-requires
-    pack-requires-2
-    same-length
-    returns-2)
+    (tie.spec (λ c κs. search needs) returns (λ c κs. search needs) (λ c κs. search needs) (λ c κs. search needs)
+    (λ c κs. search needs) (λ c κs. search needs) (λ c. search needs) returns-2)

@@ -1,3 +1,4 @@
+-- The counts of a vector are numbers of 16 bits.
 use Prim.Native.Nat.{ℕ, _≤_, _<_, _-_}
 use lib.ListN.{getD}
 use Rattle.state_tree.proofs.Replayed.{small-next, small-all}
@@ -15,21 +16,6 @@ abbrev μ-loop : tie.MeasureT-loop
 loop-holds : tie.Need-loop-holds Inv-loop μ-loop
 loop-holds c = (omega arith, λ j h. absurd (omega arith))
 
-mul-wider : tie.Need-mul-wider Inv-loop μ-loop
-mul-wider c = search needs
-
-array-read-wider : tie.Need-array-read-wider Inv-loop μ-loop
-array-read-wider c = search needs
-
-wider-requires : tie.Need-wider-requires Inv-loop μ-loop
-wider-requires c κs = search needs
-
-add-u : tie.Need-add-u Inv-loop μ-loop
-add-u c = search needs
-
-loop-less : tie.Need-loop-less Inv-loop μ-loop
-loop-less c = search needs
-
 loop-again : tie.Need-loop-again Inv-loop μ-loop
 loop-again c = (omega arith, search (small-next))
 
@@ -39,12 +25,5 @@ returns c = search (small-all)
 pub small-counts-spec : {M : Type 1} → statement M
 small-counts-spec =
     tie.close
-    (tie.spec Inv-loop μ-loop
-    loop-holds
-    mul-wider
-    array-read-wider
-    wider-requires
-    add-u
-    loop-less
-    loop-again
-    returns)
+    (tie.spec Inv-loop μ-loop loop-holds (λ c. search needs) (λ c. search needs) (λ c κs. search needs) (λ c. search needs)
+    (λ c. search needs) loop-again returns)

@@ -1,10 +1,8 @@
+-- A block is taken into a log that is sound behind the base vector, or refused:
 use Rattle.take.proofs.Ways.{block-bad, bad-left, judged-left, taken-left, given-long, given-few, block-refused, log-stored, block-passed, block-taken}
 use borrow.Author.Needs.{needs}
 use Rattle.take.proofs.take_block.Statement.{statement}
 use Rattle.take.proofs.take_block.Tie as tie
-
-given-fault-requires : tie.Need-given-fault-requires
-given-fault-requires c κs = search needs
 
 returns : tie.Need-returns
 returns c = (search (block-bad), search (bad-left))
@@ -12,20 +10,8 @@ returns c = (search (block-bad), search (bad-left))
 count-in-requires : tie.Need-count-in-requires
 count-in-requires c κs = search (given-long)
 
-cast-n : tie.Need-cast-n
-cast-n c = search needs
-
 judge-block-requires : tie.Need-judge-block-requires
 judge-block-requires c κs = (search (given-long), search needs, search (given-few), search needs, search needs, search needs, search needs, search needs)
-
-same-length : tie.Need-same-length
-same-length c = search needs
-
-same-length-2 : tie.Need-same-length-2
-same-length-2 c = search needs
-
-same-length-3 : tie.Need-same-length-3
-same-length-3 c = search needs
 
 returns-2 : tie.Need-returns-2
 returns-2 c = (search (block-refused), search (judged-left))
@@ -40,33 +26,12 @@ store-requires c κs =
       block-passed _ _ _ _ _ _ (j .judge-block .ensures .1) (j .before .before .before .before .count-in .ensures) (c .before .if2 .left),
     )
 
-same-length-4 : tie.Need-same-length-4
-same-length-4 c = search needs
-
-same-length-5 : tie.Need-same-length-5
-same-length-5 c = search needs
-
-same-length-6 : tie.Need-same-length-6
-same-length-6 c = search needs
-
 returns-3 : tie.Need-returns-3
 returns-3 c = (search (block-taken), search (taken-left))
 
 pub take-block-spec : {M : Type 1} → statement M
 take-block-spec =
     tie.close
-    (tie.spec
-    given-fault-requires
-    returns
-    count-in-requires
-    cast-n
-    judge-block-requires
-    same-length
-    same-length-2
-    same-length-3
-    returns-2
-    store-requires
-    same-length-4
-    same-length-5
-    same-length-6
-    returns-3)
+    (tie.spec (λ c κs. search needs) returns count-in-requires (λ c. search needs) judge-block-requires (λ c. search needs)
+    (λ c. search needs) (λ c. search needs) returns-2 store-requires (λ c. search needs) (λ c. search needs)
+    (λ c. search needs) returns-3)

@@ -1,35 +1,12 @@
+-- A well-formed record whose identity is not held is refused, or held at the position p.
 use Rattle.log_admit.proofs.Faults.{unit-small}
 use Rattle.take_beside.proofs.Checks.{new-refuses, new-least, new-most, new-above, new-behind, new-notes}
 use borrow.Author.Needs.{needs}
 use Rattle.take_beside.proofs.take_new.Statement.{statement}
 use Rattle.take_beside.proofs.take_new.Tie as tie
 
-seen-vector-requires : tie.Need-seen-vector-requires
-seen-vector-requires c κs = search needs
-
-new-fault-requires : tie.Need-new-fault-requires
-new-fault-requires c κs = search needs
-
-same-length : tie.Need-same-length
-same-length c = search needs
-
-same-length-2 : tie.Need-same-length-2
-same-length-2 c = search needs
-
 returns : tie.Need-returns
 returns c = search (new-refuses)
-
-unit-of-requires : tie.Need-unit-of-requires
-unit-of-requires c κs = search needs
-
-cast-u : tie.Need-cast-u
-cast-u c = search needs
-
-number-of-requires : tie.Need-number-of-requires
-number-of-requires c κs = search needs
-
-mul-f : tie.Need-mul-f
-mul-f c = search needs
 
 element-copy-out-f : tie.Need-element-copy-out-f
 element-copy-out-f c = search (unit-small)
@@ -42,15 +19,6 @@ sub-note c = search (new-behind)
 
 note-requires : tie.Need-note-requires
 note-requires c κs = (search (unit-small), search (new-least), search (new-most), search needs, search needs, search needs)
-
-add-t22 : tie.Need-add-t22
-add-t22 c = search needs
-
-same-length-3 : tie.Need-same-length-3
-same-length-3 c = search needs
-
-same-length-4 : tie.Need-same-length-4
-same-length-4 c = search needs
 
 returns-2 : tie.Need-returns-2
 returns-2 c =
@@ -71,21 +39,6 @@ returns-2 c =
 pub take-new-spec : {M : Type 1} → statement M
 take-new-spec =
     tie.close
-    (tie.spec
-    seen-vector-requires
-    new-fault-requires
-    same-length
-    same-length-2
-    returns
-    unit-of-requires
-    cast-u
-    number-of-requires
-    mul-f
-    element-copy-out-f
-    counted-requires
-    sub-note
-    note-requires
-    add-t22
-    same-length-3
-    same-length-4
-    returns-2)
+    (tie.spec (λ c κs. search needs) (λ c κs. search needs) (λ c. search needs) (λ c. search needs) returns
+    (λ c κs. search needs) (λ c. search needs) (λ c κs. search needs) (λ c. search needs) element-copy-out-f counted-requires
+    sub-note note-requires (λ c. search needs) (λ c. search needs) (λ c. search needs) returns-2)

@@ -1,5 +1,5 @@
+-- A row may have n bytes:
 use Rattle.take_row.proofs.Begun.{part-block, whole-blocks}
-use borrow.Author.Needs.{needs}
 use Rattle.take_row.proofs.row_fits.Statement.{statement}
 use Rattle.take_row.proofs.row_fits.Tie as tie
 

@@ -1,3 +1,4 @@
+-- A record that passed is stored: a new one by rank, one that is held or folded not again.
 use Rattle.take_store.proofs.Storing.{stored-ordered, unit-formed, one-rising, store-held, store-room, unit-stored, count-above, store-new}
 use borrow.Author.Needs.{needs}
 use Rattle.take_store.proofs.store_record.Statement.{statement}
@@ -18,32 +19,8 @@ counted-requires c κs = (search (unit-stored), search (count-above))
 returns-2 : tie.Need-returns-2
 returns-2 c = search (store-new)
 
-unit-of-requires : tie.Need-unit-of-requires
-unit-of-requires c κs = search needs
-
-cast-u : tie.Need-cast-u
-cast-u c = search needs
-
-number-of-requires : tie.Need-number-of-requires
-number-of-requires c κs = search needs
-
-add-t17 : tie.Need-add-t17
-add-t17 c = search needs
-
-same-length : tie.Need-same-length
-same-length c = search needs
-
 pub store-record-spec : {M : Type 1} → statement M
 store-record-spec =
     tie.close
-    (tie.spec
-    is-new-requires
-    returns
-    insert-records-requires
-    unit-of-requires
-    cast-u
-    number-of-requires
-    counted-requires
-    add-t17
-    same-length
-    returns-2)
+    (tie.spec is-new-requires returns insert-records-requires (λ c κs. search needs) (λ c. search needs)
+    (λ c κs. search needs) counted-requires (λ c. search needs) (λ c. search needs) returns-2)

@@ -1,3 +1,4 @@
+-- The rows of present entries move to the front.
 use Prim.Native.Nat.{_≤_, _-_}
 use native.Mathlib.Omega.{arith}
 use mathlib.Core.Path.{_≡_, refl}
@@ -22,20 +23,11 @@ loop-holds c = (omega arith, refl, search (compact-starts), refl)
 keep-row-requires : tie.Need-keep-row-requires Inv-loop μ-loop
 keep-row-requires c κs = (omega arith, omega arith, search (row-below))
 
-add-i : tie.Need-add-i Inv-loop μ-loop
-add-i c = search needs
-
-loop-less : tie.Need-loop-less Inv-loop μ-loop
-loop-less c = search needs
-
 loop-again : tie.Need-loop-again Inv-loop μ-loop
 loop-again c = (omega arith, search needs, search (compact-rows), search (compact-count))
-
-same-length : tie.Need-same-length Inv-loop μ-loop
-same-length c = search needs
 
 returns : tie.Need-returns Inv-loop μ-loop
 returns c = search (compact-ends)
 
 pub compact-spec : {M : Type 1} → statement M
-compact-spec = tie.close (tie.spec Inv-loop μ-loop loop-holds keep-row-requires add-i loop-less loop-again same-length returns)
+compact-spec = tie.close (tie.spec Inv-loop μ-loop loop-holds keep-row-requires (λ c. search needs) (λ c. search needs) loop-again (λ c. search needs) returns)

@@ -1,3 +1,4 @@
+-- The entries that open asides mark are flagged.
 use Rattle.tree_finish.proofs.Flags.{no-flags, flag-turn, flag-next, flags-end}
 use Prim.Native.Nat.{_≤_, _-_}
 use mathlib.Core.Path.{_≡_, refl}
@@ -21,17 +22,8 @@ loop-holds c = (omega arith, refl, search (no-flags))
 flag-one-requires : tie.Need-flag-one-requires Inv-loop μ-loop
 flag-one-requires c κs = (search (flag-turn), omega arith)
 
-add-i : tie.Need-add-i Inv-loop μ-loop
-add-i c = search needs
-
-loop-less : tie.Need-loop-less Inv-loop μ-loop
-loop-less c = search needs
-
 loop-again : tie.Need-loop-again Inv-loop μ-loop
 loop-again c = (omega arith, search needs, search (flag-next))
-
-same-length : tie.Need-same-length Inv-loop μ-loop
-same-length c = search needs
 
 returns : tie.Need-returns Inv-loop μ-loop
 returns c = search (flags-end)
@@ -39,13 +31,5 @@ returns c = search (flags-end)
 pub flag-spec : {M : Type 1} → statement M
 flag-spec =
     tie.close
-    (tie.spec
-    Inv-loop
-    μ-loop
-    loop-holds
-    flag-one-requires
-    add-i
-    loop-less
-    loop-again
-    same-length
-    returns)
+    (tie.spec Inv-loop μ-loop loop-holds flag-one-requires (λ c. search needs) (λ c. search needs) loop-again
+    (λ c. search needs) returns)

@@ -1,7 +1,7 @@
+-- The folder f is the root, or is there and a folder:
 use Rattle.tree_lookup.proofs.Working.{works-long}
 use Rattle.tree_judge.proofs.Reasons.{folder-root, folder-absent, folder-trace, folder-found, folder-range}
 use native.Mathlib.Omega.{arith}
-use borrow.Author.Needs.{needs}
 use Rattle.tree_judge.proofs.folder_stands.Statement.{statement}
 use Rattle.tree_judge.proofs.folder_stands.Tie as tie
 
@@ -29,11 +29,4 @@ returns-4 c = search (folder-found)
 pub folder-stands-spec : {M : Type 1} → statement M
 folder-stands-spec =
     tie.close
-    (tie.spec
-    returns
-    entry-of-requires
-    returns-2
-    kind-at-requires
-    made-at-requires
-    returns-3
-    returns-4)
+    (tie.spec returns entry-of-requires returns-2 kind-at-requires made-at-requires returns-3 returns-4)

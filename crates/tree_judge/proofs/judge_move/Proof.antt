@@ -1,3 +1,4 @@
+-- A move of the entry in a row:
 use Rattle.tree_lookup.proofs.Working.{works-long}
 use Rattle.tree_judge.proofs.Reasons.{move-names, move-absent, move-unseen, move-stops, move-below, move-label}
 use native.Mathlib.Omega.{arith}
@@ -14,14 +15,8 @@ made-at-requires c κs = (search (works-long), omega arith)
 placing-at-requires : tie.Need-placing-at-requires
 placing-at-requires c κs = (search (works-long), omega arith)
 
-is-unseen-requires : tie.Need-is-unseen-requires
-is-unseen-requires c κs = search needs
-
 returns-2 : tie.Need-returns-2
 returns-2 c = search (move-unseen)
-
-folder-of-requires : tie.Need-folder-of-requires
-folder-of-requires c κs = search needs
 
 folder-stands-requires : tie.Need-folder-stands-requires
 folder-stands-requires c κs = (search (move-names), search)
@@ -29,14 +24,8 @@ folder-stands-requires c κs = (search (move-names), search)
 returns-3 : tie.Need-returns-3
 returns-3 c = search (move-stops)
 
-is-below-requires : tie.Need-is-below-requires
-is-below-requires c κs = search needs
-
 returns-4 : tie.Need-returns-4
 returns-4 c = search (move-below)
-
-free-label-requires : tie.Need-free-label-requires
-free-label-requires c κs = search needs
 
 returns-5 : tie.Need-returns-5
 returns-5 c = search (move-label)
@@ -44,16 +33,5 @@ returns-5 c = search (move-label)
 pub judge-move-spec : {M : Type 1} → statement M
 judge-move-spec =
     tie.close
-    (tie.spec
-    returns
-    made-at-requires
-    placing-at-requires
-    is-unseen-requires
-    returns-2
-    folder-of-requires
-    folder-stands-requires
-    returns-3
-    is-below-requires
-    returns-4
-    free-label-requires
-    returns-5)
+    (tie.spec returns made-at-requires placing-at-requires (λ c κs. search needs) returns-2 (λ c κs. search needs)
+    folder-stands-requires returns-3 (λ c κs. search needs) returns-4 (λ c κs. search needs) returns-5)

@@ -1,3 +1,4 @@
+-- A remove of the entry in a row:
 use native.Mathlib.Omega.{arith}
 use Rattle.tree_lookup.proofs.Working.{works-long}
 use Rattle.tree_judge.proofs.Reasons.{remove-absent, remove-full, remove-unseen, remove-fits}
@@ -28,11 +29,4 @@ returns-4 c = search (remove-fits)
 pub judge-remove-spec : {M : Type 1} → statement M
 judge-remove-spec =
     tie.close
-    (tie.spec
-    returns
-    made-at-requires
-    is-full-requires
-    returns-2
-    is-changed-requires
-    returns-3
-    returns-4)
+    (tie.spec returns made-at-requires is-full-requires returns-2 is-changed-requires returns-3 returns-4)

@@ -1,3 +1,4 @@
+-- A rename of the entry in a row:
 use Rattle.tree_lookup.proofs.Working.{works-long}
 use Rattle.tree_judge.proofs.Reasons.{rename-absent, rename-unseen, rename-label}
 use native.Mathlib.Omega.{arith}
@@ -17,14 +18,8 @@ inside-at-requires c κs = (search (works-long), omega arith)
 placing-at-requires : tie.Need-placing-at-requires
 placing-at-requires c κs = (search (works-long), omega arith)
 
-is-unseen-requires : tie.Need-is-unseen-requires
-is-unseen-requires c κs = search needs
-
 returns-2 : tie.Need-returns-2
 returns-2 c = search (rename-unseen)
-
-free-label-requires : tie.Need-free-label-requires
-free-label-requires c κs = search needs
 
 returns-3 : tie.Need-returns-3
 returns-3 c = search (rename-label)
@@ -32,12 +27,5 @@ returns-3 c = search (rename-label)
 pub judge-rename-spec : {M : Type 1} → statement M
 judge-rename-spec =
     tie.close
-    (tie.spec
-    returns
-    made-at-requires
-    inside-at-requires
-    placing-at-requires
-    is-unseen-requires
-    returns-2
-    free-label-requires
-    returns-3)
+    (tie.spec returns made-at-requires inside-at-requires placing-at-requires (λ c κs. search needs) returns-2
+    (λ c κs. search needs) returns-3)

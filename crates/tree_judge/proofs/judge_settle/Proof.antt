@@ -1,6 +1,6 @@
+-- A settle of the record k:
 use Rattle.tree_lookup.proofs.Working.{works-reads}
 use Rattle.tree_judge.proofs.Reasons.{settle-stands, settle-not}
-use borrow.Author.Needs.{needs}
 use Rattle.tree_judge.proofs.judge_settle.Statement.{statement}
 use Rattle.tree_judge.proofs.judge_settle.Tie as tie
 

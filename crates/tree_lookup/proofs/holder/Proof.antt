@@ -1,3 +1,4 @@
+-- The row of the holder of a label in the folder f, other than the entry k, or the number of rows if the label is free.
 use Rattle.tree_lookup.proofs.Labels.{Seeking, seek-starts, seek-row, seek-goes, seek-ends}
 use Rattle.tree_lookup.proofs.Working.{works-long, row-among}
 use borrow.Author.Needs.{needs}
@@ -10,26 +11,11 @@ Inv-loop table register k f label h best₀ q₀ best q = Seeking table register
 abbrev μ-loop : tie.MeasureT-loop
 μ-loop table register k f label h best₀ q₀ best q = q
 
-hash-requires : tie.Need-hash-requires Inv-loop μ-loop
-hash-requires c κs = search needs
-
-first-of-requires : tie.Need-first-of-requires Inv-loop μ-loop
-first-of-requires c κs = search needs
-
 loop-holds : tie.Need-loop-holds Inv-loop μ-loop
 loop-holds c = search (seek-starts)
 
-row-at-requires : tie.Need-row-at-requires Inv-loop μ-loop
-row-at-requires c κs = search needs
-
 earlier-requires : tie.Need-earlier-requires Inv-loop μ-loop
 earlier-requires c κs = (search (works-long), search (seek-row), search needs)
-
-node-behind-requires : tie.Need-node-behind-requires Inv-loop μ-loop
-node-behind-requires c κs = search needs
-
-loop-less : tie.Need-loop-less Inv-loop μ-loop
-loop-less c = search needs
 
 loop-again : tie.Need-loop-again Inv-loop μ-loop
 loop-again c = search (seek-goes)
@@ -40,15 +26,5 @@ returns c = (search (row-among, seek-ends), search (seek-ends))
 pub holder-spec : {M : Type 1} → statement M
 holder-spec =
     tie.close
-    (tie.spec
-    Inv-loop
-    μ-loop
-    hash-requires
-    first-of-requires
-    loop-holds
-    row-at-requires
-    earlier-requires
-    node-behind-requires
-    loop-less
-    loop-again
-    returns)
+    (tie.spec Inv-loop μ-loop (λ c κs. search needs) (λ c κs. search needs) loop-holds (λ c κs. search needs) earlier-requires
+    (λ c κs. search needs) (λ c. search needs) loop-again returns)

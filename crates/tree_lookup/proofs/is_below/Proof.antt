@@ -1,3 +1,4 @@
+-- The folder f is the entry k or lies below it.
 use mathlib.Core.Path.{_≡_}
 use Rattle.model.specs.Replay.{comesTo, isBelow}
 use Rattle.tree_table.specs.Rows.{entriesFrom}
@@ -14,17 +15,11 @@ Inv-loop table register size k f n steps₀ at₀ steps at = comesTo steps k at 
 abbrev μ-loop : tie.MeasureT-loop
 μ-loop table register size k f n steps₀ at₀ steps at = steps
 
-add-steps : tie.Need-add-steps Inv-loop μ-loop
-add-steps c = search needs
-
 loop-holds : tie.Need-loop-holds Inv-loop μ-loop
 loop-holds c = search (below-starts)
 
 returns : tie.Need-returns Inv-loop μ-loop
 returns c = search (below-here)
-
-is-identity-requires : tie.Need-is-identity-requires Inv-loop μ-loop
-is-identity-requires c κs = search needs
 
 returns-2 : tie.Need-returns-2 Inv-loop μ-loop
 returns-2 c = search (below-root)
@@ -38,12 +33,6 @@ returns-3 c = search (below-absent)
 inside-at-requires : tie.Need-inside-at-requires Inv-loop μ-loop
 inside-at-requires c κs = (search (works-long), omega arith)
 
-sub-steps : tie.Need-sub-steps Inv-loop μ-loop
-sub-steps c = search needs
-
-loop-less : tie.Need-loop-less Inv-loop μ-loop
-loop-less c = search needs
-
 loop-again : tie.Need-loop-again Inv-loop μ-loop
 loop-again c = search (below-goes)
 
@@ -53,18 +42,5 @@ returns-4 c = search (below-ends)
 pub is-below-spec : {M : Type 1} → statement M
 is-below-spec =
     tie.close
-    (tie.spec
-    Inv-loop
-    μ-loop
-    add-steps
-    loop-holds
-    returns
-    is-identity-requires
-    returns-2
-    entry-of-requires
-    returns-3
-    inside-at-requires
-    sub-steps
-    loop-less
-    loop-again
-    returns-4)
+    (tie.spec Inv-loop μ-loop (λ c. search needs) loop-holds returns (λ c κs. search needs) returns-2 entry-of-requires
+    returns-3 inside-at-requires (λ c. search needs) (λ c. search needs) loop-again returns-4)

@@ -1,3 +1,4 @@
+-- The place of the folder f, one above its row;
 use Rattle.tree_lookup.proofs.Working.{works-reads}
 use Rattle.tree_lookup.proofs.Homes.{place-none, place-aside, place-row}
 use Rattle.tree_lookup.proofs.Below.{identity-in}
@@ -5,9 +6,6 @@ use native.Mathlib.Omega.{arith}
 use borrow.Author.Needs.{needs}
 use Rattle.tree_lookup.proofs.place_of.Statement.{statement}
 use Rattle.tree_lookup.proofs.place_of.Tie as tie
-
-is-identity-requires : tie.Need-is-identity-requires
-is-identity-requires c κs = search needs
 
 returns : tie.Need-returns
 returns c = (search (place-none), omega arith)
@@ -22,4 +20,4 @@ returns-3 : tie.Need-returns-3
 returns-3 c = (search (place-row), omega arith)
 
 pub place-of-spec : {M : Type 1} → statement M
-place-of-spec = tie.close (tie.spec is-identity-requires returns role-of-requires returns-2 returns-3)
+place-of-spec = tie.close (tie.spec (λ c κs. search needs) returns role-of-requires returns-2 returns-3)

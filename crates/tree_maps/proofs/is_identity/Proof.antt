@@ -1,6 +1,5 @@
+-- The number k is an identity.
 use Rattle.tree_maps.proofs.Counts.{below-identity, identity-test}
-use native.Mathlib.Omega.{arith}
-use borrow.Author.Needs.{needs}
 use Rattle.tree_maps.proofs.is_identity.Statement.{statement}
 use Rattle.tree_maps.proofs.is_identity.Tie as tie
 

@@ -1,3 +1,4 @@
+-- The first n records of a log or a file, from the tree that a table holds on.
 use Rattle.tree_replay.proofs.Playing.{turn-entries, turn-asides, turn-both, turn-holds, turn-takes, turn-goes, turn-inside, play-ends, play-starts}
 use Prim.Native.Nat.{_+_, _≤_, _-_}
 use mathlib.Core.Path.{_≡_, refl}
@@ -30,32 +31,14 @@ offset-requires c κs = omega arith
 add-step : tie.Need-add-step Inv-loop μ-loop
 add-step c = omega arith
 
-sub-step : tie.Need-sub-step Inv-loop μ-loop
-sub-step c = search needs
-
-part-step-start : tie.Need-part-step-start Inv-loop μ-loop
-part-step-start c = search needs
-
 part-step-end : tie.Need-part-step-end Inv-loop μ-loop
 part-step-end c = search (turn-inside)
 
 step-requires : tie.Need-step-requires Inv-loop μ-loop
 step-requires c κs = (search (turn-takes), search (turn-holds), search (turn-entries), search (turn-asides), search (turn-both), omega arith)
 
-add-i : tie.Need-add-i Inv-loop μ-loop
-add-i c = search needs
-
-loop-less : tie.Need-loop-less Inv-loop μ-loop
-loop-less c = search needs
-
 loop-again : tie.Need-loop-again Inv-loop μ-loop
 loop-again c = (omega arith, search needs, search needs, omega arith, search (turn-goes), search (goes-on))
-
-same-length : tie.Need-same-length Inv-loop μ-loop
-same-length c = search needs
-
-same-length-2 : tie.Need-same-length-2 Inv-loop μ-loop
-same-length-2 c = search needs
 
 returns : tie.Need-returns Inv-loop μ-loop
 returns c = (search (play-ends), search (ends-on))
@@ -63,19 +46,5 @@ returns c = (search (play-ends), search (ends-on))
 pub replay-spec : {M : Type 1} → statement M
 replay-spec =
     tie.close
-    (tie.spec
-    Inv-loop
-    μ-loop
-    loop-holds
-    offset-requires
-    add-step
-    sub-step
-    part-step-start
-    part-step-end
-    step-requires
-    add-i
-    loop-less
-    loop-again
-    same-length
-    same-length-2
-    returns)
+    (tie.spec Inv-loop μ-loop loop-holds offset-requires add-step (λ c. search needs) (λ c. search needs) part-step-end
+    step-requires (λ c. search needs) (λ c. search needs) loop-again (λ c. search needs) (λ c. search needs) returns)

@@ -1,3 +1,4 @@
+-- An identity is written in four bytes.
 use Rattle.tree_table.proofs.Fields.{identity-put}
 use lib.ListN.{length-set}
 use native.Mathlib.Omega.{arith}
@@ -5,23 +6,8 @@ use borrow.Author.Needs.{needs}
 use Rattle.tree_table.proofs.put_identity.Statement.{statement}
 use Rattle.tree_table.proofs.put_identity.Tie as tie
 
-cast-dst : tie.Need-cast-dst
-cast-dst c = search needs
-
-slice-write-dst : tie.Need-slice-write-dst
-slice-write-dst c = search needs
-
-add-dst : tie.Need-add-dst
-add-dst c = search needs
-
 slice-write-dst-2 : tie.Need-slice-write-dst-2
 slice-write-dst-2 c = simp length-set (omega arith)
-
-add-put16 : tie.Need-add-put16
-add-put16 c = search needs
-
-cast-put16 : tie.Need-cast-put16
-cast-put16 c = search needs
 
 put16-requires : tie.Need-put16-requires
 put16-requires c κs = simp length-set (omega arith)
@@ -35,13 +21,5 @@ returns c = search (identity-put)
 pub put-identity-spec : {M : Type 1} → statement M
 put-identity-spec =
     tie.close
-    (tie.spec
-    cast-dst
-    slice-write-dst
-    add-dst
-    slice-write-dst-2
-    add-put16
-    cast-put16
-    put16-requires
-    same-length
-    returns)
+    (tie.spec (λ c. search needs) (λ c. search needs) (λ c. search needs) slice-write-dst-2 (λ c. search needs)
+    (λ c. search needs) put16-requires same-length returns)

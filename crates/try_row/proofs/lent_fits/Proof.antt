@@ -1,3 +1,4 @@
+-- The three lent buffers have their stated lengths.
 use Rattle.try_row.proofs.Tried.{copy-wrong, tree-wrong, report-decides}
 use Rattle.try_row.proofs.lent_fits.Statement.{statement}
 use Rattle.try_row.proofs.lent_fits.Tie as tie

@@ -1,22 +1,8 @@
+-- The state of a trial, checked in this order:
 use Rattle.try_row.proofs.Tried.{opens}
 use borrow.Author.Needs.{needs}
 use Rattle.try_row.proofs.open_trial.Statement.{statement}
 use Rattle.try_row.proofs.open_trial.Tie as tie
-
-lent-fits-requires : tie.Need-lent-fits-requires
-lent-fits-requires c κs = search needs
-
-row-fits-requires : tie.Need-row-fits-requires
-row-fits-requires c κs = search needs
-
-open-into-requires : tie.Need-open-into-requires
-open-into-requires c κs = search needs
-
-same-length : tie.Need-same-length
-same-length c = search needs
-
-same-length-2 : tie.Need-same-length-2
-same-length-2 c = search needs
 
 returns : tie.Need-returns
 returns c = (search (opens), search needs)
@@ -24,10 +10,5 @@ returns c = (search (opens), search needs)
 pub open-trial-spec : {M : Type 1} → statement M
 open-trial-spec =
     tie.close
-    (tie.spec
-    lent-fits-requires
-    row-fits-requires
-    open-into-requires
-    same-length
-    same-length-2
+    (tie.spec (λ c κs. search needs) (λ c κs. search needs) (λ c κs. search needs) (λ c. search needs) (λ c. search needs)
     returns)

@@ -1,11 +1,9 @@
+-- The tree of the copy, into which the row was taken, is laid, and the report is written by it and the notes.
 use Rattle.try_row.proofs.Tried.{tree-shows}
 use mathlib.Core.Path.{_∙_}
 use borrow.Author.Needs.{needs}
 use Rattle.try_row.proofs.report_by.Statement.{statement}
 use Rattle.try_row.proofs.report_by.Tie as tie
-
-small-counts-requires : tie.Need-small-counts-requires
-small-counts-requires c κs = search needs
 
 lay-tree-requires : tie.Need-lay-tree-requires
 lay-tree-requires c κs = (search, search, search, search, search, search, search, search)
@@ -17,22 +15,10 @@ write-report-requires c κs =
     let p = s .before .before .before .before .before .before .before .pre in
     (tree-shows _ _ _ (p .1) (p .2) (p .4) (s .small-counts .ensures) _ (l .lay-tree .ensures) (l .lay-tree .kept .1 .1 .1 .1 .1 .0 ∙ p .8), search needs, search needs)
 
-same-length : tie.Need-same-length
-same-length c = search needs
-
-same-length-2 : tie.Need-same-length-2
-same-length-2 c = search needs
-
 returns : tie.Need-returns
 returns c = (search needs, (search needs, search needs))
 
 pub report-by-spec : {M : Type 1} → statement M
 report-by-spec =
     tie.close
-    (tie.spec
-    small-counts-requires
-    lay-tree-requires
-    write-report-requires
-    same-length
-    same-length-2
-    returns)
+    (tie.spec (λ c κs. search needs) lay-tree-requires write-report-requires (λ c. search needs) (λ c. search needs) returns)

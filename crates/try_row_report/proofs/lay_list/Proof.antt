@@ -1,25 +1,11 @@
+-- The list is laid from byte 20 of a report on, behind zeros; the count of the entries is returned.
 use Rattle.try_row_report.proofs.Listing.{list-part, list-laid}
 use borrow.Author.Needs.{needs}
 use Rattle.try_row_report.proofs.lay_list.Statement.{statement}
 use Rattle.try_row_report.proofs.lay_list.Tie as tie
 
-clear-requires : tie.Need-clear-requires
-clear-requires c κs = search needs
-
-sub-list-new : tie.Need-sub-list-new
-sub-list-new c = search needs
-
-part-list-new-start : tie.Need-part-list-new-start
-part-list-new-start c = search needs
-
-part-list-new-end : tie.Need-part-list-new-end
-part-list-new-end c = search needs
-
 list-new-requires : tie.Need-list-new-requires
 list-new-requires c κs = (search needs, search needs, search (list-part))
-
-same-length : tie.Need-same-length
-same-length c = search needs
 
 returns : tie.Need-returns
 returns c = (search needs, search (list-laid))
@@ -27,11 +13,5 @@ returns c = (search needs, search (list-laid))
 pub lay-list-spec : {M : Type 1} → statement M
 lay-list-spec =
     tie.close
-    (tie.spec
-    clear-requires
-    sub-list-new
-    part-list-new-start
-    part-list-new-end
-    list-new-requires
-    same-length
-    returns)
+    (tie.spec (λ c κs. search needs) (λ c. search needs) (λ c. search needs) (λ c. search needs) list-new-requires
+    (λ c. search needs) returns)

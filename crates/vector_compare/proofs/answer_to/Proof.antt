@@ -1,3 +1,4 @@
+-- The answer to the two numbers of records lacked.
 use Rattle.vector_compare.proofs.Answers.{neither-lacks, second-lacks, first-lacks, both-lack}
 use Rattle.vector_compare.proofs.answer_to.Statement.{statement}
 use Rattle.vector_compare.proofs.answer_to.Tie as tie

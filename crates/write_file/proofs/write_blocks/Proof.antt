@@ -1,3 +1,4 @@
+-- Block after block is written, then zeros; the count of blocks is returned.
 use Rattle.write_file.proofs.Whole.{few-used, few, begun, all-counted, goes-on, ends}
 use Rattle.model.specs.File.{fileTo}
 use Rattle.model.specs.Log.{recordsOf}
@@ -27,26 +28,8 @@ loop-holds c = (omega arith, search (few, few-used), search (few-used), search n
 file-block-requires : tie.Need-file-block-requires Inv-loop μ-loop
 file-block-requires c κs = (search needs, search needs, search needs, search needs, search needs, search (begun))
 
-write-at-requires : tie.Need-write-at-requires Inv-loop μ-loop
-write-at-requires c κs = search needs
-
-add-k : tie.Need-add-k Inv-loop μ-loop
-add-k c = search needs
-
-loop-less : tie.Need-loop-less Inv-loop μ-loop
-loop-less c = search needs
-
 loop-again : tie.Need-loop-again Inv-loop μ-loop
 loop-again c = (omega arith, search needs, search needs, search needs, search (goes-on))
-
-clear-behind-requires : tie.Need-clear-behind-requires Inv-loop μ-loop
-clear-behind-requires c κs = search needs
-
-cast-result : tie.Need-cast-result Inv-loop μ-loop
-cast-result c = search needs
-
-same-length : tie.Need-same-length Inv-loop μ-loop
-same-length c = search needs
 
 returns : tie.Need-returns Inv-loop μ-loop
 returns c = (search (all-counted), search (ends))
@@ -54,17 +37,5 @@ returns c = (search (all-counted), search (ends))
 pub write-blocks-spec : {M : Type 1} → statement M
 write-blocks-spec =
     tie.close
-    (tie.spec
-    Inv-loop
-    μ-loop
-    block-count-requires
-    loop-holds
-    file-block-requires
-    write-at-requires
-    add-k
-    loop-less
-    loop-again
-    clear-behind-requires
-    cast-result
-    same-length
-    returns)
+    (tie.spec Inv-loop μ-loop block-count-requires loop-holds file-block-requires (λ c κs. search needs) (λ c. search needs)
+    (λ c. search needs) loop-again (λ c κs. search needs) (λ c. search needs) (λ c. search needs) returns)

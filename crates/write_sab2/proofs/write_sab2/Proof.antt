@@ -1,16 +1,9 @@
+-- List, base and log are written into the lent file as SAB2, with zeros behind the last block.
 use Rattle.call_guard.proofs.Opening.{open-long, open-based, open-used, open-held, open-entries, open-asides, open-buffer}
 use Rattle.write_sab2.proofs.Ways.{write-refused, all-written, state-sound, few-entries, few-asides, used-few}
-use native.Mathlib.Omega.{arith}
 use borrow.Author.Needs.{needs}
 use Rattle.write_sab2.proofs.write_sab2.Statement.{statement}
 use Rattle.write_sab2.proofs.write_sab2.Tie as tie
-use Rattle.write_sab2.proofs.write_sab2.Reads as reads
-use Rattle.write_sab2.proofs.write_sab2.Lts as lts
-use Rattle.call_guard.proofs.open.Reads as open-reads
-use Rattle.write_sab2.proofs.write_state.Reads as write-state-reads
-
-open-requires : tie.Need-open-requires
-open-requires c κs = search needs
 
 returns : tie.Need-returns
 returns c = search (write-refused)
@@ -30,12 +23,9 @@ write-state-requires c κs = (
   search (open-buffer),
 )
 
-same-length : tie.Need-same-length
-same-length c = search needs
-
 returns-2 : tie.Need-returns-2
 returns-2 c = search (all-written)
 
 pub write-sab2-spec : {M : Type 1} → statement M
 write-sab2-spec =
-    tie.close (tie.spec open-requires returns write-state-requires same-length returns-2)
+    tie.close (tie.spec (λ c κs. search needs) returns write-state-requires (λ c. search needs) returns-2)
