@@ -26,9 +26,10 @@ static uint8_t log_bytes[SAB_LOG_BYTES], full[SAB_LOG_BYTES], shorter[SAB_LOG_BY
     copy[SAB_LOG_BYTES], report[SAB_REPORT_BYTES], index_bytes[SAB_INDEX_BYTES],
     range[SAB_RANGE_BYTES], base[SAB_BASE_BYTES], work[SAB_WORK_BYTES],
     sab2[SAB_SAB2_BYTES], out_sab2[SAB_SAB2_BYTES], names[SAB_NAME_BYTES * FULL],
-    theirs[SAB_TREE_BYTES];
+    theirs[SAB_TREE_BYTES], logs[SAB_ROUND_BYTES], text[SAB_PLAN_TEXT_BYTES],
+    plan[FULL * SAB_BLOCK_BYTES];
 static size_t file_length, sab2_length, row_length, index_length, work_length,
-    names_length;
+    names_length, plan_length;
 static uint32_t result;
 
 static void run_compare(void)
@@ -129,6 +130,12 @@ static void run_merge(void)
                        sizeof out_file);
 }
 
+static void run_try_plan(void)
+{
+    result = sab_try_plan(plan, plan_length, logs, sizeof logs, base, sizeof base, work,
+                          sizeof work, text, sizeof text, length, sizeof length);
+}
+
 static void run_show(void)
 {
     result = sab_show(log_bytes, sizeof log_bytes, base, sizeof base, tree, sizeof tree);
@@ -214,6 +221,7 @@ static const struct entry ENTRIES[] = {
     {"sab_index", run_index, 0},
     {"sab_find", run_find, 0},
     {"sab_list", run_list, 0},
+    {"sab_try_plan", run_try_plan, 0},
 };
 
 static void fail(const char *what)
@@ -273,6 +281,33 @@ static size_t least(size_t a, size_t b)
     return a < b ? a : b;
 }
 
+/* A plan whose blocks each make a trace at unit 0 and pass it to unit 1. */
+static void prepare_plan(size_t records)
+{
+    size_t i, j;
+    memset(plan, 0, sizeof plan);
+    plan_length = SAB_BLOCK_BYTES * records;
+    for (i = 0; i < records; i++) {
+        uint8_t *at = plan + SAB_BLOCK_BYTES * i, *record = at + 32;
+        uint32_t first_sum = 0, second_sum = 0;
+        memcpy(at, "PLN1\007", 5);
+        at[9] = 2;
+        at[28] = 1;
+        memcpy(record, "\000\002", 2);
+        memcpy(record + 28, "\xE9\x07\x03\x04", 4);
+        sprintf((char *)record + 32, "Trace %lu", (unsigned long)i);
+        memcpy(at + 112, "\002\000\001", 3);
+        for (j = 0; j < 508; j += 2) {
+            first_sum = (first_sum + at[j] + 256u * at[j + 1]) % 65521u;
+            second_sum = (second_sum + first_sum) % 65521u;
+        }
+        at[508] = (uint8_t)first_sum;
+        at[509] = (uint8_t)(first_sum >> 8);
+        at[510] = (uint8_t)second_sum;
+        at[511] = (uint8_t)(second_sum >> 8);
+    }
+}
+
 /* Makes the buffers ready for a call on so many records. */
 static void prepare(const struct entry *call, size_t records)
 {
@@ -300,6 +335,8 @@ static void prepare(const struct entry *call, size_t records)
         row_length = SAB_BLOCK_BYTES * SAB_COUNT(r);
     } else if (call->run == run_act) {
         first(shorter, least(records, FULL - 1));
+    } else if (call->run == run_try_plan) {
+        prepare_plan(records);
     }
     index_length = call->indexed ? sizeof index_bytes : 0;
     work_length = call->indexed ? sizeof work : 0;

@@ -96,11 +96,13 @@
  *                     (sab_list), the answer of sab_compare; of sab_take_row two
  *                     numbers; of sab_find the number of the entry, whose unit
  *                     is the place; of sab_check_order the condition that failed,
- *                     or 0; of a refused sab_merge, which file is at fault;
- *                     else 0
+ *                     or 0; of a refused sab_merge, which file is at fault; of a
+ *                     refused sab_try_plan the block at fault, up to 4,095, whose
+ *                     SAB_PLACE is 0; else 0
  *
  * A refused call leaves every byte of every lent buffer as it was, but for work
- * memory. (sab_listing, whose output tells of the refusal, says what it leaves.)
+ * memory. (sab_listing and sab_try_plan, whose output tells of the refusal, say
+ * what they leave.)
  *
  * Each function checks in the order in which its numbers stand, and returns the
  * first that holds. A buffer that has not the stated length is refused with 1,
@@ -335,9 +337,9 @@ extern "C" {
 /* ---- The version of this header and of its calls ---- */
 
 #define SAB_VERSION_MAJOR 7
-#define SAB_VERSION_MINOR 1
+#define SAB_VERSION_MINOR 2
 #define SAB_VERSION_PATCH 0
-#define SAB_VERSION "7.1.0"
+#define SAB_VERSION "7.2.0"
 
 /* ---- Lengths in bytes ---- */
 
@@ -356,7 +358,10 @@ extern "C" {
 #define SAB_HEAD_BYTES 24        /* what a file says of itself */
 #define SAB_REPORT_BYTES 4116    /* the report of a row that is tried */
 #define SAB_LISTING_BYTES 172544 /* lent for a listing; none is longer */
-#define SAB_LENGTH_BYTES 4       /* the length of a listing */
+#define SAB_LENGTH_BYTES 4       /* the length of a listing, or of a plan's text */
+#define SAB_ROUND_BYTES 327680   /* the eight logs of a plan, end to end */
+#define SAB_PLAN_TEXT_BYTES 1024 /* lent for what a plan prints; it is never
+                                    longer */
 #define SAB_LABEL_BYTES 32       /* a label with the zeros behind it */
 #define SAB_RANGE_BYTES 4        /* the rows of a folder in an index */
 
@@ -426,6 +431,7 @@ extern "C" {
 #define SAB_FOLDED 29u        /* P records are folded: a file of the form SAB1
                                    cannot hold them, nor can an order be checked;
                                    the place is 0 */
+#define SAB_BAD_EVENT 30u     /* P an event of a plan is not one */
 #define SAB_BAD_BASE 31u      /* P the list or base of an SAB2 file breaks its
                                    layout, or is one that a call would refuse
                                    with 19; the place is 0 */
@@ -1005,6 +1011,41 @@ uint32_t sab_listing(const uint8_t *file, size_t file_len, uint8_t *log,
                      size_t log_len, uint8_t *base, size_t base_len,
                      uint8_t *tree, size_t tree_len, uint8_t *out,
                      size_t out_len, uint8_t *length, size_t length_len);
+
+/* Tries out a round of visits: eight units start empty and do what a plan says,
+ * and the text tells who ends with what. docs/PLANS.md has the form of a plan.
+ *
+ * plan     0 to 4,096 plan blocks of 512 bytes, only read
+ * logs     327,680 bytes, the logs of the units 0 to 7 end to end, whose old bytes
+ *          are not judged; on 0 as the units end
+ * base     43,032 bytes, whose old bytes are not judged; on 0 empty, with all
+ *          eight units listed: the base of each of the eight logs
+ * work     86,020 bytes of work memory; on 0 zero
+ * text     1,024 bytes; on every number but 1 what is printed stands at its
+ *          beginning, and the bytes behind it are as they were: a line for each
+ *          unit, a line for each pair, how many acts were skipped; of a refused
+ *          plan one line, `refused N at P`
+ * length   4 bytes; on every number but 1 the length of the text
+ *
+ * An act that is refused is skipped; one that would make a 513th record among all
+ * units is refused by 11. A pass is a hand-out to the true vector of the other
+ * unit and the take of that block; it is never refused. Afterwards sab_show,
+ * sab_write_file and so on may be asked of any of the logs, with the base.
+ *
+ * Returns 0; 1 logs, base, work, text or length not of its length, and all is as
+ * it was; else a number, SAB_COUNT is the block at fault, and all but text and
+ * length is as it was. Each block is checked wholly before the next:
+ *    2 it is a part of one, or the 4,097th; SAB_COUNT is 0;
+ *    3 letters not PLN1, 4 a sum, 5 more than five events, or a set byte at 8, 10
+ *   to 27 or behind the events;
+ *    6 another archive than the first block's;
+ *   30 an event has an unknown kind, a unit above 7, a pass to itself, a set byte
+ *   that should be zero, or an act record of another unit.
+ */
+uint32_t sab_try_plan(const uint8_t *plan, size_t plan_len, uint8_t *logs,
+                      size_t logs_len, uint8_t *base, size_t base_len,
+                      uint8_t *work, size_t work_len, uint8_t *text,
+                      size_t text_len, uint8_t *length, size_t length_len);
 
 #ifdef __cplusplus
 }

@@ -27,10 +27,10 @@ module _ (g h : ℕ → List ℕ) (grows : (n : ℕ) → g (suc n) ≡ g n ++ h 
       (lt-or-ge i n)
 
   module _ (a b : List ℕ) (at m i n : ℕ) (room : at + length (g n) ≤ length a) (so-far : Wrote a b at m (g i)) (lt : i < n) where
-    line-fits : m + length (h i) ≤ length b
+    pub line-fits : m + length (h i) ≤ length b
     line-fits = let k = grown n i lt in let l = wrote-length (omega arith) so-far in omega (arith, so-far .next)
 
-    wrote-line : {c : List ℕ} {r : ℕ} → Wrote b c m r (h i) → Wrote a c at r (g (i + 1))
+    pub wrote-line : {c : List ℕ} {r : ℕ} → Wrote b c m r (h i) → Wrote a c at r (g (i + 1))
     wrote-line x =
         let k = grown n i lt in
         let e = length-append (g i) (h i) in

@@ -19,6 +19,7 @@ ghost use Rattle.sab2_model.specs.Calls.{writeSab2Of, toSab2Of, toSab1Of};
 ghost use Rattle.sab_convert.specs.Turned.{turned, turnedOf};
 ghost use Rattle.sab_merge.specs.Joined.{joined};
 ghost use Rattle.sab_listing.specs.Printed.{printed, printedOf};
+ghost use Rattle.sab_plan.specs.Told.{planTold, planToldOf};
 ghost use Rattle.sab_vectors.specs.Compared.{comparedOf};
 
 // Starts a unit.
@@ -269,6 +270,22 @@ pub extern "C" fn sab_listing(
     ensures { λ r. ⌜ printed r (now (log .exit)) (now (base .exit)) (now (tree .exit)) (now (out .exit)) (now (length .exit)) ≡ printedOf (now (file .entry)) (now (log .entry)) (now (base .entry)) (now (tree .entry)) (now (out .entry)) (now (length .entry)) ⌝ }
 {
     sab_listing::listing(file, log, base, tree, out, length)
+}
+
+// Tries a plan of visits on eight lent logs, by way of a lent base and work memory; the count is the place of a refused plan. What is
+// printed of it is written into the text.
+#[no_mangle]
+pub extern "C" fn sab_try_plan(
+    plan: &[u8],
+    logs: &mut [u8],
+    base: &mut [u8],
+    work: &mut [u8],
+    text: &mut [u8],
+    length: &mut [u8],
+) -> u32
+    ensures { λ r. ⌜ planTold r (now (logs .exit)) (now (base .exit)) (now (work .exit)) (now (text .exit)) (now (length .exit)) ≡ planToldOf (now (plan .entry)) (now (logs .entry)) (now (base .entry)) (now (work .entry)) (now (text .entry)) (now (length .entry)) ⌝ }
+{
+    sab_plan::try_plan(plan, logs, base, work, text, length)
 }
 
 // Gives the held vector; the count is that of the records of the log.

@@ -36,6 +36,7 @@ int main(void)
     test_check_order();
     test_index();
     test_listing();
+    test_plans();
     printf("%d passed, %d failed\n", passed, failed);
     return failed != 0 || passed == 0;
 }

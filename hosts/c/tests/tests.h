@@ -19,5 +19,6 @@ void test_show(void);
 void test_check_order(void);
 void test_index(void);
 void test_listing(void);
+void test_plans(void);
 
 #endif

@@ -5,7 +5,7 @@ use crate::files::Trouble;
 use crate::json::Object;
 use crate::numbers::{self, Case};
 use crate::out::{Ink, Out, Status, shown};
-use sab::Refusal;
+use sab::{PlanRefusal, Refusal};
 use std::path::{Path, PathBuf};
 
 /// Why a command could not do what it was asked.
@@ -17,6 +17,8 @@ pub enum Failure {
     Trouble(Trouble),
     /// The library refused.
     Refused(Refused),
+    /// The library refused a plan.
+    Plan(PlanRefused),
 }
 
 /// What a command answers.
@@ -35,6 +37,50 @@ pub struct Refused {
     pub case: Case,
     /// What to do, where the table's words do not say it.
     pub todo: Option<String>,
+}
+
+/// A refusal of a plan, with its file.
+#[derive(Debug)]
+pub struct PlanRefused {
+    /// The file.
+    pub file: PathBuf,
+    /// Number and place.
+    pub refusal: PlanRefusal,
+    /// The bytes behind it, if they were found.
+    pub detail: Option<String>,
+}
+
+impl PlanRefused {
+    fn words(&self) -> String {
+        with_detail(self.refusal.to_string(), self.detail.as_deref())
+    }
+
+    /// What to do about it.
+    fn advice(&self) -> &'static str {
+        match self.refusal.number {
+            2 => "the plan was cut short, has something behind it, or is too long",
+            3 => "not a plan; sab plan compile makes one of a text",
+            4 => "a byte changed: compile or copy the plan again",
+            _ => "mend what made the plan; sab plan compile makes plans that pass",
+        }
+    }
+
+    /// Says it: on standard error, or as an object.
+    fn tell(&self, out: &mut Out) {
+        if out.json {
+            out.object(|| {
+                Object::new("refusal")
+                    .text("file", shown(&self.file))
+                    .number("number", self.refusal.number)
+                    .number("place", self.refusal.place)
+                    .text("words", self.words())
+                    .text("todo", self.advice())
+            });
+            return;
+        }
+        let words = out.ink(Ink::Alarm, self.words());
+        out.complain(Some(&self.file), words, Some(self.advice()));
+    }
 }
 
 /// The words of a refusal without a place: number, cause and the bytes.
@@ -150,6 +196,10 @@ impl Failure {
                 Status::System
             }
             Failure::Refused(refused) => {
+                refused.tell(out);
+                Status::Refused
+            }
+            Failure::Plan(refused) => {
                 refused.tell(out);
                 Status::Refused
             }

@@ -26,6 +26,7 @@ pub mod meeting;
 pub mod numbers;
 pub mod out;
 pub mod places;
+pub mod plan_text;
 pub mod records;
 pub mod state;
 pub mod system;

@@ -346,6 +346,14 @@ pub const ROWS: &[Row] = &[
         ),
     },
     Row {
+        number: 30,
+        cause: Always("an event of a plan is not one"),
+        fault: "the plan",
+        advice: Always(
+            "no card is wrong: `sab plan run` says which event and why; `sab plan compile` makes plans that pass",
+        ),
+    },
+    Row {
         number: 31,
         cause: By {
             file: Some("the list or base of an SAB2 file breaks its layout, or is not sound; the sums are right"),

@@ -5,7 +5,7 @@
 
 use crate::base_rows::{self, Front};
 use sab::raw::{BLOCK, WISH};
-use sab::{Log, Refusal, Unit, Units, Vector};
+use sab::{Log, PlanRefusal, Refusal, Unit, Units, Vector};
 
 /// A record's bytes.
 pub type Bytes = [u8; WISH];
@@ -41,6 +41,54 @@ pub fn of_file(bytes: &[u8], length: Option<u64>, refusal: Refusal) -> Option<St
             })
         }
         _ => None,
+    }
+}
+
+/// What was wrong with a plan.
+pub fn of_plan(plan: &[u8], refusal: PlanRefusal) -> Option<String> {
+    let (blocks, _) = plan.as_chunks::<BLOCK>();
+    let block = blocks.get(usize::from(refusal.place));
+    match refusal.number {
+        2 => Some(length_text(plan.len(), None)),
+        3 => Some(format!("it begins with {}", hex(&block?[..4]))),
+        5 => {
+            let (block, count) = (block?, usize::from(block?[9]));
+            if count > 5 {
+                return Some(format!("it counts {count} events"));
+            }
+            let set = |at: &usize| block[*at] != 0;
+            let at = [8].into_iter().chain(10..28).chain(28 + 84 * count..508).find(set)?;
+            Some(format!("byte {at} is set"))
+        }
+        6 => Some(format!(
+            "it is of archive {}, the first block of archive {}",
+            number32(&block?[4..8]),
+            number32(&blocks.first()?[4..8])
+        )),
+        30 => {
+            let (events, _) = block?[28..508].as_chunks();
+            let mut events = events.iter().take(block?[9].into()).enumerate();
+            events.find_map(|(at, event)| Some(format!("event {at}: {}", event_text(event)?)))
+        }
+        _ => None,
+    }
+}
+
+/// What makes an event none.
+fn event_text(event: &[u8; 84]) -> Option<String> {
+    let [kind, unit, other, zero, record @ ..] = event;
+    let set = |from: usize, to: usize| (from..to).find(|at| record[*at] != 0);
+    let byte = |at: usize| format!("byte {at} of the record is set");
+    match kind {
+        1 | 2 if *unit > 7 => Some(format!("unit {unit}")),
+        1 | 2 if *zero != 0 => Some("the byte behind the units is set".to_string()),
+        1 if *other != 0 => Some("an act has another unit".to_string()),
+        1 if record[0] != *unit => Some(format!("a record of unit {}", record[0])),
+        1 => set(2, 20).map(byte),
+        2 if *other > 7 => Some(format!("unit {other}")),
+        2 if other == unit => Some(format!("unit {unit} passes to itself")),
+        2 => set(0, 80).map(byte),
+        _ => Some(format!("kind {kind}")),
     }
 }
 

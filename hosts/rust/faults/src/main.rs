@@ -11,6 +11,7 @@ mod folds;
 mod index;
 mod lists;
 mod orders;
+mod plans;
 mod power;
 mod replays;
 mod rows;
@@ -26,7 +27,7 @@ use study::{Plan, Tally};
 
 type Study = fn(&dyn Library, &Plan) -> Tally;
 
-const STUDIES: [(&str, Study); 24] = [
+const STUDIES: [(&str, Study); 26] = [
     ("meetings, no fault", cuts::none),
     ("changed byte, block", bytes::blocks),
     ("changed byte, file", bytes::files),
@@ -51,6 +52,8 @@ const STUDIES: [(&str, Study); 24] = [
     ("SAB2 file copied short", sab2::short),
     ("changed byte under right sums, SAB2 file", sab2::sealed),
     ("another maker's orders", replays::checked),
+    ("rounds of visits", plans::rounds),
+    ("changed byte, plan", plans::changed),
 ];
 
 const USAGE: &str = "usage: faults [--long] [--seconds N] [--seed N]";

@@ -1,5 +1,5 @@
 //! Harnesses for a coverage-guided fuzzer. Each takes the fuzzer's bytes, makes a
-//! state and a block, row, file, wish, list, order or index of them, gives both to the
+//! state and a block, row, file, wish, list, order, plan or index of them, gives both to the
 //! static library and to the plain implementation, and ends the program if an answer
 //! or a byte differs.
 
@@ -11,6 +11,7 @@ mod input;
 mod life;
 mod merge;
 mod order;
+mod plan;
 mod read_file;
 mod row;
 mod sab2;
@@ -21,6 +22,7 @@ pub use fold::fold;
 pub use index::index;
 pub use merge::merge;
 pub use order::order;
+pub use plan::plan;
 pub use read_file::read_file;
 pub use row::row_calls;
 pub use sab2::sab2;
@@ -57,3 +59,4 @@ harness!(fuzz_index, index::index);
 harness!(fuzz_fold, fold::fold);
 harness!(fuzz_sab2, sab2::sab2);
 harness!(fuzz_order, order::order);
+harness!(fuzz_plan, plan::plan);

@@ -55,3 +55,8 @@ fn orders() {
 fn indexes() {
     run(fuzz::index, 6);
 }
+
+#[test]
+fn plans() {
+    run(fuzz::plan, 8);
+}

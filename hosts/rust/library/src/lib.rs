@@ -28,6 +28,13 @@ impl From<MergeRefusal> for Refusal {
     }
 }
 
+/// A plan's no: the number, and the block's place.
+#[derive(Clone, Copy, Debug, PartialEq, Eq)]
+pub struct PlanRefusal {
+    pub number: u8,
+    pub place: u16,
+}
+
 /// What a file says of itself.
 #[derive(Clone, Copy, Debug, PartialEq, Eq)]
 pub struct Head {
@@ -78,6 +85,9 @@ pub fn folder_of(bytes: &[u8]) -> Folder {
 
 /// Bytes of a log.
 pub const LOG: usize = 40_960;
+
+/// Bytes of the eight logs of a plan.
+pub const LOGS: usize = 8 * LOG;
 
 /// Bytes of a list and base.
 pub const BASE: usize = 43_032;
@@ -225,6 +235,9 @@ pub trait Library {
         log: &mut [u8],
         file: &mut [u8],
     ) -> Result<u16, MergeRefusal>;
+    /// Tries a plan on the eight logs laid end to end: how it was refused, if it was,
+    /// and what is printed.
+    fn try_plan(&self, plan: &[u8], logs: &mut [u8; LOGS]) -> (Result<(), PlanRefusal>, Vec<u8>);
 
     /// Writes a file's listing or its line of refusal; its length.
     fn listing_into(&self, _file: &[u8], _out: &mut [u8]) -> Option<usize> {
@@ -433,7 +446,10 @@ macro_rules! entry_points {
 
 /// The plain Rust implementation.
 mod plain_rust {
-    use super::{Answer, Compared, Folder, Head, Library, MergeRefusal, Range, Refusal, RowTaken, Trial};
+    use super::{
+        Answer, Compared, Folder, Head, LOGS, Library, MergeRefusal, PlanRefusal, Range, Refusal,
+        RowTaken, Trial,
+    };
 
     pub struct Plain;
 
@@ -448,6 +464,17 @@ mod plain_rust {
 
     impl Library for Plain {
         entry_points!(plain);
+
+        fn try_plan(
+            &self,
+            plan: &[u8],
+            logs: &mut [u8; LOGS],
+        ) -> (Result<(), PlanRefusal>, Vec<u8>) {
+            let mut text = [0; plain::PLAN_TEXT];
+            let (tried, length) = plain::try_plan(plan, logs, &mut text);
+            let refused = |plain::PlanRefusal { number, place }| PlanRefusal { number, place };
+            (tried.map_err(refused), text[..length].to_vec())
+        }
 
         fn listing_into(&self, file: &[u8], out: &mut [u8]) -> Option<usize> {
             let out = out.first_chunk_mut()?;
@@ -471,7 +498,10 @@ mod plain_rust {
 /// The static library.
 #[cfg(feature = "static")]
 mod static_library {
-    use super::{Answer, Compared, Folder, Head, Library, MergeRefusal, Range, Refusal, RowTaken, Trial};
+    use super::{
+        Answer, BASE, Compared, Folder, Head, LOGS, Library, MergeRefusal, PlanRefusal, Range,
+        Refusal, RowTaken, Trial,
+    };
     use sab::raw;
     use std::cell::RefCell;
 
@@ -566,6 +596,26 @@ mod static_library {
 
     impl Library for Static {
         entry_points!(calls);
+
+        fn try_plan(
+            &self,
+            plan: &[u8],
+            logs: &mut [u8; LOGS],
+        ) -> (Result<(), PlanRefusal>, Vec<u8>) {
+            let (mut base, mut text) = (vec![0; BASE], vec![0; raw::PLAN_TEXT]);
+            let tried = WORK.with_borrow_mut(|work| {
+                raw::try_plan(plan, logs, &mut base, work, &mut text)
+            });
+            let tried = tried.expect("buffers of their lengths");
+            text.truncate(tried.length);
+            let refused = tried.refused.map_or(Ok(()), |refused| {
+                Err(PlanRefusal {
+                    number: refused.number,
+                    place: refused.place,
+                })
+            });
+            (refused, text)
+        }
 
         fn listing_into(&self, file: &[u8], out: &mut [u8]) -> Option<usize> {
             LISTED.with_borrow_mut(|[log, base, tree]| {

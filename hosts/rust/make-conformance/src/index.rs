@@ -10,6 +10,8 @@ Cases for a program that reads or writes the format of docs/FORMAT.md, with the 
 
     readout/NAME.in    a file
     readout/NAME.out   its listing, byte for byte
+    plan/NAME.in       a plan of visits
+    plan/NAME.out      what is printed of it, byte for byte
     lists/NAME.txt     calls, one a line, with what each must answer and leave
     tables.txt         small functions, one call a line
     merge.txt          merges of two files, one a line
@@ -32,7 +34,13 @@ runs all cases on the static library; with `-- --plain` in place of `--` they ar
     cd hosts/rust && cargo run --release -p make-conformance -- ../../conformance
 ";
 
-pub fn page(good: &[Case], damaged: &[Case], lists: &[Written], lines: &[Written]) -> String {
+pub fn page(
+    good: &[Case],
+    damaged: &[Case],
+    plans: &[Case],
+    lists: &[Written],
+    lines: &[Written],
+) -> String {
     let mut page = HEAD.to_string();
     page += "\n## Good files\n\n| file | bytes | what it shows |\n|---|---|---|\n";
     for case in good {
@@ -44,6 +52,11 @@ pub fn page(good: &[Case], damaged: &[Case], lists: &[Written], lines: &[Written
     for case in damaged {
         let answer = case.listing.trim_end().trim_start_matches("refused ");
         page += &format!("| {} | {answer} | {} |\n", case.name, case.shows);
+    }
+    page += "\n## Plans of visits\n\n| plan | bytes | the last line | what it shows |\n|---|---|---|---|\n";
+    for case in plans {
+        let last = case.listing.lines().last().unwrap_or_default();
+        page += &format!("| {} | {} | `{last}` | {} |\n", case.name, case.file.len(), case.shows);
     }
     for list in lists {
         page += &format!("\n## lists/{}.txt: {}\n\n", list.name, list.about);

@@ -1,6 +1,6 @@
 //! `make-conformance DIR`: writes the conformance kit into a directory, the same
 //! bytes each time: files with their listings, call lists, tables, merges,
-//! conversions, orders, states, and an index that says what each case shows. Each
+//! conversions, orders, states, plans, and an index that says what each case shows. Each
 //! case names its answer, and that the plain implementation gives it is checked here.
 
 mod acts;
@@ -15,6 +15,7 @@ mod index;
 mod kit;
 mod merges;
 mod orders;
+mod plans;
 mod rows;
 mod sab2;
 mod states;
@@ -46,11 +47,13 @@ fn write(directory: &Path) -> io::Result<()> {
         orders::all(),
         states::all(),
     ];
+    let plans = plans::all();
 
     fs::create_dir_all(directory.join("lists"))?;
-    fs::create_dir_all(directory.join("readout"))?;
-    for case in good.iter().chain(&damaged) {
-        let path = directory.join("readout").join(&case.name);
+    let printed = good.iter().chain(&damaged).map(|case| ("readout", case));
+    for (folder, case) in printed.chain(plans.iter().map(|case| ("plan", case))) {
+        fs::create_dir_all(directory.join(folder))?;
+        let path = directory.join(folder).join(&case.name);
         fs::write(path.with_extension("in"), &case.file)?;
         fs::write(path.with_extension("out"), &case.listing)?;
     }
@@ -65,7 +68,7 @@ fn write(directory: &Path) -> io::Result<()> {
     }
     fs::write(
         directory.join("README.md"),
-        index::page(&good, &damaged, &lists, &lines),
+        index::page(&good, &damaged, &plans, &lists, &lines),
     )
 }
 

@@ -1,8 +1,8 @@
 //! The static library's functions as its header declares them.
 //!
 //! A result's low byte is the number, its next byte the place, its upper 16
-//! bits the count where a call returns one, or the file at fault of a merge. A
-//! fold counts up to 512 records there.
+//! bits the count where a call returns one, or the file at fault of a merge, or the
+//! place of a refused plan. A fold counts up to 512 records there.
 //! `include/sab.h` is the manual.
 
 #![allow(unsafe_code)]
@@ -257,6 +257,21 @@ unsafe extern "C" {
         tree_len: usize,
         out: *mut u8,
         out_len: usize,
+        length: *mut u8,
+        length_len: usize,
+    ) -> u32;
+
+    pub fn sab_try_plan(
+        plan: *const u8,
+        plan_len: usize,
+        logs: *mut u8,
+        logs_len: usize,
+        base: *mut u8,
+        base_len: usize,
+        work: *mut u8,
+        work_len: usize,
+        text: *mut u8,
+        text_len: usize,
         length: *mut u8,
         length_len: usize,
     ) -> u32;

@@ -10,7 +10,7 @@
 
 #![allow(unsafe_code)]
 
-use crate::{Answer, MergeRefusal, Refusal, ffi};
+use crate::{Answer, MergeRefusal, PlanRefusal, Refusal, ffi};
 
 /// Bytes of the lent log.
 pub const LOG: usize = 40_960;
@@ -34,6 +34,11 @@ pub const INDEX: usize = 40_964;
 pub const REPORT: usize = 4_116;
 /// Bytes lent for a listing; none is longer.
 pub const LISTING: usize = 172_544;
+
+/// Bytes of the eight logs of a plan.
+pub const ROUND: usize = 8 * LOG;
+/// Bytes lent for what is printed of a plan; it is never longer.
+pub const PLAN_TEXT: usize = 1_024;
 
 /// Bytes of a vector.
 pub const VECTOR: usize = 16;
@@ -647,4 +652,56 @@ pub fn listing(
             refused,
         }),
     }
+}
+
+/// What trying a plan answers: the length of the text at the beginning of `text`,
+/// and the refusal that the text tells of, if the plan was refused.
+#[derive(Clone, Copy, Debug, PartialEq, Eq)]
+pub struct Planned {
+    /// Bytes of the text.
+    pub length: usize,
+    /// The refusal that the text tells of.
+    pub refused: Option<PlanRefusal>,
+}
+
+/// Tries a plan on eight logs laid end to end, whose old bytes are not judged; a
+/// refused plan gives one line and leaves `logs`, `base` and `work`. An accepted one
+/// leaves the logs as the units end, the base of a start, and zeros in `work`.
+/// Refuses 1, for one of these or `text`.
+pub fn try_plan(
+    plan: &[u8],
+    logs: &mut [u8],
+    base: &mut [u8],
+    work: &mut [u8],
+    text: &mut [u8],
+) -> Answer<Planned> {
+    let mut length = [0; 4];
+    let result = unsafe {
+        ffi::sab_try_plan(
+            plan.as_ptr(),
+            plan.len(),
+            logs.as_mut_ptr(),
+            logs.len(),
+            base.as_mut_ptr(),
+            base.len(),
+            work.as_mut_ptr(),
+            work.len(),
+            text.as_mut_ptr(),
+            text.len(),
+            length.as_mut_ptr(),
+            length.len(),
+        )
+    };
+    let [number, _, low, high] = result.to_le_bytes();
+    if number == 1 {
+        return Err(Refusal::new(1));
+    }
+    let refusal = PlanRefusal {
+        number,
+        place: u16::from_le_bytes([low, high]),
+    };
+    Ok(Planned {
+        length: u32::from_le_bytes(length) as usize,
+        refused: (number != 0).then_some(refusal),
+    })
 }

@@ -95,6 +95,7 @@ pub const fn in_words(number: u8) -> &'static str {
         27 => "what is folded here or there is lacking on the other side",
         28 => "the unit has used its last number, 65,535",
         29 => "records are folded: no file of the form SAB1, and no order to check",
+        30 => "an event of a plan is not one",
         31 => "the list or base of the file breaks its layout or is not sound",
         _ => "no number of the refusal table",
     }

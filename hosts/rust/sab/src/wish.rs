@@ -64,6 +64,11 @@ impl Wish {
         Wish::of(Operation::Settle, date).on(aside)
     }
 
+    /// A wish of any bytes, whose unit is not read; the act judges the rest.
+    pub const fn from_bytes(bytes: [u8; raw::WISH]) -> Wish {
+        Wish(bytes)
+    }
+
     /// The wish's bytes as an act of that unit is given them.
     pub fn to_bytes(&self, unit: Unit) -> [u8; raw::WISH] {
         let mut bytes = self.0;

@@ -1,5 +1,5 @@
 //! `vectors [--plain] DIR`: runs the call lists, tables, merges, conversions, orders,
-//! states and readout cases of a directory against the static library, or against the
+//! states, plans and readout cases of a directory against the static library, or against the
 //! plain implementation, and says how many passed and failed. Any failure, also a
 //! directory without a case, gives an exit status other than 0.
 
@@ -7,6 +7,7 @@ mod converts;
 mod lists;
 mod merges;
 mod orders;
+mod plans;
 mod readout;
 mod states;
 mod tables;
@@ -118,10 +119,13 @@ fn text(path: &Path) -> Result<String, Fault> {
     fs::read_to_string(path).map_err(|error| error.to_string())
 }
 
-fn run_readout(library: &dyn Library, path: &Path) -> Result<(), Fault> {
+/// What runs a case of a file and the text that is printed of it.
+type Printed = fn(&dyn Library, &[u8], &[u8]) -> Result<(), Fault>;
+
+fn run_printed(library: &dyn Library, case: Printed, path: &Path) -> Result<(), Fault> {
     let file = fs::read(path).map_err(|error| error.to_string())?;
     let expected = fs::read(path.with_extension("out")).map_err(|error| error.to_string())?;
-    readout::case(library, &file, &expected)
+    case(library, &file, &expected)
 }
 
 /// Each question is a case by itself, asked of the state that stands before it.
@@ -170,8 +174,11 @@ fn run(library: &dyn Library, directory: &Path) -> Tally {
             tally.count(|| path.display().to_string(), whole);
         }
     }
-    for path in files(&directory.join("readout"), "in") {
-        tally.count(|| path.display().to_string(), run_readout(library, &path));
+    for (name, case) in [("readout", readout::case as Printed), ("plan", plans::case)] {
+        for path in files(&directory.join(name), "in") {
+            let outcome = run_printed(library, case, &path);
+            tally.count(|| path.display().to_string(), outcome);
+        }
     }
     tally
 }

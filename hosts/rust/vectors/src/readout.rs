@@ -14,7 +14,7 @@ pub fn case(library: &dyn Library, file: &[u8], expected: &[u8]) -> Result<(), F
 }
 
 /// The first line in which two texts differ.
-fn differs(expected: &[u8], came: &[u8]) -> Result<(), Fault> {
+pub fn differs(expected: &[u8], came: &[u8]) -> Result<(), Fault> {
     if expected == came {
         return Ok(());
     }

@@ -20,6 +20,7 @@ mod order;
 mod pack;
 mod page;
 mod pass;
+mod plan;
 mod salvage;
 mod settle;
 mod take;
@@ -105,6 +106,7 @@ pub const GROUPS: &[(&str, &[&Command])] = &[
         ],
     ),
     ("damaged cards", &[&salvage::COMMAND]),
+    ("visits to come", &[&plan::COMMAND]),
     (
         "an archive whose only home is this machine",
         &[

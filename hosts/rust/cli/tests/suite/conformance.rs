@@ -160,3 +160,37 @@ fn meetings() {
     }
     assert!(met > 0 && refused > 0, "{met} met, {refused} refused");
 }
+
+/// A plan is tried as the kit says; its text gives it back.
+fn every_plan(file: &Path, folder: &Folder) {
+    let name = file.to_str().expect("a name in text");
+    let printed = fs::read(file.with_extension("out")).expect("what is printed");
+    let refused = printed.starts_with(b"refused ");
+    let wanted = if refused { Status::Refused } else { Status::Yes };
+    let (status, out, err) = sab(&["plan", "run", name]);
+    assert_eq!((status, out), (wanted, printed.clone()), "{name}");
+    let (status, out, _) = sab(&["plan", "run", "--json", name]);
+    assert_eq!(status, wanted, "{name}");
+    let objects = String::from_utf8(out).expect("JSON is text");
+    assert!(objects.lines().all(is_object), "{name}: {objects}");
+    let (status, text, _) = sab(&["plan", "show", name]);
+    assert_eq!(status, wanted, "{name}");
+    if refused {
+        let line = String::from_utf8_lossy(&printed);
+        assert!(err.contains(line.trim_end()), "{name}: {err}");
+        return;
+    }
+    let (source, made) = (folder.file("plan.txt"), folder.file("plan.pln"));
+    fs::write(&source, text).expect("a text");
+    let _ = fs::remove_file(&made);
+    let words = ["plan", "compile", source.to_str().unwrap(), "-o", made.to_str().unwrap()];
+    assert_eq!(sab(&words).0, Status::Yes, "{name}");
+    assert_eq!(fs::read(&made).unwrap(), fs::read(file).unwrap(), "{name}");
+}
+
+#[test]
+fn the_plans() {
+    let folder = Folder::new();
+    let plans = root().join("conformance/plan");
+    files(&plans).iter().for_each(|file| every_plan(file, &folder));
+}

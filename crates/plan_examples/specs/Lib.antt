@@ -1,0 +1,2 @@
+-- Examples of plans that take longer to compute.
+pub mod Examples

@@ -1,0 +1,1 @@
+// What holds of every plan of visits: see specs/ and proofs/. No code.

@@ -1,0 +1,3 @@
+pub mod Logs
+pub mod Holding
+pub mod Events
