@@ -5,12 +5,12 @@ ghost use mathlib.Core.Logic.{_⊎_};
 ghost use Prim.Native.Nat.{_+_, _*_, _≤_, _<_};
 ghost use lib.Dec.{ltb};
 ghost use lib.ListN.{length, getD};
-ghost use Rattle.model.specs.Record.{labelOf};
+ghost use Rattle.model.specs.Record.{labelOf, folderOf};
 ghost use Rattle.model.specs.Replay.{fits, aside, unseen, holderOf, freeLabel, folderStands, judgeMake, judgeStore, judgeRemove, judgeRename, judgeMove, judge as judgeOf};
 ghost use Rattle.model.specs.Table.{entryIn};
 ghost use Rattle.tree_table.specs.Rows.{entriesFrom, rowIn, treeIn, InRange};
 ghost use Rattle.tree_lookup.specs.Roles.{roleOf, Holds};
-ghost use Rattle.tree_maps.specs.Keys.{registerSize};
+ghost use Rattle.tree_maps.specs.Keys.{registerSize, hashOf};
 ghost use Rattle.tree_judge.specs.Judged.{verdictOf, fullBy, Asks};
 use tree_table::Size;
 
@@ -28,12 +28,20 @@ pub fn is_unseen(rec: &[u8], k: u32) -> bool
     byte_slice::wider(byte_slice::le16(rec, 4 + 2 * ((k % 8) as usize))) < k / 8
 }
 
-// A label in the folder f: free but for the entry k, or 15 marks its holder.
-pub fn free_label(rec: &[u8], table: &[u8], register: &[u16], size: Size, k: u32, f: u32) -> Judged
-    requires { ⌜ (length (now rec) ≡ 80) × Holds (now table) (now register) (size .entries) (size .asides) ⌝ }
+// A label in the folder f: free but for the entry k, or 15 marks its holder. The chain of the label is given.
+pub fn free_label_at(
+    rec: &[u8],
+    table: &[u8],
+    register: &[u16],
+    size: Size,
+    k: u32,
+    f: u32,
+    h: usize,
+) -> Judged
+    requires { ⌜ (length (now rec) ≡ 80) × Holds (now table) (now register) (size .entries) (size .asides) × (h ≡ hashOf f (labelOf (now rec))) × (h < 1021) ⌝ }
     ensures { λ r. ⌜ verdictOf (r .reason) (r .marked) ≡ freeLabel (holderOf k f (labelOf (now (rec .entry))) (entriesFrom (now (table .entry)) 0 (size .entries))) ⌝ }
 {
-    let row = tree_lookup::holder(table, register, size, k, f, &rec[32..64]);
+    let row = tree_lookup::holder_at(table, register, size, k, f, &rec[32..64], h);
     if row < size.entries {
         return Judged {
             reason: 15,
@@ -44,6 +52,23 @@ pub fn free_label(rec: &[u8], table: &[u8], register: &[u16], size: Size, k: u32
         reason: 0,
         marked: 0,
     }
+}
+
+// The same, its chain worked out.
+pub fn free_label(rec: &[u8], table: &[u8], register: &[u16], size: Size, k: u32, f: u32) -> Judged
+    requires { ⌜ (length (now rec) ≡ 80) × Holds (now table) (now register) (size .entries) (size .asides) ⌝ }
+    ensures { λ r. ⌜ verdictOf (r .reason) (r .marked) ≡ freeLabel (holderOf k f (labelOf (now (rec .entry))) (entriesFrom (now (table .entry)) 0 (size .entries))) ⌝ }
+{
+    let h = tree_maps::hash(f, &rec[32..64]);
+    free_label_at(rec, table, register, size, k, f, h)
+}
+
+// The chain of a record's label in its folder.
+pub fn label_chain(rec: &[u8]) -> usize
+    requires { ⌜ length (now rec) ≡ 80 ⌝ }
+    ensures { λ r. ⌜ (r ≡ hashOf (folderOf (now (rec .entry))) (labelOf (now (rec .entry)))) × (r < 1021) ⌝ }
+{
+    tree_maps::hash(tree_table::folder_of(rec), &rec[32..64])
 }
 
 // The folder f is the root, or is there and a folder: 13 if it is absent, 14 for a trace.
@@ -76,9 +101,9 @@ pub fn folder_stands(table: &[u8], register: &[u16], size: Size, f: u32) -> Judg
     }
 }
 
-// A make: 13 for an absent folder, 14 for a trace as folder, 15 for a label that is held.
-pub fn judge_make(rec: &[u8], table: &[u8], register: &[u16], size: Size) -> Judged
-    requires { ⌜ Asks (now rec) × (getD (now rec) 1 0 ≤ 2) × Holds (now table) (now register) (size .entries) (size .asides) ⌝ }
+// A make: 13 for an absent folder, 14 for a trace as folder, 15 for a label that is held. The chain of the label is given.
+pub fn judge_make_at(rec: &[u8], table: &[u8], register: &[u16], size: Size, h: usize) -> Judged
+    requires { ⌜ Asks (now rec) × (getD (now rec) 1 0 ≤ 2) × Holds (now table) (now register) (size .entries) (size .asides) × (h ≡ hashOf (folderOf (now rec)) (labelOf (now rec))) × (h < 1021) ⌝ }
     ensures { λ r. ⌜ verdictOf (r .reason) (r .marked) ≡ judgeMake (now (rec .entry)) (entriesFrom (now (table .entry)) 0 (size .entries)) ⌝ }
 {
     let f = tree_table::folder_of(rec);
@@ -86,7 +111,16 @@ pub fn judge_make(rec: &[u8], table: &[u8], register: &[u16], size: Size) -> Jud
     if s.reason != 0 {
         return s;
     }
-    free_label(rec, table, register, size, 0, f)
+    free_label_at(rec, table, register, size, 0, f, h)
+}
+
+// The same, its chain worked out.
+pub fn judge_make(rec: &[u8], table: &[u8], register: &[u16], size: Size) -> Judged
+    requires { ⌜ Asks (now rec) × (getD (now rec) 1 0 ≤ 2) × Holds (now table) (now register) (size .entries) (size .asides) ⌝ }
+    ensures { λ r. ⌜ verdictOf (r .reason) (r .marked) ≡ judgeMake (now (rec .entry)) (entriesFrom (now (table .entry)) 0 (size .entries)) ⌝ }
+{
+    let h = label_chain(rec);
+    judge_make_at(rec, table, register, size, h)
 }
 
 // A store on the entry in a row: 12 for no entry, 14 for a folder, 17 for unseen contents.

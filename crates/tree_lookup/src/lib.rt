@@ -7,6 +7,7 @@ ghost use Rattle.model.specs.Table.{entryIn};
 ghost use Rattle.tree_table.specs.Rows.{entriesFrom, rowIn, treeIn, InRange};
 ghost use Rattle.tree_lookup.specs.Roles.{rowOf, roleOf, nameOf, Role, holdsAt, earlierOf, Holds, Reads};
 ghost use Rattle.tree_lookup.specs.Lookup.{rowAmong};
+ghost use Rattle.tree_maps.specs.Keys.{hashOf};
 use tree_maps::LABELS;
 use tree_table::Size;
 
@@ -111,12 +112,20 @@ pub fn earlier(table: &[u8], row: usize, best: usize, k: u32, f: u32, label: &[u
     best
 }
 
-// The row of the holder of a label in the folder f, other than the entry k, or the number of rows if the label is free.
-pub fn holder(table: &[u8], register: &[u16], size: Size, k: u32, f: u32, label: &[u8]) -> usize
-    requires { ⌜ Holds (now table) (now register) (size .entries) (size .asides) × (length (now label) ≡ 32) ⌝ }
+// The row of the holder of a label in the folder f, other than the entry k, or the number of rows if the label is free. The chain of the label is
+// given.
+pub fn holder_at(
+    table: &[u8],
+    register: &[u16],
+    size: Size,
+    k: u32,
+    f: u32,
+    label: &[u8],
+    h: usize,
+) -> usize
+    requires { ⌜ Holds (now table) (now register) (size .entries) (size .asides) × (length (now label) ≡ 32) × (h ≡ hashOf f (now label)) × (h < 1021) ⌝ }
     ensures { λ r. ⌜ (r ≡ rowAmong (entriesFrom (now (table .entry)) 0 (size .entries)) (holderOf k f (now (label .entry)) (entriesFrom (now (table .entry)) 0 (size .entries)))) × (rowIn (now (table .entry)) (size .entries) r ≡ holderOf k f (now (label .entry)) (entriesFrom (now (table .entry)) 0 (size .entries))) ⌝ }
 {
-    let h = tree_maps::hash(f, label);
     let mut best = size.entries;
     let mut q = hash_chains::first_of(register, LABELS, h);
     while 0 < q {

@@ -122,14 +122,22 @@ pub fn count_down(register: &mut [u16], place: usize)
     hash_chains::put(register, COUNTS + place, count - 1);
 }
 
-// An entry is made in the folder f, which is at a place, in a row.
+// An entry is made in the folder f, which is at a place, in a row. The chain of its label is given.
+pub fn enter_at(register: &mut [u16], place: usize, f: u32, label: &[u8], h: usize, row: usize)
+    requires { ⌜ Chains 4097 (now register) × (length (now register) ≡ registerSize) × (place ≤ 1024) × (getD (now register) (8194 + place) 0 ≤ 1024) × (nodesIn 4097 (now register) < 1536) × (h ≡ hashOf f (now label)) × (h < 1021) × (row < 65536) ⌝ }
+    ensures { λ _. ⌜ now (register .exit) ≡ entered (now (register .entry)) place f (now (label .entry)) row ⌝ }
+{
+    count_up(register, place);
+    hash_chains::push(register, LABELS, h, row);
+}
+
+// The same, its chain worked out.
 pub fn enter(register: &mut [u16], place: usize, f: u32, label: &[u8], row: usize)
     requires { ⌜ Chains 4097 (now register) × (length (now register) ≡ registerSize) × (place ≤ 1024) × (getD (now register) (8194 + place) 0 ≤ 1024) × (nodesIn 4097 (now register) < 1536) × (length (now label) ≡ 32) × (row < 65536) ⌝ }
     ensures { λ _. ⌜ now (register .exit) ≡ entered (now (register .entry)) place f (now (label .entry)) row ⌝ }
 {
     let h = hash(f, label);
-    count_up(register, place);
-    hash_chains::push(register, LABELS, h, row);
+    enter_at(register, place, f, label, h, row);
 }
 
 // The entry in a row of the folder f gets another label.

@@ -4,3 +4,4 @@ pub mod Stepping
 pub mod Playing
 pub mod Sound
 pub mod Registers
+pub mod Making

@@ -2,7 +2,7 @@
 ghost use mathlib.Core.Path.{_≡_};
 ghost use mathlib.Core.Bool.{true};
 ghost use Prim.Native.Nat.{_+_, _≤_, _<_};
-ghost use lib.ListN.{length, replicate};
+ghost use lib.ListN.{length, getD, replicate};
 ghost use Rattle.model.specs.Log.{recordsOf, soundLog};
 ghost use Rattle.model.specs.Replay.{emptyTree, step as stepOf, replayFrom, replay as replayOf};
 ghost use Rattle.tree_table.specs.Rows.{treeIn};
@@ -17,16 +17,66 @@ ghost use Rattle.tree_replay.specs.Registers.{stepOn, replayOn};
 use log_check::Layout;
 use tree_table::Size;
 
-// One record: it acts, or stands aside.
+// A make: the chain of its label is worked out once, for its judgement and its effect.
+fn make_at(
+    rec: &[u8],
+    table: &mut [u8],
+    register: &mut [u16],
+    entries: usize,
+    asides: usize,
+) -> Size
+    requires { ⌜ Takes (treeIn (now table) entries asides) (now rec) × Holds (now table) (now register) entries asides × (entries < 1024) × (asides < 1024) × (entries + asides < 1536) × (nodesIn 4097 (now register) < 1536) × (getD (now rec) 1 0 ≤ 2) ⌝ }
+    ensures { λ r. ⌜ Works (now (table .exit)) (now (register .exit)) (r .entries) (r .asides) (stepOf (treeIn (now (table .entry)) entries asides) (now (rec .entry))) × (nodesIn 4097 (now (register .exit)) ≤ nodesIn 4097 (now (register .entry)) + 1) × (now (register .exit) ≡ stepOn (now (rec .entry)) (treeIn (now (table .entry)) entries asides) (now (register .entry))) ⌝ }
+{
+    let h = tree_judge::label_chain(rec);
+    let v = tree_judge::judge_make_at(rec, table, register, Size { entries, asides }, h);
+    if v.reason == 0 {
+        return tree_effect::add_entry(rec, table, register, Size { entries, asides }, h);
+    }
+    tree_effect::stand_aside(
+        rec,
+        v.reason,
+        v.marked,
+        table,
+        register,
+        Size { entries, asides },
+    )
+}
+
+// One record: it acts, or stands aside. The size is given as two numbers: a struct that was written field by field and is then read whole waits for its writes.
+fn step_at(
+    rec: &[u8],
+    table: &mut [u8],
+    register: &mut [u16],
+    entries: usize,
+    asides: usize,
+) -> Size
+    requires { ⌜ Takes (treeIn (now table) entries asides) (now rec) × Holds (now table) (now register) entries asides × (entries < 1024) × (asides < 1024) × (entries + asides < 1536) × (nodesIn 4097 (now register) < 1536) ⌝ }
+    ensures { λ r. ⌜ Works (now (table .exit)) (now (register .exit)) (r .entries) (r .asides) (stepOf (treeIn (now (table .entry)) entries asides) (now (rec .entry))) × (nodesIn 4097 (now (register .exit)) ≤ nodesIn 4097 (now (register .entry)) + 1) × (now (register .exit) ≡ stepOn (now (rec .entry)) (treeIn (now (table .entry)) entries asides) (now (register .entry))) ⌝ }
+{
+    if rec[1] <= 2 {
+        return make_at(rec, table, register, entries, asides);
+    }
+    let j = tree_judge::judge(rec, table, register, Size { entries, asides });
+    if j.reason == 0 {
+        return tree_effect::effect(rec, table, register, Size { entries, asides });
+    }
+    tree_effect::stand_aside(
+        rec,
+        j.reason,
+        j.marked,
+        table,
+        register,
+        Size { entries, asides },
+    )
+}
+
+// One record, from a size on.
 pub fn step(rec: &[u8], table: &mut [u8], register: &mut [u16], size: Size) -> Size
     requires { ⌜ Takes (treeIn (now table) (size .entries) (size .asides)) (now rec) × Holds (now table) (now register) (size .entries) (size .asides) × (size .entries < 1024) × (size .asides < 1024) × (size .entries + size .asides < 1536) × (nodesIn 4097 (now register) < 1536) ⌝ }
     ensures { λ r. ⌜ Works (now (table .exit)) (now (register .exit)) (r .entries) (r .asides) (stepOf (treeIn (now (table .entry)) (size .entries) (size .asides)) (now (rec .entry))) × (nodesIn 4097 (now (register .exit)) ≤ nodesIn 4097 (now (register .entry)) + 1) × (now (register .exit) ≡ stepOn (now (rec .entry)) (treeIn (now (table .entry)) (size .entries) (size .asides)) (now (register .entry))) ⌝ }
 {
-    let j = tree_judge::judge(rec, table, register, size);
-    if j.reason == 0 {
-        return tree_effect::effect(rec, table, register, size);
-    }
-    tree_effect::stand_aside(rec, j.reason, j.marked, table, register, size)
+    step_at(rec, table, register, size.entries, size.asides)
 }
 
 // The first n records of a log or a file, from the tree that a table holds on.
@@ -41,15 +91,17 @@ pub fn replay(
     requires { ⌜ Laid layout (now bytes) n × Playable (treeIn (now table) (start .entries) (start .asides)) (laidAt layout (now bytes)) n × Holds (now table) (now register) (start .entries) (start .asides) × (start .entries + n ≤ 1024) × (start .asides + n ≤ 1024) × (start .entries + start .asides + n ≤ 1536) × (nodesIn 4097 (now register) + n ≤ 1536) ⌝ }
     ensures { λ r. ⌜ Works (now (table .exit)) (now (register .exit)) (r .entries) (r .asides) (replayFrom (treeIn (now (table .entry)) (start .entries) (start .asides)) (listed (laidAt layout (now (bytes .entry))) 0 n)) × (now (register .exit) ≡ replayOn (treeIn (now (table .entry)) (start .entries) (start .asides)) (now (register .entry)) (listed (laidAt layout (now (bytes .entry))) 0 n)) ⌝ }
 {
-    let mut size = start;
+    let mut entries = start.entries;
+    let mut asides = start.asides;
     let mut i: usize = 0;
     while i < n {
         let at = log_check::offset(layout, i);
-        let next = step(&bytes[at..at + 80], table, register, size);
-        size = next;
+        let next = step_at(&bytes[at..at + 80], table, register, entries, asides);
+        entries = next.entries;
+        asides = next.asides;
         i += 1;
     }
-    size
+    Size { entries, asides }
 }
 
 // The n records of a sound log, from the root alone on, into a table and a register of zeros.

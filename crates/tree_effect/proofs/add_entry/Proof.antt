@@ -6,7 +6,7 @@ use Rattle.tree_effect.proofs.add_entry.Statement.{statement}
 use Rattle.tree_effect.proofs.add_entry.Tie as tie
 
 enter-entry-requires : tie.Need-enter-entry-requires
-enter-entry-requires c κs = (search, search, search, search)
+enter-entry-requires c κs = (search, search, search, search, search, search)
 
 part-fill-row-end : tie.Need-part-fill-row-end
 part-fill-row-end c = search (next-row-end)

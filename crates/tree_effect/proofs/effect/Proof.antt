@@ -7,7 +7,7 @@ use Rattle.tree_effect.proofs.effect.Tie as tie
 use Rattle.tree_effect.proofs.Registers.{make-turns, store-turns, remove-turns, rename-turns, settle-turns, move-turns}
 
 add-entry-requires : tie.Need-add-entry-requires
-add-entry-requires c κs = (search, search, search (make-home), search, search, search, search)
+add-entry-requires c κs = (search, search, search (make-home), search, search, search, search, search, search)
 
 returns : tie.Need-returns
 returns c = (search (effect-make), omega arith, search (make-turns))
@@ -33,7 +33,7 @@ returns-6 c = (search (effect-move, is-move), omega arith, search (move-turns, i
 pub effect-spec : {M : Type 1} → statement M
 effect-spec =
     tie.close
-    (tie.spec (λ c. search needs) add-entry-requires (λ c. search needs) (λ c. search needs) returns (λ c κs. search needs)
+    (tie.spec (λ c. search needs) (λ c κs. search needs) add-entry-requires (λ c. search needs) (λ c. search needs) returns (λ c κs. search needs)
     (λ c κs. search needs) (λ c κs. search needs) (λ c κs. search needs) move-entry-requires (λ c. search needs)
     (λ c. search needs) returns-2 (λ c. search needs) (λ c. search needs) returns-3 (λ c. search needs) (λ c. search needs)
     returns-4 (λ c. search needs) (λ c. search needs) returns-5 (λ c. search needs) (λ c. search needs) returns-6)

@@ -1,26 +1,16 @@
 -- A label in the folder f: free but for the entry k, or 15 marks its holder.
-use native.Mathlib.Omega.{arith}
-use Rattle.tree_lookup.proofs.Working.{works-long}
-use Rattle.tree_judge.proofs.Reasons.{label-held, label-free}
 use Rattle.model.specs.Record.{labelOf}
 use Rattle.model.specs.Bytes.{part}
 use borrow.Author.Needs.{needs}
 use Rattle.tree_judge.proofs.free_label.Statement.{statement}
 use Rattle.tree_judge.proofs.free_label.Tie as tie
 
-made-at-requires : tie.Need-made-at-requires
-made-at-requires c κs = (search (works-long), omega arith)
-
-returns : tie.Need-returns
+free-label-at-requires : tie.Need-free-label-at-requires
 unfolding labelOf part
-returns c = search (label-held)
-
-returns-2 : tie.Need-returns-2
-unfolding labelOf part
-returns-2 c = search (label-free)
+free-label-at-requires c κs = (search needs, search needs, cc, search needs)
 
 pub free-label-spec : {M : Type 1} → statement M
 free-label-spec =
     tie.close
-    (tie.spec (λ c. search needs) (λ c. search needs) (λ c. search needs) (λ c κs. search needs) made-at-requires returns
-    returns-2)
+    (tie.spec (λ c. search needs) (λ c. search needs) (λ c. search needs) (λ c κs. search needs) free-label-at-requires
+    (λ c. search needs))

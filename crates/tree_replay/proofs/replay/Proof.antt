@@ -17,10 +17,10 @@ use Rattle.tree_replay.proofs.replay.Statement.{statement}
 use Rattle.tree_replay.proofs.replay.Tie as tie
 
 abbrev Inv-loop : tie.InvT-loop
-Inv-loop bytes layout n table₀ register₀ size₀ i₀ table register size i = (i ≤ n) × (length table ≡ length table₀) × (length register ≡ length register₀) × (nodesIn 4097 register ≤ nodesIn 4097 register₀ + i) × Works table register (size .entries) (size .asides) (replayFrom (treeIn table₀ (size₀ .entries) (size₀ .asides)) (listed (laidAt layout bytes) 0 i)) × (register ≡ replayOn (treeIn table₀ (size₀ .entries) (size₀ .asides)) register₀ (listed (laidAt layout bytes) 0 i))
+Inv-loop bytes layout n table₀ register₀ entries₀ asides₀ i₀ table register entries asides i = (i ≤ n) × (length table ≡ length table₀) × (length register ≡ length register₀) × (nodesIn 4097 register ≤ nodesIn 4097 register₀ + i) × Works table register entries asides (replayFrom (treeIn table₀ entries₀ asides₀) (listed (laidAt layout bytes) 0 i)) × (register ≡ replayOn (treeIn table₀ entries₀ asides₀) register₀ (listed (laidAt layout bytes) 0 i))
 
 abbrev μ-loop : tie.MeasureT-loop
-μ-loop bytes layout n table₀ register₀ size₀ i₀ table register size i = n - i
+μ-loop bytes layout n table₀ register₀ entries₀ asides₀ i₀ table register entries asides i = n - i
 
 loop-holds : tie.Need-loop-holds Inv-loop μ-loop
 loop-holds c = (omega arith, refl, refl, omega arith, search (play-starts), search (starts-on))
@@ -28,14 +28,14 @@ loop-holds c = (omega arith, refl, refl, omega arith, search (play-starts), sear
 offset-requires : tie.Need-offset-requires Inv-loop μ-loop
 offset-requires c κs = omega arith
 
-add-step : tie.Need-add-step Inv-loop μ-loop
-add-step c = omega arith
+add-step-at : tie.Need-add-step-at Inv-loop μ-loop
+add-step-at c = omega arith
 
-part-step-end : tie.Need-part-step-end Inv-loop μ-loop
-part-step-end c = search (turn-inside)
+part-step-at-end : tie.Need-part-step-at-end Inv-loop μ-loop
+part-step-at-end c = search (turn-inside)
 
-step-requires : tie.Need-step-requires Inv-loop μ-loop
-step-requires c κs = (search (turn-takes), search (turn-holds), search (turn-entries), search (turn-asides), search (turn-both), omega arith)
+step-at-requires : tie.Need-step-at-requires Inv-loop μ-loop
+step-at-requires c κs = (search (turn-takes), search (turn-holds), search (turn-entries), search (turn-asides), search (turn-both), omega arith)
 
 loop-again : tie.Need-loop-again Inv-loop μ-loop
 loop-again c = (omega arith, search needs, search needs, omega arith, search (turn-goes), search (goes-on))
@@ -46,5 +46,5 @@ returns c = (search (play-ends), search (ends-on))
 pub replay-spec : {M : Type 1} → statement M
 replay-spec =
     tie.close
-    (tie.spec Inv-loop μ-loop loop-holds offset-requires add-step (λ c. search needs) (λ c. search needs) part-step-end
-    step-requires (λ c. search needs) (λ c. search needs) loop-again (λ c. search needs) (λ c. search needs) returns)
+    (tie.spec Inv-loop μ-loop loop-holds offset-requires add-step-at (λ c. search needs) (λ c. search needs) part-step-at-end
+    step-at-requires (λ c. search needs) (λ c. search needs) loop-again (λ c. search needs) (λ c. search needs) returns)

@@ -1,9 +1,10 @@
--- The row of the holder of a label in the folder f, other than the entry k, or the number of rows if the label is free.
+-- The row of the holder of a label in the folder f, other than the entry k, or the number of rows if the
+-- label is free; the chain of the label is given.
 use Rattle.tree_lookup.proofs.Labels.{Seeking, seek-starts, seek-row, seek-goes, seek-ends}
 use Rattle.tree_lookup.proofs.Working.{works-long, row-among}
 use borrow.Author.Needs.{needs}
-use Rattle.tree_lookup.proofs.holder.Statement.{statement}
-use Rattle.tree_lookup.proofs.holder.Tie as tie
+use Rattle.tree_lookup.proofs.holder_at.Statement.{statement}
+use Rattle.tree_lookup.proofs.holder_at.Tie as tie
 
 abbrev Inv-loop : tie.InvT-loop
 Inv-loop table register k f label h best₀ q₀ best q = Seeking table register best₀ k f label best q
@@ -23,8 +24,8 @@ loop-again c = search (seek-goes)
 returns : tie.Need-returns Inv-loop μ-loop
 returns c = (search (row-among, seek-ends), search (seek-ends))
 
-pub holder-spec : {M : Type 1} → statement M
-holder-spec =
+pub holder-at-spec : {M : Type 1} → statement M
+holder-at-spec =
     tie.close
-    (tie.spec Inv-loop μ-loop (λ c κs. search needs) (λ c κs. search needs) loop-holds (λ c κs. search needs) earlier-requires
+    (tie.spec Inv-loop μ-loop (λ c κs. search needs) loop-holds (λ c κs. search needs) earlier-requires
     (λ c κs. search needs) (λ c. search needs) loop-again returns)
