@@ -72,7 +72,8 @@
  * - Dates are shown and order nothing.
  *
  * Calls may run at the same time on different buffers. Bytes need no alignment.
- * No call needs more than 64 KiB of stack; docs/PERFORMANCE.md has what each needs.
+ * No call needs more than 64 KiB of stack; what each needs stands in
+ * docs/PERFORMANCE.md.
  *
  * `rt staticlib sab` writes the archive, for x86-64 Linux. To link it:
  *

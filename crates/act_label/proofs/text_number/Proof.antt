@@ -1,4 +1,4 @@
--- Of the first n bytes of a text:
+-- Of the first n bytes of a text: 7 if one may not stand and is no stroke, 24 if one is a stroke; or 0.
 use Prim.Native.Nat.{_≤_, _-_}
 use mathlib.Core.Path.{_≡_, refl}
 use Rattle.act_label.specs.Label.{standTo, plainTo}

@@ -1,4 +1,4 @@
--- What comes before the replay, in this order:
+-- What comes before the replay, in this order: 26 for a unit that the list does not name, 7, 24, 28, 11; or 0.
 use Rattle.act_wish.proofs.Stamping.{not-listed, wish-refused, room-tells}
 use borrow.Author.Needs.{needs}
 use Rattle.act_wish.proofs.early_wish.Statement.{statement}

@@ -1,4 +1,5 @@
--- 7 for a wish that is not the unit's own, or whose number and seen are not zero, or whose record is not well formed;
+-- 7 for a wish that is not the unit's own, or whose number and seen are not zero, or whose record is not well formed; 24 for a
+-- stroke in its label; or 0.
 use Rattle.act_wish.proofs.Stamping.{other-unit, not-zero, not-formed, label-tells}
 use borrow.Author.Needs.{needs}
 use Rattle.act_wish.proofs.wish_number.Statement.{statement}

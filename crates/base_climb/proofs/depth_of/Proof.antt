@@ -1,4 +1,4 @@
--- How far row i is from the top;
+-- How far row i is from the top; 513 if that is more than n, or never.
 use Prim.Native.Nat.{_-_}
 use Rattle.base_climb.proofs.Climbing.{Climbing, climb-starts, climb-top, climb-known, climb-lost, climb-over, climb-end, climb-goes}
 use borrow.Author.Needs.{needs}

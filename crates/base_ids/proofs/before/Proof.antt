@@ -1,4 +1,4 @@
--- Of the first i identities the last that is k, and one;
+-- Of the first i identities the last that is k, and one; 0 for none.
 use Rattle.base_ids.proofs.Ids.{Seeks, seek-starts, seek-low, seek-goes, seek-found, seek-ends}
 use borrow.Author.Needs.{needs}
 use native.Mathlib.Omega.{arith}

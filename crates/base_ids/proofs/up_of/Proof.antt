@@ -1,4 +1,4 @@
--- Where the folder f stands:
+-- Where the folder f stands: 0 for the root, one above the row of a folder, 513 for neither.
 use Rattle.base_ids.proofs.Rooted.{up-root, up-none, up-other, up-folder}
 use native.Mathlib.Omega.{arith}
 use borrow.Author.Needs.{needs}

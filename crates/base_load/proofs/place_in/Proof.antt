@@ -1,4 +1,4 @@
--- The place of the folder of entry i:
+-- The place of the folder of entry i: 0 for the root, else one above its row.
 use Rattle.base_load.proofs.Entering.{reads-to, place-found, place-root, place-few, place-range}
 use borrow.Author.Needs.{needs}
 use native.Mathlib.Omega.{arith}

@@ -1,4 +1,4 @@
--- Of the rows before row i, in the chain h, the last that has its label in its folder, and one;
+-- Of the rows before row i, in the chain h, the last that has its label in its folder, and one; 0 for none.
 use Rattle.base_names.proofs.Names.{Seeks, seek-starts, seek-low, seek-goes, seek-found, seek-ends}
 use borrow.Author.Needs.{needs}
 use Rattle.base_names.proofs.before.Statement.{statement}

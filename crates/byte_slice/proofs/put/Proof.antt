@@ -1,4 +1,4 @@
--- All of src is written into dst from a place on:
+-- All of src is written into dst from a place on: 16 bytes are read before they are written, and then the rest.
 use Prim.Native.Nat.{_≤_, _-_}
 use mathlib.Core.Path.{_≡_, refl}
 use lib.ListN.{length, take}

@@ -1,4 +1,4 @@
--- A state that was checked:
+-- A state that was checked: 19 if it is not sound.
 use Rattle.call_guard.proofs.Opening.{not-sound, is-sound}
 use borrow.Author.Needs.{needs}
 use Rattle.call_guard.proofs.judged.Statement.{statement}

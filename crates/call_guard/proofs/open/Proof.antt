@@ -1,4 +1,5 @@
--- The log and the base of a call, checked in this order:
+-- The log and the base of a call, checked in this order: 1 (`lent` says that the other lent buffers have their stated lengths),
+-- 21, 2 (`row` says that a row of blocks has a length that it may have), 19.
 use Rattle.call_guard.proofs.Opening.{early-refused, passed-long, passed-based, judged-opened}
 use borrow.Author.Needs.{needs}
 use Rattle.call_guard.proofs.open.Statement.{statement}

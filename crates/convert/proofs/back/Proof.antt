@@ -1,4 +1,4 @@
--- The records of a checked SAB2 file and its base:
+-- The records of a checked SAB2 file and its base: 29 if any is folded, else the way back.
 use Rattle.convert.proofs.Lowered.{back-folded, none-folded, back-lowered}
 use borrow.Author.Needs.{needs}
 use Rattle.convert.proofs.back.Statement.{statement}

@@ -1,4 +1,4 @@
--- Two files without a fault become one, or are refused:
+-- Two files without a fault become one, or are refused: 6, 10, 11.
 use Rattle.merge.proofs.Calls.{checked-whole, checked-some, checked-few, checked-512, checked-fine, checked-places, checked-positions, union-right, union-refused, union-joined}
 use borrow.Author.Needs.{needs}
 use Rattle.merge.proofs.merge_checked.Statement.{statement}

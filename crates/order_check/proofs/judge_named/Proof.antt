@@ -1,4 +1,4 @@
--- The condition that fails first, of a list that meets the first one;
+-- The condition that fails first, of a list that meets the first one; 0 for none.
 use Rattle.order_check.proofs.Ways.{judged-seen, judged-differ, judged-alike}
 use borrow.Author.Needs.{needs}
 use Rattle.order_check.proofs.judge_named.Statement.{statement}

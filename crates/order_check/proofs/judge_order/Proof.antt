@@ -1,4 +1,5 @@
--- The condition that fails first of the n records of a sound log that stands alone, whose counts and positions are given;
+-- The condition that fails first of the n records of a sound log that stands alone, whose counts and positions are given; 0 for
+-- none.
 use Rattle.order_check.proofs.Ways.{judged-names, names-given}
 use borrow.Author.Needs.{needs}
 use Rattle.order_check.proofs.judge_order.Statement.{statement}

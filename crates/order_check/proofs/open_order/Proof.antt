@@ -1,4 +1,4 @@
--- The state, checked in this order:
+-- The state, checked in this order: 1 (the two tables too), 19; the records of its log are noted in the tables of positions.
 use Rattle.order_check.proofs.Ways.{opens}
 use borrow.Author.Needs.{needs}
 use Rattle.order_check.proofs.open_order.Statement.{statement}

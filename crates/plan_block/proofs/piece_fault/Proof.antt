@@ -1,4 +1,4 @@
--- The k-th block of a plan, counted from 0:
+-- The k-th block of a plan, counted from 0: 2 if it is a part of one, or one too many; else what holds of the block.
 use Rattle.plan_block.proofs.Blocks.{too-many, part-block, block-decides}
 use borrow.Author.Needs.{needs}
 use Rattle.plan_block.proofs.piece_fault.Statement.{statement}

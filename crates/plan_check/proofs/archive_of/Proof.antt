@@ -1,4 +1,4 @@
--- The archive of a plan;
+-- The archive of a plan; 0 where it has no whole block.
 use Rattle.plan_check.proofs.Walk.{no-archive, first-archive}
 use borrow.Author.Needs.{needs}
 use Rattle.plan_check.proofs.archive_of.Statement.{statement}

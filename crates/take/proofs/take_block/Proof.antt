@@ -1,4 +1,5 @@
--- A block is taken into a log that is sound behind the base vector, or refused:
+-- A block is taken into a log that is sound behind the base vector, or refused: 2 to 6, then each record 7, 26, and 10 if held,
+-- else 8, 27, 9, 11.
 use Rattle.take.proofs.Ways.{block-bad, bad-left, judged-left, taken-left, given-long, given-few, block-refused, log-stored, block-passed, block-taken}
 use borrow.Author.Needs.{needs}
 use Rattle.take.proofs.take_block.Statement.{statement}

@@ -1,4 +1,4 @@
--- A row may have n bytes:
+-- A row may have n bytes: 0 to 86 whole blocks.
 use Rattle.take_row.proofs.Begun.{part-block, whole-blocks}
 use Rattle.take_row.proofs.row_fits.Statement.{statement}
 use Rattle.take_row.proofs.row_fits.Tie as tie

@@ -1,4 +1,4 @@
--- One record of a block, which stands at the place used:
+-- One record of a block, which stands at the place used: 7, 26, then 10 if its identity is held, else 8, 27, 9, 11.
 use Rattle.log_admit.proofs.Faults.{formed}
 use Rattle.take_beside.proofs.Checks.{take-malformed, take-unlisted, unit-judged, take-unheld, take-known, known-within}
 use borrow.Author.Needs.{needs}

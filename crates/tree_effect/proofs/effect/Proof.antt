@@ -33,7 +33,8 @@ returns-6 c = (search (effect-move, is-move), omega arith, search (move-turns, i
 pub effect-spec : {M : Type 1} → statement M
 effect-spec =
     tie.close
-    (tie.spec (λ c. search needs) (λ c κs. search needs) add-entry-requires (λ c. search needs) (λ c. search needs) returns (λ c κs. search needs)
-    (λ c κs. search needs) (λ c κs. search needs) (λ c κs. search needs) move-entry-requires (λ c. search needs)
-    (λ c. search needs) returns-2 (λ c. search needs) (λ c. search needs) returns-3 (λ c. search needs) (λ c. search needs)
-    returns-4 (λ c. search needs) (λ c. search needs) returns-5 (λ c. search needs) (λ c. search needs) returns-6)
+    (tie.spec (λ c. search needs) (λ c κs. search needs) add-entry-requires (λ c. search needs) (λ c. search needs) returns
+    (λ c κs. search needs) (λ c κs. search needs) (λ c κs. search needs) (λ c κs. search needs) move-entry-requires
+    (λ c. search needs) (λ c. search needs) returns-2 (λ c. search needs) (λ c. search needs) returns-3 (λ c. search needs)
+    (λ c. search needs) returns-4 (λ c. search needs) (λ c. search needs) returns-5 (λ c. search needs) (λ c. search needs)
+    returns-6)

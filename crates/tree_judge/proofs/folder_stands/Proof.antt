@@ -1,4 +1,4 @@
--- The folder f is the root, or is there and a folder:
+-- The folder f is the root, or is there and a folder: 13 if it is absent, 14 for a trace.
 use Rattle.tree_lookup.proofs.Working.{works-long}
 use Rattle.tree_judge.proofs.Reasons.{folder-root, folder-absent, folder-trace, folder-found, folder-range}
 use native.Mathlib.Omega.{arith}

@@ -1,4 +1,5 @@
--- A move of the entry in a row:
+-- A move of the entry in a row: 12 for no entry, 17 for an unseen place, 13 for an absent folder, 14 for a trace as folder, 25
+-- for a folder at or below the entry, 15 for a label that another entry holds.
 use Rattle.tree_lookup.proofs.Working.{works-long}
 use Rattle.tree_judge.proofs.Reasons.{move-names, move-absent, move-unseen, move-stops, move-below, move-label}
 use native.Mathlib.Omega.{arith}

@@ -1,4 +1,4 @@
--- A remove of the entry in a row:
+-- A remove of the entry in a row: 12 for no entry, 16 for a folder with entries, 17 for unseen contents or place.
 use native.Mathlib.Omega.{arith}
 use Rattle.tree_lookup.proofs.Working.{works-long}
 use Rattle.tree_judge.proofs.Reasons.{remove-absent, remove-full, remove-unseen, remove-fits}

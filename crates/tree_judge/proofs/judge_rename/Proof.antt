@@ -1,4 +1,4 @@
--- A rename of the entry in a row:
+-- A rename of the entry in a row: 12 for no entry, 17 for an unseen place, 15 for a label that another entry holds.
 use Rattle.tree_lookup.proofs.Working.{works-long}
 use Rattle.tree_judge.proofs.Reasons.{rename-absent, rename-unseen, rename-label}
 use native.Mathlib.Omega.{arith}

@@ -1,4 +1,4 @@
--- A settle of the record k:
+-- A settle of the record k: 18 if it does not stand aside.
 use Rattle.tree_lookup.proofs.Working.{works-reads}
 use Rattle.tree_judge.proofs.Reasons.{settle-stands, settle-not}
 use Rattle.tree_judge.proofs.judge_settle.Statement.{statement}

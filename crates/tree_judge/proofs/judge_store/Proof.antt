@@ -1,4 +1,4 @@
--- A store on the entry in a row:
+-- A store on the entry in a row: 12 for no entry, 14 for a folder, 17 for unseen contents.
 use Rattle.tree_judge.proofs.Reasons.{store-absent, store-folder, store-unseen, store-fits}
 use borrow.Author.Needs.{needs}
 use Rattle.tree_judge.proofs.judge_store.Statement.{statement}

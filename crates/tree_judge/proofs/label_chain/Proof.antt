@@ -12,4 +12,5 @@ returns c = (cc, search needs)
 pub label-chain-spec : {M : Type 1} → statement M
 label-chain-spec =
     tie.close
-    (tie.spec (λ c κs. search needs) (λ c. search needs) (λ c. search needs) (λ c. search needs) (λ c κs. search needs) returns)
+    (tie.spec (λ c κs. search needs) (λ c. search needs) (λ c. search needs) (λ c. search needs) (λ c κs. search needs)
+    returns)

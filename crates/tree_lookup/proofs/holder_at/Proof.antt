@@ -27,5 +27,5 @@ returns c = (search (row-among, seek-ends), search (seek-ends))
 pub holder-at-spec : {M : Type 1} → statement M
 holder-at-spec =
     tie.close
-    (tie.spec Inv-loop μ-loop (λ c κs. search needs) loop-holds (λ c κs. search needs) earlier-requires
-    (λ c κs. search needs) (λ c. search needs) loop-again returns)
+    (tie.spec Inv-loop μ-loop (λ c κs. search needs) loop-holds (λ c κs. search needs) earlier-requires (λ c κs. search needs)
+    (λ c. search needs) loop-again returns)

@@ -1,4 +1,4 @@
--- The place of the folder f, one above its row;
+-- The place of the folder f, one above its row; 0 for the root, and for what has no row.
 use Rattle.tree_lookup.proofs.Working.{works-reads}
 use Rattle.tree_lookup.proofs.Homes.{place-none, place-aside, place-row}
 use Rattle.tree_lookup.proofs.Below.{identity-in}

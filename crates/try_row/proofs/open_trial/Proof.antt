@@ -1,4 +1,5 @@
--- The state of a trial, checked in this order:
+-- The state of a trial, checked in this order: 1 (the three buffers too), 21, 2, 19; the records of its log are noted in the
+-- tables.
 use Rattle.try_row.proofs.Tried.{opens}
 use borrow.Author.Needs.{needs}
 use Rattle.try_row.proofs.open_trial.Statement.{statement}
