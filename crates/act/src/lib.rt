@@ -1,4 +1,6 @@
 // Acting: a wish is given its number and the held vector, judged, and put behind the records of the log.
+#![tactic(auto)]
+
 ghost use Rattle.std.specs.Prelude.{◌≡◌, true, [], ◌*◌, ◌<◌, length, get_or, replicate};
 ghost use Rattle.model.specs.Lengths.{record_size, log_size, log_places, base_size, tree_size};
 ghost use Rattle.model.specs.Bytes.{word, put_at};

@@ -1,4 +1,6 @@
 // The bytes that may stand in a new label: a table of yes and no.
+#![tactic(auto)]
+
 ghost use Rattle.std.specs.Prelude.{◌≡◌};
 ghost use Rattle.act_bytes.specs.Table.{may_stand, Right};
 

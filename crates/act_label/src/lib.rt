@@ -1,4 +1,6 @@
 // The label of a wish: its bytes are judged by a table. And all else that is asked of its record before it has a number.
+#![tactic(auto)]
+
 ghost use Rattle.std.specs.Prelude.{◌≡◌, ◌≤◌, length};
 ghost use Rattle.model.specs.Lengths.{record_size};
 ghost use Rattle.act_bytes.specs.Table.{Right};

@@ -1,1 +1,2 @@
 // Laws of acts, on the definitions alone: see proofs/.
+#![tactic(auto)]

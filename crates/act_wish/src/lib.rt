@@ -1,4 +1,6 @@
 // A wish becomes a record: it is given its number and the held vector, and asked all that comes before the replay.
+#![tactic(auto)]
+
 ghost use Rattle.std.specs.Prelude.{◌≡◌, ◌+◌, ◌%◌, ◌<◌, length, get_or};
 ghost use Rattle.model.specs.Lengths.{record_size};
 ghost use Rattle.act_wish.specs.Stamp.{stamped_by, number_as, room_as, early_as};

@@ -1,4 +1,6 @@
 // The check of a lent base.
+#![tactic(auto)]
+
 ghost use Rattle.std.specs.Prelude.{◌≡◌, true, ◌≤◌, ◌<◌, length};
 ghost use Rattle.model.specs.Bytes.{word};
 ghost use Rattle.model.specs.Log.{all_to};

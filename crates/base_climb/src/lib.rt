@@ -1,4 +1,6 @@
 // Climbing by a table of rows. How far a row is from the top is kept, so that no row is passed twice.
+#![tactic(auto)]
+
 ghost use Rattle.std.specs.Prelude.{◌≡◌, ◌≤◌, ◌<◌, length, get_or, replicate};
 ghost use Rattle.model.specs.Log.{all_to};
 ghost use Rattle.base_climb.specs.Climb.{climbs_from, Exact, Known, Away};

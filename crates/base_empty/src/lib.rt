@@ -1,4 +1,6 @@
 // The base of a unit that has folded nothing: all eight units are listed, every other byte is zero.
+#![tactic(auto)]
+
 ghost use Rattle.std.specs.Prelude.{◌≡◌, length};
 ghost use Rattle.model.specs.Lengths.{base_size};
 ghost use Rattle.base_model.specs.Base.{empty_base};

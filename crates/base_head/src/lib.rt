@@ -1,4 +1,6 @@
 // The head of a lent base, its first 24 bytes: the list, the counts of its rows, the base vector; and which units a list names.
+#![tactic(auto)]
+
 ghost use Rattle.std.specs.Prelude.{◌≡◌, ◌≤◌, ◌<◌, length, replicate};
 ghost use Rattle.base_model.specs.Base.{is_listed, lists_all};
 ghost use Rattle.base_head.specs.Head.{headed, head_of, no_head};

@@ -1,4 +1,6 @@
 // The identities of a base: none twice, and each entry reaches the root through folders.
+#![tactic(auto)]
+
 ghost use Rattle.std.specs.Prelude.{◌≡◌, ◌+◌, ◌≤◌, ◌<◌, length};
 ghost use Rattle.model.specs.Log.{all_to};
 ghost use Rattle.base_model.specs.Base.{last_to, base_entry, id_at, is_id, id_new, ids_fit};

@@ -1,1 +1,2 @@
 // Laws of a sound base; no code.
+#![tactic(auto)]

@@ -1,4 +1,6 @@
 // Chains in two tables: a thing is put first in the chain of its key.
+#![tactic(auto)]
+
 ghost use Rattle.std.specs.Prelude.{◌≡◌, ◌+◌, ◌<◌, length, get_or, set};
 
 // The thing i is put first in the chain h.

@@ -1,4 +1,6 @@
 // The tree of a base, put into a working table and the register beside it, so that a replay goes on from it.
+#![tactic(auto)]
+
 ghost use Rattle.std.specs.Prelude.{◌≡◌, ◌+◌, ◌*◌, ◌≤◌, ◌<◌, length, replicate};
 ghost use Rattle.model.specs.Table.{entry_in, aside_in, work_bytes};
 ghost use Rattle.base_model.specs.Base.{base_entry};

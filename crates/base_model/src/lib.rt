@@ -1,1 +1,2 @@
 // What a list and a base are, as definitions: see specs/.
+#![tactic(auto)]

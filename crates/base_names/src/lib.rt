@@ -1,4 +1,6 @@
 // The labels of a base: none twice in one folder.
+#![tactic(auto)]
+
 ghost use Rattle.std.specs.Prelude.{◌≡◌, ◌+◌, ◌≤◌, ◌<◌, length};
 ghost use Rattle.model.specs.Log.{all_to};
 ghost use Rattle.base_model.specs.Base.{last_to, base_entry, one_name, name_new};

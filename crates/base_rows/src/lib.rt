@@ -1,4 +1,6 @@
 // The rows of a base, each judged alone: an entry of 72 bytes, an aside of 12 bytes.
+#![tactic(auto)]
+
 ghost use Rattle.std.specs.Prelude.{◌≡◌, ◌+◌, ◌≤◌, length};
 ghost use Rattle.model.specs.Record.{identity_at};
 ghost use Rattle.base_model.specs.Base.{names_in, names_or_none, row_kind_fits, row_names_fit, row_date_fits, row_mark_fits, entry_fits, reason_fits, aside_fits};

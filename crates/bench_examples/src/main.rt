@@ -1,5 +1,7 @@
 // The bench examples of document 01 that are not starred, run on the code: what it answers is printed and compared. No unit folds, so one
 // empty base stands for all.
+#![tactic(auto)]
+
 ghost use Rattle.std.specs.Prelude.{◌≤◌, length};
 
 use vector::Vector;

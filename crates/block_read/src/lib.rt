@@ -1,4 +1,6 @@
 // The block of 512 bytes: its fields and its checks.
+#![tactic(auto)]
+
 ghost use Rattle.std.specs.Prelude.{◌≡◌, ◌≤◌, length, take};
 ghost use Rattle.model.specs.Bytes.{same_bytes};
 ghost use Rattle.model.specs.Block.{count_in, archive_in, sender_in, place_in, vector_in, sums_hold, header_holds, block_fault};

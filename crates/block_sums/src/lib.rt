@@ -1,4 +1,6 @@
 // The two sums of a block.
+#![tactic(auto)]
+
 ghost use Rattle.std.specs.Prelude.{◌≡◌, ◌*◌, ◌≤◌, length};
 ghost use Rattle.model.specs.Block.{first_to, second_to};
 ghost use Rattle.block_sums.specs.Weights.{Weights};

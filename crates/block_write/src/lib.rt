@@ -1,4 +1,6 @@
 // A block is written: its header, its records and its two sums.
+#![tactic(auto)]
+
 ghost use Rattle.std.specs.Prelude.{◌≡◌, [], ◌++◌, ◌≤◌, length, take};
 ghost use Rattle.model.specs.Bytes.{put_at, padded};
 ghost use Rattle.model.specs.Block.{head_bytes, sealed, block_of};

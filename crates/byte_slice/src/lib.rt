@@ -1,4 +1,6 @@
 // Bytes in slices: read, compared, written, cleared and moved.
+#![tactic(auto)]
+
 ghost use Rattle.std.specs.Prelude.{◌≡◌, ◌+◌, ◌-◌, ◌≤◌, ◌<◌, length, replicate};
 ghost use Rattle.model.specs.Bytes.{word, long, two, four, same_bytes, blank, part, put_at};
 

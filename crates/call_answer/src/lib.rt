@@ -1,4 +1,6 @@
 // What a call answers, and the checks that come before its log and base are judged.
+#![tactic(auto)]
+
 ghost use Rattle.std.specs.Prelude.{◌≡◌};
 ghost use Rattle.call_model.specs.Outcome.{early_number};
 

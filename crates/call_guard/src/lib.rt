@@ -1,4 +1,6 @@
 // The checks that come first in every call: lengths, unit, a row of blocks, the sound state.
+#![tactic(auto)]
+
 ghost use Rattle.std.specs.Prelude.{◌≡◌, cond, length, replicate};
 ghost use Rattle.model.specs.Log.{records_of};
 ghost use Rattle.base_model.specs.Base.{base_vector};

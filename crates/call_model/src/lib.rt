@@ -1,1 +1,2 @@
 // What each call answers and leaves, as definitions: see specs/.
+#![tactic(auto)]

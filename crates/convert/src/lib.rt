@@ -1,4 +1,6 @@
 // The two forms of a file, each made of the other: to SAB2, with an empty base and all eight units listed, and the way back.
+#![tactic(auto)]
+
 ghost use Rattle.std.specs.Prelude.{◌≡◌, true, ◌+◌, ◌*◌, ◌/◌, ◌≤◌, length};
 ghost use Rattle.model.specs.Lengths.{file_size, base_size};
 ghost use Rattle.model.specs.Bytes.{blank, padded, put_at};

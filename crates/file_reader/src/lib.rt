@@ -1,6 +1,8 @@
 // The records of a file, walked one at a time: a reader holds the lent file and a position in it, and moves on from record to record. The
 // borrow checker covers no function over a struct that holds a reference, so these are few and thin, and proved by hand; `record_at`
 // and `lay` do the work on plain slices and numbers, and `walk`, whose parameters are plain, serves every other caller.
+#![tactic(auto)]
+
 ghost use Rattle.std.specs.Prelude.{◌≡◌, ◌+◌, ◌*◌, ◌≤◌, length};
 ghost use Rattle.model.specs.Bytes.{put_at};
 ghost use Rattle.file_reader.specs.Walk.{record_or_zeros, walked_to};

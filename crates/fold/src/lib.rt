@@ -1,4 +1,6 @@
 // Folding: the records that every listed unit has heard of leave the log, and the base keeps what they left.
+#![tactic(auto)]
+
 ghost use Rattle.std.specs.Prelude.{◌≡◌, true, ◌≤◌, ◌<◌, length, take, drop};
 ghost use Rattle.model.specs.Lengths.{tree_size};
 ghost use Rattle.model.specs.Log.{records_of, log_bytes};

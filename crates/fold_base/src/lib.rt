@@ -1,5 +1,7 @@
 // The base that folding leaves: the list given, the vector, the rows of the entries that are present and those of the asides, from a
 // working table.
+#![tactic(auto)]
+
 ghost use Rattle.std.specs.Prelude.{◌≡◌, ◌+◌, ◌*◌, ◌≤◌, ◌<◌, length};
 ghost use Rattle.model.specs.Lengths.{tree_size, base_size, base_places};
 ghost use Rattle.model.specs.Bytes.{part, put_at};

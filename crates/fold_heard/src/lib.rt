@@ -1,4 +1,6 @@
 // What each unit has heard, as one row of counts a unit, and how many records from the first on all listed units have heard of.
+#![tactic(auto)]
+
 ghost use Rattle.std.specs.Prelude.{◌≡◌, true, ◌≤◌, ◌<◌, leb, length, get_or, set, replicate};
 ghost use Rattle.model.specs.Lengths.{log_size};
 ghost use Rattle.model.specs.Record.{unit, num, seen_vector};

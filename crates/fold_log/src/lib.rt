@@ -1,5 +1,7 @@
 // What folding leaves of a log, and the base vector with the folded records counted. The base vector says behind which records the log is
 // sound.
+#![tactic(auto)]
+
 ghost use Rattle.std.specs.Prelude.{◌≡◌, true, ◌≤◌, ◌<◌, length, take, drop, set};
 ghost use Rattle.model.specs.Lengths.{log_size, log_places};
 ghost use Rattle.model.specs.Record.{unit, num};

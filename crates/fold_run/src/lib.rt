@@ -1,4 +1,6 @@
 // The longest run of records that counts: replayed once, with the entries that are present and the asides counted on the way.
+#![tactic(auto)]
+
 ghost use Rattle.std.specs.Prelude.{◌≡◌, cond, ◌+◌, ◌≤◌, ◌<◌, ltb, length, take};
 ghost use Rattle.model.specs.Record.{op};
 ghost use Rattle.model.specs.Log.{records_of};

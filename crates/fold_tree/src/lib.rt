@@ -1,4 +1,6 @@
 // How many records of a sound state are folded, and their tree in the work memory, from the base on.
+#![tactic(auto)]
+
 ghost use Rattle.std.specs.Prelude.{◌≡◌, true, ◌≤◌, length, take, replicate};
 ghost use Rattle.model.specs.Lengths.{log_size, base_size, tree_size};
 ghost use Rattle.model.specs.Bytes.{word};

@@ -1,4 +1,6 @@
 // Handing out: the block of the first six or fewer records that another unit lacks.
+#![tactic(auto)]
+
 ghost use Rattle.std.specs.Prelude.{◌≡◌, true, length};
 ghost use Rattle.model.specs.Lengths.{log_size};
 ghost use Rattle.model.specs.Log.{records_of, sound_log_on};

@@ -1,5 +1,7 @@
 // The records of a log that a vector lacks, gathered one behind another: the first six or fewer, or all. The base vector only says behind
 // which records the log is sound.
+#![tactic(auto)]
+
 ghost use Rattle.std.specs.Prelude.{◌≡◌, true, ◌<◌, ◌≤◌, ltb, length, get_or, take, replicate};
 ghost use Rattle.model.specs.Bytes.{padded, joined};
 ghost use Rattle.model.specs.Record.{unit, num};

@@ -1,4 +1,6 @@
 // Handing out a row: all blocks of what another unit lacks, with one check of the log.
+#![tactic(auto)]
+
 ghost use Rattle.std.specs.Prelude.{◌≡◌, true, ◌+◌, ◌*◌, ◌≤◌, length, drop};
 ghost use Rattle.model.specs.Vector.{blocks_for};
 ghost use Rattle.model.specs.Lengths.{log_size, file_size, log_places};

@@ -1,4 +1,6 @@
 // Chains of rows in a part of a register: a row is put first, and taken from the front.
+#![tactic(auto)]
+
 ghost use Rattle.std.specs.Prelude.{◌≡◌, ◌+◌, ◌≤◌, ◌<◌, length, get_or, set};
 ghost use Rattle.hash_chains.specs.Chains.{nodes_in, first_of, behind, row_at, pushed, popped, Chains};
 

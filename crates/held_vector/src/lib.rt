@@ -1,4 +1,6 @@
 // The held vector of a lent state: of each unit, how many records it holds, folded ones with them.
+#![tactic(auto)]
+
 ghost use Rattle.std.specs.Prelude.{◌≡◌};
 ghost use Rattle.call_model.specs.Outcome.{outcome};
 ghost use Rattle.held_vector.specs.Held.{held_of};

@@ -1,4 +1,6 @@
 // What a record that fits does to an index: one row put in, taken out or moved. No index is made afresh.
+#![tactic(auto)]
+
 ghost use Rattle.std.specs.Prelude.{◌≡◌, true, ◌≤◌, ◌<◌, length, get_or};
 ghost use Rattle.model.specs.Lengths.{record_size, tree_size};
 ghost use Rattle.model.specs.Record.{self_of};

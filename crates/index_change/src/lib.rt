@@ -1,4 +1,6 @@
 // One entry put into an ordered index, taken out of it, or moved within it.
+#![tactic(auto)]
+
 ghost use Rattle.std.specs.Prelude.{◌≡◌, ◌+◌, ◌-◌, ◌*◌, ◌≤◌, ◌<◌, length};
 ghost use Rattle.model.specs.Bytes.{put_at};
 ghost use Rattle.index_model.specs.Index.{index_size, index_places};

@@ -1,1 +1,2 @@
 // No code: the claims of the ordered index. See specs/ and proofs/.
+#![tactic(auto)]

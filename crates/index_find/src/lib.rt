@@ -1,4 +1,6 @@
 // Looking up and listing in the ordered index. Any bytes are an index here: both end, whatever stands in it.
+#![tactic(auto)]
+
 ghost use Rattle.std.specs.Prelude.{◌≡◌, ◌+◌, ◌*◌, ◌≤◌, ◌<◌, length};
 ghost use Rattle.model.specs.Replay.{label_key};
 ghost use Rattle.index_model.specs.Index.{index_size, index_places, comes_before, folder_key, key_before, row_before, rows_in, row_is, entry_at, halve, found, find_of, range, range_of};

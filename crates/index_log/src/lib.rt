@@ -1,4 +1,6 @@
 // The ordered index of a state, made afresh: the tree is laid in memory to work in, and the index made of this table.
+#![tactic(auto)]
+
 ghost use Rattle.std.specs.Prelude.{◌≡◌, true, length};
 ghost use Rattle.model.specs.Lengths.{log_size, base_size, tree_size};
 ghost use Rattle.model.specs.Bytes.{word};

@@ -1,4 +1,6 @@
 // The ordered index made afresh from a tree table: its rows put in order by their numbers, then a row written for each.
+#![tactic(auto)]
+
 ghost use Rattle.std.specs.Prelude.{◌≡◌, ◌∷◌, ◌+◌, ◌-◌, ◌*◌, ◌≤◌, ◌<◌, get_or, length, take};
 ghost use Rattle.model.specs.Lengths.{tree_size};
 ghost use Rattle.model.specs.Bytes.{word, part, put_at};

@@ -1,4 +1,5 @@
 // The rules of the ordered index as definitions: see specs/. Of code there are only its length and how many rows it has room for.
+#![tactic(auto)]
 
 // The index.
 pub const INDEX_BYTES: usize = 40964;

@@ -1,1 +1,2 @@
 // No code: laws of the index of a sound state.
+#![tactic(auto)]

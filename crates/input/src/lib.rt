@@ -1,4 +1,6 @@
 // Input read into lent bytes, with a failed read told apart from the end of the input.
+#![tactic(auto)]
+
 ghost use Rattle.std.specs.Prelude.{◌≤◌, length};
 
 // How many bytes were read, and whether a read failed.

@@ -1,4 +1,6 @@
 // Acting with an index: the one change that the record makes is put into the index, which is not made afresh.
+#![tactic(auto)]
+
 ghost use Rattle.std.specs.Prelude.{◌≡◌, true, [], ◌<◌, length, get_or, replicate};
 ghost use Rattle.model.specs.Lengths.{record_size, log_size, base_size, tree_size};
 ghost use Rattle.model.specs.Bytes.{word};

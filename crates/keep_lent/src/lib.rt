@@ -1,4 +1,6 @@
 // An index is lent to a call, or none is: it has one of two lengths. A take is lent memory to work in with it, as is the making of an index.
+#![tactic(auto)]
+
 ghost use Rattle.std.specs.Prelude.{◌≡◌};
 ghost use Rattle.index_model.specs.Kept.{index_lent, index_fits, both_fit};
 

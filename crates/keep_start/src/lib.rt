@@ -1,5 +1,7 @@
 // Starting with an index: the lent log becomes all zeros and the lent base empty, and the lent index that of an empty tree, which is all
 // zeros too.
+#![tactic(auto)]
+
 ghost use Rattle.std.specs.Prelude.{◌≡◌};
 ghost use Rattle.index_model.specs.Kept.{kept, start_kept};
 

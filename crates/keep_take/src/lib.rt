@@ -1,4 +1,6 @@
 // Taking a block with an index: a block that is taken may put records anywhere among those held, so the index is made afresh.
+#![tactic(auto)]
+
 ghost use Rattle.std.specs.Prelude.{◌≡◌, []};
 ghost use Rattle.index_model.specs.Kept.{kept, take_kept, take_kept_work};
 

@@ -1,4 +1,6 @@
 // Taking a row of blocks with an index: it is made afresh once, whatever the number of blocks.
+#![tactic(auto)]
+
 ghost use Rattle.std.specs.Prelude.{◌≡◌};
 ghost use Rattle.index_model.specs.Kept.{row_kept, take_row_kept, take_row_kept_work};
 

@@ -1,4 +1,6 @@
 // The line of a listing that is an aside row of the tree table. Each function answers the place behind what it wrote.
+#![tactic(auto)]
+
 ghost use Rattle.std.specs.Prelude.{◌≡◌, ◌+◌, ◌≤◌, length};
 ghost use Rattle.model.specs.Listing.{marked_text, state_text, aside_line};
 ghost use Rattle.line_text.specs.Written.{Wrote};

@@ -1,4 +1,6 @@
 // The line of a listing that is an entry row of the tree table. Each function answers the place behind what it wrote.
+#![tactic(auto)]
+
 ghost use Rattle.std.specs.Prelude.{◌≡◌, ◌+◌, ◌≤◌, length};
 ghost use Rattle.model.specs.Listing.{kind_text, mark_text, disputed_text, entry_line};
 ghost use Rattle.line_text.specs.Written.{Wrote};

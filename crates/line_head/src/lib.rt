@@ -1,4 +1,6 @@
 // The first two lines of a listing: archive, unit and record count; the vector. Each function answers the place behind what it wrote.
+#![tactic(auto)]
+
 ghost use Rattle.std.specs.Prelude.{◌+◌, ◌≤◌, [], ◌∷◌, length};
 ghost use Rattle.model.specs.Listing.{head_line, counts_text, seen_line};
 ghost use Rattle.line_text.specs.Written.{Wrote};

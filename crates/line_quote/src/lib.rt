@@ -1,4 +1,6 @@
 // Text written into lent bytes: marks in hexadecimal, labels between quotes. Each function answers the place behind what it wrote.
+#![tactic(auto)]
+
 ghost use Rattle.std.specs.Prelude.{◌≡◌, ◌+◌, ◌≤◌, ◌<◌, [], ◌∷◌, ◌||◌, eqb, length};
 ghost use Rattle.model.specs.Listing.{hex_digit, hex_text, escaped, label_text};
 ghost use Rattle.line_text.specs.Written.{Wrote};

@@ -1,4 +1,6 @@
 // The line of a listing that is a refusal: its number and its place. Each function answers the place behind what it wrote.
+#![tactic(auto)]
+
 ghost use Rattle.std.specs.Prelude.{◌+◌, ◌≤◌, length};
 ghost use Rattle.model.specs.Listing.{refused_line};
 ghost use Rattle.line_text.specs.Written.{Wrote};

@@ -1,4 +1,6 @@
 // Text written into lent bytes: words, numbers, identities, dates. Each function answers the place behind what it wrote.
+#![tactic(auto)]
+
 ghost use Rattle.std.specs.Prelude.{◌≡◌, ◌+◌, ◌≤◌, ◌<◌, [], ◌∷◌, length};
 ghost use Rattle.model.specs.Listing.{decimal, identity_text, date_text};
 ghost use Rattle.model.specs.Bytes.{put_at};

@@ -1,4 +1,6 @@
 // The lines of a tree table: its entries, then its asides. Each function answers the place behind what it wrote.
+#![tactic(auto)]
+
 ghost use Rattle.std.specs.Prelude.{◌≡◌, ◌+◌, ◌≤◌, ◌<◌, length};
 ghost use Rattle.model.specs.Bytes.{word};
 ghost use Rattle.model.specs.Listing.{entry_lines, aside_lines, tree_lines};

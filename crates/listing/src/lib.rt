@@ -1,4 +1,6 @@
 // The listing of a file of either form: what `readout` prints, written into lent memory.
+#![tactic(auto)]
+
 ghost use Rattle.std.specs.Prelude.{◌≡◌, ◌++◌, ◌≤◌, length, replicate, true};
 ghost use Rattle.model.specs.Lengths.{log_size, base_size, tree_size};
 ghost use Rattle.model.specs.Bytes.{word};

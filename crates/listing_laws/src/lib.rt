@@ -1,1 +1,2 @@
 // Laws of the listing: its greatest length. No code.
+#![tactic(auto)]

@@ -1,4 +1,6 @@
 // The tables of the records held behind a base vector, and the checks that go by them.
+#![tactic(auto)]
+
 ghost use Rattle.std.specs.Prelude.{◌≡◌, true, suc, ◌+◌, ◌*◌, ◌≤◌, ◌<◌, eqb, length, get_or, set};
 ghost use Rattle.model.specs.Bytes.{put_at};
 ghost use Rattle.model.specs.Record.{seen_vector, well_formed};

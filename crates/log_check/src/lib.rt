@@ -1,4 +1,6 @@
 // The lent log: its records checked in order, behind a base vector.
+#![tactic(auto)]
+
 ghost use Rattle.std.specs.Prelude.{◌≡◌, true, ◌+◌, ◌≤◌, ◌<◌, length, replicate};
 ghost use Rattle.model.specs.Lengths.{log_size, log_places};
 ghost use Rattle.model.specs.Bytes.{blank};

@@ -1,5 +1,7 @@
 // The tables of the records held: where each stands, what each has seen, and whether a seen is closed by them. Of each unit the records
 // come behind those that a base vector counts; a table goes by the relative number, the number less that count.
+#![tactic(auto)]
+
 ghost use Rattle.std.specs.Prelude.{◌≡◌, ◌+◌, ◌*◌, ◌≤◌, ◌<◌, length};
 ghost use Rattle.log_closure.specs.Tables.{slot_of, position_of, row_at, unit_closed, closed_by, Placed};
 

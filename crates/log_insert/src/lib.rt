@@ -1,4 +1,6 @@
 // Records are put into a log by rank.
+#![tactic(auto)]
+
 ghost use Rattle.std.specs.Prelude.{◌≡◌, ◌+◌, ◌*◌, ◌≤◌, length};
 ghost use Rattle.model.specs.Lengths.{log_size, log_places};
 ghost use Rattle.model.specs.Log.{records_of, log_bytes};

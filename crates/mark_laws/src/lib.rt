@@ -1,1 +1,2 @@
 // A wrong content mark stays small: laws; no code.
+#![tactic(auto)]

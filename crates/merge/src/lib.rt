@@ -1,4 +1,6 @@
 // One file out of two: all their records by rank, under the first file's archive and unit.
+#![tactic(auto)]
+
 ghost use Rattle.std.specs.Prelude.{◌≡◌, length};
 ghost use Rattle.model.specs.Lengths.{log_size, file_size};
 ghost use Rattle.model.specs.Log.{vector_of};

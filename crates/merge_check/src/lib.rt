@@ -1,4 +1,6 @@
 // Whether the records of two files go together: another archive, 6, then a record with other bytes, 10, then one too many, 11.
+#![tactic(auto)]
+
 ghost use Rattle.std.specs.Prelude.{◌≡◌, true, ◌≤◌, length};
 ghost use Rattle.model.specs.Lengths.{log_places};
 ghost use Rattle.model.specs.Record.{unit, num, well_formed};

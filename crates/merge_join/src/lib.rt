@@ -1,4 +1,6 @@
 // Two files that go together become one: the records of both by rank in a lent log, and the file of them.
+#![tactic(auto)]
+
 ghost use Rattle.std.specs.Prelude.{◌≡◌, ◌+◌, ◌*◌, ◌≤◌, max, length};
 ghost use Rattle.model.specs.Lengths.{log_size, file_size, log_places};
 ghost use Rattle.model.specs.Bytes.{joined, put_at};

@@ -1,4 +1,5 @@
 // The rules of the archive as definitions: see specs/. Of code there are only the lengths, as in specs/Lengths.antt.
+#![tactic(auto)]
 
 // A record, and a wish.
 pub const RECORD_BYTES: usize = 80;

@@ -1,4 +1,6 @@
 // Checking another maker's order: the log and its base, the three conditions, and the two trees for the caller to see what differs.
+#![tactic(auto)]
+
 ghost use Rattle.std.specs.Prelude.{◌≡◌, true, length};
 ghost use Rattle.model.specs.Lengths.{log_size, tree_size};
 ghost use Rattle.model.specs.Bytes.{blank};

@@ -1,1 +1,2 @@
 // Laws of another maker's order: see proofs/Claims.antt. No code.
+#![tactic(auto)]

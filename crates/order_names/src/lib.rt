@@ -1,4 +1,6 @@
 // Another maker's order, the first condition: it names each record once, and nothing else. And the record that a name names.
+#![tactic(auto)]
+
 ghost use Rattle.std.specs.Prelude.{◌≡◌, true, cond, ◌+◌, ◌*◌, ◌≤◌, ◌<◌, length, set, replicate};
 ghost use Rattle.model.specs.Lengths.{log_size, log_places};
 ghost use Rattle.model.specs.Log.{vector_of, records_of, sound_log};

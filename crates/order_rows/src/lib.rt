@@ -1,5 +1,7 @@
 // Two tree tables compared: each row of one is looked for in the other by its identity, both ways. The rows of a table are noted by the
 // slots of their identities, so that a comparison goes through each table once.
+#![tactic(auto)]
+
 ghost use Rattle.std.specs.Prelude.{◌≡◌, ◌≤◌, ◌<◌, length, replicate};
 ghost use Rattle.model.specs.Lengths.{tree_size};
 ghost use Rattle.order_laws.specs.Marking.{mark_slot};

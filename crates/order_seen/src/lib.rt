@@ -1,4 +1,6 @@
 // Another maker's order, the second condition: running counts that cover what each record has seen.
+#![tactic(auto)]
+
 ghost use Rattle.std.specs.Prelude.{◌≡◌, ◌≤◌, length, replicate};
 ghost use Rattle.model.specs.Lengths.{log_size, log_places};
 ghost use Rattle.log_check.specs.InOrder.{listed};

@@ -1,4 +1,6 @@
 // Another maker's order, for the third condition: the records named are replayed in that order, and their tree is laid in a table.
+#![tactic(auto)]
+
 ghost use Rattle.std.specs.Prelude.{◌≡◌, ◌≤◌, length, replicate};
 ghost use Rattle.model.specs.Lengths.{log_size, log_places, tree_size};
 ghost use Rattle.model.specs.Replay.{empty_tree, replay};

@@ -1,4 +1,6 @@
 // An act of one of eight units whose logs lie end to end.
+#![tactic(auto)]
+
 ghost use Rattle.std.specs.Prelude.{◌≡◌, [], ◌+◌, ◌<◌, length, replicate};
 ghost use Rattle.model.specs.Lengths.{record_size, tree_size};
 ghost use Rattle.base_model.specs.Base.{empty_base};

@@ -1,4 +1,6 @@
 // A plan's block and its events, judged: 3, 4, 5, 6 and 30, and 2 for what is no block or one too many.
+#![tactic(auto)]
+
 ghost use Rattle.std.specs.Prelude.{◌≡◌, ◌≤◌, length, take};
 ghost use Rattle.model.specs.Lengths.{block_size};
 ghost use Rattle.model.specs.Bytes.{same_bytes};

@@ -1,4 +1,6 @@
 // The blocks of a plan judged one after another, each with its events before the next.
+#![tactic(auto)]
+
 ghost use Rattle.std.specs.Prelude.{◌≡◌, ◌+◌, ◌*◌, ◌/◌, ◌<◌, length};
 ghost use Rattle.model.specs.File.{fault, block_at};
 ghost use Rattle.plan_model.specs.Plan.{plan_archive, piece_fault, piece_fault_at, plan_fault};

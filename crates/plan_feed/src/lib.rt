@@ -1,4 +1,6 @@
 // A plan fed block by block: each block is checked wholly and then done.
+#![tactic(auto)]
+
 ghost use Rattle.std.specs.Prelude.{◌≡◌, cond, ◌≤◌, eqb, length, replicate};
 ghost use Rattle.model.specs.Lengths.{tree_size};
 ghost use Rattle.base_model.specs.Base.{empty_base};

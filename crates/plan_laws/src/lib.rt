@@ -1,1 +1,2 @@
 // What holds of every plan of visits: see specs/ and proofs/. No code.
+#![tactic(auto)]

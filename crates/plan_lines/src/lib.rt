@@ -1,5 +1,7 @@
 // What is printed of a plan: a line for each unit, one for each pair, the acts skipped; or the line of a refusal. Each function answers the
 // place behind what it wrote.
+#![tactic(auto)]
+
 ghost use Rattle.std.specs.Prelude.{◌≡◌, ◌∷◌, ◌+◌, ◌≤◌, ◌<◌, length};
 ghost use Rattle.model.specs.Vector.{compare_of};
 ghost use Rattle.model.specs.Listing.{seen_line, refused_line};

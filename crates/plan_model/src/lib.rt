@@ -1,4 +1,5 @@
 // Trying out a plan of visits as definitions: see specs/. Of code there are only the lengths.
+#![tactic(auto)]
 
 // Eight logs.
 pub const ROUND_BYTES: usize = 327680;

@@ -1,4 +1,6 @@
 // A pass of one block between two of eight units whose logs lie end to end.
+#![tactic(auto)]
+
 ghost use Rattle.std.specs.Prelude.{◌≡◌, ◌<◌};
 ghost use Rattle.model.specs.Vector.{covers};
 ghost use Rattle.base_model.specs.Base.{empty_base};

@@ -1,4 +1,6 @@
 // An event of a plan, and the events of a block one after another.
+#![tactic(auto)]
+
 ghost use Rattle.std.specs.Prelude.{◌≡◌, true, ◌+◌, ◌≤◌, ◌<◌, length};
 ghost use Rattle.model.specs.Lengths.{block_size, tree_size};
 ghost use Rattle.model.specs.Block.{count_in};

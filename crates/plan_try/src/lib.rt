@@ -1,4 +1,6 @@
 // Trying a plan in memory: it is checked wholly, and then run on eight lent logs.
+#![tactic(auto)]
+
 ghost use Rattle.std.specs.Prelude.{◌≡◌, length, replicate};
 ghost use Rattle.model.specs.Lengths.{tree_size, base_size};
 ghost use Rattle.base_model.specs.Base.{empty_base};

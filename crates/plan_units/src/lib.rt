@@ -1,4 +1,6 @@
 // Eight units whose logs lie end to end, each with the base of a start: the true vector of one.
+#![tactic(auto)]
+
 ghost use Rattle.std.specs.Prelude.{◌≡◌, ◌<◌, length};
 ghost use Rattle.model.specs.Log.{records_of};
 ghost use Rattle.base_model.specs.Base.{empty_base, held_on};

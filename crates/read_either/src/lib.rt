@@ -1,4 +1,6 @@
 // Reading a file of either form into a lent log and base: every check of the file, then what it holds.
+#![tactic(auto)]
+
 ghost use Rattle.std.specs.Prelude.{◌≡◌, true, ◌≤◌, length};
 ghost use Rattle.model.specs.Lengths.{log_size, base_size};
 ghost use Rattle.base_model.specs.Base.{empty_base};

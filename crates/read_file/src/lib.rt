@@ -1,4 +1,6 @@
 // Reading an SAB1 file into a lent log and base: every check of the file, then its records one at a time; the base becomes empty.
+#![tactic(auto)]
+
 ghost use Rattle.std.specs.Prelude.{◌≡◌, ◌*◌, ◌<◌, ◌≤◌, length, replicate};
 ghost use Rattle.model.specs.Lengths.{log_size, log_places};
 ghost use Rattle.model.specs.Log.{log_bytes};

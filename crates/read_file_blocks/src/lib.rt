@@ -1,5 +1,7 @@
 // The blocks of a file of either form: how many there are, and each judged alone, then against its place and the first block. A form is its
 // letters, and how many rows stand in front of the records: none in an SAB1 file.
+#![tactic(auto)]
+
 ghost use Rattle.std.specs.Prelude.{◌≡◌, ◌&&◌, ◌-◌, ◌*◌, ◌/◌, ◌%◌, ◌<◌, ◌≤◌, min, leb, eqb, length};
 ghost use Rattle.model.specs.Bytes.{same_bytes};
 ghost use Rattle.model.specs.File.{file_length, count_fits, fault, blocks_fault};

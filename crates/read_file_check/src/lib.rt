@@ -1,5 +1,7 @@
 // The checks of a file, in the stated order: its blocks, its records, its vector. Records and vector are checked alike in both forms: behind
 // a base vector and with a list, which in an SAB1 file are all zero and all eight.
+#![tactic(auto)]
+
 ghost use Rattle.std.specs.Prelude.{◌≡◌, [], ◌-◌, ◌*◌, ◌<◌, ◌≤◌, min, length};
 ghost use Rattle.model.specs.Lengths.{log_places};
 ghost use Rattle.model.specs.Log.{vector_of, vector_on, no_counts};

@@ -1,4 +1,6 @@
 // readout: lists the archive file of either form on standard input.
+#![tactic(auto)]
+
 ghost use Rattle.std.specs.Prelude.{◌≡◌, length};
 ghost use Rattle.sab2_model.specs.Calls.{listing_size, either_output};
 ghost use Rattle.line_text.specs.Written.{Wrote};

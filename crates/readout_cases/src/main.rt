@@ -1,5 +1,7 @@
 // Runs the cases of vectors/readout through the listing library. The arguments are pairs of names, a case's input and what must be printed
 // of it; the program tells which cases fail, and how many passed.
+#![tactic(auto)]
+
 ghost use Rattle.std.specs.Prelude.{◌≤◌, length};
 
 // The file of a name is read; a file that cannot be opened is empty.

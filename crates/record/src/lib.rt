@@ -1,4 +1,6 @@
 // The 80-byte record: read, ranked and judged.
+#![tactic(auto)]
+
 ghost use Rattle.std.specs.Prelude.{◌≡◌, ◌<◌, length};
 ghost use Rattle.model.specs.Record.{unit, num, seen_vector, well_formed};
 ghost use Rattle.model.specs.Log.{rank};

@@ -1,4 +1,6 @@
 // The date of a record.
+#![tactic(auto)]
+
 ghost use Rattle.std.specs.Prelude.{◌≡◌, ◌<◌};
 ghost use Rattle.model.specs.Date.{is_leap, days_of, is_date};
 

@@ -1,4 +1,6 @@
 // The fields of an 80-byte record, each judged by the operation.
+#![tactic(auto)]
+
 ghost use Rattle.std.specs.Prelude.{◌≡◌, ◌+◌, ◌≤◌, length};
 ghost use Rattle.model.specs.Bytes.{blank, part};
 ghost use Rattle.model.specs.Record.{names, head_fits, object_fits, folder_fits, date_fits, label_fits, mark_fits};

@@ -1,4 +1,6 @@
 // The label of a record.
+#![tactic(auto)]
+
 ghost use Rattle.std.specs.Prelude.{◌≡◌, ◌+◌, ◌≤◌, ◌<◌, length};
 ghost use Rattle.model.specs.Record.{text_length, is_label};
 ghost use Rattle.model.specs.Replay.{lower, same_label};

@@ -1,4 +1,6 @@
 // Which fields of a record an operation uses.
+#![tactic(auto)]
+
 ghost use Rattle.std.specs.Prelude.{◌≡◌};
 ghost use Rattle.model.specs.Record.{uses_object, uses_folder, uses_label, uses_mark};
 

@@ -1,1 +1,2 @@
 // Laws of rows of blocks: see specs/ and proofs/. No code.
+#![tactic(auto)]

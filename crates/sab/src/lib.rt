@@ -1,4 +1,6 @@
 // The entry points as C and Rust programs call them: numbers and byte slices in, one word out. include/sab.h is the manual.
+#![tactic(auto)]
+
 ghost use Rattle.std.specs.Prelude.{◌≡◌, []};
 ghost use Rattle.call_model.specs.Outcome.{write_of, show_of};
 ghost use Rattle.call_model.specs.Fold.{fold_of, fold_work};

@@ -1,5 +1,7 @@
 // The checks of an SAB2 file, in the stated order: its blocks, its list and base, then the records behind them and its vector. List and base
 // are judged in a lent buffer.
+#![tactic(auto)]
+
 ghost use Rattle.std.specs.Prelude.{◌≡◌, true, ◌*◌, ◌<◌, ◌≤◌, length};
 ghost use Rattle.model.specs.Lengths.{base_size};
 ghost use Rattle.model.specs.Block.{vector_in};

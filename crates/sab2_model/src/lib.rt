@@ -1,4 +1,5 @@
 // The SAB2 file as definitions: see specs/. Of code there are only two lengths.
+#![tactic(auto)]
 
 // An SAB2 file lent for writing: 186 blocks.
 pub const SAB2_BYTES: usize = 95232;

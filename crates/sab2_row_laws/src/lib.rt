@@ -1,1 +1,2 @@
 // Laws of list and base as rows: see proofs/. No code.
+#![tactic(auto)]

@@ -1,5 +1,7 @@
 // List and base as places of 80 bytes, called rows: how many there are, where each stands, six of them for a block, and the base that the
 // rows of a file leave.
+#![tactic(auto)]
+
 ghost use Rattle.std.specs.Prelude.{◌≡◌, true, ◌+◌, ◌*◌, ◌/◌, ◌<◌, ◌≤◌, length, take, drop};
 ghost use Rattle.model.specs.Lengths.{base_size, base_places};
 ghost use Rattle.model.specs.Bytes.{word, blank, padded, put_at, joined};

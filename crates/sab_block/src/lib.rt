@@ -1,4 +1,6 @@
 // Handing out and taking a block, as the static library calls them: the unit a 32-bit number, the answer in one word.
+#![tactic(auto)]
+
 ghost use Rattle.std.specs.Prelude.{◌≡◌};
 ghost use Rattle.index_model.specs.Kept.{take_kept, take_kept_work};
 ghost use Rattle.sab_words.specs.Called.{called, called_both};

@@ -1,4 +1,6 @@
 // The conversions between the two forms of a file, as the static library calls them: the answer in one word.
+#![tactic(auto)]
+
 ghost use Rattle.std.specs.Prelude.{◌≡◌};
 ghost use Rattle.sab2_model.specs.Calls.{to_sab2_of, to_sab1_of};
 ghost use Rattle.sab_convert.specs.Turned.{turned, turned_of};

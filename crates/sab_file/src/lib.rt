@@ -1,4 +1,6 @@
 // Writing a file in each form and reading one of either, as the static library calls them: the answer in one word, what a file says of itself in 24 bytes.
+#![tactic(auto)]
+
 ghost use Rattle.std.specs.Prelude.{◌≡◌};
 ghost use Rattle.call_model.specs.Outcome.{write_of};
 ghost use Rattle.sab2_model.specs.Calls.{write_sab2_of};

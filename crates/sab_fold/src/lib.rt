@@ -1,4 +1,6 @@
 // Folding, as the static library calls it: the unit and the list 32-bit numbers, the answer in one word.
+#![tactic(auto)]
+
 ghost use Rattle.std.specs.Prelude.{◌≡◌};
 ghost use Rattle.call_model.specs.Fold.{fold_of, fold_work};
 ghost use Rattle.sab_words.specs.Called.{called_both, told_work};

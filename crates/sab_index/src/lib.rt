@@ -1,4 +1,6 @@
 // The ordered index, as the static library calls it: made from a log and its base, a label looked up, a folder listed. A folder is given by unit and number.
+#![tactic(auto)]
+
 ghost use Rattle.std.specs.Prelude.{◌≡◌, [], ◌/◌, ◌%◌, ◌≤◌, length};
 ghost use Rattle.index_model.specs.Index.{index_places, find_of, range};
 ghost use Rattle.index_model.specs.Kept.{indexed_of, indexed_work};

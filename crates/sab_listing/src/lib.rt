@@ -1,4 +1,6 @@
 // Listing a file, as the static library calls it: the answer in one word, the length of the text in four bytes.
+#![tactic(auto)]
+
 ghost use Rattle.std.specs.Prelude.{◌≡◌};
 ghost use Rattle.sab_listing.specs.Printed.{printed, printed_of};
 

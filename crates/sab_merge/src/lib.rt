@@ -1,4 +1,6 @@
 // One file out of two, as the static library calls it: the answer in one word, with the count of blocks or the file at fault.
+#![tactic(auto)]
+
 ghost use Rattle.std.specs.Prelude.{◌≡◌};
 ghost use Rattle.model.specs.Merge.{merge_of};
 ghost use Rattle.sab_words.specs.Called.{called};

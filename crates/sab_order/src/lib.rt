@@ -1,4 +1,6 @@
 // Checking another maker's order, as the static library calls it: the answer in one word.
+#![tactic(auto)]
+
 ghost use Rattle.std.specs.Prelude.{◌≡◌};
 ghost use Rattle.order_model.specs.Order.{order_of};
 ghost use Rattle.sab_order.specs.Ordered.{order_call, told_order};

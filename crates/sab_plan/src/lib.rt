@@ -1,4 +1,6 @@
 // Trying a plan, as the static library calls it: the answer in one word, the length of the text in four bytes.
+#![tactic(auto)]
+
 ghost use Rattle.std.specs.Prelude.{◌≡◌};
 ghost use Rattle.sab_plan.specs.Told.{plan_told, plan_told_of};
 

@@ -1,4 +1,6 @@
 // The calls of a row of blocks, as the static library calls them: the unit a 32-bit number, the answer in one word.
+#![tactic(auto)]
+
 ghost use Rattle.std.specs.Prelude.{◌≡◌};
 ghost use Rattle.index_model.specs.Kept.{take_row_kept, take_row_kept_work};
 ghost use Rattle.sab_words.specs.Called.{called, called_both};

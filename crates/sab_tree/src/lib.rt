@@ -1,4 +1,6 @@
 // Showing the tree, as the static library calls it: the answer in one word.
+#![tactic(auto)]
+
 ghost use Rattle.std.specs.Prelude.{◌≡◌};
 ghost use Rattle.call_model.specs.Outcome.{show_of};
 ghost use Rattle.sab_words.specs.Called.{called, told};

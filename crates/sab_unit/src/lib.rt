@@ -1,4 +1,6 @@
 // Starting and acting, as the static library calls them: the unit a 32-bit number, the answer in one word. An index of no bytes is none.
+#![tactic(auto)]
+
 ghost use Rattle.std.specs.Prelude.{◌≡◌};
 ghost use Rattle.index_model.specs.Kept.{start_kept, act_kept, act_kept_work};
 ghost use Rattle.sab_words.specs.Called.{called_both};

@@ -1,4 +1,6 @@
 // The held vector and the comparison of two, as the static library calls them: vectors in 16 bytes, the answer in one word.
+#![tactic(auto)]
+
 ghost use Rattle.std.specs.Prelude.{◌≡◌, [], length};
 ghost use Rattle.model.specs.Vector.{compared};
 ghost use Rattle.held_vector.specs.Held.{held_of};

@@ -1,4 +1,6 @@
 // What a call of the static library returns in one word, the unit that it is given, and what it writes of a file's head.
+#![tactic(auto)]
+
 ghost use Rattle.std.specs.Prelude.{◌≡◌, length};
 ghost use Rattle.sab_words.specs.Words.{packed, narrowed, head_of};
 

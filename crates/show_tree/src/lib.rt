@@ -1,4 +1,6 @@
 // Showing the tree: the replay of a sound state, laid in a lent table.
+#![tactic(auto)]
+
 ghost use Rattle.std.specs.Prelude.{◌≡◌, true, length, replicate};
 ghost use Rattle.model.specs.Lengths.{log_size, base_size, tree_size};
 ghost use Rattle.model.specs.Bytes.{word};

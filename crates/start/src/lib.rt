@@ -1,4 +1,6 @@
 // Starting: the lent log becomes all zeros, and the lent base the empty one.
+#![tactic(auto)]
+
 ghost use Rattle.std.specs.Prelude.{◌≡◌};
 ghost use Rattle.call_model.specs.Outcome.{outcome, start_of};
 

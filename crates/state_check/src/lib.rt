@@ -1,4 +1,6 @@
 // The check of a state: a sound base, a log that is sound behind it, and every unit that either counts listed.
+#![tactic(auto)]
+
 ghost use Rattle.std.specs.Prelude.{◌≡◌, true, cond, ◌&&◌, length};
 ghost use Rattle.model.specs.Lengths.{log_size, base_size};
 ghost use Rattle.model.specs.Log.{records_of};

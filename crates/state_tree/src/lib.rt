@@ -1,4 +1,6 @@
 // The tree of a state: that of its base, with the records of its log replayed from there on.
+#![tactic(auto)]
+
 ghost use Rattle.std.specs.Prelude.{◌≡◌, true, ◌<◌, get_or, length, replicate};
 ghost use Rattle.model.specs.Lengths.{log_size, base_size, tree_size};
 ghost use Rattle.model.specs.Bytes.{word};

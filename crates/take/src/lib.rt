@@ -1,4 +1,6 @@
 // Taking a block: wholly, or not at all.
+#![tactic(auto)]
+
 ghost use Rattle.std.specs.Prelude.{◌≡◌, true, [], length};
 ghost use Rattle.model.specs.Lengths.{log_size};
 ghost use Rattle.model.specs.Log.{records_of, sound_log_on};

@@ -1,4 +1,6 @@
 // A block given, and a record of it that is new, judged beside those held behind a base vector.
+#![tactic(auto)]
+
 ghost use Rattle.std.specs.Prelude.{◌≡◌, true, ◌+◌, ◌≤◌, ◌<◌, length};
 ghost use Rattle.model.specs.Lengths.{record_size, block_size, log_size, log_places};
 ghost use Rattle.model.specs.Bytes.{same_bytes};

@@ -1,4 +1,6 @@
 // The records of a block judged one after another beside those held behind a base vector. Nothing is written but the tables.
+#![tactic(auto)]
+
 ghost use Rattle.std.specs.Prelude.{◌≡◌, true, ◌+◌, ◌≤◌, ◌<◌, length, get_or};
 ghost use Rattle.model.specs.Lengths.{record_size, block_size, log_size, log_places};
 ghost use Rattle.model.specs.Record.{unit, num, well_formed};

@@ -1,1 +1,2 @@
 // Laws of taking records, on the definitions alone: see proofs/.
+#![tactic(auto)]

@@ -1,4 +1,6 @@
 // Taking a row of blocks with one check of the log: the blocks are judged one after another, and all new records go in at once.
+#![tactic(auto)]
+
 ghost use Rattle.std.specs.Prelude.{◌≡◌, true, ◌≤◌, length, get_or};
 ghost use Rattle.model.specs.Lengths.{log_size, file_size, base_size};
 ghost use Rattle.model.specs.Log.{records_of};

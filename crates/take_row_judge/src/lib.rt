@@ -1,5 +1,7 @@
 // The blocks of a row judged one after another. Each new record is laid behind those held, in lent work memory, so that the tables keep its
 // place; the log is not touched. The lent base only says what list and base vector stand for.
+#![tactic(auto)]
+
 ghost use Rattle.std.specs.Prelude.{◌≡◌, true, ◌+◌, ◌≤◌, ◌<◌, length, get_or};
 ghost use Rattle.model.specs.Lengths.{record_size, block_size, log_size, file_size, log_places};
 ghost use Rattle.model.specs.Bytes.{same_bytes};

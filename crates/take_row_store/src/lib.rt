@@ -1,4 +1,6 @@
 // The new records of a row stand behind those of the log, in the order of their coming; they are put in by rank.
+#![tactic(auto)]
+
 ghost use Rattle.std.specs.Prelude.{◌≡◌, true, ◌+◌, ◌*◌, ◌≤◌, ◌<◌, length};
 ghost use Rattle.model.specs.Lengths.{log_size, log_places};
 ghost use Rattle.model.specs.Log.{records_of, sound_log_on, log_bytes};

@@ -1,4 +1,6 @@
 // The records of a block that passed are stored in a log, behind a base vector. List and base vector only say which they are.
+#![tactic(auto)]
+
 ghost use Rattle.std.specs.Prelude.{◌≡◌, ◌≤◌, ◌<◌, length};
 ghost use Rattle.model.specs.Lengths.{record_size, block_size, log_size};
 ghost use Rattle.model.specs.Record.{unit};

@@ -1,4 +1,6 @@
 // What a record changes of an entry or an aside that stands in a table of rows, and in the register beside it.
+#![tactic(auto)]
+
 ghost use Rattle.std.specs.Prelude.{◌≡◌, true, ◌+◌, ◌*◌, ◌≤◌, ◌<◌, length, get_or, set};
 ghost use Rattle.model.specs.Record.{object_of, folder_of};
 ghost use Rattle.model.specs.Replay.{is_present, stored, renamed, moved, removed, changed, settled};

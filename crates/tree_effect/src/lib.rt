@@ -1,4 +1,6 @@
 // What a record does to a table of rows, and to the register beside it.
+#![tactic(auto)]
+
 ghost use Rattle.std.specs.Prelude.{◌≡◌, ◌⊎◌, ◌++◌, ◌∷◌, [], ◌+◌, ◌≤◌, ◌<◌, length, get_or};
 ghost use Rattle.model.specs.Record.{self_of, folder_of, label_of};
 ghost use Rattle.model.specs.Replay.{new_entry, effect as effect_of};

@@ -1,4 +1,6 @@
 // A working table becomes the table shown: flags for disputed entries, present rows alone, counts.
+#![tactic(auto)]
+
 ghost use Rattle.std.specs.Prelude.{◌≡◌, ◌+◌, ◌-◌, ◌*◌, ◌≤◌, ◌<◌, length, set, take, replicate};
 ghost use Rattle.model.specs.Bytes.{part, put_at};
 ghost use Rattle.model.specs.Table.{table_bytes};

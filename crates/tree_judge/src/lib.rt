@@ -1,4 +1,6 @@
 // A record is judged: it fits, or stands aside under the first reason that holds.
+#![tactic(auto)]
+
 ghost use Rattle.std.specs.Prelude.{◌≡◌, cond, ◌||◌, ◌⊎◌, ◌+◌, ◌*◌, ◌≤◌, ◌<◌, ltb, length, get_or};
 ghost use Rattle.model.specs.Record.{label_of, folder_of};
 ghost use Rattle.model.specs.Replay.{fits, aside, unseen, holder_of, free_label, folder_stands, judge_make, judge_store, judge_remove, judge_rename, judge_move, judge as judge_of};

@@ -1,1 +1,2 @@
 // Laws of the replay; no code.
+#![tactic(auto)]

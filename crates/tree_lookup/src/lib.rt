@@ -1,4 +1,6 @@
 // Looking up in a table of rows: the role of an identity, an entry by its identity, the holder of a label in a folder.
+#![tactic(auto)]
+
 ghost use Rattle.std.specs.Prelude.{◌≡◌, ◌+◌, ◌*◌, ◌≤◌, ◌<◌, length};
 ghost use Rattle.model.specs.Replay.{entry_of, is_in, holder_of, is_below};
 ghost use Rattle.model.specs.Table.{entry_in};

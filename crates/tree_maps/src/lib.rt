@@ -1,4 +1,6 @@
 // Keys to the rows of a table, in the register beside it: the chains of identities and labels, and the number of entries in a folder.
+#![tactic(auto)]
+
 ghost use Rattle.std.specs.Prelude.{◌≡◌, ◌+◌, ◌*◌, ◌%◌, ◌≤◌, ◌<◌, length, get_or};
 ghost use Rattle.hash_chains.specs.Chains.{nodes_in, Chains};
 ghost use Rattle.tree_maps.specs.Keys.{register_size, is_identity, link_of, named, hash_of, counted_up, counted_down, entered, relabelled, left, shifted};

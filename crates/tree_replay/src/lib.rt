@@ -1,4 +1,6 @@
 // Replay: records are taken into a tree table one after another.
+#![tactic(auto)]
+
 ghost use Rattle.std.specs.Prelude.{◌≡◌, true, ◌+◌, ◌≤◌, ◌<◌, length, get_or, replicate};
 ghost use Rattle.model.specs.Log.{records_of, sound_log};
 ghost use Rattle.model.specs.Replay.{empty_tree, step as step_of, replay_from, replay as replayOf};

@@ -1,4 +1,6 @@
 // Rows of the tree table in bytes: what a row holds, read field by field, and rows written.
+#![tactic(auto)]
+
 ghost use Rattle.std.specs.Prelude.{◌≡◌, ◌+◌, ◌*◌, ◌≤◌, ◌<◌, length};
 ghost use Rattle.model.specs.Bytes.{put_at};
 ghost use Rattle.model.specs.Record.{identity_at, self_of, object_of, folder_of};

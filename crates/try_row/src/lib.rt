@@ -1,4 +1,6 @@
 // Trying a row of blocks: what taking it would do, on a copy of the log. The base is only read.
+#![tactic(auto)]
+
 ghost use Rattle.std.specs.Prelude.{◌≡◌, true, ◌∷◌, ◌++◌, ◌≤◌, length, get_or, take};
 ghost use Rattle.model.specs.Lengths.{log_size, file_size, tree_size, base_size};
 ghost use Rattle.model.specs.Log.{records_of};

@@ -1,5 +1,7 @@
 // What a trial reports: the disputed entries of a tree table are noted by their identities, those of another table that were not noted are
 // listed, and the report is written.
+#![tactic(auto)]
+
 ghost use Rattle.std.specs.Prelude.{◌≡◌, ◌∷◌, ◌++◌, ◌≤◌, ◌<◌, length, take, drop, replicate};
 ghost use Rattle.model.specs.Lengths.{tree_size};
 ghost use Rattle.row_model.specs.Row.{report_size};

@@ -1,4 +1,6 @@
 // Version vectors: eight counts, one for each unit.
+#![tactic(auto)]
+
 ghost use Rattle.std.specs.Prelude.{◌≡◌, true, cond, ◌+◌, ◌-◌, ◌≤◌, ◌<◌, length, get_or, set, replicate};
 ghost use Rattle.model.specs.Bytes.{put_at};
 ghost use Rattle.model.specs.Vector.{covers, lacks_of, vector_at, vector_bytes};

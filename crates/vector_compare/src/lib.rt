@@ -1,4 +1,6 @@
 // Two version vectors compared.
+#![tactic(auto)]
+
 ghost use Rattle.std.specs.Prelude.{◌≡◌, cond, eqb};
 ghost use Rattle.model.specs.Vector.{compared, comparison_of};
 

@@ -1,4 +1,6 @@
 // visits: tries the plan on standard input, block by block, and prints what the units come to.
+#![tactic(auto)]
+
 ghost use Rattle.std.specs.Prelude.{◌≡◌, length, replicate};
 ghost use Rattle.base_model.specs.Base.{empty_base};
 ghost use Rattle.plan_model.specs.Plan.{round};

@@ -1,4 +1,6 @@
 // Writing a file: the whole log in blocks of six records, and zeros behind them.
+#![tactic(auto)]
+
 ghost use Rattle.std.specs.Prelude.{◌≡◌, true, ◌*◌, ◌-◌, ◌<◌, ◌≤◌, length, replicate};
 ghost use Rattle.model.specs.Lengths.{log_size, file_size};
 ghost use Rattle.model.specs.Bytes.{blank, padded, put_at};

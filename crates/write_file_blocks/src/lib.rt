@@ -1,4 +1,6 @@
 // The blocks of a file that is written: how many, how many records in each, and each one laid at its place.
+#![tactic(auto)]
+
 ghost use Rattle.std.specs.Prelude.{◌≡◌, true, ◌+◌, ◌*◌, ◌-◌, ◌<◌, ◌≤◌, min, length};
 ghost use Rattle.model.specs.Bytes.{put_at};
 ghost use Rattle.model.specs.Log.{records_of, sound_log_on, sound_log, vector_of};

@@ -1,4 +1,6 @@
 // Writing an SAB2 file: list and base in rows, then the records of the log, in blocks; zeros behind them.
+#![tactic(auto)]
+
 ghost use Rattle.std.specs.Prelude.{◌≡◌, true, ◌*◌, ◌-◌, ◌<◌, ◌≤◌, length, replicate};
 ghost use Rattle.model.specs.Lengths.{log_size, base_size, log_places, base_places};
 ghost use Rattle.model.specs.Bytes.{word, padded, put_at};
