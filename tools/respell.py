@@ -56,6 +56,10 @@ def declared():
             if HEAD.match(re.sub(r"^(?:--.*\n)*", "", block)) or HEAD.search(block):
                 for found in NESTED.finditer(block):
                     members.add(found[1])
+            else:
+                # lemmas under one head of variables
+                for found in NESTED.finditer(block):
+                    into.add(found[1])
     return functions, lemmas, members
 
 

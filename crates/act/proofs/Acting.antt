@@ -24,19 +24,19 @@ use Rattle.block_laws.proofs.Fields.{length-joined, joined-append}
 use Rattle.act_laws.proofs.Act.{Free, Refused, refused_elim, early_cases, wish_fits_lem}
 use Rattle.log_laws.proofs.Tests.{vector_on_get_d}
 use Rattle.encoding_laws.proofs.Logs.{sound_proper_on, proper_sized, sound_records_on, sound_bytes_on}
-use Rattle.base_laws.proofs.Folds.{state-log}
+use Rattle.base_laws.proofs.Folds.{state_log}
 use Rattle.tree_table.specs.Rows.{tree_in}
 use Rattle.tree_lookup.specs.Roles.{Works}
-use Rattle.tree_lookup.proofs.Working.{works-tree}
+use Rattle.tree_lookup.proofs.Working.{works_tree}
 use Rattle.tree_judge.specs.Judged.{verdict_of, Asks}
 use Rattle.tree_judge.proofs.Verdicts.{verdict_numbers}
 use Rattle.tree_replay.proofs.Sound.{formed_asks}
 use Rattle.base_head.specs.Head.{headed}
 use Rattle.call_answer.proofs.Guards.{refused_by}
 use Rattle.call_guard.specs.Opened.{opened, open_of}
-use Rattle.call_guard.proofs.Opening.{number_is, open_lent, open-unit, call-refused, call_passes}
+use Rattle.call_guard.proofs.Opening.{number_is, open_lent, open_unit, call_refused, call_passes}
 use Rattle.act_wish.specs.Stamp.{stamped_by, early_as}
-use Rattle.act_wish.proofs.Stamping.{stamped-is, early-is}
+use Rattle.act_wish.proofs.Stamping.{stamped_is, early_is}
 use Rattle.act.specs.Acted.{acted_on, worked_on}
 
 -- ---- the reason
@@ -45,7 +45,7 @@ pub reason_told : (n k : ℕ) (r : Rec) (t : Tree) → verdict_of n k ≡ judge 
 reason_told n k r t e = (verdict_numbers n k (judge r t) e).0
 
 pub reason_laid : (b register : List ℕ) (x y : ℕ) (t : Tree) (r : Rec) (n : ℕ) → Works b register x y t → n ≡ reason_of (judge r (tree_in b x y)) → n ≡ reason_of (judge r t)
-reason_laid b register x y t r n w e = e ∙ ap (λ (s : Tree). reason_of (judge r s)) (works-tree b register x y t w)
+reason_laid b register x y t r n w e = e ∙ ap (λ (s : Tree). reason_of (judge r s)) (works_tree b register x y t w)
 
 -- bytes are below 256, so what a record has seen is below 65,536
 pub bytes_ask : (r : Rec) → well_formed r ≡ true → ((j : ℕ) → get_or r j 0 < 256) → Asks r
@@ -92,21 +92,21 @@ early_zero m u v l w e =
 module _ (u : ℕ) (log base w : List ℕ) {h : List ℕ} {m n k : ℕ} {r : Rec} (low : u < 8) (wide : length w ≡ 80) (held : h ≡ held_on log base) (list : m ≡ get_or base 0 0) (used : n ≡ length (records_of log)) (own : r ≡ stamped_by ((get_or h u 0 + 1) % 65536) h w) (told : k ≡ early_as m u h n w r) where
   early : early_wish (base_in base).list u (base_vector base) (records_of log) w ≡ k
   unfolding base_in
-  early = sym (told ∙ early-is u (base_vector base) (records_of log) w low held ((get_or h u 0 + 1) % 65536) wide own m used ∙ ap (λ (x : ℕ). early_wish x u (base_vector base) (records_of log) w) list)
+  early = sym (told ∙ early_is u (base_vector base) (records_of log) w low held ((get_or h u 0 + 1) % 65536) wide own m used ∙ ap (λ (x : ℕ). early_wish x u (base_vector base) (records_of log) w) list)
 
   number : act_number (base_in base).list u (base_vector base) (base_in base).tree (records_of log) w ≡ first_of k (reason_of (judge (stamped u (base_vector base) (records_of log) w) (tree_of log base)))
   unfolding act_number tree_of base_in
   number = ap (λ (x : ℕ). first_of x (reason_of (judge (stamped u (base_vector base) (records_of log) w) (tree_of log base)))) early
 
-  pub early-refused : (k ≡ 0 → ⊥) → refusal k log [] ≡ acted_on u log base w
+  pub early_refused : (k ≡ 0 → ⊥) → refusal k log [] ≡ acted_on u log base w
   unfolding acted_on acted
-  early-refused z =
+  early_refused z =
       rw (number, first_stops k (reason_of (judge (stamped u (base_vector base) (records_of log) w) (tree_of log base))) z)
       (refused_by k log [] (outcome 0 0 (log_bytes (records_of log ++ (stamped u (base_vector base) (records_of log) w ∷ []))) [] 0) z)
 
-  pub early-kept : (k ≡ 0 → ⊥) → (work : List ℕ) → work ≡ worked_on u log base w work
+  pub early_kept : (k ≡ 0 → ⊥) → (work : List ℕ) → work ≡ worked_on u log base w work
   unfolding worked_on
-  early-kept z work = rw early (work_as_it_was k (tree_of log base) work z)
+  early_kept z work = rw early (work_as_it_was k (tree_of log base) work z)
 
   module _ (z : k ≡ 0) where
     pub free : Free (base_in base).list u (base_vector base) (records_of log) w
@@ -115,62 +115,62 @@ module _ (u : ℕ) (log base w : List ℕ) {h : List ℕ} {m n k : ℕ} {r : Rec
     pub record_is : r ≡ stamped u (base_vector base) (records_of log) w
     record_is =
         let c = free.numbered in
-        own ∙ stamped-is u (base_vector base) (records_of log) w low held (omega (arith, ap (λ (x : List ℕ). get_or x u 0) held, vector_on_get_d (base_vector base) (records_of log) u low))
+        own ∙ stamped_is u (base_vector base) (records_of log) w low held (omega (arith, ap (λ (x : List ℕ). get_or x u 0) held, vector_on_get_d (base_vector base) (records_of log) u low))
 
-    pub stamped-formed : well_formed r ≡ true
-    stamped-formed = rw record_is (wish_fits_lem u (base_vector base) (records_of log) w free.well).1
+    pub stamped_formed : well_formed r ≡ true
+    stamped_formed = rw record_is (wish_fits_lem u (base_vector base) (records_of log) w free.well).1
 
     pub place_free : n < 512
     place_free = let c = free.room in omega arith
 
-    pub work-laid : {o : List ℕ} → o ≡ work_bytes (tree_of log base) → (work : List ℕ) → o ≡ worked_on u log base w work
+    pub work_laid : {o : List ℕ} → o ≡ work_bytes (tree_of log base) → (work : List ℕ) → o ≡ worked_on u log base w work
     unfolding worked_on
-    work-laid e work = rw (early, z) e
+    work_laid e work = rw (early, z) e
 
     module _ {x : ℕ} (why : x ≡ reason_of (judge r (tree_of log base))) where
-      reason-is : act_number (base_in base).list u (base_vector base) (base_in base).tree (records_of log) w ≡ x
-      reason-is = number ∙ rw (z, ← record_is) (sym why)
+      reason_is : act_number (base_in base).list u (base_vector base) (base_in base).tree (records_of log) w ≡ x
+      reason_is = number ∙ rw (z, ← record_is) (sym why)
 
-      pub stands_aside : (x ≡ 0 → ⊥) → refusal x log [] ≡ acted_on u log base w
+      pub stands_aside_lem : (x ≡ 0 → ⊥) → refusal x log [] ≡ acted_on u log base w
       unfolding acted_on acted
-      stands_aside g = rw reason-is (refused_by x log [] (outcome 0 0 (log_bytes (records_of log ++ (stamped u (base_vector base) (records_of log) w ∷ []))) [] 0) g)
+      stands_aside_lem g = rw reason_is (refused_by x log [] (outcome 0 0 (log_bytes (records_of log ++ (stamped u (base_vector base) (records_of log) w ∷ []))) [] 0) g)
 
       pub added : {o : List ℕ} → length log ≡ 40960 → sound_state log base ≡ true → x ≡ 0 → o ≡ put_at log (80 * n) r → outcome 0 0 o [] 0 ≡ acted_on u log base w
       unfolding acted_on acted
       added long s g e =
-          let b = put_last (base_vector base) log (stamped u (base_vector base) (records_of log) w) long (state-log log base s) in
-          rw (reason-is, g, e, used, record_is, b)
+          let b = put_last (base_vector base) log (stamped u (base_vector base) (records_of log) w) long (state_log log base s) in
+          rw (reason_is, g, e, used, record_is, b)
 
 -- ---- what `act` is asked, and its ways out
 
 module _ (u : ℕ) (log base w work : List ℕ) {n m k j used : ℕ} {v held : List ℕ} (e : opened n (headed m v k j) held used ≡ open_of u log base (act_lent w work) true) where
-  pub guard-refused : (n ≡ 0 → ⊥) → refusal n log [] ≡ act_of u log base w work
+  pub guard_refused : (n ≡ 0 → ⊥) → refusal n log [] ≡ act_of u log base w work
   unfolding act_of acted_on
-  guard-refused h = call-refused u log base [] (act_lent w work) e (acted_on u log base w) h
+  guard_refused h = call_refused u log base [] (act_lent w work) e (acted_on u log base w) h
 
-  pub guard-kept : (n ≡ 0 → ⊥) → work ≡ act_work u log base w work
+  pub guard_kept : (n ≡ 0 → ⊥) → work ≡ act_work u log base w work
   unfolding act_work
-  guard-kept h =
+  guard_kept h =
       let t = early_wish (base_in base).list u (base_vector base) (records_of log) w in
       rw (← number_is u log base (act_lent w work) true e, first_stops n t h) (work_as_it_was n (tree_of log base) work h)
 
   module _ (z : n ≡ 0) where
-    pub low-unit : u < 8
-    low-unit = omega (arith, open-unit u log base (act_lent w work) true e z)
+    pub low_unit : u < 8
+    low_unit = omega (arith, open_unit u log base (act_lent w work) true e z)
 
     lent : (eqb (length w) 80 ≡ true) × (eqb (length work) 86020 ≡ true)
     lent = and_true (eqb (length w) 80) (eqb (length work) 86020) (open_lent u log base (act_lent w work) true e z)
 
-    pub wish-long : length w ≡ 80
-    wish-long = eqb-true (length w) 80 lent.0
+    pub wish_long : length w ≡ 80
+    wish_long = eqb-true (length w) 80 lent.0
 
-    pub work-long : length work ≡ 86020
-    work-long = eqb-true (length work) 86020 lent.1
+    pub work_long : length work ≡ 86020
+    work_long = eqb-true (length work) 86020 lent.1
 
     pub act-done : (o : Outcome) → o ≡ acted_on u log base w → o ≡ act_of u log base w work
     unfolding act_of acted_on
     act-done o q = q ∙ call_passes u log base [] (act_lent w work) e (acted_on u log base w) z
 
-    pub work-done : (o : List ℕ) → o ≡ worked_on u log base w work → o ≡ act_work u log base w work
+    pub work_done : (o : List ℕ) → o ≡ worked_on u log base w work → o ≡ act_work u log base w work
     unfolding act_work worked_on
-    work-done o q = q ∙ rw (sym (number_is u log base (act_lent w work) true e) ∙ z)
+    work_done o q = q ∙ rw (sym (number_is u log base (act_lent w work) true e) ∙ z)

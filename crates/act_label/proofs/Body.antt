@@ -8,7 +8,7 @@ use mathlib.Core.List.{List}
 use lib.Dec.{leb}
 use lib.ListN.{get_or, length, drop}
 use lib.Seq.{get_or-drop}
-use borrow.Author.Tests.{eq-eqb, le-leb, lt-leb, not-true, not-false}
+use borrow.Author.Tests.{eq-eqb, le-leb, lt-leb, not-true, not_false}
 use Rattle.model.specs.Bytes.{word, part}
 use Rattle.model.specs.Record.{Rec, unit, op, num, seen, label_of, unused, names, head_fits, object_fits, folder_fits, date_fits, label_fits, mark_fits, well_formed}
 use Rattle.byte_slice.proofs.Parts.{part-drop}
@@ -23,39 +23,39 @@ module _ (r : Rec) where
   op-none h = rw (lt-leb 1 (get_or r 1 0) h)
 
   module _ (a : 1 ≤ get_or r 1 0) where
-    pub op-above : 7 < get_or r 1 0 → false ≡ body_fits r
+    pub op_above : 7 < get_or r 1 0 → false ≡ body_fits r
     unfolding body_fits op
-    op-above h = rw (le-leb 1 (get_or r 1 0) a, lt-leb (get_or r 1 0) 7 h)
+    op_above h = rw (le-leb 1 (get_or r 1 0) a, lt-leb (get_or r 1 0) 7 h)
 
     module _ {o : Bool} (b : get_or r 1 0 ≤ 7) (eo : o ≡ object_fits r) where
-      pub bad-object : not o ≡ true → false ≡ body_fits r
+      pub bad_object : not o ≡ true → false ≡ body_fits r
       unfolding body_fits op
-      bad-object f = rw (le-leb 1 (get_or r 1 0) a, le-leb (get_or r 1 0) 7 b, ← eo, not-true o f)
+      bad_object f = rw (le-leb 1 (get_or r 1 0) a, le-leb (get_or r 1 0) 7 b, ← eo, not-true o f)
 
       module _ {p : Bool} (go : not o ≡ false) (ep : p ≡ folder_fits r) where
-        pub bad-folder : not p ≡ true → false ≡ body_fits r
+        pub bad_folder : not p ≡ true → false ≡ body_fits r
         unfolding body_fits op
-        bad-folder f = rw (le-leb 1 (get_or r 1 0) a, le-leb (get_or r 1 0) 7 b, ← eo, not-false o go, ← ep, not-true p f)
+        bad_folder f = rw (le-leb 1 (get_or r 1 0) a, le-leb (get_or r 1 0) 7 b, ← eo, not_false o go, ← ep, not-true p f)
 
         module _ {d : Bool} (gp : not p ≡ false) (ed : d ≡ date_fits r) where
-          pub bad-date : not d ≡ true → false ≡ body_fits r
+          pub bad_date : not d ≡ true → false ≡ body_fits r
           unfolding body_fits op
-          bad-date f = rw (le-leb 1 (get_or r 1 0) a, le-leb (get_or r 1 0) 7 b, ← eo, not-false o go, ← ep, not-false p gp, ← ed, not-true d f)
+          bad_date f = rw (le-leb 1 (get_or r 1 0) a, le-leb (get_or r 1 0) 7 b, ← eo, not_false o go, ← ep, not_false p gp, ← ed, not-true d f)
 
-          pub mark-last : {m : Bool} → not d ≡ false → m ≡ mark_fits r → m ≡ body_fits r
+          pub mark_last : {m : Bool} → not d ≡ false → m ≡ mark_fits r → m ≡ body_fits r
           unfolding body_fits op
-          mark-last gd em = rw (le-leb 1 (get_or r 1 0) a, le-leb (get_or r 1 0) 7 b, ← eo, not-false o go, ← ep, not-false p gp, ← ed, not-false d gd, em)
+          mark_last gd em = rw (le-leb 1 (get_or r 1 0) a, le-leb (get_or r 1 0) 7 b, ← eo, not_false o go, ← ep, not_false p gp, ← ed, not_false d gd, em)
 
 -- ---- two records of one operation that differ in unit and number alone
 
 module _ (r s : Rec) (o : op r ≡ op s) (e : drop 4 r ≡ drop 4 s) where
-  byte-same : (i : ℕ) → 4 ≤ i → get_or r i 0 ≡ get_or s i 0
-  byte-same i h =
+  byte_same : (i : ℕ) → 4 ≤ i → get_or r i 0 ≡ get_or s i 0
+  byte_same i h =
       let k : 4 + (i - 4) ≡ i = omega arith in
       rw k at (sym (get_or-drop 4 r (i - 4) 0) ∙ ap (λ (t : List ℕ). get_or t (i - 4) 0) e ∙ get_or-drop 4 s (i - 4) 0)
 
   number_same : (i : ℕ) → 4 ≤ i → word r i ≡ word s i
-  number_same i h = word_same r s i i (byte-same i h) (byte-same (i + 1) (omega arith))
+  number_same i h = word_same r s i i (byte_same i h) (byte_same (i + 1) (omega arith))
 
   part_same : (i n : ℕ) → 4 ≤ i → part r i n ≡ part s i n
   part_same i n h =
@@ -69,28 +69,28 @@ module _ (r s : Rec) (o : op r ≡ op s) (e : drop 4 r ≡ drop 4 s) where
   names_same : (i : ℕ) → 4 ≤ i → names r i ≡ names s i
   unfolding names
   names_same i h =
-      rw (byte-same i h, byte-same (i + 1) (omega arith), number_same (i + 2) (omega arith), seen_same (get_or s i 0))
+      rw (byte_same i h, byte_same (i + 1) (omega arith), number_same (i + 2) (omega arith), seen_same (get_or s i 0))
 
-  unused-same : (i n : ℕ) → 4 ≤ i → unused r i n ≡ unused s i n
+  unused_same : (i n : ℕ) → 4 ≤ i → unused r i n ≡ unused s i n
   unfolding unused
-  unused-same i n h = rw (part_same i n h)
+  unused_same i n h = rw (part_same i n h)
 
   pub body_same : body_fits r ≡ body_fits s
   unfolding body_fits object_fits folder_fits date_fits mark_fits
   body_same =
-      rw (o, names_same 20 (omega arith), unused-same 20 4 (omega arith), names_same 24 (omega arith), unused-same 24 4 (omega arith), number_same 28 (omega arith), byte-same 30 (omega arith), byte-same 31 (omega arith), unused-same 64 16 (omega arith))
+      rw (o, names_same 20 (omega arith), unused_same 20 4 (omega arith), names_same 24 (omega arith), unused_same 24 4 (omega arith), number_same 28 (omega arith), byte_same 30 (omega arith), byte_same 31 (omega arith), unused_same 64 16 (omega arith))
 
   pub label_same : label_of r ≡ label_of s
   unfolding label_of
   label_same = part_same 32 32 (omega arith)
 
-  pub label-fits-same : label_fits r ≡ label_fits s
+  pub label_fits_same : label_fits r ≡ label_fits s
   unfolding label_fits
-  label-fits-same = rw (o, label_same, unused-same 32 32 (omega arith))
+  label_fits_same = rw (o, label_same, unused_same 32 32 (omega arith))
 
-  pub field-same : field_number r ≡ field_number s
+  pub field_same : field_number r ≡ field_number s
   unfolding field_number
-  field-same = rw (label-fits-same, label_same)
+  field_same = rw (label_fits_same, label_same)
 
 -- ---- well formed
 

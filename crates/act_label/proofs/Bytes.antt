@@ -104,26 +104,26 @@ text_number_lem t n h = rw (stand_is t n h, plain_is t n h) (go (printable (take
 -- ---- what the loop of `text_number` is asked
 
 module _ (t : List ℕ) (i : ℕ) {yes : Bool} (y : yes ≡ may_stand (get_or t i 0)) where
-  pub stand-next : {g : Bool} → g ≡ stand_to t i → (g && yes) ≡ stand_to t (i + 1)
+  pub stand_next : {g : Bool} → g ≡ stand_to t i → (g && yes) ≡ stand_to t (i + 1)
   unfolding stand_to
-  stand-next e = rw (add-one i, e, y)
+  stand_next e = rw (add-one i, e, y)
 
-  pub plain-next : {g : Bool} → g ≡ plain_to t i → (g && (yes || eqb (get_or t i 0) 47)) ≡ plain_to t (i + 1)
+  pub plain_next : {g : Bool} → g ≡ plain_to t i → (g && (yes || eqb (get_or t i 0) 47)) ≡ plain_to t (i + 1)
   unfolding plain_to
-  plain-next e = rw (add-one i, e, y)
+  plain_next e = rw (add-one i, e, y)
 
 module _ (t : List ℕ) (i n : ℕ) (u : i ≤ n) (v : n ≤ i) {stand : Bool} (a : stand ≡ stand_to t i) where
   same_end : i ≡ n
   same_end = omega arith
 
-  pub all-stand : stand ≡ true → 0 ≡ text_number t n
+  pub all_stand : stand ≡ true → 0 ≡ text_number t n
   unfolding text_number
-  all-stand k = rw (← same_end, ← a, k)
+  all_stand k = rw (← same_end, ← a, k)
 
   module _ (k : stand ≡ false) {plain : Bool} (b : plain ≡ plain_to t i) where
-    pub some-stroke : plain ≡ true → 24 ≡ text_number t n
+    pub some_stroke : plain ≡ true → 24 ≡ text_number t n
     unfolding text_number
-    some-stroke m = rw (← same_end, ← a, k, ← b, m)
+    some_stroke m = rw (← same_end, ← a, k, ← b, m)
 
     pub other_byte : plain ≡ false → 7 ≡ text_number t n
     unfolding text_number

@@ -8,7 +8,7 @@ use mathlib.Core.List.{List, [], ◌∷◌, ◌++◌}
 use lib.Dec.{leb, eqb}
 use lib.ListN.{get_or, length, take, drop, length-drop, take-append-drop}
 use lib.Seq.{take_all}
-use borrow.Author.Tests.{leb-true, eqb-false, le-leb, ne_eqb, not-true, not-false}
+use borrow.Author.Tests.{leb-true, eqb-false, le-leb, ne_eqb, not-true, not_false}
 use Rattle.model.specs.Bytes.{blank, part}
 use Rattle.model.specs.Record.{Rec, op, label_of, text_length, printable, is_label, uses_label, unused, label_fits, has_stroke}
 use Rattle.model.specs.Numbers.{first_of}
@@ -67,41 +67,41 @@ module _ (t : List ℕ) {n : ℕ} (e : n ≡ text_length t) (within : n ≤ leng
   no_text h = not_label t (λ l. let a = (parts_of t l).some_text in omega arith)
 
   module _ (some : 1 ≤ n) where
-    pub space-first : get_or t 0 0 ≡ 32 → 7 ≡ label_number t
-    space-first h = not_label t (λ l. (parts_of t l).first h)
+    pub space_first : get_or t 0 0 ≡ 32 → 7 ≡ label_number t
+    space_first h = not_label t (λ l. (parts_of t l).first h)
 
     module _ (f : get_or t 0 0 ≡ 32 → ⊥) where
-      pub space-last : get_or t (n - 1) 0 ≡ 32 → 7 ≡ label_number t
-      space-last h = not_label t (λ l. (parts_of t l).last (rw e at h))
+      pub space_last : get_or t (n - 1) 0 ≡ 32 → 7 ≡ label_number t
+      space_last h = not_label t (λ l. (parts_of t l).last (rw e at h))
 
       module _ (g : get_or t (n - 1) 0 ≡ 32 → ⊥) {b : Bool} (q : b ≡ blank (take (length t - n) (drop n t))) where
-        rest-is : blank (drop n t) ≡ b
-        rest-is = sym (q ∙ ap blank (take_all (length t - n) (drop n t) (omega (arith, length-drop n t))))
+        rest_is : blank (drop n t) ≡ b
+        rest_is = sym (q ∙ ap blank (take_all (length t - n) (drop n t) (omega (arith, length-drop n t))))
 
-        pub more-behind : not b ≡ true → 7 ≡ label_number t
-        more-behind h = not_label t (λ l. not_both b (sym rest-is ∙ rw (← e) at (parts_of t l).zeros) (not-true b h))
+        pub more_behind : not b ≡ true → 7 ≡ label_number t
+        more_behind h = not_label t (λ l. not_both b (sym rest_is ∙ rw (← e) at (parts_of t l).zeros) (not-true b h))
 
-        pub by-the-table : {x : ℕ} → not b ≡ false → x ≡ text_number t n → x ≡ label_number t
+        pub by_the_table : {x : ℕ} → not b ≡ false → x ≡ text_number t n → x ≡ label_number t
         unfolding label_number
-        by-the-table h k =
-            let z : blank (drop n t) ≡ true = rest-is ∙ not-false b h in
+        by_the_table h k =
+            let z : blank (drop n t) ≡ true = rest_is ∙ not_false b h in
             let p : Parts t = record { some_text = rw (← e) some; first = f; last = rw (← e) g; zeros = rw (← e) z } in
             k ∙ text_number_lem t n within ∙ rw (by_text t p, ← e, stroke_in_text t n z)
 
 -- ---- `field_number`
 
 module _ (r : Rec) {u : Bool} (e : u ≡ uses_label (get_or r 1 0)) where
-  pub label-used : {x : ℕ} → u ≡ true → x ≡ label_number (take (64 - 32) (drop 32 r)) → x ≡ field_number r
+  pub label_used : {x : ℕ} → u ≡ true → x ≡ label_number (take (64 - 32) (drop 32 r)) → x ≡ field_number r
   unfolding field_number label_number label_fits label_of part op
-  label-used h k = k ∙ rw (← e, h)
+  label_used h k = k ∙ rw (← e, h)
 
   module _ (h : u ≡ false) {b : Bool} (q : b ≡ blank (take (64 - 32) (drop 32 r))) where
-    pub bytes-unused : not b ≡ true → 7 ≡ field_number r
+    pub bytes_unused : not b ≡ true → 7 ≡ field_number r
     unfolding field_number label_fits unused part op
-    bytes-unused k = rw (← e, h, ← q, not-true b k)
+    bytes_unused k = rw (← e, h, ← q, not-true b k)
 
     pub zeros-unused : not b ≡ false → 0 ≡ field_number r
     unfolding field_number label_fits label_of unused part op
     zeros-unused k =
-        let z : blank (take (64 - 32) (drop 32 r)) ≡ true = sym q ∙ not-false b k in
+        let z : blank (take (64 - 32) (drop 32 r)) ≡ true = sym q ∙ not_false b k in
         rw (← e, h, z, blank_no_stroke (take (64 - 32) (drop 32 r)) z)

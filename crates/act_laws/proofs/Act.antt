@@ -28,7 +28,7 @@ use Rattle.log_laws.proofs.Counts.{count-nil, seen_within_on, covering_above_on}
 use Rattle.log_laws.proofs.Insert.{insert_sound_on, insert_last}
 use Rattle.log_laws.proofs.Tests.{vector_on_get_d}
 use Rattle.take_laws.specs.Held.{Counts}
-use Rattle.take_laws.proofs.Held.{shed, counts-held, sound-all}
+use Rattle.take_laws.proofs.Held.{shed, counts-held, sound_all}
 
 -- ---- the wish with the next number and the held vector, field by field
 
@@ -37,9 +37,9 @@ module _ (u : ℕ) (v : List ℕ) (l : List Rec) (w : List ℕ) (n : length w �
   two-long = length-take-le 2 w (omega arith)
 
   -- what stands behind the vector is the wish's own
-  pub stamped-label : label_of (stamped u v l w) ≡ label_of w
+  pub stamped_label : label_of (stamped u v l w) ≡ label_of w
   unfolding stamped label_of
-  stamped-label =
+  stamped_label =
       let head : List ℕ = take 2 w ++ (two (suc (count_on v u l)) ++ vector_bytes (vector_on v l)) in
       let k : length head ≡ 20 =
       omega (arith, length-append (take 2 w) (two (suc (count_on v u l)) ++ vector_bytes (vector_on v l)), two-long, vector_bytes-length (vector_on v l)) in
@@ -83,11 +83,11 @@ module _ (u : ℕ) (v : List ℕ) (l : List Rec) (w : List ℕ) (n : length w �
   act-covers x k = omega (arith, stamped-seen x k)
 
   -- it ranks above every record of the log
-  pub act-last : SoundOn v l → (s : Rec) → Has s l → rank s < rank (stamped u v l w)
-  act-last h = covering_above_on v l (stamped u v l w) h (λ x k. omega (arith, stamped-seen x k))
+  pub act_last : SoundOn v l → (s : Rec) → Has s l → rank s < rank (stamped u v l w)
+  act_last h = covering_above_on v l (stamped u v l w) h (λ x k. omega (arith, stamped-seen x k))
 
-  pub act-joins : get_or w 0 0 ≡ u → well_formed (stamped u v l w) ≡ true → SoundOn v l → Joins v [] l (stamped u v l w)
-  act-joins e f h =
+  pub act_joins : get_or w 0 0 ≡ u → well_formed (stamped u v l w) ≡ true → SoundOn v l → Joins v [] l (stamped u v l w)
+  act_joins e f h =
       let r : Rec = stamped u v l w in
       let c : unit r ≡ u = stamped-unit ∙ e in
       let m : num r ≡ suc (count_on v (unit r) l) = stamped-num ∙ ap (λ (x : ℕ). suc (count_on v x l)) (sym c) in
@@ -99,21 +99,21 @@ module _ (u : ℕ) (v : List ℕ) (l : List Rec) (w : List ℕ) (n : length w �
       }
 
   -- so it is inserted at the end
-  pub act-inserts : SoundOn v l → insert (stamped u v l w) l ≡ l ++ (stamped u v l w ∷ [])
-  act-inserts h = insert_last l (stamped u v l w) (act-last h)
+  pub act_inserts : SoundOn v l → insert (stamped u v l w) l ≡ l ++ (stamped u v l w ∷ [])
+  act_inserts h = insert_last l (stamped u v l w) (act_last h)
 
-  pub act-sound : get_or w 0 0 ≡ u → well_formed (stamped u v l w) ≡ true → SoundOn v l → SoundOn v (l ++ (stamped u v l w ∷ []))
-  act-sound e f h = subst (SoundOn v) (act-inserts h) (insert_sound_on v l (stamped u v l w) h (act-joins e f h))
+  pub act_sound : get_or w 0 0 ≡ u → well_formed (stamped u v l w) ≡ true → SoundOn v l → SoundOn v (l ++ (stamped u v l w ∷ []))
+  act_sound e f h = subst (SoundOn v) (act_inserts h) (insert_sound_on v l (stamped u v l w) h (act_joins e f h))
 
   -- v counts the folded records p: the record has seen all records held, and with it they are sound
   module _ (p : List Rec) (c : Counts v p) where
-    pub act-saw : (x : ℕ) → x < 8 → seen (stamped u v l w) x ≡ count x (p ++ l)
-    act-saw x k = stamped-seen x k ∙ counts-held v p c l x k
+    pub act_saw : (x : ℕ) → x < 8 → seen (stamped u v l w) x ≡ count x (p ++ l)
+    act_saw x k = stamped-seen x k ∙ counts-held v p c l x k
 
     pub act-held : get_or w 0 0 ≡ u → well_formed (stamped u v l w) ≡ true → Sound (p ++ l) → Sound (p ++ (l ++ (stamped u v l w ∷ [])))
     act-held e f h =
         let below = shed v p l c h in
-        subst (λ (x : List Rec). Sound (p ++ x)) (act-inserts below) (sound-all v p c l (stamped u v l w) h (act-joins e f below) act-covers)
+        subst (λ (x : List Rec). Sound (p ++ x)) (act_inserts below) (sound_all v p c l (stamped u v l w) h (act_joins e f below) act-covers)
 
 -- ---- the checks of a wish
 
@@ -206,11 +206,11 @@ act_numbers m u v t l w =
     ⊎_elim
     (λ f. inl (f, rw (free_early m u v l w f)))
     (λ (q : Refused m u v l w (early_wish m u v l w)).
-    inr (subst (Refused m u v l w) (sym (first_stops (early_wish m u v l w) (reason_of (judge (stamped u v l w) (replay_from t l))) (refused-some m u v l w (early_wish m u v l w) q))) q))
+    inr (subst (Refused m u v l w) (sym (first_stops (early_wish m u v l w) (reason_of (judge (stamped u v l w) (replay_from t l))) (refused_some m u v l w (early_wish m u v l w) q))) q))
     (early_cases m u v l w)
   where
-    refused-some : (m u : ℕ) (v : List ℕ) (l : List Rec) (w : List ℕ) (n : ℕ) → Refused m u v l w n → n ≡ 0 → ⊥
-    refused-some = refused_elim (λ (n : ℕ). n ≡ 0 → ⊥) (λ e. omega arith) (λ e. omega arith) (λ e. omega arith) (λ e. omega arith) (λ e. omega arith)
+    refused_some : (m u : ℕ) (v : List ℕ) (l : List Rec) (w : List ℕ) (n : ℕ) → Refused m u v l w n → n ≡ 0 → ⊥
+    refused_some = refused_elim (λ (n : ℕ). n ≡ 0 → ⊥) (λ e. omega arith) (λ e. omega arith) (λ e. omega arith) (λ e. omega arith) (λ e. omega arith)
 
 -- 0 means that nothing fails
 pub act_zero : (m u : ℕ) (v : List ℕ) (t : Tree) (l : List Rec) (w : List ℕ) → act_number m u v t l w ≡ 0 → Free m u v l w

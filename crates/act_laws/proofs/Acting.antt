@@ -18,7 +18,7 @@ use Rattle.log_laws.proofs.Members.{All}
 use Rattle.log_laws.proofs.Tests.{vector_on_get_d}
 use Rattle.tree_laws.specs.Trees.{NamedIn, EntryFits, SoundTree}
 use Rattle.tree_laws.proofs.Verdicts.{Under, Reason, reason_range}
-use Rattle.tree_laws.proofs.Seen.{Among, HasSeen, Not17, seen-never-17}
+use Rattle.tree_laws.proofs.Seen.{Among, HasSeen, Not17, seen_never_17}
 use Rattle.act_laws.proofs.Act.{stamped-seen, free_early, refused_elim, act_numbers, act_zero}
 use Rattle.act_laws.proofs.Trees.{sound_on}
 
@@ -53,7 +53,7 @@ all_seen r v h (e ∷ es) a k (inr (inr i)) = all_seen r v h es a.1 k i
 pub act_never_17 : (u : ℕ) (v : List ℕ) (t : Tree) (l : List Rec) (w : List ℕ) → length w ≡ 80 → SoundOn v l → SoundTree v t → Under Not17 (judge (stamped u v l w) (replay_from t l))
 act_never_17 u v t l w n h s =
     let es : List Entry = (replay_from t l).entries in
-    seen-never-17 (stamped u v l w) (changes_of es)
+    seen_never_17 (stamped u v l w) (changes_of es)
     (all_seen (stamped u v l w) (vector_on v l) (λ x k. omega (arith, vector_on_get_d v l x k, stamped-seen u v l w n x k)) es (sound_on v t l h s).entries_fit)
     (replay_from t l) (among_own es)
 
@@ -81,10 +81,10 @@ pub act_answers_never_17 : (m u : ℕ) (v : List ℕ) (t : Tree) (l : List Rec) 
 unfolding reason_of
 act_answers_never_17 m u v t l w n h s e =
     ⊎_elim
-    (λ a. not-17 (judge (stamped u v l w) (replay_from t l)) (act_never_17 u v t l w n h s) (sym a.1 ∙ e))
+    (λ a. not_17 (judge (stamped u v l w) (replay_from t l)) (act_never_17 u v t l w n h s) (sym a.1 ∙ e))
     (λ a. refused_elim (λ (x : ℕ). x ≡ 17 → ⊥) (λ q. omega arith) (λ q. omega arith) (λ q. omega arith) (λ q. omega arith) (λ q. omega arith) m u v l w (act_number m u v t l w) a e)
     (act_numbers m u v t l w)
   where
-    not-17 : (v : Verdict) → Under Not17 v → reason_of v ≡ 17 → ⊥
-    not-17 fits k q = omega arith
-    not-17 (aside m j) k q = k q
+    not_17 : (v : Verdict) → Under Not17 v → reason_of v ≡ 17 → ⊥
+    not_17 fits k q = omega arith
+    not_17 (aside m j) k q = k q

@@ -37,18 +37,18 @@ malformed_exactly = Strokes.act-malformed
 -- by 24 exactly when else its label has a stroke
 pub stroke_exactly : (m u : ℕ) (v : List ℕ) (t : Tree) (l : List Rec) (w : List ℕ)
     → (act_number m u v t l w ≡ 24) ↔ ((is_listed m u ≡ true) × (wish_fits u v l w ≡ true) × (has_stroke (label_of w) ≡ true))
-stroke_exactly = Strokes.act-stroke
+stroke_exactly = Strokes.act_stroke
 
 -- by 28 exactly when else the unit has used the number 65,535
 pub last_number_exactly : (m u : ℕ) (v : List ℕ) (t : Tree) (l : List Rec) (w : List ℕ)
     → (act_number m u v t l w ≡ 28) ↔ ((is_listed m u ≡ true) × (wish_fits u v l w ≡ true) × (has_stroke (label_of w) ≡ false) × (65535 ≤ count_on v u l))
-last_number_exactly = Strokes.act-last-number
+last_number_exactly = Strokes.act_last_number
 
 -- by 11 exactly when else no place is free
 pub full_exactly : (m u : ℕ) (v : List ℕ) (t : Tree) (l : List Rec) (w : List ℕ)
     → (act_number m u v t l w ≡ 11)
     ↔ ((is_listed m u ≡ true) × (wish_fits u v l w ≡ true) × (has_stroke (label_of w) ≡ false) × (count_on v u l < 65535) × (512 ≤ length l))
-full_exactly = Strokes.act-full
+full_exactly = Strokes.act_full
 
 -- a text has a stroke exactly when one of its bytes is hexadecimal 2F
 pub stroke_in_a_text : (t : List ℕ) → (has_stroke t ≡ true) ↔ ((i : ℕ) × (i < length t) × (get_or t i 0 ≡ 47))

@@ -17,7 +17,7 @@ use Rattle.base_model.specs.Base.{is_listed}
 use Rattle.call_model.specs.Outcome.{stamped, wish_fits, early_wish, act_number}
 use Rattle.log_laws.proofs.Formed.{well_label, blank_no_stroke}
 use Rattle.tree_laws.proofs.Verdicts.{Under, Reason, reason_range}
-use Rattle.act_laws.proofs.Act.{stamped-label, stamped-op, wish_fits_lem, Refused, act_numbers}
+use Rattle.act_laws.proofs.Act.{stamped_label, stamped-op, wish_fits_lem, Refused, act_numbers}
 
 -- ---- the test says what it should
 
@@ -81,9 +81,9 @@ module _ (m u : ℕ) (v : List ℕ) (t : Tree) (l : List Rec) (w : List ℕ) whe
       go (inr (inr (inr (inl a)))) = absurd (omega (arith, a.0))
       go (inr (inr (inr (inr a)))) = absurd (omega (arith, a.0))
 
-  pub act-stroke : (act_number m u v t l w ≡ 24) ↔ ((is_listed m u ≡ true) × (wish_fits u v l w ≡ true) × (has_stroke (label_of w) ≡ true))
+  pub act_stroke : (act_number m u v t l w ≡ 24) ↔ ((is_listed m u ≡ true) × (wish_fits u v l w ≡ true) × (has_stroke (label_of w) ≡ true))
   unfolding act_number early_wish
-  act-stroke = (λ e. go (refused_by 24 (λ z. omega arith) (λ z. omega arith) (λ z. omega arith) e), λ (a, b, c). rw (a, b, c))
+  act_stroke = (λ e. go (refused_by 24 (λ z. omega arith) (λ z. omega arith) (λ z. omega arith) e), λ (a, b, c). rw (a, b, c))
     where
       go : Refused m u v l w 24 → (is_listed m u ≡ true) × (wish_fits u v l w ≡ true) × (has_stroke (label_of w) ≡ true)
       go (inl a) = absurd (omega (arith, a.0))
@@ -92,9 +92,9 @@ module _ (m u : ℕ) (v : List ℕ) (t : Tree) (l : List Rec) (w : List ℕ) whe
       go (inr (inr (inr (inl a)))) = absurd (omega (arith, a.0))
       go (inr (inr (inr (inr a)))) = absurd (omega (arith, a.0))
 
-  pub act-last-number : (act_number m u v t l w ≡ 28) ↔ ((is_listed m u ≡ true) × (wish_fits u v l w ≡ true) × (has_stroke (label_of w) ≡ false) × (65535 ≤ count_on v u l))
+  pub act_last_number : (act_number m u v t l w ≡ 28) ↔ ((is_listed m u ≡ true) × (wish_fits u v l w ≡ true) × (has_stroke (label_of w) ≡ false) × (65535 ≤ count_on v u l))
   unfolding act_number early_wish
-  act-last-number = (
+  act_last_number = (
     λ e. go (refused_by 28 (λ z. omega arith) (λ z. omega arith) (λ z. omega arith) e),
     λ (a, b, c, d). rw (a, b, c, le-ltb (count_on v u l) 65535 d),
   )
@@ -106,10 +106,10 @@ module _ (m u : ℕ) (v : List ℕ) (t : Tree) (l : List Rec) (w : List ℕ) whe
       go (inr (inr (inr (inl a)))) = (a.1, a.2, a.3, a.4)
       go (inr (inr (inr (inr a)))) = absurd (omega (arith, a.0))
 
-  pub act-full : (act_number m u v t l w ≡ 11)
+  pub act_full : (act_number m u v t l w ≡ 11)
       ↔ ((is_listed m u ≡ true) × (wish_fits u v l w ≡ true) × (has_stroke (label_of w) ≡ false) × (count_on v u l < 65535) × (512 ≤ length l))
   unfolding act_number early_wish
-  act-full = (
+  act_full = (
     λ e. go (refused_by 11 (λ z. omega arith) (λ z. omega arith) (λ z. omega arith) e),
     λ (a, b, c, d, f). rw (a, b, c, lt-ltb (count_on v u l) 65535 d, le-ltb (length l) 512 f),
   )
@@ -135,6 +135,6 @@ stroke_used r e s =
 -- only a wish of an operation that uses a label is answered 24
 pub stroke_of_a_label : (m u : ℕ) (v : List ℕ) (t : Tree) (l : List Rec) (w : List ℕ) → length w ≡ 80 → act_number m u v t l w ≡ 24 → uses_label (get_or w 1 0) ≡ true
 stroke_of_a_label m u v t l w n e =
-    let (_, a, s) = (act-stroke m u v t l w).0 e in
-    let k = stroke_used (stamped u v l w) (wish_fits_lem u v l w a).1 (rw (stamped-label u v l w n) s) in
+    let (_, a, s) = (act_stroke m u v t l w).0 e in
+    let k = stroke_used (stamped u v l w) (wish_fits_lem u v l w a).1 (rw (stamped_label u v l w n) s) in
     rw (stamped-op u v l w n) at k

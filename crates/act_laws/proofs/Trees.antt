@@ -13,12 +13,12 @@ use Rattle.log_laws.proofs.Formed.{well_unit}
 use Rattle.log_laws.proofs.Counts.{count-nil, count_own, count_plus, count_shift}
 use Rattle.log_laws.proofs.Tests.{vector_on_get_d}
 use Rattle.tree_laws.specs.Trees.{SoundTree}
-use Rattle.tree_laws.proofs.Trees.{sound_wider, sound-step}
+use Rattle.tree_laws.proofs.Trees.{sound_wider, sound_step}
 
 sound_next : (v : List ℕ) (t : Tree) (pre : List Rec) (r : Rec) → Next v pre r → SoundTree (vector_on v pre) t → SoundTree (vector_on v (r ∷ pre)) (step t r)
 sound_next v t pre r n =
     let b : unit r < 8 = well_unit r n.formed in
-    sound-step (vector_on v pre) (vector_on v (r ∷ pre)) t r n.formed
+    sound_step (vector_on v pre) (vector_on v (r ∷ pre)) t r n.formed
     (n.next ∙ ap suc (sym (vector_on_get_d v pre (unit r) b)))
     (λ u k. omega (arith, n.within u k, vector_on_get_d v pre u k))
     (λ u k. omega (arith, vector_on_get_d v pre u k, vector_on_get_d v (r ∷ pre) u k, count_plus u r pre))

@@ -8,7 +8,7 @@ use mathlib.Core.Bool.{Bool, true, false, not, ◌&&◌}
 use mathlib.Core.List.{List, ◌++◌, append_assoc}
 use lib.ListN.{get_or, length, take, drop, replicate, length-append, length-drop, length-replicate, get_or-append}
 use lib.Seq.{drop_at, length-take-le, get_or-take}
-use borrow.Author.Tests.{eq-eqb, ne_eqb, lt-ltb, le-ltb, not-true, not-false}
+use borrow.Author.Tests.{eq-eqb, ne_eqb, lt-ltb, le-ltb, not-true, not_false}
 use Rattle.model.specs.Bytes.{two, blank, part, put_at}
 use Rattle.model.specs.Vector.{vector_bytes}
 use Rattle.model.specs.Record.{Rec, unit, op, num, seen, label_fits, well_formed}
@@ -19,9 +19,9 @@ use Rattle.byte_slice.proofs.Numbers.{eq_or_ne, first_stops}
 use Rattle.byte_slice.proofs.PutAt.{put_whole, put_more}
 use Rattle.vector.proofs.InBytes.{vector_bytes-length}
 use Rattle.log_laws.proofs.Tests.{vector_on_get_d}
-use Rattle.act_laws.proofs.Act.{stamped-label, stamped-unit, stamped-num, stamped-seen}
+use Rattle.act_laws.proofs.Act.{stamped_label, stamped-unit, stamped-num, stamped-seen}
 use Rattle.act_label.specs.Label.{field_number, body_fits}
-use Rattle.act_label.proofs.Body.{body_same, label_same, label-fits-same, formed_by_body}
+use Rattle.act_label.proofs.Body.{body_same, label_same, label_fits_same, formed_by_body}
 use Rattle.act_wish.specs.Stamp.{stamped_by, fits_as, number_as, room_as, early_as}
 
 -- ---- the three writings
@@ -45,105 +45,105 @@ module _ (n : ℕ) (v w : List ℕ) (h : length w ≡ 80) where
   two-long : length (take 2 w) ≡ 2
   two-long = length-take-le 2 w (omega arith)
 
-  stampedBy-op : op (stamped_by n v w) ≡ get_or w 1 0
+  stamped_by-op : op (stamped_by n v w) ≡ get_or w 1 0
   unfolding stamped_by op
-  stampedBy-op = get_or-append (take 2 w) (two n ++ (vector_bytes v ++ drop 20 w)) 0 1 (omega (arith, two-long)) ∙ get_or-take 2 w 1 0 (omega arith)
+  stamped_by-op = get_or-append (take 2 w) (two n ++ (vector_bytes v ++ drop 20 w)) 0 1 (omega (arith, two-long)) ∙ get_or-take 2 w 1 0 (omega arith)
 
-  stampedBy-behind : drop 4 (stamped_by n v w) ≡ vector_bytes v ++ drop 20 w
+  stamped_by-behind : drop 4 (stamped_by n v w) ≡ vector_bytes v ++ drop 20 w
   unfolding stamped_by
-  stampedBy-behind =
+  stamped_by-behind =
       let four : length (take 2 w ++ two n) ≡ 4 = omega (arith, length-append (take 2 w) (two n), two-long) in
       ap (drop 4) (sym (append_assoc (take 2 w) (two n) (vector_bytes v ++ drop 20 w))) ∙ drop_at (take 2 w ++ two n) (vector_bytes v ++ drop 20 w) 4 four
 
-  stampedBy-length : length (stamped_by n v w) ≡ 80
+  stamped_by-length : length (stamped_by n v w) ≡ 80
   unfolding stamped_by
-  stampedBy-length =
+  stamped_by-length =
       omega (arith, two-long, length-append (take 2 w) (two n ++ (vector_bytes v ++ drop 20 w)), length-append (two n) (vector_bytes v ++ drop 20 w), length-append (vector_bytes v) (drop 20 w), vector_bytes-length v, length-drop 20 w, h)
 
 -- ---- by the counts of a log behind a base vector
 
 module _ (u : ℕ) (v : List ℕ) (l : List Rec) (w : List ℕ) {h : List ℕ} (low : u < 8) (held : h ≡ vector_on v l) where
-  own-count : get_or h u 0 ≡ count_on v u l
-  own-count = rw held (vector_on_get_d v l u low)
+  own_count : get_or h u 0 ≡ count_on v u l
+  own_count = rw held (vector_on_get_d v l u low)
 
   -- below 65,535 the number is the next one
-  pub stamped-is : get_or h u 0 < 65535 → stamped_by ((get_or h u 0 + 1) % 65536) h w ≡ stamped u v l w
+  pub stamped_is : get_or h u 0 < 65535 → stamped_by ((get_or h u 0 + 1) % 65536) h w ≡ stamped u v l w
   unfolding stamped_by stamped
-  stamped-is small =
-      let k : (get_or h u 0 + 1) % 65536 ≡ suc (count_on v u l) = omega (arith, own-count) in
+  stamped_is small =
+      let k : (get_or h u 0 + 1) % 65536 ≡ suc (count_on v u l) = omega (arith, own_count) in
       rw (k, held)
 
   -- the record that the definition names, with its number as a plain number, 65,536 too
-  stamped-plain : stamped u v l w ≡ stamped_by (suc (count_on v u l)) (vector_on v l) w
+  stamped_plain : stamped u v l w ≡ stamped_by (suc (count_on v u l)) (vector_on v l) w
   unfolding stamped stamped_by
-  stamped-plain = refl
+  stamped_plain = refl
 
   module _ (n : ℕ) {r : Rec} (wide : length w ≡ 80) (own : r ≡ stamped_by n h w) where
     same_op : op r ≡ op (stamped u v l w)
-    same_op = rw (own, stamped-plain) (stampedBy-op n h w wide ∙ sym (stampedBy-op (suc (count_on v u l)) (vector_on v l) w wide))
+    same_op = rw (own, stamped_plain) (stamped_by-op n h w wide ∙ sym (stamped_by-op (suc (count_on v u l)) (vector_on v l) w wide))
 
-    same-behind : drop 4 r ≡ drop 4 (stamped u v l w)
-    same-behind = rw (own, stamped-plain, held) (stampedBy-behind n (vector_on v l) w wide ∙ sym (stampedBy-behind (suc (count_on v u l)) (vector_on v l) w wide))
+    same_behind : drop 4 r ≡ drop 4 (stamped u v l w)
+    same_behind = rw (own, stamped_plain, held) (stamped_by-behind n (vector_on v l) w wide ∙ sym (stamped_by-behind (suc (count_on v u l)) (vector_on v l) w wide))
 
     -- number and own seen fit in every stamped record of the own unit
-    formed-is : get_or w 0 0 ≡ u → (body_fits r && label_fits r) ≡ well_formed (stamped u v l w)
-    formed-is e =
+    formed_is : get_or w 0 0 ≡ u → (body_fits r && label_fits r) ≡ well_formed (stamped u v l w)
+    formed_is e =
         let s : Rec = stamped u v l w in
-        let long : length s ≡ 80 = rw stamped-plain (stampedBy-length (suc (count_on v u l)) (vector_on v l) w wide) in
+        let long : length s ≡ 80 = rw stamped_plain (stamped_by-length (suc (count_on v u l)) (vector_on v l) w wide) in
         let one : unit s ≡ u = stamped-unit u v l w wide ∙ e in
         let next : num s ≡ suc (count_on v u l) = stamped-num u v l w wide in
         let saw : seen s (unit s) ≡ num s - 1 = ap (seen s) one ∙ stamped-seen u v l w wide u low ∙ omega arith in
-        rw (body_same r s same_op same-behind, label-fits-same r s same_op same-behind)
+        rw (body_same r s same_op same_behind, label_fits_same r s same_op same_behind)
         (sym (formed_by_body s long (omega arith) (omega arith) saw))
 
-    fits-is : fits_as u w r ≡ wish_fits u v l w
+    fits_is : fits_as u w r ≡ wish_fits u v l w
     unfolding fits_as wish_fits
-    fits-is =
+    fits_is =
         ⊎_elim
-        (λ (e : get_or w 0 0 ≡ u). rw (formed-is e))
+        (λ (e : get_or w 0 0 ≡ u). rw (formed_is e))
         (λ (e : get_or w 0 0 ≡ u → ⊥). rw (ne_eqb (get_or w 0 0) u e))
         (eq_or_ne (get_or w 0 0) u)
 
     number_is : number_as u w r ≡ wish_number u v l w
     unfolding number_as
-    number_is = rw (fits-is, label_same r (stamped u v l w) same_op same-behind, stamped-label u v l w wide)
+    number_is = rw (fits_is, label_same r (stamped u v l w) same_op same_behind, stamped_label u v l w wide)
 
-    pub early-is : (m : ℕ) {k : ℕ} → k ≡ length l → early_as m u h k w r ≡ early_wish m u v l w
+    pub early_is : (m : ℕ) {k : ℕ} → k ≡ length l → early_as m u h k w r ≡ early_wish m u v l w
     unfolding early_as room_as early_wish
-    early-is m e = rw (number_is, own-count, e)
+    early_is m e = rw (number_is, own_count, e)
 
 -- ---- the ways out of `wish_number`
 
 module _ (u : ℕ) (w : List ℕ) (r : Rec) where
-  pub other-unit : (get_or w 0 0 ≡ u → ⊥) → 7 ≡ number_as u w r
+  pub other_unit : (get_or w 0 0 ≡ u → ⊥) → 7 ≡ number_as u w r
   unfolding number_as fits_as
-  other-unit h = rw (ne_eqb (get_or w 0 0) u h)
+  other_unit h = rw (ne_eqb (get_or w 0 0) u h)
 
   module _ (a : get_or w 0 0 ≡ u) {b : Bool} (e : b ≡ blank (take (20 - 2) (drop 2 w))) where
-    pub not-zero : not b ≡ true → 7 ≡ number_as u w r
+    pub not_zero : not b ≡ true → 7 ≡ number_as u w r
     unfolding number_as fits_as part
-    not-zero h = rw (eq-eqb (get_or w 0 0) u a, ← e, not-true b h)
+    not_zero h = rw (eq-eqb (get_or w 0 0) u a, ← e, not-true b h)
 
     module _ {f : Bool} (h : not b ≡ false) (g : f ≡ body_fits r) where
-      pub not-formed : not f ≡ true → 7 ≡ number_as u w r
+      pub not_formed : not f ≡ true → 7 ≡ number_as u w r
       unfolding number_as fits_as part
-      not-formed k = rw (eq-eqb (get_or w 0 0) u a, ← e, not-false b h, ← g, not-true f k)
+      not_formed k = rw (eq-eqb (get_or w 0 0) u a, ← e, not_false b h, ← g, not-true f k)
 
-      pub label-tells : {x : ℕ} → not f ≡ false → x ≡ field_number r → x ≡ number_as u w r
+      pub label_tells : {x : ℕ} → not f ≡ false → x ≡ field_number r → x ≡ number_as u w r
       unfolding number_as fits_as field_number part
-      label-tells k z = z ∙ rw (eq-eqb (get_or w 0 0) u a, ← e, not-false b h, ← g, not-false f k)
+      label_tells k z = z ∙ rw (eq-eqb (get_or w 0 0) u a, ← e, not_false b h, ← g, not_false f k)
 
 -- ---- the ways out of `room_number`
 
 module _ (c n : ℕ) where
-  pub last-used : 65535 ≤ c → 28 ≡ room_as c n
+  pub last_used : 65535 ≤ c → 28 ≡ room_as c n
   unfolding room_as
-  last-used h = rw (le-ltb c 65535 h)
+  last_used h = rw (le-ltb c 65535 h)
 
   module _ (a : c < 65535) where
-    pub log-full : 512 ≤ n → 11 ≡ room_as c n
+    pub log_full : 512 ≤ n → 11 ≡ room_as c n
     unfolding room_as
-    log-full h = rw (lt-ltb c 65535 a, le-ltb n 512 h)
+    log_full h = rw (lt-ltb c 65535 a, le-ltb n 512 h)
 
     pub room_left : n < 512 → 0 ≡ room_as c n
     unfolding room_as
@@ -157,10 +157,10 @@ module _ (m u : ℕ) (h : List ℕ) (n : ℕ) (w : List ℕ) (r : Rec) {t : Bool
   not_listed k = rw (← e, not-true t k)
 
   module _ {x : ℕ} (g : not t ≡ false) (q : x ≡ number_as u w r) where
-    pub wish-refused : (x ≡ 0 → ⊥) → x ≡ early_as m u h n w r
+    pub wish_refused : (x ≡ 0 → ⊥) → x ≡ early_as m u h n w r
     unfolding early_as
-    wish-refused k = rw (← e, not-false t g, ← q, first_stops x (room_as (get_or h u 0) n) k)
+    wish_refused k = rw (← e, not_false t g, ← q, first_stops x (room_as (get_or h u 0) n) k)
 
-    pub room-tells : {y : ℕ} → x ≡ 0 → y ≡ room_as (get_or h u 0) n → y ≡ early_as m u h n w r
+    pub room_tells : {y : ℕ} → x ≡ 0 → y ≡ room_as (get_or h u 0) n → y ≡ early_as m u h n w r
     unfolding early_as
-    room-tells z k = k ∙ rw (← e, not-false t g, ← q, z)
+    room_tells z k = k ∙ rw (← e, not_false t g, ← q, z)

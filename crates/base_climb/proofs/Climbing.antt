@@ -42,39 +42,39 @@ module _ (ups : List ℕ) where
   at_none (suc s) q z l = at_suc s q ∙ rw (ne_eqb q 0 z, lt-leb q 512 l)
 
   -- the top is no step away
-  top-at : (s : ℕ) → climbs ups s 0 ≡ leb 0 s
-  top-at zero = at_zero 0 ∙ sym (le-leb 0 0 (omega arith))
-  top-at (suc s) = at_suc s 0 ∙ sym (le-leb 0 (suc s) (omega arith))
+  top_at : (s : ℕ) → climbs ups s 0 ≡ leb 0 s
+  top_at zero = at_zero 0 ∙ sym (le-leb 0 0 (omega arith))
+  top_at (suc s) = at_suc s 0 ∙ sym (le-leb 0 (suc s) (omega arith))
 
-  exact-top : (q : ℕ) → q ≡ 0 → Exact ups q 0
-  exact-top q e = record { at = λ s. rw e (top-at s) }
+  exact_top : (q : ℕ) → q ≡ 0 → Exact ups q 0
+  exact_top q e = record { at = λ s. rw e (top_at s) }
 
   -- a step more, and back
   up_at : (q k : ℕ) → (q ≡ 0 → ⊥) → q ≤ 512 → Exact ups (get_or ups (q - 1) 0) k → (s : ℕ) → climbs ups s q ≡ leb (suc k) s
   up_at q k z l f zero = at_zero q ∙ (ne_eqb q 0 z ∙ sym (lt-leb (suc k) 0 (omega arith)))
   up_at q k z l f (suc s) = at_some s q z l ∙ (f.at s ∙ shifted k s)
 
-  exact-up : (q k : ℕ) → (q ≡ 0 → ⊥) → q ≤ 512 → Exact ups (get_or ups (q - 1) 0) k → Exact ups q (suc k)
-  exact-up q k z l f = record { at = up_at q k z l f }
+  exact_up : (q k : ℕ) → (q ≡ 0 → ⊥) → q ≤ 512 → Exact ups (get_or ups (q - 1) 0) k → Exact ups q (suc k)
+  exact_up q k z l f = record { at = up_at q k z l f }
 
-  exact-some : (q k : ℕ) → Exact ups q (suc k) → q ≡ 0 → ⊥
-  exact-some q k f z = not_both (climbs ups 0 q) (at_zero q ∙ eq-eqb q 0 z) (f.at 0 ∙ lt-leb (suc k) 0 (omega arith))
+  exact_some : (q k : ℕ) → Exact ups q (suc k) → q ≡ 0 → ⊥
+  exact_some q k f z = not_both (climbs ups 0 q) (at_zero q ∙ eq-eqb q 0 z) (f.at 0 ∙ lt-leb (suc k) 0 (omega arith))
 
-  exact-low : (q k : ℕ) → Exact ups q (suc k) → q ≤ 512
-  exact-low q k f =
+  exact_low : (q k : ℕ) → Exact ups q (suc k) → q ≤ 512
+  exact_low q k f =
       ⊎_elim
       (λ (l : 512 < q).
       absurd
       (not_both
       (climbs ups (suc k) q)
       (f.at (suc k) ∙ le-leb (suc k) (suc k) (omega arith))
-      (at_none (suc k) q (exact-some q k f) l)))
+      (at_none (suc k) q (exact_some q k f) l)))
       (λ l. l)
       (lt_or_ge 512 q)
 
-  exact-down : (q k : ℕ) → Exact ups q (suc k) → Exact ups (get_or ups (q - 1) 0) k
-  exact-down q k f =
-      record { at = λ s. sym (at_some s q (exact-some q k f) (exact-low q k f)) ∙ (f.at (suc s) ∙ sym (shifted k s)) }
+  exact_down : (q k : ℕ) → Exact ups q (suc k) → Exact ups (get_or ups (q - 1) 0) k
+  exact_down q k f =
+      record { at = λ s. sym (at_some s q (exact_some q k f) (exact_low q k f)) ∙ (f.at (suc s) ∙ sym (shifted k s)) }
 
 -- ---- the climb from row i has come to q by t steps
 
@@ -84,9 +84,9 @@ pub record Climbing (ups : List ℕ) (n i t q : ℕ) : Type 0 where
   pub carries : (k : ℕ) → Exact ups q k → Exact ups (get_or ups i 0) (t + k)
 
 module _ (ups : List ℕ) (n i : ℕ) where
-  pub climb-starts : {q : ℕ} → q ≡ get_or ups i 0 → Climbing ups n i 0 q
+  pub climb_starts : {q : ℕ} → q ≡ get_or ups i 0 → Climbing ups n i 0 q
   unfolding climbs_from
-  climb-starts {q} e =
+  climb_starts {q} e =
       record {
         few = omega arith;
         same = let z : n - 0 ≡ n = omega arith in rw (z, e);
@@ -98,38 +98,38 @@ module _ (ups : List ℕ) (n i : ℕ) where
   reached k f = record { told = sym (f.at n); exact = λ l. f }
 
   module _ {t q : ℕ} (w : Climbing ups n i t q) where
-    pub climb-top : q ≡ 0 → Away ups n i t
-    climb-top e = reached t (let z : t + 0 ≡ t = omega arith in (rw z at (w.carries 0 (exact-top ups q e))))
+    pub climb_top : q ≡ 0 → Away ups n i t
+    climb_top e = reached t (let z : t + 0 ≡ t = omega arith in (rw z at (w.carries 0 (exact_top ups q e))))
 
-    pub climb-known : (depths : List ℕ) (d : ℕ) → Known ups depths → (q ≡ 0 → ⊥) → q ≤ 512 → d ≡ get_or depths (q - 1) 0 → 0 < d → Away ups n i (t + d)
-    climb-known depths d known z l e h =
+    pub climb_known : (depths : List ℕ) (d : ℕ) → Known ups depths → (q ≡ 0 → ⊥) → q ≤ 512 → d ≡ get_or depths (q - 1) 0 → 0 < d → Away ups n i (t + d)
+    climb_known depths d known z l e h =
         let f : Exact ups (get_or ups (q - 1) 0) (d - 1) = rw e (known.far (q - 1) (omega arith) (rw e at h)) in
         let s : suc (d - 1) ≡ d = omega arith in
-        reached (t + d) (rw s at (w.carries (suc (d - 1)) (exact-up ups q (d - 1) z l f)))
+        reached (t + d) (rw s at (w.carries (suc (d - 1)) (exact_up ups q (d - 1) z l f)))
 
     never : n ≤ 512 → climbs ups (n - t) q ≡ false → Away ups n i 513
     never l e = record { told = lt-leb 513 n (omega arith) ∙ (sym e ∙ w.same); exact = λ h. absurd (omega arith) }
 
-    pub climb-lost : n ≤ 512 → (q ≡ 0 → ⊥) → 512 < q → Away ups n i 513
-    climb-lost l z h = never l (at_none ups (n - t) q z h)
+    pub climb_lost : n ≤ 512 → (q ≡ 0 → ⊥) → 512 < q → Away ups n i 513
+    climb_lost l z h = never l (at_none ups (n - t) q z h)
 
-    pub climb-over : n ≤ 512 → n ≤ t → (q ≡ 0 → ⊥) → Away ups n i 513
-    climb-over l h z =
+    pub climb_over : n ≤ 512 → n ≤ t → (q ≡ 0 → ⊥) → Away ups n i 513
+    climb_over l h z =
         let e : n - t ≡ 0 = omega (arith, w.few) in
         never l (rw e (at_zero ups q ∙ ne_eqb q 0 z))
 
-    pub climb-end : n ≤ t → q ≡ 0 → Away ups n i n
-    climb-end h e = let s : t ≡ n = omega (arith, w.few) in (rw s at (climb-top e))
+    pub climb_end : n ≤ t → q ≡ 0 → Away ups n i n
+    climb_end h e = let s : t ≡ n = omega (arith, w.few) in (rw s at (climb_top e))
 
-    pub climb-goes : {r : ℕ} → t < n → (q ≡ 0 → ⊥) → q ≤ 512 → r ≡ get_or ups (q - 1) 0 → Climbing ups n i (t + 1) r
-    climb-goes {r} h z l e =
+    pub climb_goes : {r : ℕ} → t < n → (q ≡ 0 → ⊥) → q ≤ 512 → r ≡ get_or ups (q - 1) 0 → Climbing ups n i (t + 1) r
+    climb_goes {r} h z l e =
         let s : suc (n - (t + 1)) ≡ n - t = omega arith in
         record {
           few = omega arith;
           same = rw e (sym (at_some ups (n - (t + 1)) q z l) ∙ rw s w.same);
           carries = λ k f.
               let p : t + suc k ≡ t + 1 + k = omega arith in
-              (rw p at (w.carries (suc k) (exact-up ups q k z l (rw e at f))));
+              (rw p at (w.carries (suc k) (exact_up ups q k z l (rw e at f))));
         }
 
 -- ---- what is known
@@ -139,8 +139,8 @@ pub cleared : (d : List ℕ) (i : ℕ) {o : List ℕ} → length d ≡ 1024 → 
 cleared d i long h g e = e ∙ (filled d 0 i (omega arith) ∙ rw long)
 
 module _ (ups : List ℕ) where
-  pub known-none : {d : List ℕ} → d ≡ replicate 1024 0 → Known ups d
-  known-none e =
+  pub known_none : {d : List ℕ} → d ≡ replicate 1024 0 → Known ups d
+  known_none e =
       rw e record {
         long = length-replicate {A = ℕ} 1024 0;
         far = λ j l h. absurd (omega (arith, get_or-replicate {A = ℕ} 1024 j 0 0 (omega arith)));
@@ -167,13 +167,13 @@ module _ (ups : List ℕ) where
     again = let s : suc (k - 1) ≡ k = omega arith in rw s f
 
     pub row_some : {q : ℕ} → q ≡ get_or ups row 0 → 1 ≤ q
-    row_some e = let h : get_or ups row 0 ≡ 0 → ⊥ = exact-some ups (get_or ups row 0) (k - 1) again in omega (arith, e)
+    row_some e = let h : get_or ups row 0 ≡ 0 → ⊥ = exact_some ups (get_or ups row 0) (k - 1) again in omega (arith, e)
 
     pub row_low : {q : ℕ} → q ≡ get_or ups row 0 → q - 1 < 512
-    row_low e = omega (arith, e, exact-low ups (get_or ups row 0) (k - 1) again)
+    row_low e = omega (arith, e, exact_low ups (get_or ups row 0) (k - 1) again)
 
-    pub row-exact : {q : ℕ} → q ≡ get_or ups row 0 → Exact ups (get_or ups (q - 1) 0) (k - 1)
-    row-exact e = rw e (exact-down ups (get_or ups row 0) (k - 1) again)
+    pub row_exact : {q : ℕ} → q ≡ get_or ups row 0 → Exact ups (get_or ups (q - 1) 0) (k - 1)
+    row_exact e = rw e (exact_down ups (get_or ups row 0) (k - 1) again)
 
 -- ---- all rows
 
@@ -182,14 +182,14 @@ module _ (ups : List ℕ) (n : ℕ) where
   all_start = all_none (climbs_from ups n)
 
   module _ (i k : ℕ) (w : Away ups n i k) where
-    pub all-lost : i < n → n < k → false ≡ all_to n (climbs_from ups n)
-    all-lost h l = sym (all_false n (climbs_from ups n) i h (sym w.told ∙ lt-leb k n l))
+    pub all_lost : i < n → n < k → false ≡ all_to n (climbs_from ups n)
+    all_lost h l = sym (all_false n (climbs_from ups n) i h (sym w.told ∙ lt-leb k n l))
 
-    pub all-goes : k ≤ n → true ≡ all_to i (climbs_from ups n) → true ≡ all_to (i + 1) (climbs_from ups n)
-    all-goes l e = all_next (climbs_from ups n) i e (sym (le-leb k n l) ∙ w.told)
+    pub all_goes : k ≤ n → true ≡ all_to i (climbs_from ups n) → true ≡ all_to (i + 1) (climbs_from ups n)
+    all_goes l e = all_next (climbs_from ups n) i e (sym (le-leb k n l) ∙ w.told)
 
-    pub away-exact : k ≤ n → Exact ups (get_or ups i 0) k
-    away-exact l = w.exact l
+    pub away_exact : k ≤ n → Exact ups (get_or ups i 0) k
+    away_exact l = w.exact l
 
   pub all_end : (i : ℕ) → i ≤ n → n ≤ i → true ≡ all_to i (climbs_from ups n) → true ≡ all_to n (climbs_from ups n)
   all_end i h g e = all_ends (climbs_from ups n) i n h g e

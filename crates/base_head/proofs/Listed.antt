@@ -51,12 +51,12 @@ abbrev pub passes : ℕ → List ℕ → ℕ → Bool
 passes m v u = eqb (get_or v u 0) 0 || is_listed m u
 
 module _ (m : ℕ) (v : List ℕ) where
-  pub units-next : (u : ℕ) {t s : Bool} → t ≡ all_to u (passes m v) → s ≡ is_listed m u → (t && (eqb (get_or v u 0) 0 || s)) ≡ all_to (u + 1) (passes m v)
-  units-next u e f = all_next (passes m v) u e (rw f)
+  pub units_next : (u : ℕ) {t s : Bool} → t ≡ all_to u (passes m v) → s ≡ is_listed m u → (t && (eqb (get_or v u 0) 0 || s)) ≡ all_to (u + 1) (passes m v)
+  units_next u e f = all_next (passes m v) u e (rw f)
 
-  pub units-end : (u : ℕ) {t : Bool} → u ≤ 8 → 8 ≤ u → t ≡ all_to u (passes m v) → t ≡ lists_all m v
+  pub units_end : (u : ℕ) {t : Bool} → u ≤ 8 → 8 ≤ u → t ≡ all_to u (passes m v) → t ≡ lists_all m v
   unfolding lists_all
-  units-end u h g e = all_ends (passes m v) u 8 h g e
+  units_end u h g e = all_ends (passes m v) u 8 h g e
 
   pub units_start : true ≡ all_to 0 (passes m v)
   units_start = all_none (passes m v)
@@ -68,18 +68,18 @@ unfolding head_of base_vector
 head_is b f g h = λ i. headed (get_or b 0 0) (f i) (g i) (h i)
 
 module _ (b : List ℕ) {m n k : ℕ} {v : List ℕ} (e : headed m v n k ≡ head_of b) where
-  pub head-list : m ≡ get_or b 0 0
+  pub head_list : m ≡ get_or b 0 0
   unfolding head_of
-  head-list = ap (λ (x : BaseHead). x.list) e
+  head_list = ap (λ (x : BaseHead). x.list) e
 
-  pub head-folded : v ≡ base_vector b
+  pub head_folded : v ≡ base_vector b
   unfolding head_of
-  head-folded = ap (λ (x : BaseHead). x.folded) e
+  head_folded = ap (λ (x : BaseHead). x.folded) e
 
-  pub head-entries : n ≡ word b 2
+  pub head_entries : n ≡ word b 2
   unfolding head_of
-  head-entries = ap (λ (x : BaseHead). x.entries) e
+  head_entries = ap (λ (x : BaseHead). x.entries) e
 
-  pub head-asides : k ≡ word b 4
+  pub head_asides : k ≡ word b 4
   unfolding head_of
-  head-asides = ap (λ (x : BaseHead). x.asides) e
+  head_asides = ap (λ (x : BaseHead). x.asides) e

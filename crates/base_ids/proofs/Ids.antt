@@ -13,23 +13,23 @@ use Rattle.model.specs.Log.{all_to}
 use Rattle.model.specs.Table.{entry_in, aside_in}
 use Rattle.base_model.specs.Base.{last_to, base_entry, base_aside, id_at, is_id, id_new}
 use Rattle.base_links.specs.Links.{Linked, Walk}
-use Rattle.base_links.proofs.Links.{walk-starts, walk-low, walk-goes, walk_found, walk_ends, linked_none, linked_more, all_next, all_ends, all_none}
+use Rattle.base_links.proofs.Links.{walk_starts, walk_low, walk_goes, walk_found, walk_ends, linked_none, linked_more, all_next, all_ends, all_none}
 use Rattle.base_ids.specs.Ups.{link_of, id_key}
 
 -- ---- fields
 
 module _ (b : List ℕ) where
-  pub kind-is : (i : ℕ) → get_or b (24 + 72 * i) 0 ≡ (base_entry b i).kind
+  pub kind_is : (i : ℕ) → get_or b (24 + 72 * i) 0 ≡ (base_entry b i).kind
   unfolding base_entry entry_in
-  kind-is i = refl
+  kind_is i = refl
 
   pub inside_is : (i : ℕ) {k : ℕ} → k ≡ identity_at b (24 + 72 * i + 8) → k ≡ (base_entry b i).inside
   unfolding base_entry entry_in
   inside_is i e = e
 
-  pub id-entry : (n i : ℕ) {k : ℕ} → i < n → k ≡ identity_at b (24 + 72 * i + 4) → k ≡ id_at b n i
+  pub id_entry : (n i : ℕ) {k : ℕ} → i < n → k ≡ identity_at b (24 + 72 * i + 4) → k ≡ id_at b n i
   unfolding id_at base_entry entry_in
-  id-entry n i h e = rw (lt-ltb i n h) e
+  id_entry n i h e = rw (lt-ltb i n h) e
 
   pub id_aside : (n i : ℕ) {k : ℕ} → n ≤ i → k ≡ identity_at b (36888 + 12 * (i - n)) → k ≡ id_at b n i
   unfolding id_at base_aside aside_in
@@ -50,17 +50,17 @@ module _ (b heads next : List ℕ) (n k i : ℕ) (w : Linked (id_key b n) heads 
   unfolding is_id id_key
   agree j e = ap link_of (eqb-true (id_at b n j) k e)
 
-  pub seek-starts : {h q : ℕ} → h ≡ link_of k → h < 1021 → q ≡ get_or heads h 0 → Seeks b n k i q
-  seek-starts e l f = walk-starts (is_id b n k) (id_key b n) heads next (link_of k) i agree w (omega arith) (f ∙ rw e)
+  pub seek_starts : {h q : ℕ} → h ≡ link_of k → h < 1021 → q ≡ get_or heads h 0 → Seeks b n k i q
+  seek_starts e l f = walk_starts (is_id b n k) (id_key b n) heads next (link_of k) i agree w (omega arith) (f ∙ rw e)
 
   module _ {q : ℕ} (s : Seeks b n k i q) (z : 0 < q) {x : ℕ} (e : x ≡ id_at b n (q - 1)) where
-    pub seek-low : {r : ℕ} → r ≡ get_or next (q - 1) 0 → r < q
-    seek-low f = walk-low (is_id b n k) (id_key b n) heads next (link_of k) i agree w s z f
+    pub seek_low : {r : ℕ} → r ≡ get_or next (q - 1) 0 → r < q
+    seek_low f = walk_low (is_id b n k) (id_key b n) heads next (link_of k) i agree w s z f
 
-    pub seek-goes : {r : ℕ} → (x ≡ k → ⊥) → r ≡ get_or next (q - 1) 0 → Seeks b n k i r
+    pub seek_goes : {r : ℕ} → (x ≡ k → ⊥) → r ≡ get_or next (q - 1) 0 → Seeks b n k i r
     unfolding is_id
-    seek-goes d f =
-        walk-goes (is_id b n k) (id_key b n) heads next (link_of k) i agree w s z (ne_eqb (id_at b n (q - 1)) k (λ y. d (e ∙ y))) f
+    seek_goes d f =
+        walk_goes (is_id b n k) (id_key b n) heads next (link_of k) i agree w s z (ne_eqb (id_at b n (q - 1)) k (λ y. d (e ∙ y))) f
 
     pub seek_found : x ≡ k → q ≡ last_to (is_id b n k) i
     unfolding is_id
@@ -72,24 +72,24 @@ seek_ends b n k i q s z = walk_ends (is_id b n k) (id_key b n) (link_of k) i q s
 -- ---- all identities
 
 module _ (b : List ℕ) (n : ℕ) where
-  pub ids-linked : (heads next heads' next' : List ℕ) (i to k h : ℕ) → Linked (id_key b n) heads next i → n ≤ 512 → to ≤ n + 512 → i < to → k ≡ id_at b n i → h ≡ link_of k → h < 1021
+  pub ids_linked : (heads next heads' next' : List ℕ) (i to k h : ℕ) → Linked (id_key b n) heads next i → n ≤ 512 → to ≤ n + 512 → i < to → k ≡ id_at b n i → h ≡ link_of k → h < 1021
       → heads' ≡ set heads h (i + 1) → next' ≡ set next i (get_or heads h 0) → Linked (id_key b n) heads' next' (i + 1)
   unfolding id_key
-  ids-linked heads next heads' next' i to k h w few most low e f l p q =
+  ids_linked heads next heads' next' i to k h w few most low e f l p q =
       linked_more (id_key b n) heads next heads' next' h i w (omega arith) (omega arith) (f ∙ ap link_of e) p q
 
   pub ids_next : (i k q : ℕ) {t : Bool} → t ≡ all_to i (id_new b n) → k ≡ id_at b n i → q ≡ last_to (is_id b n k) i → (t && eqb q 0) ≡ all_to (i + 1) (id_new b n)
   unfolding id_new
   ids_next i k q a e f = all_next (id_new b n) i a (rw (f, e))
 
-  pub ids-end : (i to : ℕ) {t : Bool} → i ≤ to → to ≤ i → t ≡ all_to i (id_new b n) → t ≡ all_to to (id_new b n)
-  ids-end i to h g e = all_ends (id_new b n) i to h g e
+  pub ids_end : (i to : ℕ) {t : Bool} → i ≤ to → to ≤ i → t ≡ all_to i (id_new b n) → t ≡ all_to to (id_new b n)
+  ids_end i to h g e = all_ends (id_new b n) i to h g e
 
-  pub ids-linked-end : (heads next : List ℕ) (i to : ℕ) → i ≤ to → to ≤ i → Linked (id_key b n) heads next i → Linked (id_key b n) heads next to
-  ids-linked-end heads next i to h g w = let e : i ≡ to = omega arith in (rw e at w)
+  pub ids_linked_end : (heads next : List ℕ) (i to : ℕ) → i ≤ to → to ≤ i → Linked (id_key b n) heads next i → Linked (id_key b n) heads next to
+  ids_linked_end heads next i to h g w = let e : i ≡ to = omega arith in (rw e at w)
 
-  pub ids-none : Linked (id_key b n) (replicate 1024 0) (replicate 1024 0) 0
-  ids-none = linked_none (id_key b n)
+  pub ids_none : Linked (id_key b n) (replicate 1024 0) (replicate 1024 0) 0
+  ids_none = linked_none (id_key b n)
 
-  pub ids-start : true ≡ all_to 0 (id_new b n)
-  ids-start = all_none (id_new b n)
+  pub ids_start : true ≡ all_to 0 (id_new b n)
+  ids_start = all_none (id_new b n)

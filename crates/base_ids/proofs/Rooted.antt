@@ -13,7 +13,7 @@ use borrow.Author.Tests.{eq-eqb, ne_eqb, le-leb}
 use Rattle.model.specs.Log.{all_to}
 use Rattle.byte_slice.proofs.Numbers.{eq_or_ne}
 use Rattle.base_model.specs.Base.{last_to, base_entry, is_id, place_of, is_folder_row, reaches, is_rooted, id_new, ids_fit}
-use Rattle.base_links.proofs.Links.{last-le, all_same}
+use Rattle.base_links.proofs.Links.{last_le, all_same}
 use Rattle.base_climb.specs.Climb.{climbs, climbs_from}
 use Rattle.base_ids.specs.Ups.{up_of, Ups}
 
@@ -30,22 +30,22 @@ module _ (b : List ℕ) (n f : ℕ) where
     up_none z = rw (ne_eqb f 0 d, ← e, eq-eqb q 0 z)
 
     module _ (z : q ≡ 0 → ⊥) {k : ℕ} (g : k ≡ (base_entry b (q - 1)).kind) where
-      pub up-other : (k ≡ 1 → ⊥) → 513 ≡ up_of b n f
+      pub up_other : (k ≡ 1 → ⊥) → 513 ≡ up_of b n f
       unfolding up_of place_of is_folder_row
-      up-other h = rw (ne_eqb f 0 d, ← e, ne_eqb q 0 z, ← g, ne_eqb k 1 h)
+      up_other h = rw (ne_eqb f 0 d, ← e, ne_eqb q 0 z, ← g, ne_eqb k 1 h)
 
-      pub up-folder : k ≡ 1 → q ≡ up_of b n f
+      pub up_folder : k ≡ 1 → q ≡ up_of b n f
       unfolding up_of place_of is_folder_row
-      up-folder h = rw (ne_eqb f 0 d, ← e, ne_eqb q 0 z, ← g, eq-eqb k 1 h)
+      up_folder h = rw (ne_eqb f 0 d, ← e, ne_eqb q 0 z, ← g, eq-eqb k 1 h)
 
 -- ---- the table
 
 module _ (b : List ℕ) (n : ℕ) where
-  pub ups-none : (ups : List ℕ) → length ups ≡ 512 → Ups b n ups 0
-  ups-none ups e = record { long = e; up = λ j h. absurd (omega arith) }
+  pub ups_none : (ups : List ℕ) → length ups ≡ 512 → Ups b n ups 0
+  ups_none ups e = record { long = e; up = λ j h. absurd (omega arith) }
 
-  pub ups-more : (ups ups' : List ℕ) (i f u : ℕ) → Ups b n ups i → n ≤ 512 → i < n → f ≡ (base_entry b i).inside → u ≡ up_of b n f → ups' ≡ set ups i u → Ups b n ups' (i + 1)
-  ups-more ups ups' i f u w few low e g p =
+  pub ups_more : (ups ups' : List ℕ) (i f u : ℕ) → Ups b n ups i → n ≤ 512 → i < n → f ≡ (base_entry b i).inside → u ≡ up_of b n f → ups' ≡ set ups i u → Ups b n ups' (i + 1)
+  ups_more ups ups' i f u w few low e g p =
       record {
         long = ap (λ (l : List ℕ). length l) p ∙ (length-set ups i u ∙ w.long);
         up = λ j h.
@@ -55,8 +55,8 @@ module _ (b : List ℕ) (n : ℕ) where
             (eq_or_ne j i);
       }
 
-  pub ups-end : (ups : List ℕ) (i : ℕ) → i ≤ n → n ≤ i → Ups b n ups i → Ups b n ups n
-  ups-end ups i h g w = let e : i ≡ n = omega arith in (rw e at w)
+  pub ups_end : (ups : List ℕ) (i : ℕ) → i ≤ n → n ≤ i → Ups b n ups i → Ups b n ups n
+  ups_end ups i h g w = let e : i ≡ n = omega arith in (rw e at w)
 
 -- ---- a row of kind 1 is a row
 
@@ -69,11 +69,11 @@ folder_some b q e z = false≢true (sym (rw (eq-eqb q 0 z)) ∙ e)
 module _ (b ups : List ℕ) (n : ℕ) (few : n ≤ 512) (w : Ups b n ups n) where
   row_low : (f : ℕ) → place_of b n f ≤ n
   unfolding place_of
-  row_low f = last-le (is_id b n f) n
+  row_low f = last_le (is_id b n f) n
 
-  reach-is : (s f : ℕ) → climbs ups s (up_of b n f) ≡ reaches b n s f
+  reach_is : (s f : ℕ) → climbs ups s (up_of b n f) ≡ reaches b n s f
   unfolding climbs reaches up_of
-  reach-is zero f =
+  reach_is zero f =
       ⊎_elim
       (λ (e : f ≡ 0). rw (eq-eqb f 0 e))
       (λ (e : f ≡ 0 → ⊥). rw (ne_eqb f 0 e) (over (is_folder_row b (place_of b n f)) refl))
@@ -82,10 +82,10 @@ module _ (b ups : List ℕ) (n : ℕ) (few : n ≤ 512) (w : Ups b n ups n) wher
       over : (t : Bool) → is_folder_row b (place_of b n f) ≡ t → eqb (cond t (place_of b n f) 513) 0 ≡ false
       over true e = ne_eqb (place_of b n f) 0 (folder_some b (place_of b n f) e)
       over false e = refl
-  reach-is (suc s) f =
+  reach_is (suc s) f =
       ⊎_elim
       (λ (e : f ≡ 0). rw (eq-eqb f 0 e))
-      (λ (e : f ≡ 0 → ⊥). rw (ne_eqb f 0 e) (over (is_folder_row b (place_of b n f)) refl (reach-is s (base_entry b (place_of b n f - 1)).inside)))
+      (λ (e : f ≡ 0 → ⊥). rw (ne_eqb f 0 e) (over (is_folder_row b (place_of b n f)) refl (reach_is s (base_entry b (place_of b n f - 1)).inside)))
       (eq_or_ne f 0)
     where
       over : (t : Bool) → is_folder_row b (place_of b n f) ≡ t → climbs ups s (up_of b n (base_entry b (place_of b n f - 1)).inside) ≡ reaches b n s (base_entry b (place_of b n f - 1)).inside
@@ -96,10 +96,10 @@ module _ (b ups : List ℕ) (n : ℕ) (few : n ≤ 512) (w : Ups b n ups n) wher
           rw (ne_eqb (place_of b n f) 0 z, le-leb (place_of b n f) 512 l, w.up (place_of b n f - 1) (omega (arith, row_low f))) h
       over false e h = refl
 
-  pub rooted-is : all_to n (climbs_from ups n) ≡ all_to n (is_rooted b n)
+  pub rooted_is : all_to n (climbs_from ups n) ≡ all_to n (is_rooted b n)
   unfolding climbs_from is_rooted
-  rooted-is = all_same n (climbs_from ups n) (is_rooted b n) (λ i h. rw (w.up i h) (reach-is n (base_entry b i).inside))
+  rooted_is = all_same n (climbs_from ups n) (is_rooted b n) (λ i h. rw (w.up i h) (reach_is n (base_entry b i).inside))
 
 pub ids_are : (b ups : List ℕ) (n m : ℕ) {t u : Bool} → n ≤ 512 → Ups b n ups n → t ≡ all_to (n + m) (id_new b n) → u ≡ all_to n (climbs_from ups n) → (t && u) ≡ ids_fit b n m
 unfolding ids_fit
-ids_are b ups n m l w e f = rw (e, f, rooted-is b ups n l w)
+ids_are b ups n m l w e f = rw (e, f, rooted_is b ups n l w)

@@ -18,21 +18,21 @@ use Rattle.vector.proofs.InBytes.{vector_at-length}
 use Rattle.base_laws.specs.Plain.{Plain}
 use Rattle.tree_laws.specs.Trees.{SoundTree}
 use Rattle.base_laws.specs.Laid.{Lays}
-use Rattle.base_laws.proofs.Numbered.{has_at, entries-listed, entries-count, asides-count}
-use Rattle.base_laws.proofs.Plain.{all_at, plain_of, ids-of, names_of}
+use Rattle.base_laws.proofs.Numbered.{has_at, entries_listed, entries_count, asides_count}
+use Rattle.base_laws.proofs.Plain.{all_at, plain_of, ids_of, names_of}
 use Rattle.base_laws.proofs.Rows.{row_present}
 use Rattle.base_laws.proofs.Trees as T
 use Rattle.base_laws.proofs.LaidTree as L
 use Rattle.base_laws.proofs.Again as A
 use Rattle.base_laws.proofs.Fresh.{empty_sound, empty_state}
-use Rattle.base_laws.proofs.Folds.{state-tree, fold-accepted, fold_same}
+use Rattle.base_laws.proofs.Folds.{state_tree, fold_accepted, fold_same}
 
 -- the tests of the tree hold exactly where no identity stands twice, no label twice in a folder, and each entry reaches the root through
 -- folders
 pub tests_exactly : (b : List ℕ) (n m : ℕ) → ((ids_fit b n m && all_to n (name_new b)) ≡ true) ↔ Plain b n m
 tests_exactly b n m = (
   λ e. let (p, q) = and_true (ids_fit b n m) (all_to n (name_new b)) e in plain_of b n m p q,
-  λ w. true_and (ids_fit b n m) (all_to n (name_new b)) (ids-of b n m w) (names_of b n m w),
+  λ w. true_and (ids_fit b n m) (all_to n (name_new b)) (ids_of b n m w) (names_of b n m w),
 )
 
 -- the tree of a sound base is a sound tree on the base vector
@@ -50,11 +50,11 @@ sound_lays b h e =
     let s = T.sound_tells b e in
     record {
       eight = vector_at-length b 8;
-      few_entries = rw (entries-count b 0 (word b 2)) s.few_entries;
-      few_asides = rw (asides-count b 0 (word b 4)) s.few_asides;
+      few_entries = rw (entries_count b 0 (word b 2)) s.few_entries;
+      few_asides = rw (asides_count b 0 (word b 4)) s.few_asides;
       sound = sound_tree b h e;
       none-removed = λ x p.
-          let r = has_at (base_entry b) x 0 (word b 2) (rw (entries-listed b 0 (word b 2)) at p) in
+          let r = has_at (base_entry b) x 0 (word b 2) (rw (entries_listed b 0 (word b 2)) at p) in
           subst
           (λ (y : Entry). is_present y ≡ true)
           (sym r.holds)
@@ -87,7 +87,7 @@ start_leaves_sound = (empty_sound, empty_state)
 -- an accepted fold leaves a sound state
 pub fold_leaves_sound : (u m : ℕ) (log base work : List ℕ) → (fold_of u log base m work).number ≡ 0
     → (length (fold_of u log base m work).log ≡ 40960) × (length (fold_of u log base m work).lent ≡ 43032) × (sound_state (fold_of u log base m work).log (fold_of u log base m work).lent ≡ true)
-fold_leaves_sound u m log base work z = fold-accepted u m log base work z
+fold_leaves_sound u m log base work z = fold_accepted u m log base work z
 
 -- with the same held vector, which shows the same tree table
 pub fold_shows_the_same : (u m : ℕ) (log base work : List ℕ) → (fold_of u log base m work).number ≡ 0
@@ -96,4 +96,4 @@ fold_shows_the_same u m log base work z = fold_same u m log base work z
 
 -- the tree of a sound state is a sound tree on its held vector
 pub state_tree_sound : (log base : List ℕ) → length base ≡ 43032 → sound_state log base ≡ true → SoundTree (held_on log base) (tree_of log base)
-state_tree_sound log base h s = state-tree log base s h
+state_tree_sound log base h s = state_tree log base s h

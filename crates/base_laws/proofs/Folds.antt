@@ -26,9 +26,9 @@ use Rattle.base_model.specs.Base.{Base, base_bytes, base_vector, base_tree, base
 use Rattle.call_model.specs.Outcome.{Outcome, refusal, or_refused, early_number, guard_number, guarded}
 use Rattle.call_model.specs.Fold.{heard_run, counts_as_base, longest, run_of, folded_base, list_fits, list_number, run_in, folded, fold_by, fold_of}
 use Rattle.base_laws.specs.Laid.{Lays}
-use Rattle.base_laws.proofs.Numbered.{entries-count, asides-count}
+use Rattle.base_laws.proofs.Numbered.{entries_count, asides_count}
 use Rattle.base_laws.proofs.Trees as T
-use Rattle.base_laws.proofs.LaidTree.{bytes-length, base_back, base_sound}
+use Rattle.base_laws.proofs.LaidTree.{bytes_length, base_back, base_sound}
 use Rattle.base_laws.proofs.Replaying.{sound_on, shed_on, vector_behind, replay-behind}
 
 -- ---- a state in its parts
@@ -41,22 +41,22 @@ module _ (log base : List ℕ) (s : sound_state log base ≡ true) where
       let (c, d) = and_true (sound_log_on (base_vector base) log) (lists_all (get_or base 0 0) (held_on log base)) b in
       (a, c, d)
 
-  pub state-base : sound_base base ≡ true
-  state-base = parts.0
+  pub state_base : sound_base base ≡ true
+  state_base = parts.0
 
-  pub state-log : sound_log_on (base_vector base) log ≡ true
-  state-log = parts.1
+  pub state_log : sound_log_on (base_vector base) log ≡ true
+  state_log = parts.1
 
-  pub state-listed : lists_all (get_or base 0 0) (held_on log base) ≡ true
-  state-listed = parts.2
+  pub state_listed : lists_all (get_or base 0 0) (held_on log base) ≡ true
+  state_listed = parts.2
 
-  pub state-records : SoundAfter (base_vector base) [] (records_of log)
-  state-records = sound_records_on (base_vector base) log state-log
+  pub state_records : SoundAfter (base_vector base) [] (records_of log)
+  state_records = sound_records_on (base_vector base) log state_log
 
   -- the tree of the records held, on the vector that counts them
-  pub state-tree : length base ≡ 43032 → SoundTree (held_on log base) (tree_of log base)
+  pub state_tree : length base ≡ 43032 → SoundTree (held_on log base) (tree_of log base)
   unfolding tree_of
-  state-tree h = sound_on (base_vector base) (base_tree base) (records_of log) state-records (T.sound_tree base h state-base)
+  state_tree h = sound_on (base_vector base) (base_tree base) (records_of log) state_records (T.sound_tree base h state_base)
 
 pub state_sound : (log base : List ℕ) → sound_base base ≡ true → sound_log_on (base_vector base) log ≡ true → lists_all (get_or base 0 0) (held_on log base) ≡ true → sound_state log base ≡ true
 unfolding sound_state
@@ -72,12 +72,12 @@ module _ (v : List ℕ) (t : Tree) (l : List Rec) (h : SoundAfter v [] l) (n : �
   both : SoundAfter v [] (take n l ++ drop n l)
   both = subst (SoundAfter v []) (sym (take-append-drop n l)) h
 
-  pub left-sound : SoundAfter (vector_on v (take n l)) [] (drop n l)
-  left-sound = shed_on v (vector_on v (take n l)) (take n l) (drop n l) (λ u k. vector_on_get_d v (take n l) u k) both
+  pub left_sound : SoundAfter (vector_on v (take n l)) [] (drop n l)
+  left_sound = shed_on v (vector_on v (take n l)) (take n l) (drop n l) (λ u k. vector_on_get_d v (take n l) u k) both
 
-  pub folded-lays : (m : ℕ) → SoundTree v t → Counts t l n → Lays (folded_base m v t l n)
+  pub folded_lays : (m : ℕ) → SoundTree v t → Counts t l n → Lays (folded_base m v t l n)
   unfolding folded_base trim counts_as_base
-  folded-lays m s c =
+  folded_lays m s c =
       let x : Tree = replay_from t (take n l) in
       let (a, b) = and_true (leb (length (present_ones x.entries)) 512) (leb (length x.asides) 512) c in
       record {
@@ -105,8 +105,8 @@ unfolding counts_as_base replay_from base_tree
 none-counts base e l =
     let w = T.sound_tells base e in
     true_and (leb (length (present_ones (base_tree base).entries)) 512) (leb (length (base_tree base).asides) 512)
-    (le-leb (length (present_ones (base_tree base).entries)) 512 (omega (arith, present_few (base_tree base).entries, entries-count base 0 (word base 2), w.few_entries)))
-    (le-leb (length (base_tree base).asides) 512 (omega (arith, asides-count base 0 (word base 4), w.few_asides)))
+    (le-leb (length (present_ones (base_tree base).entries)) 512 (omega (arith, present_few (base_tree base).entries, entries_count base 0 (word base 2), w.few_entries)))
+    (le-leb (length (base_tree base).asides) 512 (omega (arith, asides_count base 0 (word base 4), w.few_asides)))
 
 longest-counts : (t : Tree) (l : List Rec) (n : ℕ) → Counts t l 0 → Counts t l (longest t l n)
 unfolding longest
@@ -135,16 +135,16 @@ module _ (log base : List ℕ) (long : length base ≡ 43032) (s : sound_state l
   after = folded_base m (base_vector base) (base_tree base) (records_of log) n
 
   lays : Lays after
-  lays = folded-lays v (base_tree base) l (state-records log base s) n m (T.sound_tree base long (state-base log base s)) c
+  lays = folded_lays v (base_tree base) l (state_records log base s) n m (T.sound_tree base long (state_base log base s)) c
 
   pub folded-length : length (base_bytes after) ≡ 43032
-  folded-length = bytes-length after lays
+  folded-length = bytes_length after lays
 
   pub folded_back : base_in (base_bytes after) ≡ after
   folded_back = base_back after lays
 
-  pub folded-sound : sound_base (base_bytes after) ≡ true
-  folded-sound = base_sound after lays
+  pub folded_sound : sound_base (base_bytes after) ≡ true
+  folded_sound = base_sound after lays
 
   vector_is : base_vector (base_bytes after) ≡ vector_on v (take n l)
   unfolding base_in folded_base
@@ -159,7 +159,7 @@ module _ (log base : List ℕ) (long : length base ≡ 43032) (s : sound_state l
   tree_is = ap (λ (b : Base). b.tree) folded_back
 
   left : SoundAfter (vector_on v (take n l)) [] (drop n l)
-  left = left-sound v (base_tree base) l (state-records log base s) n
+  left = left_sound v (base_tree base) l (state_records log base s) n
 
   few : length (drop n l) ≤ 512
   few = omega (arith, length-drop n l, sound_few log)
@@ -172,9 +172,9 @@ module _ (log base : List ℕ) (long : length base ≡ 43032) (s : sound_state l
   folded-held = rw (records_left_lem, vector_is, vector_behind v (take n l) (drop n l), take-append-drop n l)
 
   -- a list that names every unit that the held vector counts is one of the state afterwards
-  pub folded-state : lists_all m (held_on log base) ≡ true → sound_state (log_bytes (drop n l)) (base_bytes after) ≡ true
-  folded-state e =
-      state_sound (log_bytes (drop n l)) (base_bytes after) folded-sound
+  pub folded_state : lists_all m (held_on log base) ≡ true → sound_state (log_bytes (drop n l)) (base_bytes after) ≡ true
+  folded_state e =
+      state_sound (log_bytes (drop n l)) (base_bytes after) folded_sound
       (rw vector_is (log_sound_on (vector_on v (take n l)) (drop n l) left few))
       (rw (list_is, folded-held) e)
 
@@ -183,8 +183,8 @@ module _ (log base : List ℕ) (long : length base ≡ 43032) (s : sound_state l
   unfolding tree_of
   folded-tree = rw (records_left_lem, tree_is, replay-behind (base_tree base) (take n l) (drop n l), take-append-drop n l)
 
-  pub folded-shown : table_bytes (tree_of (log_bytes (drop n l)) (base_bytes after)) ≡ table_bytes (tree_of log base)
-  folded-shown =
+  pub folded_shown : table_bytes (tree_of (log_bytes (drop n l)) (base_bytes after)) ≡ table_bytes (tree_of log base)
+  folded_shown =
       let a = tree_of (log_bytes (drop n l)) (base_bytes after) in
       sym (table-trim a) ∙ (ap table_bytes folded-tree ∙ table-trim (tree_of log base))
 
@@ -246,16 +246,16 @@ module _ (u m : ℕ) (log base work : List ℕ) where
       guards (inr x) = inr x
 
   -- what a fold that is accepted leaves is sound
-  pub fold-accepted : (fold_of u log base m work).number ≡ 0
+  pub fold_accepted : (fold_of u log base m work).number ≡ 0
       → (length (fold_of u log base m work).log ≡ 40960) × (length (fold_of u log base m work).lent ≡ 43032) × (sound_state (fold_of u log base m work).log (fold_of u log base m work).lent ≡ true)
   unfolding folded base_in
-  fold-accepted z = go fold_cases
+  fold_accepted z = go fold_cases
     where
       go : FoldCases → (length (fold_of u log base m work).log ≡ 40960) × (length (fold_of u log base m work).lent ≡ 43032) × (sound_state (fold_of u log base m work).log (fold_of u log base m work).lent ≡ true)
       go (inl (h, s, e, f)) =
-          let c = run-counts m u (base_vector base) (base_tree base) (records_of log) (none-counts base (state-base log base s) (records_of log)) in
+          let c = run-counts m u (base_vector base) (base_tree base) (records_of log) (none-counts base (state_base log base s) (records_of log)) in
           let n : ℕ = run_in m u log base in
-          rw f (left-length log base h s m n c, folded-length log base h s m n c, folded-state log base h s m n c e)
+          rw f (left-length log base h s m n c, folded-length log base h s m n c, folded_state log base h s m n c e)
       go (inr (i, f)) = absurd (let y : ◌≡◌ {A = ℕ} (suc i) 0 = sym (ap (λ (o : Outcome). o.number) f) ∙ z in omega arith)
 
   -- it holds the same records and shows the same tree
@@ -266,15 +266,15 @@ module _ (u m : ℕ) (log base work : List ℕ) where
     where
       go : FoldCases → (held_on (fold_of u log base m work).log (fold_of u log base m work).lent ≡ held_on log base) × (table_bytes (tree_of (fold_of u log base m work).log (fold_of u log base m work).lent) ≡ table_bytes (tree_of log base))
       go (inl (h, s, e, f)) =
-          let c = run-counts m u (base_vector base) (base_tree base) (records_of log) (none-counts base (state-base log base s) (records_of log)) in
+          let c = run-counts m u (base_vector base) (base_tree base) (records_of log) (none-counts base (state_base log base s) (records_of log)) in
           let n : ℕ = run_in m u log base in
-          rw f (folded-held log base h s m n c, folded-shown log base h s m n c)
+          rw f (folded-held log base h s m n c, folded_shown log base h s m n c)
       go (inr (i, f)) = absurd (let y : ◌≡◌ {A = ℕ} (suc i) 0 = sym (ap (λ (o : Outcome). o.number) f) ∙ z in omega arith)
 
   -- a fold that is refused leaves every byte
-  pub fold-refused : ((fold_of u log base m work).number ≡ 0 → ⊥) → ((fold_of u log base m work).log ≡ log) × ((fold_of u log base m work).lent ≡ base)
+  pub fold_refused : ((fold_of u log base m work).number ≡ 0 → ⊥) → ((fold_of u log base m work).log ≡ log) × ((fold_of u log base m work).lent ≡ base)
   unfolding folded
-  fold-refused z = go fold_cases
+  fold_refused z = go fold_cases
     where
       go : FoldCases → ((fold_of u log base m work).log ≡ log) × ((fold_of u log base m work).lent ≡ base)
       go (inl (h, s, e, f)) = absurd (z (ap (λ (o : Outcome). o.number) f))

@@ -17,7 +17,7 @@ use Rattle.encoding_laws.proofs.Logs.{records_back, log_sound_on, empty_log}
 use Rattle.tree_laws.proofs.Trees.{sound_empty}
 use Rattle.base_model.specs.Base.{Base, fresh_base, base_bytes, empty_base, base_vector, base_tree, base_in, sound_base, sound_state}
 use Rattle.base_laws.specs.Laid.{Lays}
-use Rattle.base_laws.proofs.LaidTree.{bytes-length, base_back, base_sound}
+use Rattle.base_laws.proofs.LaidTree.{bytes_length, base_back, base_sound}
 use Rattle.base_laws.proofs.Lists.{lists_all_lem}
 
 -- nothing is laid in it
@@ -37,7 +37,7 @@ unfolding base_bytes empty_base count_bytes vector_bytes padded entry_rows aside
 empty_bytes = refl
 
 pub empty_length : length empty_base ≡ 43032
-empty_length = rw (← empty_bytes) (bytes-length fresh_base fresh_lays)
+empty_length = rw (← empty_bytes) (bytes_length fresh_base fresh_lays)
 
 pub empty_back : base_in empty_base ≡ fresh_base
 empty_back = rw (← empty_bytes) (base_back fresh_base fresh_lays)

@@ -85,11 +85,11 @@ module _ (a b c : List ℕ) (ha : length a ≡ 4) (hb : length b ≡ 32) (hc : l
   first_field : take 4 (a ++ (b ++ c)) ≡ a
   first_field = take_at a (b ++ c) 4 ha
 
-  second-field : take 32 (drop 4 (a ++ (b ++ c))) ≡ b
-  second-field = rw (drop_at a (b ++ c) 4 ha) (take_at b c 32 hb)
+  second_field : take 32 (drop 4 (a ++ (b ++ c))) ≡ b
+  second_field = rw (drop_at a (b ++ c) 4 ha) (take_at b c 32 hb)
 
-  third-field : take 16 (drop 36 (a ++ (b ++ c))) ≡ c
-  third-field =
+  third_field : take 16 (drop 36 (a ++ (b ++ c))) ≡ c
+  third_field =
       let n : length (a ++ b) ≡ 36 = omega (arith, length-append a b) in
       rw (← append_assoc a b c, drop_at (a ++ b) c 36 n) (take_all 16 c (omega arith))
 
@@ -108,96 +108,96 @@ module _ (s : List ℕ) (at : ℕ) (e : Entry) (z : Sized e) (r : part s at 72 �
   byte : (k : ℕ) → k < 72 → get_or s (at + k) 0 ≡ get_or (entry_row 0 e) k 0
   byte k h = sym (get_d_part s at 72 k h) ∙ ap (λ (l : List ℕ). get_or l k 0) r
 
-  kind-byte : get_or s at 0 ≡ e.kind
+  kind_byte : get_or s at 0 ≡ e.kind
   unfolding entry_row
-  kind-byte = let y : at + 0 ≡ at = omega arith in (rw y at (byte 0 (omega arith)))
+  kind_byte = let y : at + 0 ≡ at = omega arith in (rw y at (byte 0 (omega arith)))
 
-  made_bytes : part s (at + 4) 4 ≡ identity_bytes e.made
+  made_bytes_lem : part s (at + 4) 4 ≡ identity_bytes e.made
   unfolding part entry_row identity_bytes
-  made_bytes = field 4 4 (omega arith)
+  made_bytes_lem = field 4 4 (omega arith)
 
-  inside-bytes : part s (at + 8) 4 ≡ identity_bytes e.inside
+  inside_bytes : part s (at + 8) 4 ≡ identity_bytes e.inside
   unfolding part entry_row identity_bytes
-  inside-bytes = field 8 4 (omega arith)
+  inside_bytes = field 8 4 (omega arith)
 
-  contents-bytes : part s (at + 12) 4 ≡ identity_bytes e.contents
+  contents_bytes : part s (at + 12) 4 ≡ identity_bytes e.contents
   unfolding part entry_row identity_bytes
-  contents-bytes = field 12 4 (omega arith)
+  contents_bytes = field 12 4 (omega arith)
 
-  placing-bytes : part s (at + 16) 4 ≡ identity_bytes e.placing
+  placing_bytes : part s (at + 16) 4 ≡ identity_bytes e.placing
   unfolding part entry_row identity_bytes
-  placing-bytes = field 16 4 (omega arith)
+  placing_bytes = field 16 4 (omega arith)
 
-  date-bytes : part s (at + 20) 4 ≡ e.date
+  date_bytes_lem : part s (at + 20) 4 ≡ e.date
   unfolding part entry_row identity_bytes
-  date-bytes = field 20 4 (omega arith) ∙ first_field e.date e.label e.mark z.date_long z.label_long z.mark_long
+  date_bytes_lem = field 20 4 (omega arith) ∙ first_field e.date e.label e.mark z.date_long z.label_long z.mark_long
 
-  label-bytes : part s (at + 24) 32 ≡ e.label
+  label_bytes : part s (at + 24) 32 ≡ e.label
   unfolding part entry_row identity_bytes
-  label-bytes = field 24 32 (omega arith) ∙ second-field e.date e.label e.mark z.date_long z.label_long z.mark_long
+  label_bytes = field 24 32 (omega arith) ∙ second_field e.date e.label e.mark z.date_long z.label_long z.mark_long
 
-  mark-bytes : part s (at + 56) 16 ≡ e.mark
+  mark_bytes : part s (at + 56) 16 ≡ e.mark
   unfolding part entry_row identity_bytes
-  mark-bytes = field 56 16 (omega arith) ∙ third-field e.date e.label e.mark z.date_long z.label_long z.mark_long
+  mark_bytes = field 56 16 (omega arith) ∙ third_field e.date e.label e.mark z.date_long z.label_long z.mark_long
 
-  pub entry-back : entry_in s at ≡ e
+  pub entry_back : entry_in s at ≡ e
   unfolding entry_in
-  entry-back = λ i.
+  entry_back = λ i.
       record {
-        made = identity_back s (at + 4) e.made made_bytes i;
-        kind = kind-byte i;
-        inside = identity_back s (at + 8) e.inside inside-bytes i;
-        label = label-bytes i;
-        contents = identity_back s (at + 12) e.contents contents-bytes i;
-        date = date-bytes i;
-        mark = mark-bytes i;
-        placing = identity_back s (at + 16) e.placing placing-bytes i;
+        made = identity_back s (at + 4) e.made made_bytes_lem i;
+        kind = kind_byte i;
+        inside = identity_back s (at + 8) e.inside inside_bytes i;
+        label = label_bytes i;
+        contents = identity_back s (at + 12) e.contents contents_bytes i;
+        date = date_bytes_lem i;
+        mark = mark_bytes i;
+        placing = identity_back s (at + 16) e.placing placing_bytes i;
       }
 
-  kind-passes : (e.kind ≡ 1) ⊎ (e.kind ≡ 2) → row_kind_fits s at ≡ true
+  kind_passes : (e.kind ≡ 1) ⊎ (e.kind ≡ 2) → row_kind_fits s at ≡ true
   unfolding row_kind_fits word entry_row
-  kind-passes h =
+  kind_passes h =
       let b1 : get_or s (at + 1) 0 ≡ 0 = byte 1 (omega arith) in
       let b2 : get_or s (at + 2) 0 ≡ 0 = byte 2 (omega arith) in
       let b3 : get_or s (at + 3) 0 ≡ 0 = byte 3 (omega arith) in
       let y : at + 2 + 1 ≡ at + 3 = omega arith in
       ⊎_elim
-      (λ (k : e.kind ≡ 1). rw (kind-byte, b1, y, b2, b3, k))
-      (λ (k : e.kind ≡ 2). rw (kind-byte, b1, y, b2, b3, k))
+      (λ (k : e.kind ≡ 1). rw (kind_byte, b1, y, b2, b3, k))
+      (λ (k : e.kind ≡ 2). rw (kind_byte, b1, y, b2, b3, k))
       h
 
-  date-passes : is_date (word e.date 0) (get_or e.date 2 0) (get_or e.date 3 0) ≡ true → row_date_fits s at ≡ true
+  date_passes : is_date (word e.date 0) (get_or e.date 2 0) (get_or e.date 3 0) ≡ true → row_date_fits s at ≡ true
   unfolding row_date_fits
-  date-passes h =
+  date_passes h =
       let p : at + 20 + 0 ≡ at + 20 = omega arith in
       let q : at + 20 + 2 ≡ at + 22 = omega arith in
       let t : at + 20 + 3 ≡ at + 23 = omega arith in
-      let x : word s (at + 20 + 0) ≡ word e.date 0 = sym (word-part s (at + 20) 4 0 (omega arith)) ∙ ap (λ (l : List ℕ). word l 0) date-bytes in
-      let y : get_or s (at + 20 + 2) 0 ≡ get_or e.date 2 0 = sym (get_d_part s (at + 20) 4 2 (omega arith)) ∙ ap (λ (l : List ℕ). get_or l 2 0) date-bytes in
-      let w : get_or s (at + 20 + 3) 0 ≡ get_or e.date 3 0 = sym (get_d_part s (at + 20) 4 3 (omega arith)) ∙ ap (λ (l : List ℕ). get_or l 3 0) date-bytes in
+      let x : word s (at + 20 + 0) ≡ word e.date 0 = sym (word-part s (at + 20) 4 0 (omega arith)) ∙ ap (λ (l : List ℕ). word l 0) date_bytes_lem in
+      let y : get_or s (at + 20 + 2) 0 ≡ get_or e.date 2 0 = sym (get_d_part s (at + 20) 4 2 (omega arith)) ∙ ap (λ (l : List ℕ). get_or l 2 0) date_bytes_lem in
+      let w : get_or s (at + 20 + 3) 0 ≡ get_or e.date 3 0 = sym (get_d_part s (at + 20) 4 3 (omega arith)) ∙ ap (λ (l : List ℕ). get_or l 3 0) date_bytes_lem in
       rw (← p, ← q, ← t, x, y, w) h
 
-  mark-passes : (e.kind ≡ 1) ⊎ (e.kind ≡ 2) → (e.kind ≡ 1 → blank e.mark ≡ true) → row_mark_fits s at ≡ true
+  mark_passes : (e.kind ≡ 1) ⊎ (e.kind ≡ 2) → (e.kind ≡ 1 → blank e.mark ≡ true) → row_mark_fits s at ≡ true
   unfolding row_mark_fits
-  mark-passes h u =
+  mark_passes h u =
       ⊎_elim
-      (λ (k : e.kind ≡ 1). rw (kind-byte, mark-bytes, k, u k))
-      (λ (k : e.kind ≡ 2). rw (kind-byte, k))
+      (λ (k : e.kind ≡ 1). rw (kind_byte, mark_bytes, k, u k))
+      (λ (k : e.kind ≡ 2). rw (kind_byte, k))
       h
 
   pub entry-passes : (v : List ℕ) → EntryFits v e → (e.kind ≡ 1) ⊎ (e.kind ≡ 2) → entry_fits v s at ≡ true
   unfolding entry_fits row_names_fit
   entry-passes v f k =
       rw (
-        kind-passes k,
-        named-passes s (at + 4) e.made made_bytes v f.own_named,
-        none_passes s (at + 8) e.inside inside-bytes v f.folder_named,
-        named-passes s (at + 12) e.contents contents-bytes v f.contents_named,
-        named-passes s (at + 16) e.placing placing-bytes v f.placing_named,
-        date-passes f.real_date,
-        label-bytes,
+        kind_passes k,
+        named-passes s (at + 4) e.made made_bytes_lem v f.own_named,
+        none_passes s (at + 8) e.inside inside_bytes v f.folder_named,
+        named-passes s (at + 12) e.contents contents_bytes v f.contents_named,
+        named-passes s (at + 16) e.placing placing_bytes v f.placing_named,
+        date_passes f.real_date,
+        label_bytes,
         f.a_label,
-        mark-passes k f.unmarked,
+        mark_passes k f.unmarked,
       )
 
 -- ---- the row of an aside
@@ -221,49 +221,49 @@ module _ (s : List ℕ) (at : ℕ) (a : Aside) (r : part s at 12 ≡ aside_row a
   cell : (k : ℕ) → k < 12 → get_or s (at + k) 0 ≡ get_or (aside_row a) k 0
   cell k h = sym (get_d_part s at 12 k h) ∙ ap (λ (l : List ℕ). get_or l k 0) r
 
-  who-bytes : part s at 4 ≡ identity_bytes a.who
+  who_bytes : part s at 4 ≡ identity_bytes a.who
   unfolding part aside_row identity_bytes
-  who-bytes = let y : at + 0 ≡ at = omega arith in (rw y at (piece 0 4 (omega arith)))
+  who_bytes = let y : at + 0 ≡ at = omega arith in (rw y at (piece 0 4 (omega arith)))
 
-  marked-bytes : part s (at + 8) 4 ≡ identity_bytes a.marked
+  marked_bytes : part s (at + 8) 4 ≡ identity_bytes a.marked
   unfolding part aside_row identity_bytes
-  marked-bytes = piece 8 4 (omega arith)
+  marked_bytes = piece 8 4 (omega arith)
 
-  reason-byte : get_or s (at + 4) 0 ≡ a.reason
+  reason_byte : get_or s (at + 4) 0 ≡ a.reason
   unfolding aside_row identity_bytes
-  reason-byte = cell 4 (omega arith)
+  reason_byte = cell 4 (omega arith)
 
-  state-byte : get_or s (at + 5) 0 ≡ cond a.is_open 1 2
+  state_byte : get_or s (at + 5) 0 ≡ cond a.is_open 1 2
   unfolding aside_row identity_bytes
-  state-byte = cell 5 (omega arith)
+  state_byte = cell 5 (omega arith)
 
   pub aside_back : aside_in s at ≡ a
   unfolding aside_in
   aside_back = λ i.
       record {
-        who = identity_back s at a.who who-bytes i;
-        reason = reason-byte i;
-        marked = identity_back s (at + 8) a.marked marked-bytes i;
-        is_open = (ap (λ (x : ℕ). eqb x 1) state-byte ∙ open_back a.is_open) i;
+        who = identity_back s at a.who who_bytes i;
+        reason = reason_byte i;
+        marked = identity_back s (at + 8) a.marked marked_bytes i;
+        is_open = (ap (λ (x : ℕ). eqb x 1) state_byte ∙ open_back a.is_open) i;
       }
 
-  reason-passes : ((12 ≤ a.reason) × (a.reason ≤ 18)) ⊎ (a.reason ≡ 25) → reason_fits s at ≡ true
+  reason_passes : ((12 ≤ a.reason) × (a.reason ≤ 18)) ⊎ (a.reason ≡ 25) → reason_fits s at ≡ true
   unfolding reason_fits word aside_row identity_bytes
-  reason-passes h =
+  reason_passes h =
       let b6 : get_or s (at + 6) 0 ≡ 0 = cell 6 (omega arith) in
       let b7 : get_or s (at + 7) 0 ≡ 0 = cell 7 (omega arith) in
       let y : at + 6 + 1 ≡ at + 7 = omega arith in
       ⊎_elim
       (λ (k : (12 ≤ a.reason) × (a.reason ≤ 18)).
-      rw (reason-byte, state-byte, state_passes a.is_open, y, b6, b7, le-leb 12 a.reason k.0, le-leb a.reason 18 k.1))
-      (λ (k : a.reason ≡ 25). rw (reason-byte, state-byte, state_passes a.is_open, y, b6, b7, k))
+      rw (reason_byte, state_byte, state_passes a.is_open, y, b6, b7, le-leb 12 a.reason k.0, le-leb a.reason 18 k.1))
+      (λ (k : a.reason ≡ 25). rw (reason_byte, state_byte, state_passes a.is_open, y, b6, b7, k))
       h
 
   pub aside-passes : (v : List ℕ) → AsideFits v a → aside_fits v s at ≡ true
   unfolding aside_fits
   aside-passes v f =
       rw (
-        named-passes s at a.who who-bytes v f.who_named,
-        reason-passes f.a_reason,
-        none_passes s (at + 8) a.marked marked-bytes v f.mark_named,
+        named-passes s at a.who who_bytes v f.who_named,
+        reason_passes f.a_reason,
+        none_passes s (at + 8) a.marked marked_bytes v f.mark_named,
       )

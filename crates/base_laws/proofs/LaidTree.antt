@@ -23,10 +23,10 @@ use Rattle.tree_laws.specs.Replayed.{Has}
 use Rattle.tree_laws.specs.Trees.{EntryFits, AsideFits}
 use Rattle.base_laws.specs.Plain.{Plain}
 use Rattle.base_laws.specs.Laid.{Lays}
-use Rattle.base_laws.proofs.Plain.{all_of, ids-of, names_of}
-use Rattle.base_laws.proofs.Numbered.{entries-listed, asides-listed, listed_is}
+use Rattle.base_laws.proofs.Plain.{all_of, ids_of, names_of}
+use Rattle.base_laws.proofs.Numbered.{entries_listed, asides_listed, listed_is}
 use Rattle.base_laws.proofs.FromTree.{tree_plain}
-use Rattle.base_laws.proofs.LaidRows.{Sized, row-length, aside-length, entry-back, entry-passes, aside_back, aside-passes}
+use Rattle.base_laws.proofs.LaidRows.{Sized, row-length, aside-length, entry_back, entry-passes, aside_back, aside-passes}
 
 -- ---- lists
 
@@ -119,44 +119,44 @@ abbrev end_of : Base → List ℕ
 end_of x = replicate (6144 - length (notes_of x)) 0
 
 module _ (x : Base) where
-  bytes-are : base_bytes x ≡ head_of x ++ (vector_bytes x.vector ++ ((rows_of x ++ zeros_of x) ++ (notes_of x ++ end_of x)))
+  bytes_are : base_bytes x ≡ head_of x ++ (vector_bytes x.vector ++ ((rows_of x ++ zeros_of x) ++ (notes_of x ++ end_of x)))
   unfolding base_bytes padded
-  bytes-are = refl
+  bytes_are = refl
 
-  bytes-rows : base_bytes x ≡ front_of x ++ (rows_of x ++ (zeros_of x ++ (notes_of x ++ end_of x)))
-  bytes-rows =
-      bytes-are
+  bytes_rows : base_bytes x ≡ front_of x ++ (rows_of x ++ (zeros_of x ++ (notes_of x ++ end_of x)))
+  bytes_rows =
+      bytes_are
       ∙ (sym (append_assoc (head_of x) (vector_bytes x.vector) ((rows_of x ++ zeros_of x) ++ (notes_of x ++ end_of x)))
       ∙ ap (λ (l : List ℕ). front_of x ++ l) (append_assoc (rows_of x) (zeros_of x) (notes_of x ++ end_of x)))
 
-  bytes-notes : base_bytes x ≡ (front_of x ++ (rows_of x ++ zeros_of x)) ++ (notes_of x ++ end_of x)
-  bytes-notes =
-      bytes-are
+  bytes_notes : base_bytes x ≡ (front_of x ++ (rows_of x ++ zeros_of x)) ++ (notes_of x ++ end_of x)
+  bytes_notes =
+      bytes_are
       ∙ (sym (append_assoc (head_of x) (vector_bytes x.vector) ((rows_of x ++ zeros_of x) ++ (notes_of x ++ end_of x)))
       ∙ sym (append_assoc (front_of x) (rows_of x ++ zeros_of x) (notes_of x ++ end_of x)))
 
-  bytes-zeros : base_bytes x ≡ (front_of x ++ rows_of x) ++ (zeros_of x ++ (notes_of x ++ end_of x))
-  bytes-zeros = bytes-rows ∙ sym (append_assoc (front_of x) (rows_of x) (zeros_of x ++ (notes_of x ++ end_of x)))
+  bytes_zeros : base_bytes x ≡ (front_of x ++ rows_of x) ++ (zeros_of x ++ (notes_of x ++ end_of x))
+  bytes_zeros = bytes_rows ∙ sym (append_assoc (front_of x) (rows_of x) (zeros_of x ++ (notes_of x ++ end_of x)))
 
-  bytes-end : base_bytes x ≡ ((front_of x ++ (rows_of x ++ zeros_of x)) ++ notes_of x) ++ (end_of x ++ [])
-  bytes-end =
-      bytes-notes
+  bytes_end : base_bytes x ≡ ((front_of x ++ (rows_of x ++ zeros_of x)) ++ notes_of x) ++ (end_of x ++ [])
+  bytes_end =
+      bytes_notes
       ∙ (sym (append_assoc (front_of x ++ (rows_of x ++ zeros_of x)) (notes_of x) (end_of x))
       ∙ ap (λ (l : List ℕ). ((front_of x ++ (rows_of x ++ zeros_of x)) ++ notes_of x) ++ l) (sym (append-nil (end_of x))))
 
   front_length : length (front_of x) ≡ 24
   front_length = omega (arith, length-append (head_of x) (vector_bytes x.vector), vector_bytes-length x.vector)
 
-  count-back : (n : ℕ) → n % 256 + 256 * (n / 256) ≡ n
-  count-back n = omega arith
+  count_back : (n : ℕ) → n % 256 + 256 * (n / 256) ≡ n
+  count_back n = omega arith
 
-  entries-count : word (base_bytes x) 2 ≡ length (entries_of x)
+  entries_count : word (base_bytes x) 2 ≡ length (entries_of x)
   unfolding word base_bytes
-  entries-count = count-back (length (entries_of x))
+  entries_count = count_back (length (entries_of x))
 
-  asides-count : word (base_bytes x) 4 ≡ length (asides_of_lem x)
+  asides_count : word (base_bytes x) 4 ≡ length (asides_of_lem x)
   unfolding word base_bytes
-  asides-count = count-back (length (asides_of_lem x))
+  asides_count = count_back (length (asides_of_lem x))
 
   zero_word : word (base_bytes x) 6 ≡ 0
   unfolding word base_bytes
@@ -173,7 +173,7 @@ module _ (x : Base) where
   base_vector_lem : length x.vector ≡ 8 → base_vector (base_bytes x) ≡ x.vector
   unfolding base_vector
   base_vector_lem e =
-      ap (λ (l : List ℕ). vector_at l 8) bytes-are
+      ap (λ (l : List ℕ). vector_at l 8) bytes_are
       ∙ vector_back (head_of x) x.vector ((rows_of x ++ zeros_of x) ++ (notes_of x ++ end_of x)) e
 
   module _ (w : Lays x) where
@@ -183,14 +183,14 @@ module _ (x : Base) where
     zeros-length : length (zeros_of x) ≡ 36864 - 72 * length (entries_of x)
     zeros-length = length-replicate {A = ℕ} (36864 - length (rows_of x)) 0 ∙ rw (rows_length (entries_of x) sized)
 
-    end-length : length (end_of x) ≡ 6144 - 12 * length (asides_of_lem x)
-    end-length = length-replicate {A = ℕ} (6144 - length (notes_of x)) 0 ∙ rw (notes_length (asides_of_lem x))
+    end_length : length (end_of x) ≡ 6144 - 12 * length (asides_of_lem x)
+    end_length = length-replicate {A = ℕ} (6144 - length (notes_of x)) 0 ∙ rw (notes_length (asides_of_lem x))
 
     rows_end : length (front_of x ++ rows_of x) ≡ 24 + 72 * length (entries_of x)
     rows_end = omega (arith, length-append (front_of x) (rows_of x), front_length, rows_length (entries_of x) sized)
 
-    notes-start : length (front_of x ++ (rows_of x ++ zeros_of x)) ≡ 36888
-    notes-start =
+    notes_start : length (front_of x ++ (rows_of x ++ zeros_of x)) ≡ 36888
+    notes_start =
         let few = w.few_entries in
         omega (
           arith,
@@ -201,54 +201,54 @@ module _ (x : Base) where
           zeros-length,
         )
 
-    notes-end : length ((front_of x ++ (rows_of x ++ zeros_of x)) ++ notes_of x) ≡ 36888 + 12 * length (asides_of_lem x)
-    notes-end = omega (arith, length-append (front_of x ++ (rows_of x ++ zeros_of x)) (notes_of x), notes-start, notes_length (asides_of_lem x))
+    notes_end : length ((front_of x ++ (rows_of x ++ zeros_of x)) ++ notes_of x) ≡ 36888 + 12 * length (asides_of_lem x)
+    notes_end = omega (arith, length-append (front_of x ++ (rows_of x ++ zeros_of x)) (notes_of x), notes_start, notes_length (asides_of_lem x))
 
     -- the bytes of a base are 43,032
-    pub bytes-length : length (base_bytes x) ≡ 43032
-    bytes-length =
+    pub bytes_length : length (base_bytes x) ≡ 43032
+    bytes_length =
         let few = w.few_asides in
-        ap (λ (l : List ℕ). length l) bytes-end
+        ap (λ (l : List ℕ). length l) bytes_end
         ∙ omega (
           arith,
           length-append ((front_of x ++ (rows_of x ++ zeros_of x)) ++ notes_of x) (end_of x ++ []),
           length-append (end_of x) [],
-          notes-end,
-          end-length,
+          notes_end,
+          end_length,
         )
 
     entry_row_is : (j : ℕ) (d : Entry) → j < length (entries_of x) → part (base_bytes x) (24 + 72 * j) 72 ≡ entry_row 0 (get_or (entries_of x) j d)
     entry_row_is j d l =
-        ap (λ (s : List ℕ). part s (24 + 72 * j) 72) bytes-rows
+        ap (λ (s : List ℕ). part s (24 + 72 * j) 72) bytes_rows
         ∙ row-at (entries_of x) sized (front_of x) (zeros_of x ++ (notes_of x ++ end_of x)) 24 front_length j d l
 
     aside-row : (j : ℕ) (d : Aside) → j < length (asides_of_lem x) → part (base_bytes x) (36888 + 12 * j) 12 ≡ aside_row (get_or (asides_of_lem x) j d)
     aside-row j d l =
-        ap (λ (s : List ℕ). part s (36888 + 12 * j) 12) bytes-notes
-        ∙ note_at (asides_of_lem x) (front_of x ++ (rows_of x ++ zeros_of x)) (end_of x) 36888 notes-start j d l
+        ap (λ (s : List ℕ). part s (36888 + 12 * j) 12) bytes_notes
+        ∙ note_at (asides_of_lem x) (front_of x ++ (rows_of x ++ zeros_of x)) (end_of x) 36888 notes_start j d l
 
     entry_is : (j : ℕ) (d : Entry) → j < length (entries_of x) → base_entry (base_bytes x) j ≡ get_or (entries_of x) j d
     unfolding base_entry
     entry_is j d l =
-        entry-back (base_bytes x) (24 + 72 * j) (get_or (entries_of x) j d) (all_get_d Sized (entries_of x) sized j d l) (entry_row_is j d l)
+        entry_back (base_bytes x) (24 + 72 * j) (get_or (entries_of x) j d) (all_get_d Sized (entries_of x) sized j d l) (entry_row_is j d l)
 
-    aside-is : (j : ℕ) (d : Aside) → j < length (asides_of_lem x) → base_aside (base_bytes x) j ≡ get_or (asides_of_lem x) j d
+    aside_is : (j : ℕ) (d : Aside) → j < length (asides_of_lem x) → base_aside (base_bytes x) j ≡ get_or (asides_of_lem x) j d
     unfolding base_aside
-    aside-is j d l = aside_back (base_bytes x) (36888 + 12 * j) (get_or (asides_of_lem x) j d) (aside-row j d l)
+    aside_is j d l = aside_back (base_bytes x) (36888 + 12 * j) (get_or (asides_of_lem x) j d) (aside-row j d l)
 
     entries_back : base_entries (base_bytes x) 0 (length (entries_of x)) ≡ entries_of x
-    entries_back = entries-listed (base_bytes x) 0 (length (entries_of x))
+    entries_back = entries_listed (base_bytes x) 0 (length (entries_of x))
         ∙ listed_is (base_entry (base_bytes x)) (entries_of x) 0 (λ j d l. let z : 0 + j ≡ j = omega arith in rw z (entry_is j d l))
 
     asides_back : base_asides (base_bytes x) 0 (length (asides_of_lem x)) ≡ asides_of_lem x
-    asides_back = asides-listed (base_bytes x) 0 (length (asides_of_lem x))
-        ∙ listed_is (base_aside (base_bytes x)) (asides_of_lem x) 0 (λ j d l. let z : 0 + j ≡ j = omega arith in rw z (aside-is j d l))
+    asides_back = asides_listed (base_bytes x) 0 (length (asides_of_lem x))
+        ∙ listed_is (base_aside (base_bytes x)) (asides_of_lem x) 0 (λ j d l. let z : 0 + j ≡ j = omega arith in rw z (aside_is j d l))
 
     pub tree_back : base_tree (base_bytes x) ≡ x.tree
     unfolding base_tree
     tree_back =
-        let a = ap (λ (n : ℕ). base_entries (base_bytes x) 0 n) entries-count ∙ entries_back in
-        let b = ap (λ (n : ℕ). base_asides (base_bytes x) 0 n) asides-count ∙ asides_back in
+        let a = ap (λ (n : ℕ). base_entries (base_bytes x) 0 n) entries_count ∙ entries_back in
+        let b = ap (λ (n : ℕ). base_asides (base_bytes x) 0 n) asides_count ∙ asides_back in
         λ i. record { entries = a i; asides = b i }
 
     -- what was laid in a base is read from it
@@ -258,48 +258,48 @@ module _ (x : Base) where
 
     -- ---- it is sound
 
-    anEntry : Entry
-    anEntry = record { made = 0; kind = 0; inside = 0; label = []; contents = 0; date = []; mark = []; placing = 0 }
+    an_entry : Entry
+    an_entry = record { made = 0; kind = 0; inside = 0; label = []; contents = 0; date = []; mark = []; placing = 0 }
 
-    anAside : Aside
-    anAside = record { who = 0; reason = 0; marked = 0; is_open = true }
+    an_aside : Aside
+    an_aside = record { who = 0; reason = 0; marked = 0; is_open = true }
 
     here : (i : ℕ) (d : Entry) → i < length (entries_of x) → is_present (get_or (entries_of x) i d) ≡ true
     here i d h = w.none-removed (get_or (entries_of x) i d) (get_d_has (entries_of x) i d h)
 
-    kind-of : (e : Entry) → is_present e ≡ true → e.kind ≤ 2 → (e.kind ≡ 1) ⊎ (e.kind ≡ 2)
+    kind_of : (e : Entry) → is_present e ≡ true → e.kind ≤ 2 → (e.kind ≡ 1) ⊎ (e.kind ≡ 2)
     unfolding is_present
-    kind-of e p l =
+    kind_of e p l =
         ⊎_elim
         (λ (z : e.kind ≡ 0). absurd (not_both (not (eqb e.kind 0)) p (rw (eq-eqb e.kind 0 z))))
         (λ (z : e.kind ≡ 0 → ⊥). ⊎_elim (λ (y : e.kind ≡ 1). inl y) (λ (y : e.kind ≡ 1 → ⊥). inr (omega arith)) (eq_or_ne e.kind 1))
         (eq_or_ne e.kind 0)
 
-    entry-fits : (i : ℕ) → i < length (entries_of x) → entry_row_fits (base_bytes x) i ≡ true
+    entry_fits_lem : (i : ℕ) → i < length (entries_of x) → entry_row_fits (base_bytes x) i ≡ true
     unfolding entry_row_fits
-    entry-fits i h =
-        let e = get_or (entries_of x) i anEntry in
-        let f = all_get_d (EntryFits x.vector) (entries_of x) w.sound.entries_fit i anEntry h in
+    entry_fits_lem i h =
+        let e = get_or (entries_of x) i an_entry in
+        let f = all_get_d (EntryFits x.vector) (entries_of x) w.sound.entries_fit i an_entry h in
         rw (base_vector_lem w.eight)
-        (entry-passes (base_bytes x) (24 + 72 * i) e (all_get_d Sized (entries_of x) sized i anEntry h) (entry_row_is i anEntry h) x.vector f
-        (kind-of e (here i anEntry h) f.a_kind))
+        (entry-passes (base_bytes x) (24 + 72 * i) e (all_get_d Sized (entries_of x) sized i an_entry h) (entry_row_is i an_entry h) x.vector f
+        (kind_of e (here i an_entry h) f.a_kind))
 
     aside_fits_lem : (i : ℕ) → i < length (asides_of_lem x) → aside_row_fits (base_bytes x) i ≡ true
     unfolding aside_row_fits
     aside_fits_lem i h =
         rw (base_vector_lem w.eight)
-        (aside-passes (base_bytes x) (36888 + 12 * i) (get_or (asides_of_lem x) i anAside) (aside-row i anAside h) x.vector
-        (all_get_d (AsideFits x.vector) (asides_of_lem x) w.sound.asides_fit i anAside h))
+        (aside-passes (base_bytes x) (36888 + 12 * i) (get_or (asides_of_lem x) i an_aside) (aside-row i an_aside h) x.vector
+        (all_get_d (AsideFits x.vector) (asides_of_lem x) w.sound.asides_fit i an_aside h))
 
     rest_blank_lem : rest_blank (base_bytes x) (length (entries_of x)) (length (asides_of_lem x)) ≡ true
     unfolding rest_blank
     rest_blank_lem =
         let a : part (base_bytes x) (24 + 72 * length (entries_of x)) (36864 - 72 * length (entries_of x)) ≡ zeros_of x =
-        ap (λ (s : List ℕ). part s (24 + 72 * length (entries_of x)) (36864 - 72 * length (entries_of x))) bytes-zeros
+        ap (λ (s : List ℕ). part s (24 + 72 * length (entries_of x)) (36864 - 72 * length (entries_of x))) bytes_zeros
         ∙ part_at (front_of x ++ rows_of x) (zeros_of x) (notes_of x ++ end_of x) (24 + 72 * length (entries_of x)) (36864 - 72 * length (entries_of x)) rows_end zeros-length in
         let b : part (base_bytes x) (36888 + 12 * length (asides_of_lem x)) (6144 - 12 * length (asides_of_lem x)) ≡ end_of x =
-        ap (λ (s : List ℕ). part s (36888 + 12 * length (asides_of_lem x)) (6144 - 12 * length (asides_of_lem x))) bytes-end
-        ∙ part_at ((front_of x ++ (rows_of x ++ zeros_of x)) ++ notes_of x) (end_of x) [] (36888 + 12 * length (asides_of_lem x)) (6144 - 12 * length (asides_of_lem x)) notes-end end-length in
+        ap (λ (s : List ℕ). part s (36888 + 12 * length (asides_of_lem x)) (6144 - 12 * length (asides_of_lem x))) bytes_end
+        ∙ part_at ((front_of x ++ (rows_of x ++ zeros_of x)) ++ notes_of x) (end_of x) [] (36888 + 12 * length (asides_of_lem x)) (6144 - 12 * length (asides_of_lem x)) notes_end end_length in
         rw (a, b, blank-zeros (36864 - length (rows_of x)), blank-zeros (6144 - length (notes_of x)))
 
     plain : Plain (base_bytes x) (length (entries_of x)) (length (asides_of_lem x))
@@ -310,16 +310,16 @@ module _ (x : Base) where
         (length (entries_of x))
         (length (asides_of_lem x))
         (rw (entries_back, asides_back) w.sound)
-        (λ i h. rw (entry_is i anEntry h) (here i anEntry h))
+        (λ i h. rw (entry_is i an_entry h) (here i an_entry h))
 
-    head-fits : base_head_fits (base_bytes x) ≡ true
+    head_fits_lem : base_head_fits (base_bytes x) ≡ true
     unfolding base_head_fits
-    head-fits =
+    head_fits_lem =
         rw (
           zero_byte,
-          entries-count,
+          entries_count,
           le-leb (length (entries_of x)) 512 w.few_entries,
-          asides-count,
+          asides_count,
           le-leb (length (asides_of_lem x)) 512 w.few_asides,
           zero_word,
         )
@@ -328,7 +328,7 @@ module _ (x : Base) where
     unfolding rows_fit
     rows_fit_is =
         rw (
-          all_of (length (entries_of x)) (entry_row_fits (base_bytes x)) entry-fits,
+          all_of (length (entries_of x)) (entry_row_fits (base_bytes x)) entry_fits_lem,
           all_of (length (asides_of_lem x)) (aside_row_fits (base_bytes x)) aside_fits_lem,
           rest_blank_lem,
         )
@@ -337,10 +337,10 @@ module _ (x : Base) where
     unfolding sound_base
     base_sound =
         rw (
-          entries-count,
-          asides-count,
-          head-fits,
+          entries_count,
+          asides_count,
+          head_fits_lem,
           rows_fit_is,
-          ids-of (base_bytes x) (length (entries_of x)) (length (asides_of_lem x)) plain,
+          ids_of (base_bytes x) (length (entries_of x)) (length (asides_of_lem x)) plain,
           names_of (base_bytes x) (length (entries_of x)) (length (asides_of_lem x)) plain,
         )

@@ -49,23 +49,23 @@ module _ {A : Type 0} (f : ℕ → A) where
   all_listed P i zero g = tt
   all_listed P i (suc n) g = (g i (omega arith) (omega arith), all_listed P (suc i) n (λ j h l. g j (omega arith) (omega arith)))
 
-  pub differ-once : (i n : ℕ) → ((j k : ℕ) → i ≤ j → j < k → k < i + n → f j ≡ f k → ⊥) → Distinct (listed f i n)
+  pub differ_once : (i n : ℕ) → ((j k : ℕ) → i ≤ j → j < k → k < i + n → f j ≡ f k → ⊥) → Distinct (listed f i n)
   unfolding listed
-  differ-once i zero g = tt
-  differ-once i (suc n) g = (
+  differ_once i zero g = tt
+  differ_once i (suc n) g = (
     λ h. let s = has_at (f i) (suc i) n h in g i s.at (omega arith) (omega (arith, s.from)) (omega (arith, s.below)) s.holds,
-    differ-once (suc i) n (λ j k h l u e. g j k (omega arith) l (omega arith) e),
+    differ_once (suc i) n (λ j k h l u e. g j k (omega arith) l (omega arith) e),
   )
 
-  pub once-differ : (i n j k : ℕ) → Distinct (listed f i n) → i ≤ j → j < k → k < i + n → f j ≡ f k → ⊥
+  pub once_differ : (i n j k : ℕ) → Distinct (listed f i n) → i ≤ j → j < k → k < i + n → f j ≡ f k → ⊥
   unfolding listed
-  once-differ i zero j k d h l g e = omega arith
-  once-differ i (suc n) j k d h l g e =
+  once_differ i zero j k d h l g e = omega arith
+  once_differ i (suc n) j k d h l g e =
       ⊎_elim
       (λ (q : i ≡ j).
       let p : f k ≡ f i = sym e ∙ ap f (sym q) in
       d.0 (subst (λ (y : A). Has y (listed f (suc i) n)) p (at_has k (suc i) n (omega arith) (omega arith))))
-      (λ (q : i ≡ j → ⊥). once-differ (suc i) n j k d.1 (omega arith) l (omega arith) e)
+      (λ (q : i ≡ j → ⊥). once_differ (suc i) n j k d.1 (omega arith) l (omega arith) e)
       (eq_or_ne i j)
 
   pub listed_is : (l : List A) (i : ℕ) → ((j : ℕ) (d : A) → j < length l → f (i + j) ≡ get_or l j d) → listed f i (length l) ≡ l
@@ -94,15 +94,15 @@ module _ (b : List ℕ) where
   abbrev pub who_at : ℕ → ℕ
   who_at j = (base_aside b j).who
 
-  pub entries-listed : (i n : ℕ) → base_entries b i n ≡ listed (base_entry b) i n
+  pub entries_listed : (i n : ℕ) → base_entries b i n ≡ listed (base_entry b) i n
   unfolding base_entries listed
-  entries-listed i zero = refl
-  entries-listed i (suc n) = rw (entries-listed (suc i) n)
+  entries_listed i zero = refl
+  entries_listed i (suc n) = rw (entries_listed (suc i) n)
 
-  pub asides-listed : (i n : ℕ) → base_asides b i n ≡ listed (base_aside b) i n
+  pub asides_listed : (i n : ℕ) → base_asides b i n ≡ listed (base_aside b) i n
   unfolding base_asides listed
-  asides-listed i zero = refl
-  asides-listed i (suc n) = rw (asides-listed (suc i) n)
+  asides_listed i zero = refl
+  asides_listed i (suc n) = rw (asides_listed (suc i) n)
 
   pub makers-listed : (i n : ℕ) → makers (base_entries b i n) ≡ listed made_at i n
   unfolding base_entries listed makers
@@ -114,12 +114,12 @@ module _ (b : List ℕ) where
   whos-listed i zero = refl
   whos-listed i (suc n) = rw (whos-listed (suc i) n)
 
-  pub entries-count : (i n : ℕ) → length (base_entries b i n) ≡ n
+  pub entries_count : (i n : ℕ) → length (base_entries b i n) ≡ n
   unfolding base_entries
-  entries-count i zero = refl
-  entries-count i (suc n) = ap suc (entries-count (suc i) n)
+  entries_count i zero = refl
+  entries_count i (suc n) = ap suc (entries_count (suc i) n)
 
-  pub asides-count : (i n : ℕ) → length (base_asides b i n) ≡ n
+  pub asides_count : (i n : ℕ) → length (base_asides b i n) ≡ n
   unfolding base_asides
-  asides-count i zero = refl
-  asides-count i (suc n) = ap suc (asides-count (suc i) n)
+  asides_count i zero = refl
+  asides_count i (suc n) = ap suc (asides_count (suc i) n)

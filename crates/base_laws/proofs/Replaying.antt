@@ -16,7 +16,7 @@ use Rattle.log_laws.proofs.Members.{append_has}
 use Rattle.log_laws.proofs.Counts.{count-nil, count_own, count_plus, count-append}
 use Rattle.log_laws.proofs.Tests.{vector_on-length, vector_on_get_d}
 use Rattle.tree_laws.specs.Trees.{SoundTree}
-use Rattle.tree_laws.proofs.Trees.{Wider, sound_wider, sound-step}
+use Rattle.tree_laws.proofs.Trees.{Wider, sound_wider, sound_step}
 use Rattle.tree_laws.proofs.Settling.{replay-append}
 use Rattle.tree_laws.proofs.Trimming.{trim_again, replay-alike}
 
@@ -40,7 +40,7 @@ wider_count v p q h u k = omega (arith, vector_on_get_d v p u k, vector_on_get_d
 sound_next : (v : List ℕ) (t : Tree) (pre : List Rec) (r : Rec) → Next v pre r → SoundTree (vector_on v pre) t → SoundTree (vector_on v (r ∷ pre)) (step t r)
 sound_next v t pre r n =
     let b : unit r < 8 = low in
-    sound-step (vector_on v pre) (vector_on v (r ∷ pre)) t r n.formed
+    sound_step (vector_on v pre) (vector_on v (r ∷ pre)) t r n.formed
     (n.next ∙ ap suc (sym (vector_on_get_d v pre (unit r) b)))
     (λ u k. omega (arith, n.within u k, vector_on_get_d v pre u k))
     (wider_count v pre (r ∷ pre) (λ u. omega (arith, count_plus u r pre)))

@@ -51,9 +51,9 @@ module _ (v b : List ℕ) (at : ℕ) where
       let y0 : get_or b at 0 ≡ 0 = rw p at z0 in
       rw (q, y0, z2, z3)
 
-  pub names-or-none : names_or_none v b at ≡ true → NamedOrNone v (identity_at b at)
+  pub names_or_none_lem : names_or_none v b at ≡ true → NamedOrNone v (identity_at b at)
   unfolding names_or_none
-  names-or-none e =
+  names_or_none_lem e =
       ⊎_elim
       (λ (z : blank (part b at 4) ≡ true). inl (blank-root z))
       (λ (n : names_in v b at ≡ true). inr (names-named n))
@@ -66,7 +66,7 @@ pub record EntryTests (v b : List ℕ) (at : ℕ) : Type 0 where
   pub kind_fits : row_kind_fits b at ≡ true
   pub names_fit : row_names_fit v b at ≡ true
   pub date_fits : row_date_fits b at ≡ true
-  pub label_fits : is_label (part b (at + 24) 32) ≡ true
+  pub label_fits_lem : is_label (part b (at + 24) 32) ≡ true
   pub mark_fits_lem : row_mark_fits b at ≡ true
 
 pub entry_tests : (v b : List ℕ) (at : ℕ) → entry_fits v b at ≡ true → EntryTests v b at
@@ -76,22 +76,22 @@ entry_tests v b at e =
     let (n, g) = and_true (row_names_fit v b at) (row_date_fits b at && (is_label (part b (at + 24) 32) && row_mark_fits b at)) f in
     let (d, h) = and_true (row_date_fits b at) (is_label (part b (at + 24) 32) && row_mark_fits b at) g in
     let (l, m) = and_true (is_label (part b (at + 24) 32)) (row_mark_fits b at) h in
-    record { kind_fits = k; names_fit = n; date_fits = d; label_fits = l; mark_fits_lem = m }
+    record { kind_fits = k; names_fit = n; date_fits = d; label_fits_lem = l; mark_fits_lem = m }
 
 module _ (b : List ℕ) (at : ℕ) where
-  kind-one-two : row_kind_fits b at ≡ true → (get_or b at 0 ≡ 1) ⊎ (get_or b at 0 ≡ 2)
+  kind_one_two : row_kind_fits b at ≡ true → (get_or b at 0 ≡ 1) ⊎ (get_or b at 0 ≡ 2)
   unfolding row_kind_fits
-  kind-one-two e =
+  kind_one_two e =
       let (k, _) = and_true (eqb (get_or b at 0) 1 || eqb (get_or b at 0) 2) (eqb (get_or b (at + 1) 0) 0 && eqb (word b (at + 2)) 0) e in
       ⊎_elim
       (λ (p : eqb (get_or b at 0) 1 ≡ true). inl (eqb-true (get_or b at 0) 1 p))
       (λ (p : eqb (get_or b at 0) 2 ≡ true). inr (eqb-true (get_or b at 0) 2 p))
       (or_true (eqb (get_or b at 0) 1) (eqb (get_or b at 0) 2) k)
 
-  date-real : row_date_fits b at ≡ true
+  date_real : row_date_fits b at ≡ true
       → is_date (word (part b (at + 20) 4) 0) (get_or (part b (at + 20) 4) 2 0) (get_or (part b (at + 20) 4) 3 0) ≡ true
   unfolding row_date_fits
-  date-real e =
+  date_real e =
       let p : at + 20 + 0 ≡ at + 20 = omega arith in
       let q : at + 20 + 2 ≡ at + 22 = omega arith in
       let r : at + 20 + 3 ≡ at + 23 = omega arith in
@@ -104,9 +104,9 @@ module _ (b : List ℕ) (at : ℕ) where
         r,
       ) e
 
-  mark-blank : row_mark_fits b at ≡ true → get_or b at 0 ≡ 1 → blank (part b (at + 56) 16) ≡ true
+  mark_blank : row_mark_fits b at ≡ true → get_or b at 0 ≡ 1 → blank (part b (at + 56) 16) ≡ true
   unfolding row_mark_fits
-  mark-blank e k = rw (ne_eqb (get_or b at 0) 2 (λ z. omega arith)) at e
+  mark_blank e k = rw (ne_eqb (get_or b at 0) 2 (λ z. omega arith)) at e
 
 pub row_fits_lem : (v b : List ℕ) (at : ℕ) → at + 72 ≤ length b → entry_fits v b at ≡ true → EntryFits v (entry_in b at)
 unfolding entry_in row_names_fit
@@ -116,14 +116,14 @@ row_fits_lem v b at h e =
     let (n8, g) = and_true (names_or_none v b (at + 8)) (names_in v b (at + 12) && names_in v b (at + 16)) f in
     let (n12, n16) = and_true (names_in v b (at + 12)) (names_in v b (at + 16)) g in
     record {
-      a_kind = ⊎_elim (λ k. omega arith) (λ k. omega arith) (kind-one-two b at t.kind_fits);
+      a_kind = ⊎_elim (λ k. omega arith) (λ k. omega arith) (kind_one_two b at t.kind_fits);
       own_named = names-named v b (at + 4) n4;
-      folder_named = names-or-none v b (at + 8) n8;
+      folder_named = names_or_none_lem v b (at + 8) n8;
       contents_named = names-named v b (at + 12) n12;
       placing_named = names-named v b (at + 16) n16;
-      real_date = date-real b at t.date_fits;
-      a_label = t.label_fits;
-      unmarked = λ k. mark-blank b at t.mark_fits_lem k;
+      real_date = date_real b at t.date_fits;
+      a_label = t.label_fits_lem;
+      unmarked = λ k. mark_blank b at t.mark_fits_lem k;
       date_length = part_length b (at + 20) 4 (omega arith);
       label_length = part_length b (at + 24) 32 (omega arith);
       mark_length = part_length b (at + 56) 16 (omega arith);
@@ -133,7 +133,7 @@ pub row_present : (v b : List ℕ) (at : ℕ) → entry_fits v b at ≡ true →
 unfolding entry_in is_present
 row_present v b at e =
     let t = entry_tests v b at e in
-    let z : get_or b at 0 ≡ 0 → ⊥ = ⊎_elim (λ k y. omega arith) (λ k y. omega arith) (kind-one-two b at t.kind_fits) in
+    let z : get_or b at 0 ≡ 0 → ⊥ = ⊎_elim (λ k y. omega arith) (λ k y. omega arith) (kind_one_two b at t.kind_fits) in
     rw (ne_eqb (get_or b at 0) 0 z)
 
 -- ---- an aside
@@ -153,4 +153,4 @@ unfolding aside_fits aside_in
 aside_fits_lem v b at e =
     let (n, f) = and_true (names_in v b at) (reason_fits b at && names_or_none v b (at + 8)) e in
     let (r, m) = and_true (reason_fits b at) (names_or_none v b (at + 8)) f in
-    record { who_named = names-named v b at n; a_reason = reason_of_lem b at r; mark_named = names-or-none v b (at + 8) m }
+    record { who_named = names-named v b at n; a_reason = reason_of_lem b at r; mark_named = names_or_none_lem v b (at + 8) m }

@@ -21,8 +21,8 @@ use Rattle.base_laws.specs.Plain.{Reaches, Plain}
 use Rattle.tree_laws.specs.Replayed.{Has, Distinct, makers}
 use Rattle.tree_laws.specs.Roots.{Up, Stands}
 use Rattle.tree_laws.specs.Trees.{EntryFits, AsideFits, SoundTree}
-use Rattle.base_laws.proofs.Numbered.{Some, first, later, has_at, all_listed, differ-once, differ_same, made_at, who_at, entries-listed, asides-listed, makers-listed, whos-listed}
-use Rattle.base_laws.proofs.Plain.{all_at, id-made, id-who, plain_of}
+use Rattle.base_laws.proofs.Numbered.{Some, first, later, has_at, all_listed, differ_once, differ_same, made_at, who_at, entries_listed, asides_listed, makers-listed, whos-listed}
+use Rattle.base_laws.proofs.Plain.{all_at, id_made, id_who, plain_of}
 use Rattle.base_laws.proofs.Rows.{row_fits_lem, row_present, aside_fits_lem}
 
 pub some_same : {e x : Entry} → some e ≡ some x → e ≡ x
@@ -68,40 +68,40 @@ module _ (b : List ℕ) where
 -- ---- the tree
 
 module _ (v b : List ℕ) (n m : ℕ) (w : Plain b n m) (fit : (i : ℕ) → i < n → EntryFits v (base_entry b i)) (there : (i : ℕ) → i < n → is_present (base_entry b i) ≡ true) where
-  apart-entries : (j k : ℕ) → j < k → k < n → (base_entry b j).made ≡ (base_entry b k).made → ⊥
-  apart-entries j k h l e = w.lone k j (omega arith) h (id-made b n j (omega arith) ∙ (e ∙ sym (id-made b n k l)))
+  apart_entries : (j k : ℕ) → j < k → k < n → (base_entry b j).made ≡ (base_entry b k).made → ⊥
+  apart_entries j k h l e = w.lone k j (omega arith) h (id_made b n j (omega arith) ∙ (e ∙ sym (id_made b n k l)))
 
   id_aside : (k : ℕ) → id_at b n (n + k) ≡ (base_aside b k).who
-  id_aside k = let e : n + k - n ≡ k = omega arith in (rw e at (id-who b n (n + k) (omega arith)))
+  id_aside k = let e : n + k - n ≡ k = omega arith in (rw e at (id_who b n (n + k) (omega arith)))
 
-  apart-asides : (j k : ℕ) → j < k → k < m → (base_aside b j).who ≡ (base_aside b k).who → ⊥
-  apart-asides j k h l e = w.lone (n + k) (n + j) (omega arith) (omega arith) (id_aside j ∙ (e ∙ sym (id_aside k)))
+  apart_asides : (j k : ℕ) → j < k → k < m → (base_aside b j).who ≡ (base_aside b k).who → ⊥
+  apart_asides j k h l e = w.lone (n + k) (n + j) (omega arith) (omega arith) (id_aside j ∙ (e ∙ sym (id_aside k)))
 
-  apart-both : (j k : ℕ) → j < n → k < m → (base_entry b j).made ≡ (base_aside b k).who → ⊥
-  apart-both j k h l e = w.lone (n + k) j (omega arith) (omega arith) (id-made b n j h ∙ (e ∙ sym (id_aside k)))
+  apart_both : (j k : ℕ) → j < n → k < m → (base_entry b j).made ≡ (base_aside b k).who → ⊥
+  apart_both j k h l e = w.lone (n + k) j (omega arith) (omega arith) (id_made b n j h ∙ (e ∙ sym (id_aside k)))
 
-  makers-once : Distinct (makers (base_entries b 0 n))
-  makers-once = rw (makers-listed b 0 n) (differ-once (made_at b) 0 n (λ j k h l g e. apart-entries j k l (omega arith) e))
+  makers_once : Distinct (makers (base_entries b 0 n))
+  makers_once = rw (makers-listed b 0 n) (differ_once (made_at b) 0 n (λ j k h l g e. apart_entries j k l (omega arith) e))
 
   made_row : (k : ℕ) → Has k (makers (base_entries b 0 n)) → Some (λ j. k ≡ (base_entry b j).made) 0 n
   made_row k h = has_at (made_at b) k 0 n (rw (makers-listed b 0 n) at h)
 
-  entry_row : (e : Entry) → Has e (base_entries b 0 n) → Some (λ j. e ≡ base_entry b j) 0 n
-  entry_row e h = has_at (base_entry b) e 0 n (rw (entries-listed b 0 n) at h)
+  entry_row_lem : (e : Entry) → Has e (base_entries b 0 n) → Some (λ j. e ≡ base_entry b j) 0 n
+  entry_row_lem e h = has_at (base_entry b) e 0 n (rw (entries_listed b 0 n) at h)
 
   found : (k j : ℕ) → j < n → (base_entry b j).made ≡ k → entry_of k (base_entries b 0 n) ≡ some (base_entry b j)
-  found k j h e = row-found b k j 0 n (omega arith) (omega arith) e (there j h) (λ i x y q. differ_same (made_at b) n apart-entries i j (omega arith) h (q ∙ sym e))
+  found k j h e = row-found b k j 0 n (omega arith) (omega arith) e (there j h) (λ i x y q. differ_same (made_at b) n apart_entries i j (omega arith) h (q ∙ sym e))
 
-  reach-up : {f : ℕ} → Reaches b n f → (s : ℕ) × Up s f (base_entries b 0 n)
-  reach-up (Reaches.top e) = (0, e)
-  reach-up {f} (Reaches.up j z l q k r) = let (s, u) = reach-up r in (suc s, (base_entry b j, found f j l q, u))
+  reach_up : {f : ℕ} → Reaches b n f → (s : ℕ) × Up s f (base_entries b 0 n)
+  reach_up (Reaches.top e) = (0, e)
+  reach_up {f} (Reaches.up j z l q k r) = let (s, u) = reach_up r in (suc s, (base_entry b j, found f j l q, u))
 
-  reach-stands : {f : ℕ} → Reaches b n f → Stands f (base_entries b 0 n)
-  reach-stands (Reaches.top e) = inl e
-  reach-stands {f} (Reaches.up j z l q k r) = inr (base_entry b j, found f j l q, k)
+  reach_stands : {f : ℕ} → Reaches b n f → Stands f (base_entries b 0 n)
+  reach_stands (Reaches.top e) = inl e
+  reach_stands {f} (Reaches.up j z l q k r) = inr (base_entry b j, found f j l q, k)
 
-  no-root : (k i : ℕ) → i < n → k ≡ (base_entry b i).made → k ≡ root → ⊥
-  no-root k i h e z =
+  no_root : (k i : ℕ) → i < n → k ≡ (base_entry b i).made → k ≡ root → ⊥
+  no_root k i h e z =
       let (a, _) = (fit i h).own_named in
       let y : (base_entry b i).made ≡ 0 = sym e ∙ z in
       let x : 0 / 8 ≡ 0 = omega arith in
@@ -109,8 +109,8 @@ module _ (v b : List ℕ) (n m : ℕ) (w : Plain b n m) (fit : (i : ℕ) → i <
 
   one_of : (e x : Entry) → Has e (base_entries b 0 n) → Has x (base_entries b 0 n) → x.inside ≡ e.inside → same_label x.label e.label ≡ true → e ≡ x
   one_of e x p q f t =
-      let s = entry_row e p in
-      let r = entry_row x q in
+      let s = entry_row_lem e p in
+      let r = entry_row_lem x q in
       let i = s.at in
       let j = r.at in
       let hi : i < n = omega (arith, s.below) in
@@ -128,33 +128,33 @@ module _ (v b : List ℕ) (n m : ℕ) (w : Plain b n m) (fit : (i : ℕ) → i <
       (lt_or_ge i j))
       (lt_or_ge j i)
 
-  pub tree-sound : ((i : ℕ) → i < m → AsideFits v (base_aside b i)) → SoundTree v (record { entries = base_entries b 0 n; asides = base_asides b 0 m })
-  tree-sound aside =
+  pub tree_sound : ((i : ℕ) → i < m → AsideFits v (base_aside b i)) → SoundTree v (record { entries = base_entries b 0 n; asides = base_asides b 0 m })
+  tree_sound aside =
       record {
         lone =
             record {
-              entries_once = makers-once;
-              asides_once = rw (whos-listed b 0 m) (differ-once (who_at b) 0 m (λ j k h l g e. apart-asides j k l (omega arith) e));
+              entries_once = makers_once;
+              asides_once = rw (whos-listed b 0 m) (differ_once (who_at b) 0 m (λ j k h l g e. apart_asides j k l (omega arith) e));
               not_both = λ k p q.
                   let s = has_at (who_at b) k 0 m (rw (whos-listed b 0 m) at p) in
                   let r = made_row k q in
-                  apart-both r.at s.at (omega (arith, r.below)) (omega (arith, s.below)) (sym r.holds ∙ s.holds);
+                  apart_both r.at s.at (omega (arith, r.below)) (omega (arith, s.below)) (sym r.holds ∙ s.holds);
             };
         rooted =
             record {
-              alone = makers-once;
-              rootless = λ h. let s = made_row root h in no-root root s.at (omega (arith, s.below)) s.holds refl;
+              alone = makers_once;
+              rootless = λ h. let s = made_row root h in no_root root s.at (omega (arith, s.below)) s.holds refl;
               stands = λ k e q.
                   let s = found-row b k e 0 n q in
-                  rw s.holds.0 (reach-stands (w.rooted s.at (omega (arith, s.below))));
+                  rw s.holds.0 (reach_stands (w.rooted s.at (omega (arith, s.below))));
               up = λ k e q.
                   let s = found-row b k e 0 n q in
-                  let (t, u) = reach-up (w.rooted s.at (omega (arith, s.below))) in
+                  let (t, u) = reach_up (w.rooted s.at (omega (arith, s.below))) in
                   (suc t, (e, q, subst (λ (y : Entry). Up t y.inside (base_entries b 0 n)) (sym s.holds.0) u));
             };
         one_label = λ e x p q y z f t. one_of e x p q f t;
-        entries_fit = rw (entries-listed b 0 n) (all_listed (base_entry b) (EntryFits v) 0 n (λ j h g. fit j (omega arith)));
-        asides_fit = rw (asides-listed b 0 m) (all_listed (base_aside b) (AsideFits v) 0 m (λ j h g. aside j (omega arith)));
+        entries_fit = rw (entries_listed b 0 n) (all_listed (base_entry b) (EntryFits v) 0 n (λ j h g. fit j (omega arith)));
+        asides_fit = rw (asides_listed b 0 m) (all_listed (base_aside b) (AsideFits v) 0 m (λ j h g. aside j (omega arith)));
       }
 
 -- ---- from the test
@@ -203,7 +203,7 @@ sound_tree b len e =
     let n = word b 2 in
     let m = word b 4 in
     let passes : (i : ℕ) → i < n → entry_row_fits b i ≡ true = all_at n (entry_row_fits b) s.entries_pass in
-    tree-sound
+    tree_sound
     (base_vector b)
     b
     n

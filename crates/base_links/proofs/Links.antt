@@ -57,30 +57,30 @@ module _ (p : ℕ → Bool) where
   unfolding last_to
   none = refl
 
-  pub last-le : (i : ℕ) → last_to p i ≤ i
-  last-le zero = omega (arith, none)
-  last-le (suc i) =
+  pub last_le : (i : ℕ) → last_to p i ≤ i
+  last_le zero = omega (arith, none)
+  last_le (suc i) =
       ⊎_elim
       (λ e. omega (arith, here i e))
-      (λ e. omega (arith, beyond i e, last-le i))
+      (λ e. omega (arith, beyond i e, last_le i))
       (bool_cases (p i))
 
-  pub last-passes : (i : ℕ) → 0 < last_to p i → p (last_to p i - 1) ≡ true
-  last-passes zero h = absurd (omega (arith, none))
-  last-passes (suc i) h =
+  pub last_passes : (i : ℕ) → 0 < last_to p i → p (last_to p i - 1) ≡ true
+  last_passes zero h = absurd (omega (arith, none))
+  last_passes (suc i) h =
       ⊎_elim
       (λ (e : p i ≡ true). let w : last_to p (suc i) - 1 ≡ i = omega (arith, here i e) in rw (w, e))
-      (λ (e : p i ≡ false). let g : 0 < last_to p i = omega (arith, beyond i e) in rw (beyond i e) (last-passes i g))
+      (λ (e : p i ≡ false). let g : 0 < last_to p i = omega (arith, beyond i e) in rw (beyond i e) (last_passes i g))
       (bool_cases (p i))
 
   -- where all that pass have the key h, those of other keys are skipped
-  pub last-skip : (key : ℕ → ℕ) (h : ℕ) → ((j : ℕ) → p j ≡ true → key j ≡ h) → (i : ℕ) → last_to p (last_to (has_key key h) i) ≡ last_to p i
+  pub last_skip : (key : ℕ → ℕ) (h : ℕ) → ((j : ℕ) → p j ≡ true → key j ≡ h) → (i : ℕ) → last_to p (last_to (has_key key h) i) ≡ last_to p i
   unfolding last_to has_key
-  last-skip key h g zero = refl
-  last-skip key h g (suc i) =
+  last_skip key h g zero = refl
+  last_skip key h g (suc i) =
       ⊎_elim
       (λ (e : key i ≡ h). rw (eq-eqb (key i) h e))
-      (λ (e : key i ≡ h → ⊥). rw (ne_eqb (key i) h e, test_false (p i) (λ t. e (g i t))) (last-skip key h g i))
+      (λ (e : key i ≡ h → ⊥). rw (ne_eqb (key i) h e, test_false (p i) (λ t. e (g i t))) (last_skip key h g i))
       (eq_or_ne (key i) h)
 
 -- ---- a search along a chain
@@ -90,21 +90,21 @@ module _ (p : ℕ → Bool) (key : ℕ → ℕ) (heads next : List ℕ) (h i : �
   unfolding has_key
   comes t q l e s =
       record {
-        low = omega (arith, last-le (has_key key h) t);
-        same = rw e (last-skip p key h agree t ∙ s);
-        chain = λ z. eqb-true (key (q - 1)) h (rw e (last-passes (has_key key h) t (rw e at z)));
+        low = omega (arith, last_le (has_key key h) t);
+        same = rw e (last_skip p key h agree t ∙ s);
+        chain = λ z. eqb-true (key (q - 1)) h (rw e (last_passes (has_key key h) t (rw e at z)));
       }
 
-  pub walk-starts : {q : ℕ} → h < 1024 → q ≡ get_or heads h 0 → Walk p key h i q
-  walk-starts {q} l e = comes i q (omega arith) (e ∙ w.first h l) refl
+  pub walk_starts : {q : ℕ} → h < 1024 → q ≡ get_or heads h 0 → Walk p key h i q
+  walk_starts {q} l e = comes i q (omega arith) (e ∙ w.first h l) refl
 
-  pub walk-low : {q r : ℕ} → Walk p key h i q → 0 < q → r ≡ get_or next (q - 1) 0 → r < q
-  walk-low {q} k z e =
+  pub walk_low : {q r : ℕ} → Walk p key h i q → 0 < q → r ≡ get_or next (q - 1) 0 → r < q
+  walk_low {q} k z e =
       let f : get_or next (q - 1) 0 ≡ last_to (has_key key (key (q - 1))) (q - 1) = w.behind (q - 1) (omega (arith, k.low)) in
-      omega (arith, last-le (has_key key (key (q - 1))) (q - 1))
+      omega (arith, last_le (has_key key (key (q - 1))) (q - 1))
 
-  pub walk-goes : {q r : ℕ} → Walk p key h i q → 0 < q → p (q - 1) ≡ false → r ≡ get_or next (q - 1) 0 → Walk p key h i r
-  walk-goes {q} {r} k z f e =
+  pub walk_goes : {q r : ℕ} → Walk p key h i q → 0 < q → p (q - 1) ≡ false → r ≡ get_or next (q - 1) 0 → Walk p key h i r
+  walk_goes {q} {r} k z f e =
       let b : get_or next (q - 1) 0 ≡ last_to (has_key key (key (q - 1))) (q - 1) = w.behind (q - 1) (omega (arith, k.low)) in
       let c : last_to p q ≡ last_to p (q - 1) = one_less q z f in
       comes (q - 1) r (omega (arith, k.low)) (e ∙ (rw (k.chain z) at b)) (sym c ∙ k.same)

@@ -16,41 +16,41 @@ use Rattle.tree_table.specs.Rows.{Proper, AllProper}
 use Rattle.tree_lookup.specs.Roles.{row_from, note_from, Absent, Lone, Home, Housed}
 
 module _ (b : List ℕ) where
-  entries-behind : (s i : ℕ) → base_entries b s (suc i) ≡ base_entries b s i ++ (base_entry b (s + i) ∷ [])
+  entries_behind : (s i : ℕ) → base_entries b s (suc i) ≡ base_entries b s i ++ (base_entry b (s + i) ∷ [])
   unfolding base_entries
-  entries-behind s zero = let z : s + 0 ≡ s = omega arith in rw z
-  entries-behind s (suc i) =
+  entries_behind s zero = let z : s + 0 ≡ s = omega arith in rw z
+  entries_behind s (suc i) =
       let z : s + suc i ≡ suc s + i = omega arith in
-      rw z (ap (λ (l : List Entry). base_entry b s ∷ l) (entries-behind (suc s) i))
+      rw z (ap (λ (l : List Entry). base_entry b s ∷ l) (entries_behind (suc s) i))
 
   pub entries_next : (i : ℕ) → base_entries b 0 (i + 1) ≡ base_entries b 0 i ++ (base_entry b i ∷ [])
   entries_next i =
       let z : i + 1 ≡ suc i = omega arith in
       let y : 0 + i ≡ i = omega arith in
-      rw z (entries-behind 0 i ∙ rw y)
+      rw z (entries_behind 0 i ∙ rw y)
 
-  asides-behind : (s i : ℕ) → base_asides b s (suc i) ≡ base_asides b s i ++ (base_aside b (s + i) ∷ [])
+  asides_behind : (s i : ℕ) → base_asides b s (suc i) ≡ base_asides b s i ++ (base_aside b (s + i) ∷ [])
   unfolding base_asides
-  asides-behind s zero = let z : s + 0 ≡ s = omega arith in rw z
-  asides-behind s (suc i) =
+  asides_behind s zero = let z : s + 0 ≡ s = omega arith in rw z
+  asides_behind s (suc i) =
       let z : s + suc i ≡ suc s + i = omega arith in
-      rw z (ap (λ (l : List Aside). base_aside b s ∷ l) (asides-behind (suc s) i))
+      rw z (ap (λ (l : List Aside). base_aside b s ∷ l) (asides_behind (suc s) i))
 
-  pub asides-next : (i : ℕ) → base_asides b 0 (i + 1) ≡ base_asides b 0 i ++ (base_aside b i ∷ [])
-  asides-next i =
+  pub asides_next : (i : ℕ) → base_asides b 0 (i + 1) ≡ base_asides b 0 i ++ (base_aside b i ∷ [])
+  asides_next i =
       let z : i + 1 ≡ suc i = omega arith in
       let y : 0 + i ≡ i = omega arith in
-      rw z (asides-behind 0 i ∙ rw y)
+      rw z (asides_behind 0 i ∙ rw y)
 
-  pub entries-long : (s i : ℕ) → length (base_entries b s i) ≡ i
+  pub entries_long : (s i : ℕ) → length (base_entries b s i) ≡ i
   unfolding base_entries
-  entries-long s zero = refl
-  entries-long s (suc i) = ap suc (entries-long (suc s) i)
+  entries_long s zero = refl
+  entries_long s (suc i) = ap suc (entries_long (suc s) i)
 
-  pub asides-long : (s i : ℕ) → length (base_asides b s i) ≡ i
+  pub asides_long : (s i : ℕ) → length (base_asides b s i) ≡ i
   unfolding base_asides
-  asides-long s zero = refl
-  asides-long s (suc i) = ap suc (asides-long (suc s) i)
+  asides_long s zero = refl
+  asides_long s (suc i) = ap suc (asides_long (suc s) i)
 
   -- an identity that no entry has is in no row
   pub no_row : (k p s i : ℕ) → ((j : ℕ) → s ≤ j → j < s + i → (base_entry b j).made ≡ k → ⊥) → row_from k p (base_entries b s i) ≡ 0
@@ -76,15 +76,15 @@ module _ (b : List ℕ) where
     lone (suc s) i (λ j k f g l. h j k (omega arith) g (omega arith)),
   )
 
-  pub all-proper : (s i : ℕ) → ((j : ℕ) → s ≤ j → j < s + i → Proper (base_entry b j)) → AllProper (base_entries b s i)
+  pub all_proper : (s i : ℕ) → ((j : ℕ) → s ≤ j → j < s + i → Proper (base_entry b j)) → AllProper (base_entries b s i)
   unfolding base_entries
-  all-proper s zero h = tt
-  all-proper s (suc i) h = (h s (omega arith) (omega arith), all-proper (suc s) i (λ j f g. h j (omega arith) (omega arith)))
+  all_proper s zero h = tt
+  all_proper s (suc i) h = (h s (omega arith) (omega arith), all_proper (suc s) i (λ j f g. h j (omega arith) (omega arith)))
 
-  pub all-housed : (es : List Entry) (s i : ℕ) → ((j : ℕ) → s ≤ j → j < s + i → Home (base_entry b j).inside es) → Housed es (base_entries b s i)
+  pub all_housed : (es : List Entry) (s i : ℕ) → ((j : ℕ) → s ≤ j → j < s + i → Home (base_entry b j).inside es) → Housed es (base_entries b s i)
   unfolding base_entries
-  all-housed es s zero h = tt
-  all-housed es s (suc i) h = (h s (omega arith) (omega arith), all-housed es (suc s) i (λ j f g. h j (omega arith) (omega arith)))
+  all_housed es s zero h = tt
+  all_housed es s (suc i) h = (h s (omega arith) (omega arith), all_housed es (suc s) i (λ j f g. h j (omega arith) (omega arith)))
 
   -- an identity that has a row is that of an entry
   pub row_of_lem : (k p s i : ℕ) → (row_from k p (base_entries b s i) ≡ 0 → ⊥) → (j : ℕ) × (s ≤ j) × (j < s + i) × ((base_entry b j).made ≡ k)

@@ -24,11 +24,11 @@ use Rattle.hash_chains.specs.Chains.{nodes_in, Chains}
 use Rattle.tree_maps.specs.Keys.{register_size, named}
 use Rattle.tree_maps.proofs.Keeping.{named-long, named-behind}
 use Rattle.tree_lookup.specs.Roles.{row_from, note_from, row_of, note_of, behind_rows, role_of, Named}
-use Rattle.tree_effect.proofs.Additions.{named-make, named-aside}
+use Rattle.tree_effect.proofs.Additions.{named_make, named-aside}
 use Rattle.tree_amend.specs.Effects.{with_entries, with_asides}
 use Rattle.base_load.specs.Loading.{Ranged, Noted, Loads, Loading, tree_to, loaded_row, loaded_aside}
 use Rattle.base_load.proofs.Rows.{loaded-row, loaded-aside}
-use Rattle.base_load.proofs.Listed.{entries_next, asides-next, entries-long, asides-long, no_row, no_note, all-proper, row_of_lem}
+use Rattle.base_load.proofs.Listed.{entries_next, asides_next, entries_long, asides_long, no_row, no_note, all_proper, row_of_lem}
 
 -- ---- the bytes of a row by themselves
 
@@ -80,9 +80,9 @@ who_is b j = refl
 -- ---- what a base that loads tells
 
 module _ (b : List ℕ) (n m : ℕ) (w : Loads b n m) where
-  pub entry-proper : (i : ℕ) → i < n → Proper (base_entry b i)
+  pub entry_proper : (i : ℕ) → i < n → Proper (base_entry b i)
   unfolding base_entry entry_in
-  entry-proper i h =
+  entry_proper i h =
       record {
         range = (w.rows i h).own;
         date_long = part_length b (24 + 72 * i + 20) 4 (omega (arith, w.long, w.few));
@@ -90,12 +90,12 @@ module _ (b : List ℕ) (n m : ℕ) (w : Loads b n m) where
         mark_long = part_length b (24 + 72 * i + 56) 16 (omega (arith, w.long, w.few));
       }
 
-  pub proper-to : (i : ℕ) → i ≤ n → AllProper (base_entries b 0 i)
-  proper-to i h = all-proper b 0 i (λ j f g. entry-proper j (omega arith))
+  pub proper_to : (i : ℕ) → i ≤ n → AllProper (base_entries b 0 i)
+  proper_to i h = all_proper b 0 i (λ j f g. entry_proper j (omega arith))
 
-  pub apart-to : (i j k : ℕ) → i ≤ n → j ≤ m → (row_of k (tree_to b i j) ≡ 0) ⊎ (note_of k (tree_to b i j) ≡ 0)
+  pub apart_to : (i j k : ℕ) → i ≤ n → j ≤ m → (row_of k (tree_to b i j) ≡ 0) ⊎ (note_of k (tree_to b i j) ≡ 0)
   unfolding row_of note_of tree_to
-  apart-to i j k h g =
+  apart_to i j k h g =
       ⊎_elim (λ z. inl z)
       (λ z.
       let (x, f, l, q) = row_of_lem b k 0 0 i z in
@@ -123,10 +123,10 @@ module _ (b : List ℕ) (n m : ℕ) (w : Loads b n m) where
         let es = base_entries b 0 i in
         let t = tree_to b i 0 in
         let few = w.few in
-        let n0 = entries-long b 0 i in
-        let proper = proper-to i (omega arith) in
-        let fit = entry-proper i h in
-        let m0 = asides-long b 0 0 in
+        let n0 = entries_long b 0 i in
+        let proper = proper_to i (omega arith) in
+        let fit = entry_proper i h in
+        let m0 = asides_long b 0 0 in
         let tl : length table ≡ 86020 = ap (λ (x : List ℕ). length x) o.bytes ∙ flagged-long [] es (base_asides b 0 0) proper (omega arith) (omega arith) in
         let bl : length (part b (24 + 72 * i) 72) ≡ 72 = part_length b (24 + 72 * i) 72 (omega (arith, w.long)) in
         let cl : length (part table (4 + 72 * i) 72) ≡ 72 = part_length table (4 + 72 * i) 72 (omega arith) in
@@ -138,7 +138,7 @@ module _ (b : List ℕ) (n m : ℕ) (w : Loads b n m) where
         let long : put_mid (4 + 72 * i) (4 + 72 * i + 72 - (4 + 72 * i)) table ys ≡ put_at table (4 + 72 * i) (entry_row 0 e) =
         mid_put (4 + 72 * i) 72 table ys (ap (λ (x : List ℕ). length x) z ∙ row-length 0 e fit) ∙ rw z in
         let step : Named (named register e.made (length es + 1)) (with_entries t (es ++ (e ∷ []))) =
-        (named-make register t o.named (omega arith) (λ k₁. apart-to i 0 k₁ (omega arith) (omega arith)) (omega arith) e (omega arith) (fresh-entry i h)) in
+        (named_make register t o.named (omega arith) (λ k₁. apart_to i 0 k₁ (omega arith) (omega arith)) (omega arith) e (omega arith) (fresh-entry i h)) in
         record {
           bytes =
               long
@@ -150,30 +150,30 @@ module _ (b : List ℕ) (n m : ℕ) (w : Loads b n m) where
           blank = λ x u. rw g (named-behind register k (i + 1) c r0 x u ∙ o.blank x u);
         }
 
-    pub row-ranged : Ranged (entry_in (take (24 + 72 * i + 72 - (24 + 72 * i)) (drop (24 + 72 * i) b)) 0)
-    row-ranged = rw (part_is b (24 + 72 * i) 72, entry_here b i) (w.rows i h)
+    pub row_ranged : Ranged (entry_in (take (24 + 72 * i + 72 - (24 + 72 * i)) (drop (24 + 72 * i) b)) 0)
+    row_ranged = rw (part_is b (24 + 72 * i) 72, entry_here b i) (w.rows i h)
 
     pub table-long : length table ≡ 86020
     unfolding tree_to work_bytes
     table-long =
         ap (λ (x : List ℕ). length x) o.bytes
-        ∙ flagged-long [] (base_entries b 0 i) (base_asides b 0 0) (proper-to i (omega arith)) (omega (arith, entries-long b 0 i, w.few)) (omega (arith, asides-long b 0 0))
+        ∙ flagged-long [] (base_entries b 0 i) (base_asides b 0 0) (proper_to i (omega arith)) (omega (arith, entries_long b 0 i, w.few)) (omega (arith, asides_long b 0 0))
 
-    pub row-end : 4 + 72 * i + 72 ≤ length table
-    row-end = omega (arith, table-long, w.few)
+    pub row_end : 4 + 72 * i + 72 ≤ length table
+    row_end = omega (arith, table-long, w.few)
 
-    pub source-end : 24 + 72 * i + 72 ≤ length b
-    source-end = omega (arith, w.long, w.few)
+    pub source_end : 24 + 72 * i + 72 ≤ length b
+    source_end = omega (arith, w.long, w.few)
 
-    pub row-role : i + 1 < 65536
-    row-role = omega (arith, w.few)
+    pub row_role : i + 1 < 65536
+    row_role = omega (arith, w.few)
 
-    pub name-chains : Chains 0 register
-    name-chains = o.named.chains
+    pub name_chains : Chains 0 register
+    name_chains = o.named.chains
 
-    pub name-room : nodes_in 0 register < 1536
+    pub name_room : nodes_in 0 register < 1536
     unfolding tree_to
-    name-room = omega (arith, o.named.count, entries-long b 0 i, asides-long b 0 0, w.few)
+    name_room = omega (arith, o.named.count, entries_long b 0 i, asides_long b 0 0, w.few)
 
   -- an aside more
   module _ (table register : List ℕ) (j : ℕ) (o : Loading b table register n j) (h : j < m) where
@@ -189,9 +189,9 @@ module _ (b : List ℕ) (n m : ℕ) (w : Loads b n m) where
         let t = tree_to b n j in
         let few = w.few in
         let few2 = w.few_asides in
-        let n0 = entries-long b 0 n in
-        let m0 = asides-long b 0 j in
-        let proper = proper-to n (omega arith) in
+        let n0 = entries_long b 0 n in
+        let m0 = asides_long b 0 j in
+        let proper = proper_to n (omega arith) in
         let tl : length table ≡ 86020 = ap (λ (x : List ℕ). length x) o.bytes ∙ flagged-long [] es s proper (omega arith) (omega arith) in
         let cl : length (part table (73732 + 12 * j) 12) ≡ 12 = part_length table (73732 + 12 * j) 12 (omega arith) in
         let z : ys ≡ aside_row a =
@@ -202,42 +202,42 @@ module _ (b : List ℕ) (n m : ℕ) (w : Loads b n m) where
         let long : put_mid (73732 + 12 * j) (73732 + 12 * j + 12 - (73732 + 12 * j)) table ys ≡ put_at table (73732 + 12 * j) (aside_row a) =
         mid_put (73732 + 12 * j) 12 table ys (ap (λ (x : List ℕ). length x) z ∙ aside_row_length a) ∙ rw z in
         let step : Named (named register a.who (1025 + length s)) (with_asides t (s ++ (a ∷ []))) =
-        (named-aside register t o.named (omega arith) (λ k₁. apart-to n j k₁ (omega arith) (omega arith)) (omega arith) a (fresh-aside j h)) in
+        (named-aside register t o.named (omega arith) (λ k₁. apart_to n j k₁ (omega arith) (omega arith)) (omega arith) a (fresh-aside j h)) in
         record {
           bytes =
               long
-              ∙ rw (o.bytes, asides-next b j)
+              ∙ rw (o.bytes, asides_next b j)
               (subst (λ (x : ℕ). put_at (flagged [] es s) (73732 + 12 * x) (aside_row a) ≡ flagged [] es (s ++ (a ∷ []))) m0
               (add-aside [] es s proper (omega arith) a));
           wide = rw (g, named-long register k (1025 + j)) o.wide;
-          named = rw (g, made, asides-next b j) (subst (λ (x : ℕ). Named (named register a.who (1025 + x)) (with_asides t (s ++ (a ∷ [])))) m0 step);
+          named = rw (g, made, asides_next b j) (subst (λ (x : ℕ). Named (named register a.who (1025 + x)) (with_asides t (s ++ (a ∷ [])))) m0 step);
           blank = λ x u. rw g (named-behind register k (1025 + j) c r0 x u ∙ o.blank x u);
         }
 
-    pub note-noted : Noted (aside_in (take (36888 + 12 * j + 12 - (36888 + 12 * j)) (drop (36888 + 12 * j) b)) 0)
-    note-noted = rw (part_is b (36888 + 12 * j) 12, aside_here b j) (w.notes j h)
+    pub note_noted : Noted (aside_in (take (36888 + 12 * j + 12 - (36888 + 12 * j)) (drop (36888 + 12 * j) b)) 0)
+    note_noted = rw (part_is b (36888 + 12 * j) 12, aside_here b j) (w.notes j h)
 
     pub notes_long : length table ≡ 86020
     unfolding tree_to work_bytes
     notes_long =
         ap (λ (x : List ℕ). length x) o.bytes
-        ∙ flagged-long [] (base_entries b 0 n) (base_asides b 0 j) (proper-to n (omega arith)) (omega (arith, entries-long b 0 n, w.few)) (omega (arith, asides-long b 0 j, w.few_asides))
+        ∙ flagged-long [] (base_entries b 0 n) (base_asides b 0 j) (proper_to n (omega arith)) (omega (arith, entries_long b 0 n, w.few)) (omega (arith, asides_long b 0 j, w.few_asides))
 
-    pub note-end : 73732 + 12 * j + 12 ≤ length table
-    note-end = omega (arith, notes_long, w.few_asides)
+    pub note_end : 73732 + 12 * j + 12 ≤ length table
+    note_end = omega (arith, notes_long, w.few_asides)
 
-    pub note-source-end : 36888 + 12 * j + 12 ≤ length b
-    note-source-end = omega (arith, w.long, w.few_asides)
+    pub note_source_end : 36888 + 12 * j + 12 ≤ length b
+    note_source_end = omega (arith, w.long, w.few_asides)
 
-    pub note-role : 1025 + j < 65536
-    note-role = omega (arith, w.few_asides)
+    pub note_role : 1025 + j < 65536
+    note_role = omega (arith, w.few_asides)
 
-    pub note-chains : Chains 0 register
-    note-chains = o.named.chains
+    pub note_chains : Chains 0 register
+    note_chains = o.named.chains
 
-    pub note-room : nodes_in 0 register < 1536
+    pub note_room : nodes_in 0 register < 1536
     unfolding tree_to
-    note-room = omega (arith, o.named.count, entries-long b 0 n, asides-long b 0 j, w.few, w.few_asides)
+    note_room = omega (arith, o.named.count, entries_long b 0 n, asides_long b 0 j, w.few, w.few_asides)
 
 -- ---- all of them
 

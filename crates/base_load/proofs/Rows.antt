@@ -61,13 +61,13 @@ module _ (s : List ℕ) (r : Ranged (entry_in s 0)) where
   unfolding entry_in
   folder_low k e = rw e r.folder
 
-  pub contents-low : (k : ℕ) → k ≡ identity_at s 12 → k < 524288
+  pub contents_low : (k : ℕ) → k ≡ identity_at s 12 → k < 524288
   unfolding entry_in
-  contents-low k e = rw e r.contents
+  contents_low k e = rw e r.contents
 
-  pub placing-low : (k : ℕ) → k ≡ identity_at s 16 → k < 524288
+  pub placing_low : (k : ℕ) → k ≡ identity_at s 16 → k < 524288
   unfolding entry_in
-  placing-low k e = rw e r.placing
+  placing_low k e = rw e r.placing
 
 -- ---- the 12 bytes of an aside
 
@@ -76,9 +76,9 @@ module _ (s : List ℕ) (n : Noted (aside_in s 0)) where
   unfolding aside_in
   who_low k e = rw e n.own.high
 
-  pub mark-low : (k : ℕ) → k ≡ identity_at s 8 → k < 524288
+  pub mark_low : (k : ℕ) → k ≡ identity_at s 8 → k < 524288
   unfolding aside_in
-  mark-low k e = rw e (⊎_elim (λ z. omega arith) (λ z. z.high) n.mark)
+  mark_low k e = rw e (⊎_elim (λ z. omega arith) (λ z. z.high) n.mark)
 
 pub is_open : (x : ℕ) → x ≡ 1 → 1 ≡ state_of x
 unfolding state_of

@@ -58,14 +58,14 @@ module _ (v s : List ℕ) (at : ℕ) where
   unfolding names_in
   unit_above a = rw (lt-leb (get_or s at 0) 7 a)
 
-  pub byte-used : get_or s at 0 ≤ 7 → (get_or s (at + 1) 0 ≡ 0 → ⊥) → false ≡ names_in v s at
+  pub byte_used : get_or s at 0 ≤ 7 → (get_or s (at + 1) 0 ≡ 0 → ⊥) → false ≡ names_in v s at
   unfolding names_in
-  byte-used a b = rw (le-leb (get_or s at 0) 7 a, ne_eqb (get_or s (at + 1) 0) 0 b)
+  byte_used a b = rw (le-leb (get_or s at 0) 7 a, ne_eqb (get_or s (at + 1) 0) 0 b)
 
   module _ {n : ℕ} (a : get_or s at 0 ≤ 7) (b : get_or s (at + 1) 0 ≡ 0) (e : n ≡ word s (at + 2)) where
-    pub number-none : n < 1 → false ≡ names_in v s at
+    pub number_none : n < 1 → false ≡ names_in v s at
     unfolding names_in
-    number-none h = rw (le-leb (get_or s at 0) 7 a, eq-eqb (get_or s (at + 1) 0) 0 b, ← e, lt-leb 1 n h)
+    number_none h = rw (le-leb (get_or s at 0) 7 a, eq-eqb (get_or s (at + 1) 0) 0 b, ← e, lt-leb 1 n h)
 
     pub number_held : 1 ≤ n → leb n (get_or v (get_or s at 0) 0) ≡ names_in v s at
     unfolding names_in
@@ -76,42 +76,42 @@ module _ (v s : List ℕ) (at : ℕ) where
     unfolding names_or_none
     none_named z = rw (← four-blank s at h e, z)
 
-    pub one-named : {t : Bool} → (eqb (get_or s at 0) 0 && (eqb (get_or s (at + 1) 0) 0 && eqb n 0)) ≡ false → t ≡ names_in v s at → t ≡ names_or_none v s at
+    pub one_named : {t : Bool} → (eqb (get_or s at 0) 0 && (eqb (get_or s (at + 1) 0) 0 && eqb n 0)) ≡ false → t ≡ names_in v s at → t ≡ names_or_none v s at
     unfolding names_or_none
-    one-named z f = rw (← four-blank s at h e, z) f
+    one_named z f = rw (← four-blank s at h e, z) f
 
-  pub names-are : {a b c d : Bool} → a ≡ names_in v s (at + 4) → b ≡ names_or_none v s (at + 8) → c ≡ names_in v s (at + 12) → d ≡ names_in v s (at + 16)
+  pub names_are : {a b c d : Bool} → a ≡ names_in v s (at + 4) → b ≡ names_or_none v s (at + 8) → c ≡ names_in v s (at + 12) → d ≡ names_in v s (at + 16)
       → (a && (b && (c && d))) ≡ row_names_fit v s at
   unfolding row_names_fit
-  names-are e f g h = rw (e, f, g, h)
+  names_are e f g h = rw (e, f, g, h)
 
   pub entry_is : {a b c d e : Bool} → d ≡ is_label (take (at + 24 + 32 - (at + 24)) (drop (at + 24) s)) → a ≡ row_kind_fits s at → b ≡ row_names_fit v s at → c ≡ row_date_fits s at → e ≡ row_mark_fits s at
       → (a && (b && (c && (d && e)))) ≡ entry_fits v s at
   unfolding entry_fits
   entry_is d a b c e = rw (a, b, c, e, d, part_is s (at + 24) 32)
 
-  pub aside-is : {a b c : Bool} → a ≡ names_in v s at → b ≡ reason_fits s at → c ≡ names_or_none v s (at + 8) → (a && (b && c)) ≡ aside_fits v s at
+  pub aside_is : {a b c : Bool} → a ≡ names_in v s at → b ≡ reason_fits s at → c ≡ names_or_none v s (at + 8) → (a && (b && c)) ≡ aside_fits v s at
   unfolding aside_fits
-  aside-is a b c = rw (a, b, c)
+  aside_is a b c = rw (a, b, c)
 
 module _ (s : List ℕ) (at : ℕ) where
-  pub kind-is : {n : ℕ} → n ≡ word s (at + 2) → ((eqb (get_or s at 0) 1 || eqb (get_or s at 0) 2) && (eqb (get_or s (at + 1) 0) 0 && eqb n 0)) ≡ row_kind_fits s at
+  pub kind_is : {n : ℕ} → n ≡ word s (at + 2) → ((eqb (get_or s at 0) 1 || eqb (get_or s at 0) 2) && (eqb (get_or s (at + 1) 0) 0 && eqb n 0)) ≡ row_kind_fits s at
   unfolding row_kind_fits
-  kind-is e = rw e
+  kind_is e = rw e
 
-  pub date-is : {y : ℕ} {t : Bool} → y ≡ word s (at + 20) → t ≡ is_date y (get_or s (at + 22) 0) (get_or s (at + 23) 0) → t ≡ row_date_fits s at
+  pub date_is : {y : ℕ} {t : Bool} → y ≡ word s (at + 20) → t ≡ is_date y (get_or s (at + 22) 0) (get_or s (at + 23) 0) → t ≡ row_date_fits s at
   unfolding row_date_fits
-  date-is e f = rw (f, e)
+  date_is e f = rw (f, e)
 
-  pub mark-any : get_or s at 0 ≡ 2 → true ≡ row_mark_fits s at
+  pub mark_any : get_or s at 0 ≡ 2 → true ≡ row_mark_fits s at
   unfolding row_mark_fits
-  mark-any e = rw (eq-eqb (get_or s at 0) 2 e)
+  mark_any e = rw (eq-eqb (get_or s at 0) 2 e)
 
-  pub mark-zero : {t : Bool} → (get_or s at 0 ≡ 2 → ⊥) → t ≡ blank (take (at + 56 + 16 - (at + 56)) (drop (at + 56) s)) → t ≡ row_mark_fits s at
+  pub mark_zero : {t : Bool} → (get_or s at 0 ≡ 2 → ⊥) → t ≡ blank (take (at + 56 + 16 - (at + 56)) (drop (at + 56) s)) → t ≡ row_mark_fits s at
   unfolding row_mark_fits
-  mark-zero e f = rw (ne_eqb (get_or s at 0) 2 e, f, part_is s (at + 56) 16)
+  mark_zero e f = rw (ne_eqb (get_or s at 0) 2 e, f, part_is s (at + 56) 16)
 
-  pub reason-is : {n : ℕ} → n ≡ word s (at + 6)
+  pub reason_is : {n : ℕ} → n ≡ word s (at + 6)
       → (((leb 12 (get_or s (at + 4) 0) && leb (get_or s (at + 4) 0) 18) || eqb (get_or s (at + 4) 0) 25) && ((eqb (get_or s (at + 5) 0) 1 || eqb (get_or s (at + 5) 0) 2) && eqb n 0)) ≡ reason_fits s at
   unfolding reason_fits
-  reason-is e = rw e
+  reason_is e = rw e

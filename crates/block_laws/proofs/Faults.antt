@@ -31,11 +31,11 @@ unfolding block_fault block_fault_as
 fault_sab1 b = refl
 
 module _ (b : List ℕ) (e : block_fault b ≡ 0) where
-  pub sums-right : sums_hold b ≡ true
-  sums-right = (three_passed letters b (rw fault_sab1 at e)).1
+  pub sums_right : sums_hold b ≡ true
+  sums_right = (three_passed letters b (rw fault_sab1 at e)).1
 
-  pub header-right : header_holds b ≡ true
-  header-right = (three_passed letters b (rw fault_sab1 at e)).2
+  pub header_right : header_holds b ≡ true
+  header_right = (three_passed letters b (rw fault_sab1 at e)).2
 
 pub stored_sums : (b : List ℕ) → sums_hold b ≡ true → (word b 508 ≡ first_to b 254) × (word b 510 ≡ second_to b 254)
 unfolding sums_hold

@@ -89,19 +89,19 @@ unfolding sealed
 length-sealed b = length-append b (two (first_to b 254) ++ two (second_to b 254))
 
 module _ (t : List ℕ) (t4 : length t ≡ 4) (h : Header) where
-  pub length-headAs : (n : ℕ) → length (head_as t h n) ≡ 28
+  pub length-head_as : (n : ℕ) → length (head_as t h n) ≡ 28
   unfolding head_as
-  length-headAs n =
+  length-head_as n =
       omega (arith, length-append t (four h.archive ++ ((h.sender ∷ n ∷ []) ++ (two h.place ++ vector_bytes h.vector))), vector_bytes-length h.vector)
 
-  pub length-bodyAs : (l : List Rec) → Sized l → length l ≤ 6 → length (body_as t h l) ≡ 508
+  pub length-body_as : (l : List Rec) → Sized l → length l ≤ 6 → length (body_as t h l) ≡ 508
   unfolding body_as
-  length-bodyAs l z k =
-      omega (arith, length-append (head_as t h (length l)) (padded 480 (joined l)), length-headAs (length l), length-padded 480 (joined l) (omega (arith, length-joined l z)))
+  length-body_as l z k =
+      omega (arith, length-append (head_as t h (length l)) (padded 480 (joined l)), length-head_as (length l), length-padded 480 (joined l) (omega (arith, length-joined l z)))
 
-  pub length-blockAs : (l : List Rec) → Sized l → length l ≤ 6 → length (block_as t h l) ≡ 512
+  pub length-block_as : (l : List Rec) → Sized l → length l ≤ 6 → length (block_as t h l) ≡ 512
   unfolding block_as
-  length-blockAs l z k = omega (arith, length-sealed (body_as t h l), length-bodyAs l z k)
+  length-block_as l z k = omega (arith, length-sealed (body_as t h l), length-body_as l z k)
 
 -- a block of SAB1
 pub block_sab1 : (h : Header) (l : List Rec) → block_of h l ≡ block_as letters h l
@@ -109,4 +109,4 @@ unfolding block_as body_as head_as block_of body_bytes head_bytes
 block_sab1 h l = refl
 
 pub length_block : (h : Header) (l : List Rec) → Sized l → length l ≤ 6 → length (block_of h l) ≡ 512
-length_block h l z k = rw block_sab1 (length-blockAs letters refl h l z k)
+length_block h l z k = rw block_sab1 (length-block_as letters refl h l z k)

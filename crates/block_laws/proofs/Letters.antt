@@ -16,7 +16,7 @@ use Rattle.byte_slice.proofs.Parts.{part_middle}
 use Rattle.byte_slice.proofs.Words.{word_at, long-at}
 use Rattle.byte_slice.proofs.Compare.{same_refl, blank-zeros}
 use Rattle.vector.proofs.InBytes.{vector_back}
-use Rattle.block_laws.proofs.Fields.{Sized, length-joined, records_back, length-headAs, length-bodyAs}
+use Rattle.block_laws.proofs.Fields.{Sized, length-joined, records_back, length-head_as, length-body_as}
 use Rattle.block_laws.proofs.Sums.{sealed-holds}
 
 -- what holds of any four numbers holds of any four letters
@@ -41,35 +41,35 @@ unused-blank l p t z k e =
     rw (append_assoc (joined l) o t, ← append_assoc p (joined l) (o ++ t), f) (blank-zeros (480 - length (joined l)))
 
 module _ (t : List ℕ) (t4 : length t ≡ 4) (h : Header) (l : List Rec) where
-  behind-head : block_as t h l ≡ head_as t h (length l) ++ (padded 480 (joined l) ++ (two (first_to (body_as t h l) 254) ++ two (second_to (body_as t h l) 254)))
+  behind_head : block_as t h l ≡ head_as t h (length l) ++ (padded 480 (joined l) ++ (two (first_to (body_as t h l) 254) ++ two (second_to (body_as t h l) 254)))
   unfolding block_as sealed body_as
-  behind-head = append_assoc (head_as t h (length l)) (padded 480 (joined l)) _
+  behind_head = append_assoc (head_as t h (length l)) (padded 480 (joined l)) _
 
-  pub sender-back : sender_in (block_as t h l) ≡ h.sender
+  pub sender_back : sender_in (block_as t h l) ≡ h.sender
   unfolding sender_in block_as sealed body_as head_as
-  sender-back = by_four (λ (x : List ℕ). sender_in (block_as x h l) ≡ h.sender) (λ a b c d. refl) t t4
+  sender_back = by_four (λ (x : List ℕ). sender_in (block_as x h l) ≡ h.sender) (λ a b c d. refl) t t4
 
-  pub count-back : count_in (block_as t h l) ≡ length l
+  pub count_back : count_in (block_as t h l) ≡ length l
   unfolding count_in block_as sealed body_as head_as
-  count-back = by_four (λ (x : List ℕ). count_in (block_as x h l) ≡ length l) (λ a b c d. refl) t t4
+  count_back = by_four (λ (x : List ℕ). count_in (block_as x h l) ≡ length l) (λ a b c d. refl) t t4
 
-  pub letters-back : take 4 (block_as t h l) ≡ t
+  pub letters_back : take 4 (block_as t h l) ≡ t
   unfolding block_as sealed body_as head_as
-  letters-back = by_four (λ (x : List ℕ). take 4 (block_as x h l) ≡ x) (λ a b c d. refl) t t4
+  letters_back = by_four (λ (x : List ℕ). take 4 (block_as x h l) ≡ x) (λ a b c d. refl) t t4
 
-  pub archive-back : archive_in (block_as t h l) ≡ h.archive
+  pub archive_back : archive_in (block_as t h l) ≡ h.archive
   unfolding archive_in block_as sealed body_as head_as
-  archive-back = by_four (λ (x : List ℕ). archive_in (block_as x h l) ≡ h.archive) (λ a b c d. long-at (a ∷ b ∷ c ∷ d ∷ []) h.archive _) t t4
+  archive_back = by_four (λ (x : List ℕ). archive_in (block_as x h l) ≡ h.archive) (λ a b c d. long-at (a ∷ b ∷ c ∷ d ∷ []) h.archive _) t t4
 
-  pub place-back : place_in (block_as t h l) ≡ h.place
+  pub place_back : place_in (block_as t h l) ≡ h.place
   unfolding place_in block_as sealed body_as head_as
-  place-back =
+  place_back =
       by_four (λ (x : List ℕ). place_in (block_as x h l) ≡ h.place)
       (λ a b c d. word_at ((a ∷ b ∷ c ∷ d ∷ []) ++ (four h.archive ++ (h.sender ∷ length l ∷ []))) h.place _) t t4
 
-  pub vector-in-back : length h.vector ≡ 8 → vector_in (block_as t h l) ≡ h.vector
+  pub vector_in_back : length h.vector ≡ 8 → vector_in (block_as t h l) ≡ h.vector
   unfolding vector_in block_as sealed body_as head_as
-  vector-in-back e =
+  vector_in_back e =
       by_four (λ (x : List ℕ). vector_in (block_as x h l) ≡ h.vector)
       (λ a b c d.
       let x : List ℕ = a ∷ b ∷ c ∷ d ∷ [] in
@@ -79,25 +79,25 @@ module _ (t : List ℕ) (t4 : length t ≡ 4) (h : Header) (l : List Rec) where
       rw (append_assoc v (padded 480 (joined l)) s) (vector_back p h.vector (padded 480 (joined l) ++ s) e)) t t4
 
   module _ (z : Sized l) (k : length l ≤ 6) where
-    sums-hold : sums_hold (block_as t h l) ≡ true
+    sums_hold_lem : sums_hold (block_as t h l) ≡ true
     unfolding block_as
-    sums-hold = sealed-holds (body_as t h l) (length-bodyAs t t4 h l z k)
+    sums_hold_lem = sealed-holds (body_as t h l) (length-body_as t t4 h l z k)
 
-    header-holds : h.sender ≤ 7 → header_holds (block_as t h l) ≡ true
+    header_holds_lem : h.sender ≤ 7 → header_holds (block_as t h l) ≡ true
     unfolding header_holds
-    header-holds s =
-        let u : blank (part (block_as t h l) (28 + 80 * length l) (480 - 80 * length l)) ≡ true = rw behind-head (unused-blank l (head_as t h (length l)) _ z k (length-headAs t t4 h (length l))) in
-        rw (sender-back, count-back, le-leb h.sender 7 s, le-leb (length l) 6 k, u)
+    header_holds_lem s =
+        let u : blank (part (block_as t h l) (28 + 80 * length l) (480 - 80 * length l)) ≡ true = rw behind_head (unused-blank l (head_as t h (length l)) _ z k (length-head_as t t4 h (length l))) in
+        rw (sender_back, count_back, le-leb h.sender 7 s, le-leb (length l) 6 k, u)
 
     -- no fault is found in a block that was written
     pub faultless : h.sender ≤ 7 → block_fault_as t (block_as t h l) ≡ 0
     unfolding block_fault_as
-    faultless s = rw (letters-back, same_refl t, sums-hold, header-holds s)
+    faultless s = rw (letters_back, same_refl t, sums_hold_lem, header_holds_lem s)
 
     -- its rows are read back
-    pub block-rows : block_records (block_as t h l) ≡ l
+    pub block_rows : block_records (block_as t h l) ≡ l
     unfolding block_records padded
-    block-rows =
+    block_rows =
         let o : List ℕ = replicate (480 - length (joined l)) 0 in
         let s : List ℕ = two (first_to (body_as t h l) 254) ++ two (second_to (body_as t h l) 254) in
-        rw (count-back, behind-head, append_assoc (joined l) o s) (records_back l (head_as t h (length l)) (o ++ s) 0 z (length-headAs t t4 h (length l)))
+        rw (count_back, behind_head, append_assoc (joined l) o s) (records_back l (head_as t h (length l)) (o ++ s) 0 z (length-head_as t t4 h (length l)))

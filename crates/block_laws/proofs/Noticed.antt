@@ -15,7 +15,7 @@ use Rattle.model.specs.Block.{sums_hold, first_to, block_fault, given_fault}
 use Rattle.byte_slice.proofs.Numbers.{lt_or_ge}
 use Rattle.byte_slice.proofs.Words.{word_same}
 use Rattle.block_laws.proofs.Sums.{first_small, first_same, second_same}
-use Rattle.block_laws.proofs.Faults.{sums-right, stored_sums}
+use Rattle.block_laws.proofs.Faults.{sums_right, stored_sums}
 
 -- ---- one word
 
@@ -125,7 +125,7 @@ noticed_sums b i z l h p q d e f =
 
 -- so of a good block: the block with that byte changed is refused
 pub noticed : (b : List ℕ) (i z : ℕ) → length b ≡ 512 → i < 512 → get_or b i 0 < 256 → z < 256 → (get_or b i 0 ≡ z → ⊥) → block_fault b ≡ 0 → block_fault (set b i z) ≡ 0 → ⊥
-noticed b i z l h p q d e f = noticed_sums b i z l h p q d (sums-right b e) (sums-right (set b i z) f)
+noticed b i z l h p q d e f = noticed_sums b i z l h p q d (sums_right b e) (sums_right (set b i z) f)
 
 -- and so it is no block to take
 pub altered_given : (archive : ℕ) (b : List ℕ) (i z : ℕ) → length b ≡ 512 → i < 512 → get_or b i 0 < 256 → z < 256 → (get_or b i 0 ≡ z → ⊥) → block_fault b ≡ 0 → given_fault archive (set b i z) ≡ 0 → ⊥

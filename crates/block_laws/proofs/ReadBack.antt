@@ -12,22 +12,22 @@ use Rattle.block_laws.proofs.Fields.{Sized, block_sab1, length_block}
 use Rattle.block_laws.proofs.Letters as Letters
 
 module _ (h : Header) (l : List Rec) where
-  pub count-back : count_in (block_of h l) ≡ length l
-  count-back = rw block_sab1 (Letters.count-back letters refl h l)
+  pub count_back : count_in (block_of h l) ≡ length l
+  count_back = rw block_sab1 (Letters.count_back letters refl h l)
 
-  archive-back : archive_in (block_of h l) ≡ h.archive
-  archive-back = rw block_sab1 (Letters.archive-back letters refl h l)
+  archive_back : archive_in (block_of h l) ≡ h.archive
+  archive_back = rw block_sab1 (Letters.archive_back letters refl h l)
 
 -- a block of at most six records of 80 bytes, sent by a unit of 0 to 7
 module _ (h : Header) (l : List Rec) (z : Sized l) (k : length l ≤ 6) where
   faultless : h.sender ≤ 7 → block_fault (block_of h l) ≡ 0
   faultless s = fault_sab1 (block_of h l) ∙ rw block_sab1 (Letters.faultless letters refl h l z k s)
 
-  pub given-faultless : h.sender ≤ 7 → given_fault h.archive (block_of h l) ≡ 0
+  pub given_faultless : h.sender ≤ 7 → given_fault h.archive (block_of h l) ≡ 0
   unfolding given_fault
-  given-faultless s =
-      rw (eq-eqb (length (block_of h l)) 512 (length_block h l z k), faultless s, archive-back h l, eq-eqb h.archive h.archive refl)
+  given_faultless s =
+      rw (eq-eqb (length (block_of h l)) 512 (length_block h l z k), faultless s, archive_back h l, eq-eqb h.archive h.archive refl)
 
   -- the records are read back
-  pub block-records : block_records (block_of h l) ≡ l
-  block-records = rw block_sab1 (Letters.block-rows letters refl h l z k)
+  pub block_records_lem : block_records (block_of h l) ≡ l
+  block_records_lem = rw block_sab1 (Letters.block_rows letters refl h l z k)

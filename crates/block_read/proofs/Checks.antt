@@ -7,7 +7,7 @@ use mathlib.Core.Bool.{Bool, true, false, not}
 use mathlib.Core.List.{List}
 use lib.Dec.{eqb}
 use lib.ListN.{take, drop}
-use borrow.Author.Tests.{eq-eqb, ne_eqb, le-leb, lt-leb, not-true, not-false}
+use borrow.Author.Tests.{eq-eqb, ne_eqb, le-leb, lt-leb, not-true, not_false}
 use Rattle.model.specs.Bytes.{word, same_bytes, blank, part}
 use Rattle.model.specs.Block.{letters, first_to, second_to, sender_in, count_in, sums_hold, header_holds, block_fault}
 use Rattle.run_model.specs.Runs.{block_fault_as}
@@ -19,44 +19,44 @@ module _ (b : List ℕ) {p f : ℕ} (e : p ≡ word b 508) (g : f ≡ first_to b
   unfolding sums_hold
   first_off d = rw (← e, ← g, ne_eqb p f d)
 
-  pub second-decides : {q s : ℕ} → p ≡ f → q ≡ word b 510 → s ≡ second_to b 254 → eqb q s ≡ sums_hold b
+  pub second_decides : {q s : ℕ} → p ≡ f → q ≡ word b 510 → s ≡ second_to b 254 → eqb q s ≡ sums_hold b
   unfolding sums_hold
-  second-decides d h k = rw (← e, ← g, eq-eqb p f d, h, k)
+  second_decides d h k = rw (← e, ← g, eq-eqb p f d, h, k)
 
 -- ---- the header
 
 module _ (b : List ℕ) {u : ℕ} (e : u ≡ sender_in b) where
-  pub bad-sender : 7 < u → false ≡ header_holds b
+  pub bad_sender : 7 < u → false ≡ header_holds b
   unfolding header_holds
-  bad-sender h = rw (← e, lt-leb u 7 h)
+  bad_sender h = rw (← e, lt-leb u 7 h)
 
-  pub bad-count : {n : ℕ} → u ≤ 7 → n ≡ count_in b → 6 < n → false ≡ header_holds b
+  pub bad_count : {n : ℕ} → u ≤ 7 → n ≡ count_in b → 6 < n → false ≡ header_holds b
   unfolding header_holds
-  bad-count {n} h g k = rw (← e, le-leb u 7 h, ← g, lt-leb n 6 k)
+  bad_count {n} h g k = rw (← e, le-leb u 7 h, ← g, lt-leb n 6 k)
 
-  pub unused-decides : {n : ℕ} {t : Bool} → u ≤ 7 → n ≡ count_in b → n ≤ 6 → t ≡ blank (take (508 - (28 + 80 * n)) (drop (28 + 80 * n) b)) → t ≡ header_holds b
+  pub unused_decides : {n : ℕ} {t : Bool} → u ≤ 7 → n ≡ count_in b → n ≤ 6 → t ≡ blank (take (508 - (28 + 80 * n)) (drop (28 + 80 * n) b)) → t ≡ header_holds b
   unfolding header_holds part
-  unused-decides {n} h g k q = let m : 480 - 80 * n ≡ 508 - (28 + 80 * n) = omega arith in rw (← e, le-leb u 7 h, ← g, le-leb n 6 k, m) q
+  unused_decides {n} h g k q = let m : 480 - 80 * n ≡ 508 - (28 + 80 * n) = omega arith in rw (← e, le-leb u 7 h, ← g, le-leb n 6 k, m) q
 
 -- ---- all three
 
 module _ (a b : List ℕ) {t : Bool} (e : t ≡ same_bytes (take 4 b) a) where
-  pub bad-letters : not t ≡ true → 3 ≡ block_fault_as a b
+  pub bad_letters_lem : not t ≡ true → 3 ≡ block_fault_as a b
   unfolding block_fault_as
-  bad-letters h = rw (← e, not-true t h)
+  bad_letters_lem h = rw (← e, not-true t h)
 
   module _ {s : Bool} (h : not t ≡ false) (f : s ≡ sums_hold b) where
-    pub bad_sum : not s ≡ true → 4 ≡ block_fault_as a b
+    pub bad_sum_lem : not s ≡ true → 4 ≡ block_fault_as a b
     unfolding block_fault_as
-    bad_sum g = rw (← e, not-false t h, ← f, not-true s g)
+    bad_sum_lem g = rw (← e, not_false t h, ← f, not-true s g)
 
-    pub bad-header : {r : Bool} → not s ≡ false → r ≡ header_holds b → not r ≡ true → 5 ≡ block_fault_as a b
+    pub bad_header_lem : {r : Bool} → not s ≡ false → r ≡ header_holds b → not r ≡ true → 5 ≡ block_fault_as a b
     unfolding block_fault_as
-    bad-header {r} g k q = rw (← e, not-false t h, ← f, not-false s g, ← k, not-true r q)
+    bad_header_lem {r} g k q = rw (← e, not_false t h, ← f, not_false s g, ← k, not-true r q)
 
     pub no_fault : {r : Bool} → not s ≡ false → r ≡ header_holds b → not r ≡ false → 0 ≡ block_fault_as a b
     unfolding block_fault_as
-    no_fault {r} g k q = rw (← e, not-false t h, ← f, not-false s g, ← k, not-false r q)
+    no_fault {r} g k q = rw (← e, not_false t h, ← f, not_false s g, ← k, not_false r q)
 
 -- the letters SAB1 are a case
 pub fault_sab1 : (b : List ℕ) {n : ℕ} → n ≡ block_fault_as letters b → n ≡ block_fault b

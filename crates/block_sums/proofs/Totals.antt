@@ -58,8 +58,8 @@ pub no_weights : (by : List ℕ) → Weights by 0
 no_weights by = record { weight = λ j h. absurd (omega arith) }
 
 module _ (by : List ℕ) (i : ℕ) (w : Weights by i) where
-  pub next-weight : (k : ℕ) → i < 254 → length by ≡ 254 → k + i ≡ 254 → Weights (set by i k) (i + 1)
-  next-weight k h n e =
+  pub next_weight : (k : ℕ) → i < 254 → length by ≡ 254 → k + i ≡ 254 → Weights (set by i k) (i + 1)
+  next_weight k h n e =
       record {
         weight = λ j l.
             ⊎_elim
@@ -71,8 +71,8 @@ module _ (by : List ℕ) (i : ℕ) (w : Weights by i) where
             (lt_or_ge j i);
       }
 
-  pub all-weights : i ≤ 254 → 254 ≤ i → Weights by 254
-  all-weights h g = let n : i ≡ 254 = omega arith in rw n at w
+  pub all_weights : i ≤ 254 → 254 ≤ i → Weights by 254
+  all_weights h g = let n : i ≡ 254 = omega arith in rw n at w
 
 -- what the loop of `block_sums` is asked, over plain values
 pub first_on : (b : List ℕ) (i : ℕ) {x v w : ℕ} → x ≡ first_total_lem b i → v ≡ word b (2 * i) → w ≡ v → x + w ≡ first_total_lem b (i + 1)

@@ -12,7 +12,7 @@ use Rattle.model.specs.Block.{Header, letters, head_bytes, body_bytes, block_of,
 use Rattle.run_model.specs.Runs.{head_as}
 use Rattle.byte_slice.proofs.Parts.{take-replicate}
 use Rattle.byte_slice.proofs.PutAt.{put_more, put-nil, put-padded, padded-nil}
-use Rattle.block_laws.proofs.Fields.{length-headAs}
+use Rattle.block_laws.proofs.Fields.{length-head_as}
 use Rattle.block_laws.proofs.Sums.{first_take, second_take}
 
 -- the two sums are written behind the 254 words
@@ -76,7 +76,7 @@ filled h s e g =
 
 pub filled_block : (t : List ℕ) (w : Header) (n : ℕ) (s : List ℕ) {d f o : List ℕ} → length t ≡ 4 → length s ≤ 480 → d ≡ put_at (replicate 512 0) 0 (head_as t w n) → f ≡ put_at d 28 s → o ≡ sealed (take 508 f)
     → o ≡ sealed (head_as t w n ++ padded 480 s)
-filled_block t w n s q h e g k = k ∙ ap sealed (rw (g, e) (filled (head_as t w n) s (length-headAs t q w n) h))
+filled_block t w n s q h e g k = k ∙ ap sealed (rw (g, e) (filled (head_as t w n) s (length-head_as t q w n) h))
 
 pub filled_sab1 : (w : Header) (n : ℕ) (s : List ℕ) {o : List ℕ} → o ≡ sealed (head_as letters w n ++ padded 480 s) → o ≡ sealed (head_bytes w n ++ padded 480 s)
 filled_sab1 w n s e = rw (head_sab1 w n) at e

@@ -8,7 +8,7 @@ use mathlib.Core.List.{List, [], ◌∷◌, ◌++◌}
 use lib.Dec.{eqb}
 use lib.ListN.{get_or, length, take, drop, replicate, take-append-drop, length-take, length-drop}
 use lib.Seq.{take_all, drop-drop}
-use borrow.Author.Tests.{eqb-true, eq-eqb, ne_eqb, not-true, not-false}
+use borrow.Author.Tests.{eqb-true, eq-eqb, ne_eqb, not-true, not_false}
 use Rattle.model.specs.Bytes.{same_bytes, blank, part}
 use Rattle.byte_slice.proofs.Parts.{part_length, part_snoc}
 use Rattle.byte_slice.proofs.Numbers.{and_true, true_and, and_right, test_false, not_both}
@@ -55,10 +55,10 @@ pub same_lengths : (a b : List ℕ) → (length a ≡ length b → ⊥) → fals
 same_lengths a b h = sym (ne_same a b (λ e. h (ap (λ (l : List ℕ). length l) e)))
 
 module _ (a b : List ℕ) (at i : ℕ) {t : Bool} (inv : t ≡ same_bytes (part a at i) (part b at i)) where
-  pub same-run-next : (n : ℕ) → i < n → at + n ≤ length a → at + n ≤ length b
+  pub same_run_next : (n : ℕ) → i < n → at + n ≤ length a → at + n ≤ length b
       → (t && eqb (get_or a (at + i) 0) (get_or b (at + i) 0)) ≡ same_bytes (part a at (i + 1)) (part b at (i + 1))
   unfolding same_bytes
-  same-run-next n h g k =
+  same_run_next n h g k =
       let e : length (part a at i) ≡ length (part b at i) = part_length a at i (omega arith) ∙ sym (part_length b at i (omega arith)) in
       rw (
         part_snoc a at i (omega arith),
@@ -68,8 +68,8 @@ module _ (a b : List ℕ) (at i : ℕ) {t : Bool} (inv : t ≡ same_bytes (part 
         inv,
       )
 
-  pub same-run-end : (n : ℕ) → i ≤ n → n ≤ i → t ≡ same_bytes (part a at n) (part b at n)
-  same-run-end n h g = let e : i ≡ n = omega arith in (rw e at inv)
+  pub same_run_end : (n : ℕ) → i ≤ n → n ≤ i → t ≡ same_bytes (part a at n) (part b at n)
+  same_run_end n h g = let e : i ≡ n = omega arith in (rw e at inv)
 
 module _ (a b : List ℕ) (at : ℕ) (t : Bool) (e : length a ≡ length b) (inv : same_bytes (drop at a) (drop at b) ≡ same_bytes a b) where
   step : 16 ≤ length a - at → (same_bytes (part a at 16) (part b at 16) && same_bytes (drop (at + 16) a) (drop (at + 16) b)) ≡ same_bytes a b
@@ -86,7 +86,7 @@ module _ (a b : List ℕ) (at : ℕ) (t : Bool) (e : length a ≡ length b) (inv
       ) inv
 
   pub same_next : 16 ≤ length a - at → t ≡ same_bytes (part a at 16) (part b at 16) → not t ≡ false → same_bytes (drop (at + 16) a) (drop (at + 16) b) ≡ same_bytes a b
-  same_next h p g = rw (← p, not-false t g) at (step h)
+  same_next h p g = rw (← p, not_false t g) at (step h)
 
   pub same_differs : 16 ≤ length a - at → t ≡ same_bytes (part a at 16) (part b at 16) → not t ≡ true → false ≡ same_bytes a b
   same_differs h p g = rw (← p, not-true t g) at (step h)
@@ -170,7 +170,7 @@ module _ (s : List ℕ) (at : ℕ) (t : Bool) where
   pub blank-next : t ≡ blank (part s at 64) → not t ≡ false → blank (drop at s) ≡ blank s → blank (drop (at + 64) s) ≡ blank s
   unfolding part
   blank-next e g inv =
-      let p : blank (take 64 (drop at s)) ≡ true = sym e ∙ not-false t g in
+      let p : blank (take 64 (drop at s)) ≡ true = sym e ∙ not_false t g in
       let q : (blank (take 64 (drop at s)) && blank (drop 64 (drop at s))) ≡ blank s =
       sym (blank-append (take 64 (drop at s)) (drop 64 (drop at s))) ∙ rw (take-append-drop 64 (drop at s)) inv in
       rw (p, drop-drop 64 at s) at q
@@ -178,8 +178,8 @@ module _ (s : List ℕ) (at : ℕ) (t : Bool) where
   pub blank-differs : t ≡ blank (part s at 64) → not t ≡ true → false ≡ blank s
   blank-differs e g = sym (test_false (blank s) (λ b. not_both t (e ∙ blank_part s at 64 b) (not-true t g)))
 
-  pub blank-end : t ≡ blank (part s at (length s - at)) → blank (drop at s) ≡ blank s → t ≡ blank s
+  pub blank_end : t ≡ blank (part s at (length s - at)) → blank (drop at s) ≡ blank s → t ≡ blank s
   unfolding part
-  blank-end e inv =
+  blank_end e inv =
       let n : length (drop at s) ≤ length s - at = omega (arith, length-drop at s) in
       e ∙ (rw (take_all (length s - at) (drop at s) n) inv)

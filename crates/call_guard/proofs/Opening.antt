@@ -8,16 +8,16 @@ use mathlib.Core.Bool.{Bool, true, false, cond, not, ◌&&◌}
 use mathlib.Core.List.{List}
 use lib.Dec.{eqb}
 use lib.ListN.{get_or, length, replicate}
-use borrow.Author.Tests.{eqb-true, not-true, not-false}
+use borrow.Author.Tests.{eqb-true, not-true, not_false}
 use Rattle.model.specs.Numbers.{first_of}
 use Rattle.model.specs.Bytes.{word}
 use Rattle.model.specs.Log.{records_of, sound_log_on}
 use Rattle.base_model.specs.Base.{lists_all, base_vector, sound_base, held_on, sound_state}
 use Rattle.call_model.specs.Outcome.{Outcome, refusal, early_number, guard_number, guarded}
 use Rattle.byte_slice.proofs.Numbers.{bool_cases, and_true, first_stops, first_zero}
-use Rattle.call_answer.proofs.Guards.{early-long, early-based, early-lent, early-unit, early-row, refused_by}
+use Rattle.call_answer.proofs.Guards.{early_long, early_based, early_lent, early_unit, early_row, refused_by}
 use Rattle.base_head.specs.Head.{BaseHead, headed, head_of, no_head}
-use Rattle.base_head.proofs.Listed.{head-list, head-folded, head-entries, head-asides}
+use Rattle.base_head.proofs.Listed.{head_list, head_folded, head_entries, head_asides}
 use Rattle.log_closure.specs.Tables.{Indexed, tables}
 use Rattle.log_check.specs.declared.Layout.TheVariants.{Log}
 use Rattle.log_check.specs.Places.{laid_at}
@@ -30,40 +30,40 @@ module _ (s : Bool) (hd : BaseHead) (held : List ℕ) (used : ℕ) where
   pub not_sound : not s ≡ true → (o : Opening) → o ≡ opened 19 no_head (replicate 8 0) 0 → o ≡ cond s (opened 0 hd held used) (opened 19 no_head (replicate 8 0) 0)
   not_sound t o e = e ∙ rw (not-true s t)
 
-  pub is-sound : not s ≡ false → opened 0 hd held used ≡ cond s (opened 0 hd held used) (opened 19 no_head (replicate 8 0) 0)
-  is-sound t = rw (not-false s t)
+  pub is_sound : not s ≡ false → opened 0 hd held used ≡ cond s (opened 0 hd held used) (opened 19 no_head (replicate 8 0) 0)
+  is_sound t = rw (not_false s t)
 
 module _ (u : ℕ) (log base : List ℕ) (ok row : Bool) (n : ℕ) (e : n ≡ early_number u log base ok row) where
-  pub early-refused : (n ≡ 0 → ⊥) → (o : Opening) → o ≡ opened n no_head (replicate 8 0) 0 → o ≡ open_of u log base ok row
+  pub early_refused : (n ≡ 0 → ⊥) → (o : Opening) → o ≡ opened n no_head (replicate 8 0) 0 → o ≡ open_of u log base ok row
   unfolding open_of opened_by
-  early-refused x o eo = eo ∙ rw (← e, first_stops n (cond (sound_state log base) 0 19) x) (go n x)
+  early_refused x o eo = eo ∙ rw (← e, first_stops n (cond (sound_state log base) 0 19) x) (go n x)
     where
       go : (m : ℕ) → (m ≡ 0 → ⊥) → opened m no_head (replicate 8 0) 0 ≡ opened_by m log base
       go zero k = absurd (k refl)
       go (suc m) k = refl
 
-  pub early-opens-none : (n ≡ 0 → ⊥) → (m : ℕ) (h : BaseHead) (l : List ℕ) (k : ℕ) → opened m h l k ≡ opened n no_head (replicate 8 0) 0 → m ≡ 0 → ⊥
-  early-opens-none x m h l k eo z = x (sym (ap (λ (o : Opening). o.number) eo) ∙ z)
+  pub early_opens_none : (n ≡ 0 → ⊥) → (m : ℕ) (h : BaseHead) (l : List ℕ) (k : ℕ) → opened m h l k ≡ opened n no_head (replicate 8 0) 0 → m ≡ 0 → ⊥
+  early_opens_none x m h l k eo z = x (sym (ap (λ (o : Opening). o.number) eo) ∙ z)
 
-  pub early-unfilled : (n ≡ 0 → ⊥) → (places seens : List ℕ) → tables places seens ≡ fill_of u log base ok row places seens
+  pub early_unfilled : (n ≡ 0 → ⊥) → (places seens : List ℕ) → tables places seens ≡ fill_of u log base ok row places seens
   unfolding fill_of filled_by
-  early-unfilled h places seens = rw (← e) (go n h)
+  early_unfilled h places seens = rw (← e) (go n h)
     where
       go : (m : ℕ) → (m ≡ 0 → ⊥) → tables places seens ≡ filled_by m log base places seens
       go zero k = absurd (k refl)
       go (suc m) k = refl
 
   module _ (z : n ≡ 0) where
-    pub passed-long : length log ≡ 40960
-    passed-long = early-long u log base ok row (sym e ∙ z)
+    pub passed_long : length log ≡ 40960
+    passed_long = early_long u log base ok row (sym e ∙ z)
 
-    pub passed-based : length base ≡ 43032
-    passed-based = early-based u log base ok row (sym e ∙ z)
+    pub passed_based : length base ≡ 43032
+    passed_based = early_based u log base ok row (sym e ∙ z)
 
     module _ (s : Bool) (hd : BaseHead) (held : List ℕ) (used : ℕ) (c : stated s hd held used ≡ state_of log base) where
-      sound-is : s ≡ sound_state log base
+      sound_is : s ≡ sound_state log base
       unfolding state_of
-      sound-is = ap (λ (x : StateTold). x.sound) c ∙ go (sound_state log base)
+      sound_is = ap (λ (x : StateTold). x.sound) c ∙ go (sound_state log base)
         where
           go : (b : Bool) → (cond b (stated true (head_of base) (held_on log base) (length (records_of log))) unsound).sound ≡ b
           go true = refl
@@ -71,33 +71,33 @@ module _ (u : ℕ) (log base : List ℕ) (ok row : Bool) (n : ℕ) (e : n ≡ ea
 
       told : s ≡ true → stated s hd held used ≡ stated true (head_of base) (held_on log base) (length (records_of log))
       unfolding state_of
-      told t = c ∙ rw (← sound-is, t)
+      told t = c ∙ rw (← sound_is, t)
 
-      pub judged-opened : (o : Opening) → o ≡ cond s (opened 0 hd held used) (opened 19 no_head (replicate 8 0) 0) → o ≡ open_of u log base ok row
+      pub judged_opened : (o : Opening) → o ≡ cond s (opened 0 hd held used) (opened 19 no_head (replicate 8 0) 0) → o ≡ open_of u log base ok row
       unfolding open_of opened_by
-      judged-opened o w = w ∙ ⊎_elim sounds (λ (t : s ≡ false). rw (← e, z, ← sound-is, t)) (bool_cases s)
+      judged_opened o w = w ∙ ⊎_elim sounds (λ (t : s ≡ false). rw (← e, z, ← sound_is, t)) (bool_cases s)
         where
           sounds : s ≡ true → cond s (opened 0 hd held used) (opened 19 no_head (replicate 8 0) 0) ≡ opened_by (first_of (early_number u log base ok row) (cond (sound_state log base) 0 19)) log base
           sounds t =
               let a : hd ≡ head_of base = ap (λ (x : StateTold). x.head) (told t) in
               let b : held ≡ held_on log base = ap (λ (x : StateTold). x.held) (told t) in
               let d : used ≡ length (records_of log) = ap (λ (x : StateTold). x.used) (told t) in
-              rw (← e, z, ← sound-is, t, a, b, d)
+              rw (← e, z, ← sound_is, t, a, b, d)
 
-      pub judged-holds : (places seens : List ℕ)
+      pub judged_holds : (places seens : List ℕ)
           → (sound_state log base ≡ true → Indexed (base_vector base) (laid_at Log log) used (records_of log) held places seens)
           → (m : ℕ) (h : BaseHead) (l : List ℕ) (k : ℕ) → opened m h l k ≡ cond s (opened 0 hd held used) (opened 19 no_head (replicate 8 0) 0)
           → m ≡ 0 → Indexed (base_vector base) (laid_at Log log) k (records_of log) l places seens
-      judged-holds places seens f m h l k w y = ⊎_elim sounds (λ (t : s ≡ false). absurd (let o : opened m h l k ≡ opened 19 no_head (replicate 8 0) 0 = rw t at w in omega (arith, sym (ap (λ (x : Opening). x.number) o) ∙ y))) (bool_cases s)
+      judged_holds places seens f m h l k w y = ⊎_elim sounds (λ (t : s ≡ false). absurd (let o : opened m h l k ≡ opened 19 no_head (replicate 8 0) 0 = rw t at w in omega (arith, sym (ap (λ (x : Opening). x.number) o) ∙ y))) (bool_cases s)
         where
           sounds : s ≡ true → Indexed (base_vector base) (laid_at Log log) k (records_of log) l places seens
           sounds t =
               let o : opened m h l k ≡ opened 0 hd held used = rw t at w in
-              rw (ap (λ (x : Opening). x.held) o, ap (λ (x : Opening). x.used) o) (f (sym sound-is ∙ t))
+              rw (ap (λ (x : Opening). x.held) o, ap (λ (x : Opening). x.used) o) (f (sym sound_is ∙ t))
 
-    pub passed-filled : (places₀ seens₀ places seens : List ℕ) → tables places seens ≡ note_of log base places₀ seens₀ → tables places seens ≡ fill_of u log base ok row places₀ seens₀
+    pub passed_filled : (places₀ seens₀ places seens : List ℕ) → tables places seens ≡ note_of log base places₀ seens₀ → tables places seens ≡ fill_of u log base ok row places₀ seens₀
     unfolding fill_of filled_by
-    passed-filled places₀ seens₀ places seens w = rw (← e, z) w
+    passed_filled places₀ seens₀ places seens w = rw (← e, z) w
 
 -- ---- what a call knows
 
@@ -119,64 +119,64 @@ module _ (u : ℕ) (log base : List ℕ) (ok row : Bool) {n m k j : ℕ} {v held
     unfolding open_of opened_by
     passed = rw (sym number_is ∙ z) at e
 
-    pub open-long : length log ≡ 40960
-    open-long = early-long u log base ok row both.0
+    pub open_long : length log ≡ 40960
+    open_long = early_long u log base ok row both.0
 
-    pub open-based : length base ≡ 43032
-    open-based = early-based u log base ok row both.0
+    pub open_based : length base ≡ 43032
+    open_based = early_based u log base ok row both.0
 
     pub open_lent : ok ≡ true
-    open_lent = early-lent u log base ok row both.0
+    open_lent = early_lent u log base ok row both.0
 
     pub open_row : row ≡ true
-    open_row = early-row u log base ok row both.0
+    open_row = early_row u log base ok row both.0
 
-    pub open-unit : u ≤ 7
-    open-unit = early-unit u log base ok row both.0
+    pub open_unit : u ≤ 7
+    open_unit = early_unit u log base ok row both.0
 
     -- ---- the state is sound
 
-    pub open-state : sound_state log base ≡ true
-    open-state = ⊎_elim (λ (t : sound_state log base ≡ true). t) (λ (t : sound_state log base ≡ false). absurd (let x : ◌≡◌ {A = ℕ} 19 0 = rw t at both.1 in omega arith)) (bool_cases (sound_state log base))
+    pub open_state : sound_state log base ≡ true
+    open_state = ⊎_elim (λ (t : sound_state log base ≡ true). t) (λ (t : sound_state log base ≡ false). absurd (let x : ◌≡◌ {A = ℕ} 19 0 = rw t at both.1 in omega arith)) (bool_cases (sound_state log base))
 
     parts : (sound_base base ≡ true) × (sound_log_on (base_vector base) log ≡ true) × (lists_all (get_or base 0 0) (held_on log base) ≡ true)
     unfolding sound_state
     parts =
-        let (a, b) = and_true (sound_base base) (sound_log_on (base_vector base) log && lists_all (get_or base 0 0) (held_on log base)) open-state in
+        let (a, b) = and_true (sound_base base) (sound_log_on (base_vector base) log && lists_all (get_or base 0 0) (held_on log base)) open_state in
         let (c, d) = and_true (sound_log_on (base_vector base) log) (lists_all (get_or base 0 0) (held_on log base)) b in
         (a, c, d)
 
-    pub open-base : sound_base base ≡ true
-    open-base = parts.0
+    pub open_base : sound_base base ≡ true
+    open_base = parts.0
 
-    pub open-sound : sound_log_on (base_vector base) log ≡ true
-    open-sound = parts.1
+    pub open_sound : sound_log_on (base_vector base) log ≡ true
+    open_sound = parts.1
 
-    pub open-listed : lists_all (get_or base 0 0) (held_on log base) ≡ true
-    open-listed = parts.2
+    pub open_listed : lists_all (get_or base 0 0) (held_on log base) ≡ true
+    open_listed = parts.2
 
     -- ---- what is told of it
 
-    pub open-used : used ≡ length (records_of log)
-    open-used = ap (λ (x : Opening). x.used) passed
+    pub open_used : used ≡ length (records_of log)
+    open_used = ap (λ (x : Opening). x.used) passed
 
-    pub open-held : held ≡ held_on log base
-    open-held = ap (λ (x : Opening). x.held) passed
+    pub open_held : held ≡ held_on log base
+    open_held = ap (λ (x : Opening). x.held) passed
 
     heads : headed m v k j ≡ head_of base
     heads = ap (λ (x : Opening). x.head) passed
 
-    pub open-list : m ≡ get_or base 0 0
-    open-list = head-list base heads
+    pub open_list : m ≡ get_or base 0 0
+    open_list = head_list base heads
 
-    pub open-folded : v ≡ base_vector base
-    open-folded = head-folded base heads
+    pub open_folded : v ≡ base_vector base
+    open_folded = head_folded base heads
 
-    pub open-entries : k ≡ word base 2
-    open-entries = head-entries base heads
+    pub open_entries : k ≡ word base 2
+    open_entries = head_entries base heads
 
-    pub open-asides : j ≡ word base 4
-    open-asides = head-asides base heads
+    pub open_asides : j ≡ word base 4
+    open_asides = head_asides base heads
 
 -- a buffer that was to have i bytes has them
 pub open_buffer : (u : ℕ) (log base : List ℕ) (row : Bool) (buf : List ℕ) (i : ℕ) {n m k j : ℕ} {v held : List ℕ} {used : ℕ}
@@ -185,9 +185,9 @@ open_buffer u log base row buf i e z = eqb-true (length buf) i (open_lent u log 
 
 -- a call without a row is refused with the number, or goes on
 module _ (u : ℕ) (log base lent : List ℕ) (ok : Bool) {n m k j : ℕ} {v held : List ℕ} {used : ℕ} (e : opened n (headed m v k j) held used ≡ open_of u log base ok true) (o : Outcome) where
-  pub call-refused : (n ≡ 0 → ⊥) → refusal n log lent ≡ guarded u log base lent ok o
+  pub call_refused : (n ≡ 0 → ⊥) → refusal n log lent ≡ guarded u log base lent ok o
   unfolding guarded
-  call-refused h = rw (← number_is u log base ok true e) (refused_by n log lent o h)
+  call_refused h = rw (← number_is u log base ok true e) (refused_by n log lent o h)
 
   pub call_passes : n ≡ 0 → o ≡ guarded u log base lent ok o
   unfolding guarded

@@ -20,11 +20,11 @@ use Rattle.call_model.specs.Outcome.{Outcome, outcome, refusal, or_refused, earl
 use Rattle.byte_slice.proofs.Numbers.{bool_cases, and_true, first_zero}
 use Rattle.log_laws.specs.Sound.{SoundOn}
 use Rattle.log_laws.proofs.Members.{has_append}
-use Rattle.act_laws.proofs.Act.{stamped-unit, wish_fits_lem, act_zero, act-sound}
+use Rattle.act_laws.proofs.Act.{stamped-unit, wish_fits_lem, act_zero, act_sound}
 use Rattle.take_laws.proofs.Take.{Grown, all_from}
 use Rattle.encoding_laws.proofs.Logs.{sound_few}
 use Rattle.call_laws.specs.Keeps.{Good, Keeps, KeepsBase}
-use Rattle.call_laws.proofs.States.{good-records, grown_good}
+use Rattle.call_laws.proofs.States.{good_records, grown_good}
 pub use Rattle.call_laws.proofs.States.{log_good, sound_back, sound_back_on, zeros_good}
 
 pub refusal-keeps : (n : ℕ) (log base lent : List ℕ) → Keeps log base lent (refusal (suc n) log lent)
@@ -42,9 +42,9 @@ module _ (u : ℕ) (log base lent : List ℕ) (ok : Bool) (o : Outcome) where
   abbrev fits : Bool
   fits = eqb (length log) 40960 && (eqb (length base) 43032 && ok)
 
-  pub guarded-cases : Guarded
+  pub guarded_cases : Guarded
   unfolding guarded
-  guarded-cases = buffers (bool_cases fits)
+  guarded_cases = buffers (bool_cases fits)
     where
       sounds : fits ≡ true → leb u 7 ≡ true → (sound_state log base ≡ true) ⊎ (sound_state log base ≡ false) → Guarded
       sounds a b (inl c) =
@@ -66,7 +66,7 @@ module _ (u : ℕ) (log base lent : List ℕ) (ok : Bool) (o : Outcome) where
   guarded-passes a b g = rw (eq-eqb (length log) 40960 g.long.0, eq-eqb (length base) 43032 g.long.1, a, le-leb u 7 b, g.sound)
 
   pub guarded-keeps : (ok ≡ true → Good log base → Keeps log base lent o) → Keeps log base lent (guarded u log base lent ok o)
-  guarded-keeps k = go guarded-cases
+  guarded-keeps k = go guarded_cases
     where
       go : Guarded → Keeps log base lent (guarded u log base lent ok o)
       go (inl (a, b, g, e)) = subst (Keeps log base lent) (sym e) (k a g)
@@ -141,14 +141,14 @@ module _ (u : ℕ) (log base w : List ℕ) where
   abbrev pub withAct : List Rec
   withAct = records_of log ++ (stamped u (base_vector base) (records_of log) w ∷ [])
 
-  pub act-good : length w ≡ 80 → Good log base → wishAnswer ≡ 0 → SoundOn (base_vector base) withAct × (length withAct ≤ 512) × Good (log_bytes withAct) base
-  act-good n g e =
+  pub act_good : length w ≡ 80 → Good log base → wishAnswer ≡ 0 → SoundOn (base_vector base) withAct × (length withAct ≤ 512) × Good (log_bytes withAct) base
+  act_good n g e =
       let v : List ℕ = base_vector base in
       let l : List Rec = records_of log in
       let r : Rec = stamped u v l w in
       let f = act_zero (base_in base).list u v (base_in base).tree l w e in
       let (c, d) = wish_fits_lem u v l w f.well in
-      let h : SoundOn v withAct = act-sound u v l w n c d (good-records log base g) in
+      let h : SoundOn v withAct = act_sound u v l w n c d (good_records log base g) in
       let k : length withAct ≤ 512 = omega (arith, length-append l (r ∷ []), f.room) in
       let own : unit r ≡ u = stamped-unit u v l w n ∙ c in (
         h,
@@ -165,15 +165,15 @@ module _ (u : ℕ) (log base w : List ℕ) where
       wished a = eqb-true (length w) 80 (and_true (eqb (length w) 80) (eqb (length work) 86020) a).0
 
       go : length w ≡ 80 → Good log base → (n : ℕ) → wishAnswer ≡ n → Keeps log base [] (acted u log (base_vector base) w n)
-      go a g zero e = record { accepted = λ _. (act-good a g e).2; refused = λ z. absurd (z refl) }
+      go a g zero e = record { accepted = λ _. (act_good a g e).2; refused = λ z. absurd (z refl) }
       go a g (suc n) e = refusal-keeps n log base []
 
   -- it is refused, or its record is added
-  pub act-cases : (work : List ℕ)
+  pub act_cases : (work : List ℕ)
       → ((n : ℕ) × (act_of u log base w work ≡ refusal (suc n) log []))
       ⊎ (((act_of u log base w work).number ≡ 0) × (records_of (act_of u log base w work).log ≡ withAct) × (wishAnswer ≡ 0) × (length w ≡ 80) × Good log base)
   unfolding act_of acted
-  act-cases work = go (guarded-cases u log base [] (act_lent w work) done)
+  act_cases work = go (guarded_cases u log base [] (act_lent w work) done)
     where
       done : Outcome
       done = acted u log (base_vector base) w wishAnswer
@@ -183,7 +183,7 @@ module _ (u : ℕ) (log base w : List ℕ) where
 
       wished : length w ≡ 80 → Good log base → (n : ℕ) → wishAnswer ≡ n
           → ((m : ℕ) × (acted u log (base_vector base) w n ≡ refusal (suc m) log [])) ⊎ Added (acted u log (base_vector base) w n)
-      wished a g zero e = let (h, k, _) = act-good a g e in inr (refl, sound_back_on (base_vector base) withAct h k, e, a, g)
+      wished a g zero e = let (h, k, _) = act_good a g e in inr (refl, sound_back_on (base_vector base) withAct h k, e, a, g)
       wished a g (suc n) e = inl (n, refl)
 
       go : Guarded u log base [] (act_lent w work) done → ((n : ℕ) × (act_of u log base w work ≡ refusal (suc n) log [])) ⊎ Added (act_of u log base w work)
@@ -216,22 +216,22 @@ abbrev pub takes_on : List ℕ → List ℕ → List Rec → Took
 takes_on log base rs = takes_all (base_in base).list (base_vector base) (records_of log) rs
 
 module _ (log base : List ℕ) (rs m : List Rec) (g : Good log base) (e : takes_on log base rs ≡ taken m) where
-  pub take-grown : Grown (base_in base).list (base_vector base) (records_of log) rs m
-  take-grown = all_from (base_in base).list (base_vector base) rs (records_of log) m (good-records log base g) e
+  pub take_grown : Grown (base_in base).list (base_vector base) (records_of log) rs m
+  take_grown = all_from (base_in base).list (base_vector base) rs (records_of log) m (good_records log base g) e
 
   pub take_few : length m ≤ 512
-  take_few = take-grown.room (sound_few log)
+  take_few = take_grown.room (sound_few log)
 
-  pub take-good : SoundOn (base_vector base) m × (length m ≤ 512)
-  take-good = (take-grown.sound, take_few)
+  pub take_good : SoundOn (base_vector base) m × (length m ≤ 512)
+  take_good = (take_grown.sound, take_few)
 
   pub take_back : records_of (log_bytes m) ≡ m
-  take_back = sound_back_on (base_vector base) m take-grown.sound take_few
+  take_back = sound_back_on (base_vector base) m take_grown.sound take_few
 
   pub take_left : Good (log_bytes m) base
   take_left =
-      grown_good log base m g take-grown.sound take_few (λ s i.
-      ⊎_elim (λ j. inl j) (λ j. inr (take-grown.fit s j).1) (take-grown.from s i))
+      grown_good log base m g take_grown.sound take_few (λ s i.
+      ⊎_elim (λ j. inl j) (λ j. inr (take_grown.fit s j).1) (take_grown.from s i))
 
 module _ (archive u : ℕ) (log base b : List ℕ) where
   pub take-keeps : Keeps log base [] (take_of archive u log base b)
@@ -250,7 +250,7 @@ module _ (archive u : ℕ) (log base b : List ℕ) where
   pub take_cases : ((take_of archive u log base b).log ≡ log)
       ⊎ ((m : List Rec) × (takes_on log base (block_records b) ≡ taken m) × (records_of (take_of archive u log base b).log ≡ m) × Good log base)
   unfolding take_of took_block took_all
-  take_cases = go (guarded-cases u log base [] true (took_block log base b (given_fault archive b)))
+  take_cases = go (guarded_cases u log base [] true (took_block log base b (given_fault archive b)))
     where
       Cases : Outcome → Type 0
       Cases o = (o.log ≡ log) ⊎ ((m : List Rec) × (takes_on log base (block_records b) ≡ taken m) × (records_of o.log ≡ m) × Good log base)

@@ -18,23 +18,23 @@ use Rattle.call_model.specs.Read.{read_of}
 use Rattle.call_model.specs.Outcome.{Outcome, outcome, start_of, act_of, hand_block, hand_of, write_of, Took, refused, taken, took_all, took_block, take_of, show_of}
 use Rattle.log_laws.specs.Sound.{SoundOn}
 use Rattle.log_laws.proofs.Tests.{sound_means_on, means_sound_on}
-use Rattle.block_laws.proofs.ReadBack.{count-back}
+use Rattle.block_laws.proofs.ReadBack.{count_back}
 use Rattle.take_laws.proofs.Take.{taken_again as records-again}
 use Rattle.encoding_laws.proofs.Logs.{Proper, records_back, sound_bytes_on, sound_records_on, log_sound_on}
-use Rattle.base_laws.proofs.Folds.{fold-accepted, fold-refused}
+use Rattle.base_laws.proofs.Folds.{fold_accepted, fold_refused}
 use Rattle.call_laws.specs.Keeps.{Good, Keeps, KeepsBase, FoldKeeps, Reads, Merges}
-use Rattle.call_laws.proofs.States.{good-log, good-records, sound_back_on}
-use Rattle.call_laws.proofs.Calls.{Guarded, guarded-cases, guarded-passes, takes_on, take_back, take_left, take_done, start_keeps, act-keeps, hand_keeps, write_keeps, take-keeps, show_keeps}
+use Rattle.call_laws.proofs.States.{good_log, good_records, sound_back_on}
+use Rattle.call_laws.proofs.Calls.{Guarded, guarded_cases, guarded-passes, takes_on, take_back, take_left, take_done, start_keeps, act-keeps, hand_keeps, write_keeps, take-keeps, show_keeps}
 use Rattle.call_laws.proofs.Behind.{handed_count_on}
 use Rattle.call_laws.proofs.Reading.{read_keeps}
 use Rattle.call_laws.proofs.Merging.{merge_keeps}
-use Rattle.call_laws.proofs.Given.{hand-cases}
+use Rattle.call_laws.proofs.Given.{hand_cases}
 
 -- L2: the log of a good state is the bytes of its records and of no others that are sound behind the base vector
 pub one_reading : (log base : List ℕ) → Good log base → (l : List Rec) → sound_after (base_vector base) [] l ≡ true → length l ≤ 512 → (log_bytes l ≡ log) ↔ (l ≡ records_of log)
 one_reading log base g l h k = (
   λ (e : log_bytes l ≡ log). sym (sound_back_on (base_vector base) l (sound_means_on (base_vector base) l h) k) ∙ ap records_of e,
-  λ (e : l ≡ records_of log). ap log_bytes e ∙ sound_bytes_on (base_vector base) log g.long.0 (good-log log base g),
+  λ (e : l ≡ records_of log). ap log_bytes e ∙ sound_bytes_on (base_vector base) log g.long.0 (good_log log base g),
 )
 
 -- the bytes of at most 512 well-formed records are a sound log exactly if the records are sound
@@ -47,8 +47,8 @@ sound_bytes_exactly v l p k = (
 pub fold_keeps : FoldKeeps
 fold_keeps u log base m work =
     record {
-      accepted = λ z. let (a, b, c) = fold-accepted u m log base work z in record { long = (a, b); sound = c };
-      refused = λ z. fold-refused u m log base work z;
+      accepted = λ z. let (a, b, c) = fold_accepted u m log base work z in record { long = (a, b); sound = c };
+      refused = λ z. fold_refused u m log base work z;
     }
 
 -- L3: whatever a call is lent, an accepted one leaves a good state, a refused one every byte as it was.
@@ -71,7 +71,7 @@ every_call_keeps =
 pub taken_again : (archive u : ℕ) (log base b : List ℕ) → (take_of archive u log base b).number ≡ 0
     → take_of archive u (take_of archive u log base b).log base b ≡ outcome 0 0 (take_of archive u log base b).log [] 0
 unfolding take_of took_block took_all
-taken_again archive u log base b z = checks (guarded-cases u log base [] true (took_block log base b (given_fault archive b)))
+taken_again archive u log base b z = checks (guarded_cases u log base [] true (took_block log base b (given_fault archive b)))
   where
     Again : Outcome → Type 0
     Again o = o.number ≡ 0 → take_of archive u o.log base b ≡ outcome 0 0 o.log [] 0
@@ -80,7 +80,7 @@ taken_again archive u log base b z = checks (guarded-cases u log base [] true (t
     records k g f (taken m) e y =
         take_done archive u (log_bytes m) base b m k (take_left log base (block_records b) m g e) f
         (rw (take_back log base (block_records b) m g e)
-        (records-again (base_in base).list (base_vector base) (block_records b) (records_of log) m (good-records log base g) e))
+        (records-again (base_in base).list (base_vector base) (block_records b) (records_of log) m (good_records log base g) e))
     records k g f (refused n) e y = rw (guarded-passes u log base [] true (took_block log base b (given_fault archive b)) refl k g, f, e, y)
 
     blocks : u ≤ 7 → Good log base → (n : ℕ) → given_fault archive b ≡ n → Again (took_block log base b n)
@@ -101,6 +101,6 @@ hand_out_counts archive u log base v lent z =
     (λ (n, e). absurd (omega (arith, sym (ap (λ (o : Outcome). o.number) e) ∙ z)))
     (λ (e, _, c, g).
     ap (λ (o : Outcome). count_in o.lent) e
-    ∙ count-back (header_of archive u 0 (held_on log base)) (take 6 (lacking v (records_of log)))
-    ∙ handed_count_on (base_vector base) v (records_of log) (good-records log base g) c)
-    (hand-cases archive u log base v lent)
+    ∙ count_back (header_of archive u 0 (held_on log base)) (take 6 (lacking v (records_of log)))
+    ∙ handed_count_on (base_vector base) v (records_of log) (good_records log base g) c)
+    (hand_cases archive u log base v lent)

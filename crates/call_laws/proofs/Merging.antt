@@ -20,7 +20,7 @@ use Rattle.log_laws.specs.Members.{Agree}
 use Rattle.log_laws.specs.Sound.{Sound}
 use Rattle.log_laws.proofs.Tests.{sound_means}
 use Rattle.merge_laws.specs.Both.{Both}
-use Rattle.merge_laws.proofs.Union.{union-both}
+use Rattle.merge_laws.proofs.Union.{union_both}
 use Rattle.merge_laws.proofs.Counts.{union-longer}
 use Rattle.merge_laws.proofs.Faults.{agree_from, agree_bytes, room_left, left_room}
 use Rattle.call_laws.specs.Keeps.{Merges}
@@ -67,11 +67,11 @@ module _ (f g : List ℕ) (z : (union_fault f g).number ≡ 0) where
       let (_, d) = no_fault (archive_fault (archive_in (block_at f 0)) (archive_in (block_at g 0))) (records_clash l (length l) m) z in
       no_fault (bytes_fault l 0 m) (room_fault (vector_of l) (length l) 0 m) d
 
-  pub files-agree : (checked_fault f).number ≡ 0 → Agree (file_records f) (file_records g)
-  files-agree a = agree_from (file_records f) (file_sound f a) 0 (file_records g) faults.0
+  pub files_agree : (checked_fault f).number ≡ 0 → Agree (file_records f) (file_records g)
+  files_agree a = agree_from (file_records f) (file_sound f a) 0 (file_records g) faults.0
 
-  pub files-room : (checked_fault f).number ≡ 0 → length (file_records f) + length (lacking (vector_of (file_records f)) (file_records g)) ≤ 512
-  files-room a = room_left (vector_of (file_records f)) (length (file_records f)) 0 (file_records g) (file_few f a) faults.1
+  pub files_room : (checked_fault f).number ≡ 0 → length (file_records f) + length (lacking (vector_of (file_records f)) (file_records g)) ≤ 512
+  files_room a = room_left (vector_of (file_records f)) (length (file_records f)) 0 (file_records g) (file_few f a) faults.1
 
 -- and the other way round
 pub files_faultless : (f g : List ℕ) → archive_in (block_at g 0) ≡ archive_in (block_at f 0) → Agree (file_records f) (file_records g)
@@ -110,9 +110,9 @@ module _ (f g log lent : List ℕ) where
   abbrev joined : Merged
   joined = joined_file f (union (file_records f) (file_records g))
 
-  pub merge-accepted : (merge_of f g log lent).number ≡ 0 → Accepted f g log lent
+  pub merge_accepted : (merge_of f g log lent).number ≡ 0 → Accepted f g log lent
   unfolding merge_of unless_any
-  merge-accepted z =
+  merge_accepted z =
       ⊎_elim
       (λ (h : (eqb (length log) 40960 && eqb (length lent) 44032) ≡ true).
       let (p, q) = and_true (eqb (length log) 40960) (eqb (length lent) 44032) h in
@@ -124,9 +124,9 @@ module _ (f g log lent : List ℕ) where
       (λ (h : (eqb (length log) 40960 && eqb (length lent) 44032) ≡ false). absurd (let y : ◌≡◌ {A = ℕ} 1 0 = rw h at z in omega arith))
       (bool_cases (eqb (length log) 40960 && eqb (length lent) 44032))
 
-  pub accepted-merge : Accepted f g log lent → merge_of f g log lent ≡ joined_file f (union (file_records f) (file_records g))
+  pub accepted_merge : Accepted f g log lent → merge_of f g log lent ≡ joined_file f (union (file_records f) (file_records g))
   unfolding merge_of unless_any
-  accepted-merge x =
+  accepted_merge x =
       rw (true_and (eqb (length log) 40960) (eqb (length lent) 44032) (eq-eqb (length log) 40960 x.log_long) (eq-eqb (length lent) 44032 x.lent_long))
       (unless_goes (checked_fault f) 1 log lent (unless (checked_fault g) 2 log lent (unless (union_fault f g) 2 log lent joined)) x.first
       ∙ unless_goes (checked_fault g) 2 log lent (unless (union_fault f g) 2 log lent joined) x.second
@@ -134,12 +134,12 @@ module _ (f g log lent : List ℕ) where
 
 -- the records of both
 module _ (f g log lent : List ℕ) (x : Accepted f g log lent) where
-  pub records-both : Both (file_records f) (file_records g) (union (file_records f) (file_records g))
-  records-both =
-      union-both (file_records f) (file_records g) (file_sound f x.first) (file_sound g x.second) (files-agree f g x.together x.first)
+  pub records_both : Both (file_records f) (file_records g) (union (file_records f) (file_records g))
+  records_both =
+      union_both (file_records f) (file_records g) (file_sound f x.first) (file_sound g x.second) (files_agree f g x.together x.first)
 
   pub records_few : length (union (file_records f) (file_records g)) ≤ 512
-  records_few = omega (arith, files-room f g x.together x.first, union-longer (file_records f) (file_records g))
+  records_few = omega (arith, files_room f g x.together x.first, union-longer (file_records f) (file_records g))
 
 -- ---- what it keeps
 
@@ -160,9 +160,9 @@ unfolding merge_of unless_any joined_file
 merge_keeps f g log lent =
     record {
       accepted = λ z.
-          let x = merge-accepted f g log lent z in
-          rw (accepted-merge f g log lent x)
-          (log_good (union (file_records f) (file_records g)) (records-both f g log lent x).sound (records_few f g log lent x));
+          let x = merge_accepted f g log lent z in
+          rw (accepted_merge f g log lent x)
+          (log_good (union (file_records f) (file_records g)) (records_both f g log lent x).sound (records_few f g log lent x));
       refused =
           ⊎_elim
           (λ (h : (eqb (length log) 40960 && eqb (length lent) 44032) ≡ true).

@@ -14,7 +14,7 @@ use Rattle.model.specs.File.{file_length, fault, blocks_in, blocks_fault, file_r
 use Rattle.call_model.specs.Read.{not_read, read_back, read_of}
 use Rattle.byte_slice.proofs.Numbers.{bool_cases}
 use Rattle.log_laws.proofs.Tests.{sound_means}
-use Rattle.held_laws.proofs.Records.{faultless-sound, records_sab1}
+use Rattle.held_laws.proofs.Records.{faultless_sound, records_sab1}
 pub use Rattle.held_laws.proofs.Held.{no_fault}
 use Rattle.call_laws.specs.Keeps.{Reads}
 use Rattle.call_laws.proofs.States.{fresh_good}
@@ -24,7 +24,7 @@ unfolding file_fault
 file_records_lem f e =
     let (_, d) = no_fault (blocks_fault f 0 (blocks_in f)) (or_else (records_fault [] 0 (file_records f)) (counts_fault f)) e in
     let (c, _) = no_fault (records_fault [] 0 (file_records f)) (counts_fault f) d in
-    let (a, b, _) = faultless-sound 255 no_counts 0 (file_records f) [] 0 (omega arith) (rw (records_sab1 (file_records f) [] 0) at c) in
+    let (a, b, _) = faultless_sound 255 no_counts 0 (file_records f) [] 0 (omega arith) (rw (records_sab1 (file_records f) [] 0) at c) in
     (a, omega arith)
 
 -- a file that was checked and found right has 1 to 86 blocks and no fault

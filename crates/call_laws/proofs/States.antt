@@ -18,7 +18,7 @@ use Rattle.log_laws.proofs.Tests.{vector_on_get_d}
 use Rattle.take_laws.proofs.Union.{all_eight}
 use Rattle.base_laws.proofs.Lists as Lists
 use Rattle.base_laws.proofs.Fresh.{empty_back}
-use Rattle.base_laws.proofs.Folds.{state-base, state-log, state-listed, state_sound}
+use Rattle.base_laws.proofs.Folds.{state_base, state_log, state_listed, state_sound}
 pub use Rattle.base_laws.proofs.Fresh.{empty_length, empty_vector, empty_tree_lem, empty_sound}
 use Rattle.encoding_laws.proofs.Logs.{sound_proper_on, proper_sized, length-log_bytes, records_back, sound_records_on, log_sound_on, log_sound, empty_log}
 use Rattle.call_laws.specs.Keeps.{Good, GoodLog}
@@ -68,7 +68,7 @@ pub record Parts (log base : List ℕ) : Type 0 where
 
 pub state_parts : (log base : List ℕ) → sound_state log base ≡ true → Parts log base
 unfolding base_in
-state_parts log base e = record { base_sound = state-base log base e; log_sound = state-log log base e; listed = state-listed log base e }
+state_parts log base e = record { base_sound = state_base log base e; log_sound = state_log log base e; listed = state_listed log base e }
 
 pub parts_state : (log base : List ℕ) → Parts log base → sound_state log base ≡ true
 unfolding base_in
@@ -77,20 +77,20 @@ parts_state log base p = state_sound log base p.base_sound p.log_sound p.listed
 -- ---- what a good state says of its records
 
 module _ (log base : List ℕ) (g : Good log base) where
-  pub good-base : sound_base base ≡ true
-  good-base = (state_parts log base g.sound).base_sound
+  pub good_base : sound_base base ≡ true
+  good_base = (state_parts log base g.sound).base_sound
 
-  pub good-log : sound_log_on (base_vector base) log ≡ true
-  good-log = (state_parts log base g.sound).log_sound
+  pub good_log : sound_log_on (base_vector base) log ≡ true
+  good_log = (state_parts log base g.sound).log_sound
 
-  pub good-records : SoundOn (base_vector base) (records_of log)
-  good-records = sound_records_on (base_vector base) log good-log
+  pub good_records : SoundOn (base_vector base) (records_of log)
+  good_records = sound_records_on (base_vector base) log good_log
 
-  pub good-lists : lists_all (base_in base).list (held_on log base) ≡ true
-  good-lists = (state_parts log base g.sound).listed
+  pub good_lists : lists_all (base_in base).list (held_on log base) ≡ true
+  good_lists = (state_parts log base g.sound).listed
 
-  pub good-listed : (s : Rec) → Has s (records_of log) → is_listed (base_in base).list (unit s) ≡ true
-  good-listed = held-listed (base_in base).list (base_vector base) (records_of log) good-records good-lists
+  pub good_listed : (s : Rec) → Has s (records_of log) → is_listed (base_in base).list (unit s) ≡ true
+  good_listed = held-listed (base_in base).list (base_vector base) (records_of log) good_records good_lists
 
 -- ---- a good state of given records
 
@@ -119,8 +119,8 @@ state_good base l n b h k e =
 pub grown_good : (log base : List ℕ) (l : List Rec) → Good log base → SoundOn (base_vector base) l → length l ≤ 512
     → ((s : Rec) → Has s l → Has s (records_of log) ⊎ (is_listed (base_in base).list (unit s) ≡ true)) → Good (log_bytes l) base
 grown_good log base l g h k f =
-    state_good base l g.long.1 (good-base log base g) h k
-    (lists_grown (base_in base).list (base_vector base) (records_of log) l (good-records log base g) h (good-lists log base g) f)
+    state_good base l g.long.1 (good_base log base g) h k
+    (lists_grown (base_in base).list (base_vector base) (records_of log) l (good_records log base g) h (good_lists log base g) f)
 
 -- ---- the empty base
 

@@ -18,7 +18,7 @@ use Rattle.model.specs.File.{header_of, file_block, file_to, file_of, block_coun
 use Rattle.base_model.specs.Base.{base_vector}
 use Rattle.byte_slice.proofs.Numbers.{lt_or_ge, and_true, true_and, cond_cases}
 use Rattle.vector.proofs.InBytes.{vector_at_bound}
-use Rattle.record.proofs.Ranks.{num-bound}
+use Rattle.record.proofs.Ranks.{num_bound}
 use Rattle.log_laws.specs.Members.{Has}
 use Rattle.log_laws.specs.Sound.{SoundOn}
 use Rattle.log_laws.proofs.Members.{All, all_append, all_drop, has_take, has_drop}
@@ -147,7 +147,7 @@ held_small v l h low r u k =
     ⊎_elim
     (λ (c : get_or v u 0 < count_on v u l).
     let (s, i, _, q) = find_held_on v l u (count_on v u l) h c (omega arith) in
-    omega (arith, num-bound s (below_at s (r s i))))
+    omega (arith, num_bound s (below_at s (r s i))))
     (λ c. omega (arith, low u k))
     (lt_or_ge (get_or v u 0) (count_on v u l))
 

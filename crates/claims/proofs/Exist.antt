@@ -71,8 +71,8 @@ module _ (u : ℕ) (log base i w work : List ℕ) where
   acted-none =
       nothing_lent (index_fits i) log i (act_of u log base w work) (change_in (stamped u (base_vector base) (records_of log) w) (tree_of log base) i) (act_made u log base w work)
 
-  pub act-ran : RanAct u log base i w work (answered acted) acted.index (act_kept_work u log base i w work)
-  act-ran =
+  pub act_ran : RanAct u log base i w work (answered acted) acted.index (act_kept_work u log base i w work)
+  act_ran =
       let x : List ℕ = act_kept_work u log base i w work in
       record {
         κs = ([], ([], ([], ([], ([], tt)))));
@@ -86,14 +86,14 @@ module _ (u : ℕ) (log base i w work : List ℕ) where
         worked = refl;
       }
 
-  pub act-runs : index_fits i ≡ true → RanAct u log base i w work (act_of u log base w work) acted.index (act_kept_work u log base i w work)
+  pub act_runs : index_fits i ≡ true → RanAct u log base i w work (act_of u log base w work) acted.index (act_kept_work u log base i w work)
   unfolding act_kept
-  act-runs f =
+  act_runs f =
       subst (λ (o : Outcome). RanAct u log base i w work o acted.index (act_kept_work u log base i w work))
       (sym
       (kept_gives (index_fits i) log [] i (act_of u log base w work) (change_in (stamped u (base_vector base) (records_of log) w) (tree_of log base) i) f
       (changing_uncounted (act_of u log base w work) (act_made u log base w work))))
-      act-ran
+      act_ran
 
 pub hand_out_runs : (archive u : ℕ) (log base v lent : List ℕ) → RanHandOut archive u log base v lent (hand_of archive u log base v lent)
 hand_out_runs archive u log base v lent =
@@ -125,22 +125,22 @@ module _ (archive u : ℕ) (log base i b work : List ℕ) where
   abbrev took : Kept
   took = take_kept archive u log base i b work
 
-  took-none : took.lent ≡ []
+  took_none : took.lent ≡ []
   unfolding take_kept
-  took-none =
+  took_none =
       nothing_lent (both_fit i work) log i (take_of archive u log base b) (index_of_log (take_of archive u log base b).log base) (take_made archive u log base b)
 
-  pub take-ran : RanTake archive u log base i b work (answered took) took.index (take_kept_work archive u log base i b work)
-  take-ran =
+  pub take_ran : RanTake archive u log base i b work (answered took) took.index (take_kept_work archive u log base i b work)
+  take_ran =
       let x : List ℕ = take_kept_work archive u log base i b work in
       record {
         κs = ([], ([], ([], ([], ([], tt)))));
         args = (slice log, (slice base, (slice i, (slice work, (archive, (u, (slice b, tt)))))));
         result = record { number = took.number; place = took.place };
         exit = (slice took.log, (slice base, (slice took.index, (slice x, (archive, (u, (slice b, tt)))))));
-        learnt = (nothing_kept took took-none, refl);
+        learnt = (nothing_kept took took_none, refl);
         given = (refl, refl, refl, refl, refl, refl, refl);
-        gave = ap (λ (y : List ℕ). outcome took.number took.place took.log y 0) took-none;
+        gave = ap (λ (y : List ℕ). outcome took.number took.place took.log y 0) took_none;
         kept = refl;
         worked = refl;
       }
@@ -152,7 +152,7 @@ module _ (archive u : ℕ) (log base i b work : List ℕ) where
       (sym
       (kept_gives (both_fit i work) log [] i (take_of archive u log base b) (index_of_log (take_of archive u log base b).log base) f
       (changing_uncounted (take_of archive u log base b) (take_made archive u log base b))))
-      take-ran
+      take_ran
 
 pub take_row_runs : (archive u : ℕ) (log base i row work : List ℕ)
     → RanTakeRow archive u log base i row work (take_row_kept archive u log base i row work) (take_row_kept_work archive u log base i row work)

@@ -13,7 +13,7 @@ use Rattle.index_claims.proofs.Kept.{started_right, list_right}
 use Rattle.claims.specs.Ran.{RanStart}
 use Rattle.claims.specs.Whole.{RanKept, RunsKept}
 use Rattle.claims.proofs.Ran.{ran_start_kept, ran_act_kept, ran_take_kept, ran_take_row, ran_fold}
-use Rattle.claims.proofs.Exist.{answered, start_ran, act-ran, take-ran, take_row_runs, fold_runs}
+use Rattle.claims.proofs.Exist.{answered, start_ran, act_ran, take_ran, take_row_runs, fold_runs}
 
 carried_is : (t : Carried) {log base i : List ℕ} → t.log ≡ log → t.base ≡ base → t.index ≡ i → t ≡ carried log base i
 carried_is t p q r = λ k. carried (p k) (q k) (r k)
@@ -64,14 +64,14 @@ ran_exists archive u starts s =
 ran_exists archive u (acts w work) s = (
   answered (act_kept u s.log s.base s.index w work),
   act_kept_work u s.log s.base s.index w work,
-  act-ran u s.log s.base s.index w work,
+  act_ran u s.log s.base s.index w work,
   refl,
   refl,
 )
 ran_exists archive u (takes b work) s = (
   answered (take_kept archive u s.log s.base s.index b work),
   take_kept_work archive u s.log s.base s.index b work,
-  take-ran archive u s.log s.base s.index b work,
+  take_ran archive u s.log s.base s.index b work,
   refl,
   refl,
 )

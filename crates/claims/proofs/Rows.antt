@@ -31,11 +31,11 @@ unfolding identity_bytes
 identity-below k h = (omega arith, (omega arith, two-below (k / 8) (omega arith)))
 
 module _ (v : List ℕ) (small : Small v) where
-  named-low : (k : ℕ) → NamedIn v k → k < 524288
-  named-low k (a, b) = omega (arith, small (k % 8) (omega arith))
+  named_low : (k : ℕ) → NamedIn v k → k < 524288
+  named_low k (a, b) = omega (arith, small (k % 8) (omega arith))
 
   none_low : (k : ℕ) → NamedOrNone v k → k < 524288
-  none_low k h = ⊎_elim (λ (z : k ≡ root). omega arith) (λ n. named-low k n) h
+  none_low k h = ⊎_elim (λ (z : k ≡ root). omega arith) (λ n. named_low k n) h
 
 -- ---- what the rows take over from records and bases
 
@@ -119,10 +119,10 @@ module _ (v : List ℕ) (small : Small v) where
       let id : (k : ℕ) → k < 524288 → Below 256 (identity_bytes k) = identity-below in
       let texts : Below 256 (e.date ++ (e.label ++ e.mark)) = below-append e.date (e.label ++ e.mark) a (below-append e.label e.mark b c) in
       let placed : Below 256 (identity_bytes e.placing ++ (e.date ++ (e.label ++ e.mark))) =
-      below-append (identity_bytes e.placing) (e.date ++ (e.label ++ e.mark)) (id e.placing (named-low v small e.placing f.placing_named)) texts in
+      below-append (identity_bytes e.placing) (e.date ++ (e.label ++ e.mark)) (id e.placing (named_low v small e.placing f.placing_named)) texts in
       let held : Below 256 (identity_bytes e.contents ++ (identity_bytes e.placing ++ (e.date ++ (e.label ++ e.mark)))) =
       below-append (identity_bytes e.contents) (identity_bytes e.placing ++ (e.date ++ (e.label ++ e.mark)))
-      (id e.contents (named-low v small e.contents f.contents_named)) placed in
+      (id e.contents (named_low v small e.contents f.contents_named)) placed in
       let within : Below 256 (identity_bytes e.inside ++ (identity_bytes e.contents ++ (identity_bytes e.placing ++ (e.date ++ (e.label ++ e.mark))))) =
       below-append (identity_bytes e.inside) (identity_bytes e.contents ++ (identity_bytes e.placing ++ (e.date ++ (e.label ++ e.mark))))
       (id e.inside (none_low v small e.inside f.folder_named)) held in
@@ -135,7 +135,7 @@ module _ (v : List ℕ) (small : Small v) where
             (
               omega arith,
               below-append (identity_bytes e.made) (identity_bytes e.inside ++ (identity_bytes e.contents ++ (identity_bytes e.placing ++ (e.date ++ (e.label ++ e.mark)))))
-                  (id e.made (named-low v small e.made f.own_named)) within,
+                  (id e.made (named_low v small e.made f.own_named)) within,
             ),
           ),
         ),
@@ -146,7 +146,7 @@ module _ (v : List ℕ) (small : Small v) where
   aside-below a f =
       let reason : a.reason < 256 = ⊎_elim (λ (x, y). omega arith) (λ (x : a.reason ≡ 25). omega arith) f.a_reason in
       below-append (identity_bytes a.who) ((a.reason ∷ cond a.is_open 1 2 ∷ 0 ∷ 0 ∷ []) ++ identity_bytes a.marked)
-      (identity-below a.who (named-low v small a.who f.who_named))
+      (identity-below a.who (named_low v small a.who f.who_named))
       (reason, (state_low a.is_open, (omega arith, (omega arith, identity-below a.marked (none_low v small a.marked f.mark_named)))))
 
   entries_below : (s : List Aside) (es : List Entry) → All (EntryFits v) es → All Written es → Below 256 (entry_rows s es)
@@ -157,16 +157,16 @@ module _ (v : List ℕ) (small : Small v) where
       (entry-below (cond (is_disputed e.made s) 1 0) e (flag_low (is_disputed e.made s)) f.0 h.0)
       (entries_below s es f.1 h.1)
 
-  asides-below : (l : List Aside) → All (AsideFits v) l → Below 256 (aside_rows l)
+  asides_below : (l : List Aside) → All (AsideFits v) l → Below 256 (aside_rows l)
   unfolding aside_rows
-  asides-below [] f = tt
-  asides-below (a ∷ l) f = below-append (aside_row a) (aside_rows l) (aside-below a f.0) (asides-below l f.1)
+  asides_below [] f = tt
+  asides_below (a ∷ l) f = below-append (aside_row a) (aside_rows l) (aside-below a f.0) (asides_below l f.1)
 
   -- ---- the work memory
 
-  pub work-below : (t : Tree) → SoundTree v t → All Written t.entries → Below 256 (work_bytes t)
+  pub work_below : (t : Tree) → SoundTree v t → All Written t.entries → Below 256 (work_bytes t)
   unfolding work_bytes flagged
-  work-below t f h =
+  work_below t f h =
       let es : List ℕ = entry_rows [] t.entries in
       let l : List ℕ = aside_rows t.asides in (
         omega arith,
@@ -178,7 +178,7 @@ module _ (v : List ℕ) (small : Small v) where
               omega arith,
               below-append (padded 73728 es) (padded 12288 l)
                   (padded-below 73728 es (entries_below [] t.entries f.entries_fit h))
-                  (padded-below 12288 l (asides-below t.asides f.asides_fit)),
+                  (padded-below 12288 l (asides_below t.asides f.asides_fit)),
             ),
           ),
         ),
@@ -186,15 +186,15 @@ module _ (v : List ℕ) (small : Small v) where
 
   -- ---- the base
 
-  pub laid-below : (m : ℕ) (t : Tree) → m < 256 → length t.entries ≤ 512 → length t.asides ≤ 512 → SoundTree v t → All Written t.entries
+  pub laid_below : (m : ℕ) (t : Tree) → m < 256 → length t.entries ≤ 512 → length t.asides ≤ 512 → SoundTree v t → All Written t.entries
       → Below 256 (base_bytes (record { list = m; vector = v; tree = t }))
   unfolding base_bytes
-  laid-below m t k a b f h =
+  laid_below m t k a b f h =
       let es : List ℕ = padded 36864 (entry_rows [] t.entries) in
       let l : List ℕ = padded 6144 (aside_rows t.asides) in
       let rows : Below 256 (es ++ l) =
       below-append es l (padded-below 36864 (entry_rows [] t.entries) (entries_below [] t.entries f.entries_fit h))
-      (padded-below 6144 (aside_rows t.asides) (asides-below t.asides f.asides_fit)) in
+      (padded-below 6144 (aside_rows t.asides) (asides_below t.asides f.asides_fit)) in
       let counted : Below 256 (vector_bytes v ++ (es ++ l)) = below-append (vector_bytes v) (es ++ l) (vector_below v small) rows in (
         k,
         (

@@ -38,14 +38,14 @@ use Rattle.fold_count_laws.proofs.Longest.{longest_most}
 use Rattle.base_laws.specs.Laid.{Lays}
 use Rattle.base_laws.proofs.Claims.{sound_tree, sound_lays}
 use Rattle.base_laws.proofs.Replaying.{sound_on}
-use Rattle.base_laws.proofs.Folds.{Counts, none-counts, run-counts, folded-lays, folded-length}
+use Rattle.base_laws.proofs.Folds.{Counts, none-counts, run-counts, folded_lays, folded-length}
 use Rattle.call_laws.specs.Keeps.{Good}
 use Rattle.encoding_laws.proofs.Logs.{sound_proper_on, proper_sized, sound_few}
-use Rattle.encoding_laws.proofs.Files.{six, few_blocks, length-file}
-use Rattle.call_laws.proofs.States.{good-base, good-records, empty_length}
-use Rattle.call_laws.proofs.Calls.{guard_good, takes_on, take-grown}
-use Rattle.call_laws.proofs.Given.{hand-holds}
-use Rattle.take_beside.proofs.Checks.{given-length}
+use Rattle.encoding_laws.proofs.Files.{six, few_blocks, length_file}
+use Rattle.call_laws.proofs.States.{good_base, good_records, empty_length}
+use Rattle.call_laws.proofs.Calls.{guard_good, takes_on, take_grown}
+use Rattle.call_laws.proofs.Given.{hand_holds}
+use Rattle.take_beside.proofs.Checks.{given_length}
 use Rattle.machine.specs.Machine.{Call, starts, acts, hands_out, writes, takes, folds, unit_of, Block, Bench, bare, block_given, done, if_accepted, blocks_to, gives, base_left, after, next, play, outcomes}
 use Rattle.machine.specs.Runs.{Runs}
 use Rattle.machine.specs.Callable.{all_below, is_slice, is_vector, callable, all_callable}
@@ -53,7 +53,7 @@ use Rattle.machine.proofs.Reach.{Inv, put_cases, inv_next}
 use Rattle.claims.specs.Typed.{lent_by, work_by, work_left, taken_by, count_limit, Typed}
 use Rattle.claims.proofs.Outcomes.{number_cond, first_few, early_few, asked_few, behind_number, behind}
 use Rattle.claims.proofs.Bytes.{Below, Recs, Small, below-take, below-drop, below-append, zeros-below, two-below, log_below, records_below, block_records_below, vector_below, base_small, held_small, block_below, file_below, below_from, below_test, below-part}
-use Rattle.claims.proofs.Rows.{Written, base_written, replay-written, replay_grows, work-below, laid-below, work_length}
+use Rattle.claims.proofs.Rows.{Written, base_written, replay-written, replay_grows, work_below, laid_below, work_length}
 
 -- ---- numbers below 256
 
@@ -131,7 +131,7 @@ run_few m u log base =
 
 module _ (log base : List ℕ) (g : Good log base) (hl : Below 256 log) (hb : Below 256 base) where
   pub held_low : Small (held_on log base)
-  held_low = held_small (base_vector base) (records_of log) (good-records log base g) (base_small base hb) (records_below log hl)
+  held_low = held_small (base_vector base) (records_of log) (good_records log base g) (base_small base hb) (records_below log hl)
 
   -- the first n records
   module _ (n : ℕ) where
@@ -141,37 +141,37 @@ module _ (log base : List ℕ) (g : Good log base) (hl : Below 256 log) (hb : Be
     abbrev tree : Tree
     tree = replay_from (base_tree base) (take n (records_of log))
 
-    front-sound : SoundOn (base_vector base) front
-    front-sound =
+    front_sound : SoundOn (base_vector base) front
+    front_sound =
         sound_front_on (base_vector base) [] front (drop n (records_of log))
-        (subst (SoundOn (base_vector base)) (sym (take-append-drop n (records_of log))) (good-records log base g))
+        (subst (SoundOn (base_vector base)) (sym (take-append-drop n (records_of log))) (good_records log base g))
 
     front_below : Recs front
     front_below r i = records_below log hl r (has_take n (records_of log) r i)
 
-    pub front-small : Small (vector_on (base_vector base) front)
-    front-small = held_small (base_vector base) front front-sound (base_small base hb) front_below
+    pub front_small : Small (vector_on (base_vector base) front)
+    front_small = held_small (base_vector base) front front_sound (base_small base hb) front_below
 
-    pub tree-sound : SoundTree (vector_on (base_vector base) front) tree
-    tree-sound = sound_on (base_vector base) (base_tree base) front front-sound (sound_tree base g.long.1 (good-base log base g))
+    pub tree_sound : SoundTree (vector_on (base_vector base) front) tree
+    tree_sound = sound_on (base_vector base) (base_tree base) front front_sound (sound_tree base g.long.1 (good_base log base g))
 
     pub tree-written : All Written tree.entries
     tree-written = replay-written (base_tree base) front front_below (base_written base hb)
 
-    tree-few : (length tree.entries ≤ 1024) × (length tree.asides ≤ 1024)
+    tree_few : (length tree.entries ≤ 1024) × (length tree.asides ≤ 1024)
     unfolding base_in
-    tree-few =
-        let y = sound_lays base g.long.1 (good-base log base g) in
+    tree_few =
+        let y = sound_lays base g.long.1 (good_base log base g) in
         let (a, b) = replay_grows (base_tree base) front in
         let c = y.few_entries in
         let d = y.few_asides in
         let e = length-take n (records_of log) in
         (omega (arith, sound_few log), omega (arith, sound_few log))
 
-    pub tree-works : Below 256 (work_bytes tree) × (length (work_bytes tree) ≡ 86020)
-    tree-works =
+    pub tree_works : Below 256 (work_bytes tree) × (length (work_bytes tree) ≡ 86020)
+    tree_works =
         let v : List ℕ = vector_on (base_vector base) front in
-        (work-below v front-small tree tree-sound tree-written, work_length v tree tree-sound tree-few.0 tree-few.1)
+        (work_below v front_small tree tree_sound tree-written, work_length v tree tree_sound tree_few.0 tree_few.1)
 
 -- ---- what the calls hand back
 
@@ -182,12 +182,12 @@ record Fine (lent : List ℕ) (limit : ℕ) (o : Outcome) : Type 0 where
   numbers : (o.number < 256) × (o.place < 256) × (o.blocks < limit)
 
 module _ (log lent : List ℕ) (hl : Below 256 log) (hb : Below 256 lent) (limit : ℕ) (some-limit : 0 < limit) where
-  refusal-fine : (n : ℕ) → n < 256 → Fine lent limit (refusal n log lent)
-  refusal-fine n k = record { log = hl; wrote = hb; much = refl; numbers = (k, omega arith, some-limit) }
+  refusal_fine : (n : ℕ) → n < 256 → Fine lent limit (refusal n log lent)
+  refusal_fine n k = record { log = hl; wrote = hb; much = refl; numbers = (k, omega arith, some-limit) }
 
   -- a buffer of bytes is written
-  written-fine : (b : List ℕ) (k : ℕ) → Below 256 b → length b ≡ length lent → k < limit → Fine lent limit (outcome 0 0 log b k)
-  written-fine b k h n m = record { log = hl; wrote = h; much = n; numbers = (omega arith, omega arith, m) }
+  written_fine : (b : List ℕ) (k : ℕ) → Below 256 b → length b ≡ length lent → k < limit → Fine lent limit (outcome 0 0 log b k)
+  written_fine b k h n m = record { log = hl; wrote = h; much = n; numbers = (omega arith, omega arith, m) }
 
 -- a log is left
 left_fine : (l : List Rec) → Recs l → Fine [] 256 (outcome 0 0 (log_bytes l) [] 0)
@@ -201,7 +201,7 @@ start_fine : (u : ℕ) (log base : List ℕ) → length base ≡ 43032 → Below
 unfolding start_of
 start_fine u log base n h k =
     behind_number (Fine base 256) (early_number u log base true true) log base (outcome 0 0 (replicate 40960 0) empty_base 0)
-    (early_few u log base true true) (refusal-fine log base h k 256 (omega arith))
+    (early_few u log base true true) (refusal_fine log base h k 256 (omega arith))
     (λ z. record { log = zeros-below 40960; wrote = empty_below; much = empty_length ∙ sym n; numbers = (omega arith, omega arith, omega arith) })
 
 stamped-below : (u : ℕ) (v : List ℕ) (l : List Rec) (w : List ℕ) → Small (vector_on v l) → count_on v u l < 65535 → Below 256 w → Below 256 (stamped u v l w)
@@ -214,7 +214,7 @@ stamped-below u v l w k c h =
 act_fine : (u : ℕ) (log base w work : List ℕ) → Below 256 log → Below 256 base → Below 256 w → Fine [] 256 (act_of u log base w work)
 unfolding act_of acted
 act_fine u log base w work h hb k =
-    behind (Fine [] 256) u log base [] (act_lent w work) (acted u log v w answer) (refusal-fine log [] h tt 256 (omega arith))
+    behind (Fine [] 256) u log base [] (act_lent w work) (acted u log v w answer) (refusal_fine log [] h tt 256 (omega arith))
     (λ a b g. go g answer refl (act_few (base_in base).list u v (base_in base).tree l w))
   where
     v : List ℕ
@@ -236,42 +236,42 @@ act_fine u log base w work h hb k =
 
     go : Good log base → (n : ℕ) → answer ≡ n → n < 256 → Fine [] 256 (acted u log v w n)
     go g zero z m = left_fine (l ++ (stamped u v l w ∷ [])) (added g z)
-    go g (suc n) z m = refusal-fine log [] h tt 256 (omega arith) (suc n) m
+    go g (suc n) z m = refusal_fine log [] h tt 256 (omega arith) (suc n) m
 
 take_fine : (archive u : ℕ) (log base b : List ℕ) → Below 256 log → Below 256 b → Fine [] 256 (take_of archive u log base b)
 unfolding take_of took_block took_all
 take_fine archive u log base b h k =
-    behind (Fine [] 256) u log base [] true (took_block log base b (given_fault archive b)) (refusal-fine log [] h tt 256 (omega arith))
+    behind (Fine [] 256) u log base [] true (took_block log base b (given_fault archive b)) (refusal_fine log [] h tt 256 (omega arith))
     (λ a c g. block g (given_fault archive b) (given_few archive b))
   where
     records : Good log base → (t : Took) → takes_on log base (block_records b) ≡ t → Few t → Fine [] 256 (took_all log t)
-    records g (refused n) e m = refusal-fine log [] h tt 256 (omega arith) n m
+    records g (refused n) e m = refusal_fine log [] h tt 256 (omega arith) n m
     records g (taken m) e _ =
-        let w = take-grown log base (block_records b) m g e in
+        let w = take_grown log base (block_records b) m g e in
         left_fine m (λ r i. ⊎_elim (λ j. records_below log h r j) (λ j. block_records_below b k r j) (w.from r i))
 
     block : Good log base → (n : ℕ) → n < 256 → Fine [] 256 (took_block log base b n)
     block g zero m = records g (takes_on log base (block_records b)) refl (all_few (base_in base).list (base_vector base) (block_records b) (records_of log))
-    block g (suc n) m = refusal-fine log [] h tt 256 (omega arith) (suc n) m
+    block g (suc n) m = refusal_fine log [] h tt 256 (omega arith) (suc n) m
 
 -- a block without fault has 512 bytes
 given_long : (archive : ℕ) (b : List ℕ) → given_fault archive b ≡ 0 → length b ≡ 512
-given_long archive b e = ⊎_elim (λ k. k) (λ k. absurd (omega (arith, given-length archive b k))) (eq_or_ne (length b) 512)
+given_long archive b e = ⊎_elim (λ k. k) (λ k. absurd (omega (arith, given_length archive b k))) (eq_or_ne (length b) 512)
 
 hand_fine : (archive u : ℕ) (log base v lent : List ℕ) → archive < 4294967296 → Below 256 log → Below 256 base → Below 256 lent → Fine lent 256 (hand_of archive u log base v lent)
 unfolding hand_of handed hand_block
 hand_fine archive u log base v lent a h hb k =
     let l : List Rec = records_of log in
     let held : List ℕ = held_on log base in
-    behind (Fine lent 256) u log base lent (eqb (length lent) 512) (handed archive u log base v lent) (refusal-fine log lent h k 256 (omega arith))
+    behind (Fine lent 256) u log base lent (eqb (length lent) 512) (handed archive u log base v lent) (refusal_fine log lent h k 256 (omega arith))
     (λ n b g.
     let few : Recs (take 6 (lacking v l)) = λ r i. records_below log h r (has_lacking v l r (has_take 6 (lacking v l) r i)) in
-    let proper = sound_proper_on (base_vector base) l (good-records log base g) in
-    let long = given_long archive (hand_block archive u held l v) (hand-holds archive u l b proper held v).faultless in
+    let proper = sound_proper_on (base_vector base) l (good_records log base g) in
+    let long = given_long archive (hand_block archive u held l v) (hand_holds archive u l b proper held v).faultless in
     behind_number (Fine lent 256) (asked_number v (base_vector base)) log lent (outcome 0 0 log (hand_block archive u held l v) 0)
-    (asked_few (covers v (base_vector base)) 27 (omega arith)) (refusal-fine log lent h k 256 (omega arith))
+    (asked_few (covers v (base_vector base)) 27 (omega arith)) (refusal_fine log lent h k 256 (omega arith))
     (λ z.
-    written-fine log lent h k 256 (omega arith) (hand_block archive u held l v) 0
+    written_fine log lent h k 256 (omega arith) (hand_block archive u held l v) 0
     (block_below archive u 0 held (take 6 (lacking v l)) a b (omega arith) (held_low log base g h hb) (six (lacking v l)) few)
     (long ∙ sym (eqb-true (length lent) 512 n)) (omega arith)))
 
@@ -280,28 +280,28 @@ unfolding write_of written
 write_fine archive u log base lent a h k =
     let l : List Rec = records_of log in
     let f : List ℕ = padded 44032 (file_of archive u l) in
-    behind (Fine lent 256) u log base lent (eqb (length lent) 44032) (written archive u log base lent) (refusal-fine log lent h k 256 (omega arith))
+    behind (Fine lent 256) u log base lent (eqb (length lent) 44032) (written archive u log base lent) (refusal_fine log lent h k 256 (omega arith))
     (λ n b g.
-    let long = length-file archive u l (proper_sized l (sound_proper_on (base_vector base) l (good-records log base g))) (sound_few log) in
+    let long = length_file archive u l (proper_sized l (sound_proper_on (base_vector base) l (good_records log base g))) (sound_few log) in
     behind_number (Fine lent 256) (whole_number (base_vector base)) log lent (outcome 0 0 log f (block_count (length l)))
-    (asked_few (blank (base_vector base)) 29 (omega arith)) (refusal-fine log lent h k 256 (omega arith))
+    (asked_few (blank (base_vector base)) 29 (omega arith)) (refusal_fine log lent h k 256 (omega arith))
     (λ z.
-    written-fine log lent h k 256 (omega arith) f (block_count (length l)) (file_below archive u l a b (sound_few log) (records_below log h))
+    written_fine log lent h k 256 (omega arith) f (block_count (length l)) (file_below archive u l a b (sound_few log) (records_below log h))
     (long ∙ sym (eqb-true (length lent) 44032 n)) (omega (arith, few_blocks (length l) (sound_few log)))))
 
 -- a fold: what is left of the log, and the base written
 fold_fine : (u : ℕ) (log base : List ℕ) (m : ℕ) (work : List ℕ) → m < 256 → Below 256 log → Below 256 base → Fine base 65536 (fold_of u log base m work)
 unfolding fold_of fold_by folded folded_base trim base_in
 fold_fine u log base m work k h hb =
-    behind (Fine base 65536) u log base base (eqb (length work) 86020) (fold_by m u log base) (refusal-fine log base h hb 65536 (omega arith))
+    behind (Fine base 65536) u log base base (eqb (length work) 86020) (fold_by m u log base) (refusal_fine log base h hb 65536 (omega arith))
     (λ a b g.
     behind_number (Fine base 65536) (list_number m u (held_on log base)) log base (folded m log base n)
-    (asked_few (list_fits m u (held_on log base)) 26 (omega arith)) (refusal-fine log base h hb 65536 (omega arith))
+    (asked_few (list_fits m u (held_on log base)) 26 (omega arith)) (refusal_fine log base h hb 65536 (omega arith))
     (λ z.
     record {
       log = log_below (drop n l) (λ r i. records_below log h r (has_drop n l r i));
       wrote =
-          laid-below (vector_on v (take n l)) (front-small log base g h hb n) m (trim (tree log base g h hb n)) k (lays g).few_entries (lays g).few_asides (lays g).sound
+          laid_below (vector_on v (take n l)) (front_small log base g h hb n) m (trim (tree log base g h hb n)) k (lays g).few_entries (lays g).few_asides (lays g).sound
           (all_present Written (tree log base g h hb n).entries (tree-written log base g h hb n));
       much = folded-length log base g.long.1 g.sound m n (counts g) ∙ sym g.long.1;
       numbers = (omega arith, omega arith, omega (arith, run_few m u log base));
@@ -317,10 +317,10 @@ fold_fine u log base m work k h hb =
     n = run_in m u log base
 
     counts : Good log base → Counts (base_tree base) l n
-    counts g = run-counts m u v (base_tree base) l (none-counts base (good-base log base g) l)
+    counts g = run-counts m u v (base_tree base) l (none-counts base (good_base log base g) l)
 
     lays : Good log base → Lays (folded_base m v (base_tree base) l n)
-    lays g = folded-lays v (base_tree base) l (good-records log base g) n m (sound_tree base g.long.1 (good-base log base g)) (counts g)
+    lays g = folded_lays v (base_tree base) l (good_records log base g) n m (sound_tree base g.long.1 (good_base log base g)) (counts g)
 
 -- ---- the work memory
 
@@ -338,7 +338,7 @@ act_work_fine u log base w work hl hb h =
     let (a, _, _, g) = guard_good u log base (act_lent w work) true p in
     let n = eqb-true (length work) 86020 (and_true (eqb (length w) 80) (eqb (length work) 86020) a).1 in
     let all : take 512 (records_of log) ≡ records_of log = take_all 512 (records_of log) (sound_few log) in
-    let (x, y) = rw all at (tree-works log base g hl hb 512) in
+    let (x, y) = rw all at (tree_works log base g hl hb 512) in
     (x, y ∙ sym n))
 
 fold_work_fine : (u : ℕ) (log base : List ℕ) (m : ℕ) (work : List ℕ) → Below 256 log → Below 256 base → Below 256 work
@@ -349,7 +349,7 @@ fold_work_fine u log base m work hl hb h =
     after_fine (first_of (guard_number u log base (eqb (length work) 86020) true) (list_number m u (held_on log base))) (replay_from (base_tree base) (take n (records_of log))) work h (λ z.
     let (p, _) = first_zero (guard_number u log base (eqb (length work) 86020) true) (list_number m u (held_on log base)) z in
     let (a, _, _, g) = guard_good u log base (eqb (length work) 86020) true p in
-    let (x, y) = tree-works log base g hl hb n in
+    let (x, y) = tree_works log base g hl hb n in
     (x, y ∙ sym (eqb-true (length work) 86020 a)))
 
 -- ---- slices
@@ -521,7 +521,7 @@ typed archive s c a e i f =
       log_left = (slice_test o.log h.log (omega arith), log_long ∙ sym was);
       base_left_lem = (slice_test (base_left s c o) (base_below s c o f h.wrote) (omega arith), base_long ∙ sym stood);
       lent_left = (slice_test o.lent h.wrote (omega (arith, h.much, lent_few s c e (λ u. (i.good u).long.1))), h.much);
-      work_left = (slice_test (work_left s c) x (omega (arith, (slice_from (work_by c) (work_slice c e)).1)), y);
+      work_left_lem = (slice_test (work_left s c) x (omega (arith, (slice_from (work_by c) (work_slice c e)).1)), y);
       numbers = h.numbers;
     }
 

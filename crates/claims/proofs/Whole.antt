@@ -19,7 +19,7 @@ use Rattle.index_model.specs.Kept.{index_fits, both_fit, start_kept, act_kept, a
 use Rattle.claims.specs.Ran.{RanShow}
 use Rattle.claims.specs.Whole.{Ran, Shown, CodeClaim, Demand3}
 use Rattle.claims.proofs.Ran.{ran_start, ran_act, ran_act_worked, ran_hand_out, ran_write_file, ran_take, ran_take_worked, ran_take_row_worked, ran_fold, ran_fold_worked, ran_show}
-use Rattle.claims.proofs.Exist.{start_runs, act-runs, hand_out_runs, write_file_runs, take_runs, fold_runs, show_runs}
+use Rattle.claims.proofs.Exist.{start_runs, act_runs, hand_out_runs, write_file_runs, take_runs, fold_runs, show_runs}
 use Rattle.claims.proofs.Indexed.{runs_leave, runs_right, start_right, runs_exist}
 use Rattle.claims.proofs.Typed.{fits_bare, runs_typed}
 use Rattle.keep_start.proofs.start.Met.{met as start-met}
@@ -59,7 +59,7 @@ has_run archive s (acts u w work) = (
   (act_kept u (s.logs u) (s.bases u) [] w work).index,
   act_kept_work u (s.logs u) (s.bases u) [] w work,
   none_fits,
-  act-runs u (s.logs u) (s.bases u) [] w work none_fits,
+  act_runs u (s.logs u) (s.bases u) [] w work none_fits,
 )
 has_run archive s (hands_out u v lent) = hand_out_runs archive u (s.logs u) (s.bases u) v lent
 has_run archive s (writes u lent) = write_file_runs archive u (s.logs u) (s.bases u) lent

@@ -61,5 +61,5 @@ pub record Typed (archive : ℕ) (s : Bench) (c : Call) (o : Outcome) : Type 0 w
   pub log_left : (is_slice o.log ≡ true) × (length o.log ≡ length (s.logs (unit_of c)))
   pub base_left_lem : (is_slice (base_left s c o) ≡ true) × (length (base_left s c o) ≡ length (s.bases (unit_of c)))
   pub lent_left : (is_slice o.lent ≡ true) × (length o.lent ≡ length (lent_by s c))
-  pub work_left : (is_slice (work_left s c) ≡ true) × (length (work_left s c) ≡ length (work_by c))
+  pub work_left_lem : (is_slice (work_left s c) ≡ true) × (length (work_left s c) ≡ length (work_by c))
   pub numbers : (o.number < 256) × (o.place < 256) × (o.blocks < count_limit c)

@@ -45,26 +45,26 @@ records_sized f total e h = rw (← e) (sized_from f total 0 (omega arith))
 -- ---- block k of them
 
 module _ (f h : List ℕ) (t : List ℕ) (a u p k total n : ℕ) (et : total ≡ records_counted f) (en : n ≡ min 6 (total - 6 * k)) where
-  six-are : take 6 (drop (6 * k) (file_records f)) ≡ file_records_from f (6 * k) n
+  six_are : take 6 (drop (6 * k) (file_records f)) ≡ file_records_from f (6 * k) n
   unfolding file_records
-  six-are =
+  six_are =
       let z : 0 + 6 * k ≡ 6 * k = omega arith in
       let l : List Rec = file_records_from f (6 * k) (total - 6 * k) in
       rw (← et, drop-file_records f 0 total (6 * k), z) (take_six l n (en ∙ rw (length-file_records f (6 * k) (total - 6 * k))) ∙ take-file_records f (6 * k) (total - 6 * k) n (omega arith))
 
-  pub none-recast : {o : List ℕ} → n ≡ 0 → o ≡ sealed (head_as t (record { archive = a; sender = u; place = p + k; vector = h }) 0 ++ padded 480 (take (0 - 0) (drop 0 f)))
+  pub none_recast : {o : List ℕ} → n ≡ 0 → o ≡ sealed (head_as t (record { archive = a; sender = u; place = p + k; vector = h }) 0 ++ padded 480 (take (0 - 0) (drop 0 f)))
       → o ≡ run_block t (header_of a u p h) (file_records f) k
   unfolding run_block block_as body_as behind header_of file_records_from joined
-  none-recast z e = e ∙ rw (six-are, z)
+  none_recast z e = e ∙ rw (six_are, z)
 
-  pub some-recast : {o : List ℕ} → o ≡ sealed (head_as t (record { archive = a; sender = u; place = p + k; vector = h }) n ++ padded 480 (take (512 * k + 28 + 80 * n - (512 * k + 28)) (drop (512 * k + 28) f)))
+  pub some_recast : {o : List ℕ} → o ≡ sealed (head_as t (record { archive = a; sender = u; place = p + k; vector = h }) n ++ padded 480 (take (512 * k + 28 + 80 * n - (512 * k + 28)) (drop (512 * k + 28) f)))
       → o ≡ run_block t (header_of a u p h) (file_records f) k
   unfolding run_block block_as body_as behind header_of
-  some-recast e =
+  some_recast e =
       let z : 6 * k + 0 ≡ 6 * k = omega arith in
       let y : 512 * k + (28 + 80 * 0) ≡ 512 * k + 28 = omega arith in
       let j : joined (file_records_from f (6 * k) n) ≡ part f (512 * k + 28) (80 * n) = rw (z, y) at (joined_records f k n 0 (omega arith)) in
-      e ∙ rw (six-are, length-file_records f (6 * k) n, j, part_is f (512 * k + 28) (80 * n))
+      e ∙ rw (six_are, length-file_records f (6 * k) n, j, part_is f (512 * k + 28) (80 * n))
 
 -- ---- one after another
 

@@ -6,7 +6,7 @@ use mathlib.Core.Path.{◌≡◌, refl, sym, ap, ◌∙◌}
 use mathlib.Core.Bool.{Bool, true, false, not}
 use mathlib.Core.List.{List}
 use lib.ListN.{length, take, drop, replicate}
-use borrow.Author.Tests.{eq-eqb, ne_eqb, not-true, not-false}
+use borrow.Author.Tests.{eq-eqb, ne_eqb, not-true, not_false}
 use Rattle.model.specs.Bytes.{blank, part, padded, put_at}
 use Rattle.model.specs.Record.{Rec}
 use Rattle.model.specs.Log.{no_counts, vector_of}
@@ -21,38 +21,38 @@ use Rattle.run_laws.proofs.Records.{length-file_records}
 use Rattle.run_laws.proofs.Sab1.{to_run}
 use Rattle.encoding_laws.proofs.Files.{few_blocks}
 use Rattle.call_laws.proofs.Given.{blank_none, base_eight}
-use Rattle.sab2_laws.proofs.Rewritten.{vector-right}
-use Rattle.sab2_laws.proofs.Numbers.{way-29}
+use Rattle.sab2_laws.proofs.Rewritten.{vector_right}
+use Rattle.sab2_laws.proofs.Numbers.{way_29}
 use Rattle.sab2_laws.proofs.Empty.{back_done}
 use Rattle.base_head.specs.Head.{BaseHead, headed, head_of}
-use Rattle.sab2_check.proofs.Behind.{part_is, behind-length, behind-few, behind-fits}
+use Rattle.sab2_check.proofs.Behind.{part_is, behind-length, behind_few, behind_fits}
 use Rattle.convert.proofs.Anew.{records_sized, run-whole}
 
 -- ---- the records behind the rows
 
 module _ (f : List ℕ) (z : (checked_sab2 f).number ≡ 0) {p : ℕ} (ep : p ≡ row_blocks f) {total : ℕ} (et : total ≡ records_counted (take (512 * (length f / 512) - 512 * p) (drop (512 * p) f))) where
-  pub lowered-few : total ≤ 512
-  lowered-few = omega (arith, behind-fits f z ep)
+  pub lowered_few : total ≤ 512
+  lowered_few = omega (arith, behind_fits f z ep)
 
-  pub lowered-inside : total ≤ 6 * (length (take (512 * (length f / 512) - 512 * p) (drop (512 * p) f)) / 512)
-  lowered-inside = omega (arith, behind-length f z ep, behind-few f z ep)
+  pub lowered_inside : total ≤ 6 * (length (take (512 * (length f / 512) - 512 * p) (drop (512 * p) f)) / 512)
+  lowered_inside = omega (arith, behind-length f z ep, behind_few f z ep)
 
-  length-is : length (sab2_records f) ≡ total
+  length_is : length (sab2_records f) ≡ total
   unfolding sab2_records file_records
-  length-is = length-file_records (record_part f) 0 (records_counted (record_part f)) ∙ sym (rw (part_is f z ep) at et)
+  length_is = length-file_records (record_part f) 0 (records_counted (record_part f)) ∙ sym (rw (part_is f z ep) at et)
 
   module _ {n : ℕ} (en : n ≡ block_count total) where
-    pub lowered-blocks : n ≡ block_count (length (sab2_records f))
-    lowered-blocks = en ∙ rw length-is
+    pub lowered_blocks : n ≡ block_count (length (sab2_records f))
+    lowered_blocks = en ∙ rw length_is
 
-    pub lowered-many : n ≤ 86
-    lowered-many = omega (arith, few_blocks total lowered-few)
+    pub lowered_many : n ≤ 86
+    lowered_many = omega (arith, few_blocks total lowered_few)
 
-    pub lowered-fits : n < 256
-    lowered-fits = omega (arith, lowered-many)
+    pub lowered_fits : n < 256
+    lowered_fits = omega (arith, lowered_many)
 
-    pub lowered-room : (d : List ℕ) → length d ≡ 44032 → 512 * (0 + n) ≤ length d
-    lowered-room d long = omega (arith, lowered-many)
+    pub lowered_room : (d : List ℕ) → length d ≡ 44032 → 512 * (0 + n) ≤ length d
+    lowered_room d long = omega (arith, lowered_many)
 
     pub lowered : (d : List ℕ) {a u : ℕ} {v d₁ o : List ℕ} → blank (base_vector (sab2_base f)) ≡ true → length d ≡ 44032
         → a ≡ archive_in (take (512 - 0) (drop 0 f)) → u ≡ sender_in (take (512 - 0) (drop 0 f)) → v ≡ vector_in (take (512 - 0) (drop 0 f))
@@ -62,40 +62,40 @@ module _ (f : List ℕ) (z : (checked_sab2 f).number ≡ 0) {p : ℕ} (ep : p �
     lowered d {a} {u} {v} none long ea eu ev e₁ e =
         let l : List Rec = file_records (record_part f) in
         let nv : base_vector (sab2_base f) ≡ no_counts = blank_none (base_vector (sab2_base f)) (base_eight (sab2_base f)) none in
-        let w : v ≡ vector_of l = ev ∙ (vector-right f z ∙ rw nv (vector_on-none l)) in
-        let b : n ≡ block_count (length l) = lowered-blocks in
-        let sized = rw (part_is f z ep) at (records_sized (take (512 * (length f / 512) - 512 * p) (drop (512 * p) f)) total et lowered-inside) in
-        let g = run-whole letters (header_of a u 0 v) l d 44032 n refl sized long (omega (arith, lowered-many)) (rw (part_is f z ep) at e₁) e in
+        let w : v ≡ vector_of l = ev ∙ (vector_right f z ∙ rw nv (vector_on-none l)) in
+        let b : n ≡ block_count (length l) = lowered_blocks in
+        let sized = rw (part_is f z ep) at (records_sized (take (512 * (length f / 512) - 512 * p) (drop (512 * p) f)) total et lowered_inside) in
+        let g = run-whole letters (header_of a u 0 v) l d 44032 n refl sized long (omega (arith, lowered_many)) (rw (part_is f z ep) at e₁) e in
         g ∙ rw (w, ← to_run a u l n, ea, eu, ← b)
 
 -- ---- the ways out
 
 module _ (f lent : List ℕ) where
-  pub back-length : (length lent ≡ 44032 → ⊥) → converted 1 0 0 lent ≡ to_sab1_of f lent
+  pub back_length : (length lent ≡ 44032 → ⊥) → converted 1 0 0 lent ≡ to_sab1_of f lent
   unfolding to_sab1_of or_converted
-  back-length h = rw (ne_eqb (length lent) 44032 h)
+  back_length h = rw (ne_eqb (length lent) 44032 h)
 
-  pub back-refused : length lent ≡ 44032 → (m q : ℕ) → fault m q ≡ checked_sab2 f → (m ≡ 0 → ⊥) → converted m q 0 lent ≡ to_sab1_of f lent
+  pub back_refused : length lent ≡ 44032 → (m q : ℕ) → fault m q ≡ checked_sab2 f → (m ≡ 0 → ⊥) → converted m q 0 lent ≡ to_sab1_of f lent
   unfolding to_sab1_of or_converted way_back or_else fault
-  back-refused long m q e z = rw (eq-eqb (length lent) 44032 long, ← e, ne_eqb m 0 z, ne_eqb m 0 z)
+  back_refused long m q e z = rw (eq-eqb (length lent) 44032 long, ← e, ne_eqb m 0 z, ne_eqb m 0 z)
 
   module _ (long : length lent ≡ 44032) (z : (checked_sab2 f).number ≡ 0) {b v : List ℕ} {m i j : ℕ} (eb : b ≡ sab2_base f) (eh : headed m v i j ≡ head_of b) {t : Bool} (et : t ≡ blank v) where
     folded_is : v ≡ base_vector (sab2_base f)
     unfolding head_of
     folded_is = ap (λ (x : BaseHead). x.folded) eh ∙ rw eb
 
-    blank-is : blank (base_vector (sab2_base f)) ≡ t
-    blank-is = sym (rw folded_is at et)
+    blank_is : blank (base_vector (sab2_base f)) ≡ t
+    blank_is = sym (rw folded_is at et)
 
-    pub back-folded : not t ≡ true → converted 29 0 0 lent ≡ to_sab1_of f lent
+    pub back_folded : not t ≡ true → converted 29 0 0 lent ≡ to_sab1_of f lent
     unfolding to_sab1_of or_converted fault
-    back-folded h = rw (eq-eqb (length lent) 44032 long, way-29 f z (blank-is ∙ not-true t h))
+    back_folded h = rw (eq-eqb (length lent) 44032 long, way_29 f z (blank_is ∙ not-true t h))
 
     pub none-folded : not t ≡ false → blank (base_vector (sab2_base f)) ≡ true
-    none-folded h = blank-is ∙ not-false t h
+    none-folded h = blank_is ∙ not_false t h
 
-    pub back-lowered : not t ≡ false → (k : ℕ) (o : List ℕ) → k ≡ block_count (length (sab2_records f)) → o ≡ padded 44032 (as_sab1 f) → converted 0 0 k o ≡ to_sab1_of f lent
-    back-lowered h k o ek eo = sym (back_done f z (none-folded h) lent long ∙ rw (ek, eo))
+    pub back_lowered : not t ≡ false → (k : ℕ) (o : List ℕ) → k ≡ block_count (length (sab2_records f)) → o ≡ padded 44032 (as_sab1 f) → converted 0 0 k o ≡ to_sab1_of f lent
+    back_lowered h k o ek eo = sym (back_done f z (none-folded h) lent long ∙ rw (ek, eo))
 
 pub none_faulty : (f : List ℕ) (m q : ℕ) → fault m q ≡ checked_sab2 f → m ≡ 0 → (checked_sab2 f).number ≡ 0
 unfolding fault

@@ -22,8 +22,8 @@ use Rattle.run_laws.proofs.Records.{length-file_records}
 use Rattle.base_laws.proofs.Fresh.{empty_vector}
 use Rattle.call_laws.proofs.Reading.{checked-right}
 use Rattle.file_laws.proofs.Rewritten as Sab1
-use Rattle.read_file_check.proofs.Checks.{right-whole, right-some, right-few}
-use Rattle.read_file.proofs.Copied.{few-of-file, few-of-log}
+use Rattle.read_file_check.proofs.Checks.{right-whole, right_some, right_few}
+use Rattle.read_file.proofs.Copied.{few_of_file, few_of_log}
 use Rattle.write_sab2.proofs.Whole.{file_whole}
 use Rattle.convert.proofs.Anew.{records_sized}
 
@@ -56,41 +56,41 @@ module _ (f : List ℕ) (z : (checked_fault f).number ≡ 0) where
   right : (file_length f ≡ true) × ((file_fault f).number ≡ 0)
   right = checked-right f z
 
-  zero-fault : fault 0 (checked_fault f).place ≡ checked_fault f
+  zero_fault : fault 0 (checked_fault f).place ≡ checked_fault f
   unfolding fault
-  zero-fault = ap (λ (n : ℕ). fault n (checked_fault f).place) (sym z)
+  zero_fault = ap (λ (n : ℕ). fault n (checked_fault f).place) (sym z)
 
   pub whole : length f ≡ 512 * (length f / 512)
-  whole = right-whole f 0 (checked_fault f).place zero-fault refl
+  whole = right-whole f 0 (checked_fault f).place zero_fault refl
 
   pub few : length f / 512 ≤ 186
-  few = omega (arith, right-few f 0 (checked_fault f).place zero-fault refl)
+  few = omega (arith, right_few f 0 (checked_fault f).place zero_fault refl)
 
   pub first : 512 ≤ length f
-  first = omega (arith, whole, right-some f 0 (checked_fault f).place zero-fault refl)
+  first = omega (arith, whole, right_some f 0 (checked_fault f).place zero_fault refl)
 
-  pub raised-vector : {v : List ℕ} → v ≡ vector_in (take (512 - 0) (drop 0 f)) → v ≡ vector_of (file_records f)
+  pub raised_vector : {v : List ℕ} → v ≡ vector_in (take (512 - 0) (drop 0 f)) → v ≡ vector_of (file_records f)
   unfolding block_at part
-  raised-vector e = e ∙ Sab1.vector-right f right.0 right.1
+  raised_vector e = e ∙ Sab1.vector_right f right.0 right.1
 
   module _ {total : ℕ} (et : total ≡ records_counted f) where
-    pub total-few : total ≤ 512
-    total-few = omega (arith, few-of-log f 0 (checked_fault f).place zero-fault refl)
+    pub total_few : total ≤ 512
+    total_few = omega (arith, few_of_log f 0 (checked_fault f).place zero_fault refl)
 
     pub total_inside : total ≤ 6 * (length f / 512)
-    total_inside = omega (arith, few-of-file f 0 (checked_fault f).place zero-fault refl)
+    total_inside = omega (arith, few_of_file f 0 (checked_fault f).place zero_fault refl)
 
-    pub blocks-enough : (total + 5) / 6 ≤ block_count total
+    pub blocks_enough : (total + 5) / 6 ≤ block_count total
     unfolding block_count
-    blocks-enough = omega arith
+    blocks_enough = omega arith
 
-    length-is : length (file_records f) ≡ total
+    length_is : length (file_records f) ≡ total
     unfolding file_records
-    length-is = length-file_records f 0 (records_counted f) ∙ sym et
+    length_is = length-file_records f 0 (records_counted f) ∙ sym et
 
-    pub raised-blocks : 1 + (total + 5) / 6 ≡ sab2_blocks empty_base (file_records f)
+    pub raised_blocks : 1 + (total + 5) / 6 ≡ sab2_blocks empty_base (file_records f)
     unfolding sab2_blocks
-    raised-blocks = omega (arith, one_block, for_is total, ap blocks_for length-is)
+    raised_blocks = omega (arith, one_block, for_is total, ap blocks_for length_is)
 
     pub raised : (a u : ℕ) (v d : List ℕ) {b d₁ d₂ o : List ℕ} → v ≡ vector_of (file_records f) → length d ≡ 95232
         → b ≡ run_block letters2 (header_of a u 0 v) (base_rows empty_base) 0 → d₁ ≡ put_at d (512 * 0) b
@@ -100,8 +100,8 @@ module _ (f : List ℕ) (z : (checked_fault f).number ≡ 0) where
     unfolding run_to
     raised a u v d ev long eb e₁ e₂ e =
         let w : v ≡ vector_on (base_vector empty_base) (file_records f) = ev ∙ sym (rw empty_vector (vector_on-none (file_records f))) in
-        let n : (total + 5) / 6 ≡ blocks_for (length (file_records f)) = rw length-is (for_is total) in
-        file_whole a u empty_base v d (file_records f) (records_sized f total et total_inside) long one_block n (omega arith) (omega (arith, total-few)) w (e₁ ∙ rw eb) e₂ e
+        let n : (total + 5) / 6 ≡ blocks_for (length (file_records f)) = rw length_is (for_is total) in
+        file_whole a u empty_base v d (file_records f) (records_sized f total et total_inside) long one_block n (omega arith) (omega (arith, total_few)) w (e₁ ∙ rw eb) e₂ e
 
 pub raised_as : (f : List ℕ) {a u : ℕ} {o : List ℕ} → a ≡ archive_in (take (512 - 0) (drop 0 f)) → u ≡ sender_in (take (512 - 0) (drop 0 f))
     → o ≡ padded 95232 (sab2_of a u empty_base (file_records f)) → o ≡ padded 95232 (as_sab2 f)
@@ -111,14 +111,14 @@ raised_as f ea eu e = e ∙ rw (ea, eu)
 -- ---- the ways out
 
 module _ (f lent : List ℕ) where
-  pub up-length : (length lent ≡ 95232 → ⊥) → converted 1 0 0 lent ≡ to_sab2_of f lent
+  pub up_length : (length lent ≡ 95232 → ⊥) → converted 1 0 0 lent ≡ to_sab2_of f lent
   unfolding to_sab2_of or_converted
-  up-length h = rw (ne_eqb (length lent) 95232 h)
+  up_length h = rw (ne_eqb (length lent) 95232 h)
 
   module _ (long : length lent ≡ 95232) (m q : ℕ) (e : fault m q ≡ checked_fault f) where
-    pub up-refused : (m ≡ 0 → ⊥) → converted m q 0 lent ≡ to_sab2_of f lent
+    pub up_refused : (m ≡ 0 → ⊥) → converted m q 0 lent ≡ to_sab2_of f lent
     unfolding to_sab2_of or_converted fault
-    up-refused z = rw (eq-eqb (length lent) 95232 long, ← e, ne_eqb m 0 z)
+    up_refused z = rw (eq-eqb (length lent) 95232 long, ← e, ne_eqb m 0 z)
 
     pub up_done : m ≡ 0 → (k : ℕ) (o : List ℕ) → k ≡ sab2_blocks empty_base (file_records f) → o ≡ padded 95232 (as_sab2 f) → converted 0 0 k o ≡ to_sab2_of f lent
     unfolding to_sab2_of or_converted fault

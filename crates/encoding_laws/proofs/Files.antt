@@ -13,7 +13,7 @@ use Rattle.model.specs.File.{block_count, header_of, file_block, file_to, file_o
 use Rattle.byte_slice.proofs.PutAt.{length-padded}
 use Rattle.block_laws.proofs.Fields.{Sized, length_block}
 pub use Rattle.block_laws.proofs.Fields.{sized_take, sized_drop, six}
-use Rattle.run_laws.proofs.Runs.{run_length, run-block}
+use Rattle.run_laws.proofs.Runs.{run_length, run_block_lem}
 use Rattle.run_laws.proofs.Sab1.{block_run, to_run}
 
 -- at most 86 blocks
@@ -22,26 +22,26 @@ unfolding block_count
 few_blocks n k = omega arith
 
 module _ (archive u : ℕ) (l : List Rec) (z : Sized l) where
-  pub length-fileBlock : (k : ℕ) → length (file_block archive u l k) ≡ 512
+  pub length-file_block : (k : ℕ) → length (file_block archive u l k) ≡ 512
   unfolding file_block
-  length-fileBlock k = length_block (header_of archive u k (vector_of l)) (take 6 (drop (6 * k) l)) (sized_take 6 (drop (6 * k) l) (sized_drop (6 * k) l z)) (six (drop (6 * k) l))
+  length-file_block k = length_block (header_of archive u k (vector_of l)) (take 6 (drop (6 * k) l)) (sized_take 6 (drop (6 * k) l) (sized_drop (6 * k) l z)) (six (drop (6 * k) l))
 
-  pub length-fileTo : (n : ℕ) → length (file_to archive u l n) ≡ 512 * n
-  length-fileTo n = rw (to_run archive u l n) (run_length letters refl (header_of archive u 0 (vector_of l)) l z n)
+  pub length-file_to : (n : ℕ) → length (file_to archive u l n) ≡ 512 * n
+  length-file_to n = rw (to_run archive u l n) (run_length letters refl (header_of archive u 0 (vector_of l)) l z n)
 
   -- block k of the first n, whatever stands behind them
-  block-of-first : (n k : ℕ) (t : List ℕ) → k < n → block_at (file_to archive u l n ++ t) k ≡ file_block archive u l k
+  block_of_first : (n k : ℕ) (t : List ℕ) → k < n → block_at (file_to archive u l n ++ t) k ≡ file_block archive u l k
   unfolding file_block
-  block-of-first n k t h =
+  block_of_first n k t h =
       rw (to_run archive u l n)
-      (run-block letters refl (header_of archive u 0 (vector_of l)) l z n k t h ∙ block_run archive u (vector_of l) k (take 6 (drop (6 * k) l)))
+      (run_block_lem letters refl (header_of archive u 0 (vector_of l)) l z n k t h ∙ block_run archive u (vector_of l) k (take 6 (drop (6 * k) l)))
 
   pub block_of_file : (k : ℕ) → k < block_count (length l) → block_at (padded 44032 (file_of archive u l)) k ≡ file_block archive u l k
   unfolding padded file_of
-  block_of_file k h = block-of-first (block_count (length l)) k _ h
+  block_of_file k h = block_of_first (block_count (length l)) k _ h
 
   -- an accepted writing leaves a file of the lent length
-  pub length-file : length l ≤ 512 → length (padded 44032 (file_of archive u l)) ≡ 44032
+  pub length_file : length l ≤ 512 → length (padded 44032 (file_of archive u l)) ≡ 44032
   unfolding file_of
-  length-file h =
-      length-padded 44032 (file_to archive u l (block_count (length l))) (omega (arith, length-fileTo (block_count (length l)), few_blocks (length l) h))
+  length_file h =
+      length-padded 44032 (file_to archive u l (block_count (length l))) (omega (arith, length-file_to (block_count (length l)), few_blocks (length l) h))

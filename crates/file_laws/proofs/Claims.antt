@@ -21,11 +21,11 @@ use Rattle.log_laws.proofs.Tests.{sound_means}
 use Rattle.call_laws.specs.Keeps.{Good}
 use Rattle.encoding_laws.proofs.Files.{few_blocks}
 use Rattle.encoding_laws.proofs.Logs.{sound_few, sound_bytes_on}
-use Rattle.call_laws.proofs.States.{good-log, sound_back, fresh_good, empty_vector}
-use Rattle.call_laws.proofs.Given.{write-cases, write_done, write-folded, unfolded_sound}
+use Rattle.call_laws.proofs.States.{good_log, sound_back, fresh_good, empty_vector}
+use Rattle.call_laws.proofs.Given.{write_cases, write_done, write_folded, unfolded_sound}
 use Rattle.call_laws.proofs.Reading.{read_keeps, file_records_lem}
 use Rattle.file_laws.proofs.Written as Written
-use Rattle.file_laws.proofs.Rewritten.{read_accepted, file-again, length-right, sender-right}
+use Rattle.file_laws.proofs.Rewritten.{read_accepted, file_again, length-right, sender_right}
 
 -- ---- F1: the file of a log
 
@@ -35,7 +35,7 @@ one_to_86_blocks n h = (Written.some_blocks n, few_blocks n h)
 
 -- of 512 bytes each
 pub blocks_of_512 : (archive u : ℕ) (l : List Rec) → sound_after no_counts [] l ≡ true → length l ≤ 512 → u ≤ 7 → length (file_of archive u l) ≡ 512 * block_count (length l)
-blocks_of_512 archive u l s h k = Written.file-bytes archive u l (sound_means l s) h k
+blocks_of_512 archive u l s h k = Written.file_bytes archive u l (sound_means l s) h k
 
 -- block k holds six records from 6 times k on, or what is left of them
 pub block_of_file : (archive u : ℕ) (l : List Rec) → sound_after no_counts [] l ≡ true → length l ≤ 512 → u ≤ 7 → (k : ℕ) → k < block_count (length l)
@@ -59,7 +59,7 @@ written_then_read archive u l log base s h k e d = Written.read_is archive u l (
 pub read_then_written : (log base f : List ℕ) → ((j : ℕ) → get_or f j 0 < 256) → (read_of log base f).number ≡ 0
     → file_of (read_of log base f).archive (read_of log base f).sender (file_records f) ≡ f
 unfolding read_back
-read_then_written log base f g e = let (a, b, c) = read_accepted log base f e in rw c (file-again f a b g)
+read_then_written log base f g e = let (a, b, c) = read_accepted log base f e in rw c (file_again f a b g)
 
 -- the log left is that of its records, the base is empty, and both are good
 pub accepted_file_leaves_its_records : (log base f : List ℕ) → (read_of log base f).number ≡ 0
@@ -80,11 +80,11 @@ call_written_then_read archive u log base lent spare spareBase z e d =
     (λ (q, _, v, k, _, g).
     let s : Sound l = unfolded_sound log base g v in
     let m : length l ≤ 512 = sound_few log in
-    rw (q, take_at (file_of archive u l) (replicate (44032 - length (file_of archive u l)) 0) (512 * block_count (length l)) (Written.file-bytes archive u l s m k))
+    rw (q, take_at (file_of archive u l) (replicate (44032 - length (file_of archive u l)) 0) (512 * block_count (length l)) (Written.file_bytes archive u l s m k))
     (Written.read_is archive u l s m k spare spareBase e d
     ∙ ap (λ (b : List ℕ). record { number = 0; place = 0; archive = archive; sender = u; records = length l; vector = vector_of l; log = b; base = empty_base })
-    (sound_bytes_on (base_vector base) log g.long.0 (good-log log base g))))
-    (write-cases archive u log base lent)
+    (sound_bytes_on (base_vector base) log g.long.0 (good_log log base g))))
+    (write_cases archive u log base lent)
   where
     l : List Rec
     l = records_of log
@@ -100,10 +100,10 @@ call_read_then_written spare spareBase f lent g z e =
     let l : List Rec = file_records f in
     let h : Sound l = sound_means l s in
     rw c
-    (write_done (archive_in (block_at f 0)) (sender_in (block_at f 0)) (log_bytes l) empty_base lent e (sender-right f a b) (fresh_good l h m) empty_vector
-    ∙ rw (sound_back l h m, file-again f a b g, length-right f a b))
+    (write_done (archive_in (block_at f 0)) (sender_in (block_at f 0)) (log_bytes l) empty_base lent e (sender_right f a b) (fresh_good l h m) empty_vector
+    ∙ rw (sound_back l h m, file_again f a b g, length-right f a b))
 
 -- where records are folded no file is written, and all is left
 pub folded_is_not_written : (archive u : ℕ) (log base lent : List ℕ) → length lent ≡ 44032 → u ≤ 7 → Good log base → blank (base_vector base) ≡ false
     → write_of archive u log base lent ≡ refusal 29 log lent
-folded_is_not_written archive u log base lent = write-folded archive u log base lent
+folded_is_not_written archive u log base lent = write_folded archive u log base lent

@@ -67,9 +67,9 @@ module _ (f : List ℕ) (a : file_length f ≡ true) (e : (file_fault f).number 
   pub agreeing : (k : ℕ) → k < n → Agreeing letters 0 f k
   agreeing = Runs.agreeing letters 0 f lengths.0 lengths.1 faults.0
 
-  pub vector-right : vector_in (block_at f 0) ≡ vector_of (file_records f)
+  pub vector_right : vector_in (block_at f 0) ≡ vector_of (file_records f)
   unfolding counts_fault fault
-  vector-right =
+  vector_right =
       let d : (counts_fault f).number ≡ 0 = faults.1 in
       ⊎_elim
       (λ (h : same_bytes (vector_in (block_at f 0)) (vector_of (file_records f)) ≡ true). same_eq (vector_in (block_at f 0)) (vector_of (file_records f)) h)
@@ -77,9 +77,9 @@ module _ (f : List ℕ) (a : file_length f ≡ true) (e : (file_fault f).number 
       (bool_cases (same_bytes (vector_in (block_at f 0)) (vector_of (file_records f))))
 
   -- the records of block k
-  pub records-right : (k : ℕ) → k < n → take 6 (drop (6 * k) (file_records f)) ≡ block_records (block_at f k)
+  pub records_right : (k : ℕ) → k < n → take 6 (drop (6 * k) (file_records f)) ≡ block_records (block_at f k)
   unfolding file_records blocks_for
-  records-right k h = rows_right letters _ (records_counted f) f k (Runs.record_fits letters 0 f lengths.0 lengths.1 faults.0 k (omega arith))
+  records_right k h = rows_right letters _ (records_counted f) f k (Runs.record_fits letters 0 f lengths.0 lengths.1 faults.0 k (omega arith))
 
   pub length-right : block_count (length (file_records f)) ≡ blocks_in f
   unfolding file_records blocks_for
@@ -87,8 +87,8 @@ module _ (f : List ℕ) (a : file_length f ≡ true) (e : (file_fault f).number 
       let z : n - 0 ≡ n = omega arith in
       rw (length-file_records f 0 (records_counted f)) (holds-count (records_counted f) (n - 0) (Runs.held letters 0 f lengths.0 lengths.1 faults.0) ∙ z)
 
-  pub sender-right : sender_in (block_at f 0) ≤ 7
-  sender-right = Runs.sender-right letters 0 f lengths.0 lengths.1 faults.0
+  pub sender_right : sender_in (block_at f 0) ≤ 7
+  sender_right = Runs.sender_right letters 0 f lengths.0 lengths.1 faults.0
 
   module _ (g : Bytes f) where
     again : run_to letters (header_of (archive_in (block_at f 0)) (sender_in (block_at f 0)) 0 (vector_in (block_at f 0))) (file_records f) n ≡ f
@@ -98,8 +98,8 @@ module _ (f : List ℕ) (a : file_length f ≡ true) (e : (file_fault f).number 
         let H : Header = header_of (archive_in (block_at f 0)) (sender_in (block_at f 0)) 0 (vector_in (block_at f 0)) in
         sym (no_rows_run letters H (file_records f) n)
         ∙ ap (λ (m : ℕ). run_to letters H [] (blocks_for 0) ++ run_to letters (behind H (blocks_for 0)) (file_records f) m) (sym z)
-        ∙ Runs.file-again letters 0 f lengths.0 lengths.1 faults.0 g
+        ∙ Runs.file_again letters 0 f lengths.0 lengths.1 faults.0 g
 
-    pub file-again : file_of (archive_in (block_at f 0)) (sender_in (block_at f 0)) (file_records f) ≡ f
+    pub file_again : file_of (archive_in (block_at f 0)) (sender_in (block_at f 0)) (file_records f) ≡ f
     unfolding file_of
-    file-again = rw (length-right, to_run (archive_in (block_at f 0)) (sender_in (block_at f 0)) (file_records f) n, ← vector-right) again
+    file_again = rw (length-right, to_run (archive_in (block_at f 0)) (sender_in (block_at f 0)) (file_records f) n, ← vector_right) again

@@ -21,7 +21,7 @@ use Rattle.call_laws.specs.Keeps.{Good}
 use Rattle.call_laws.proofs.Calls.{takes_on, take_back, take_left, take_done}
 use Rattle.file_laws.specs.Taking.{TakesBlocks}
 use Rattle.run_laws.specs.Fits.{Agreeing}
-use Rattle.file_laws.proofs.Rewritten.{agreeing, lengths, length-right, records-right}
+use Rattle.file_laws.proofs.Rewritten.{agreeing, lengths, length-right, records_right}
 
 -- records taken one after another are taken in two parts
 parted : (p : ℕ) (v : List ℕ) (l rs more m : List Rec) → takes_all p v l (rs ++ more) ≡ taken m → (x : List Rec) × (takes_all p v l rs ≡ taken x) × (takes_all p v x more ≡ taken m)
@@ -54,27 +54,27 @@ module _ (g : List ℕ) (a : file_length g ≡ true) (e : (file_fault g).number 
     takes l rs = takes_all (base_in base).list (base_vector base) l rs
 
     -- the records from block k on
-    blocks-taken : (n k : ℕ) (l m : List Rec) → k + n ≡ blocks_in g → Good (log_bytes l) base → records_of (log_bytes l) ≡ l → takes l (drop (6 * k) (file_records g)) ≡ taken m
+    blocks_taken : (n k : ℕ) (l m : List Rec) → k + n ≡ blocks_in g → Good (log_bytes l) base → records_of (log_bytes l) ≡ l → takes l (drop (6 * k) (file_records g)) ≡ taken m
         → TakesBlocks archive u base g k n (log_bytes l) (log_bytes m)
     unfolding block_count
-    blocks-taken zero k l m h s back t =
+    blocks_taken zero k l m h s back t =
         let r : List Rec = file_records g in
         let z : drop (6 * k) r ≡ [] = drop_of_length-le r {i = 6 * k} (omega (arith, length-right g a e)) in
         ap log_bytes (taken_same (sym (take_all-nil (base_in base).list (base_vector base) l) ∙ ap (takes l) (sym z) ∙ t))
-    blocks-taken (suc n) k l m h s back t =
+    blocks_taken (suc n) k l m h s back t =
         let r : List Rec = file_records g in
         let d : List Rec = drop (6 * k) r in
         let b : List ℕ = block_at g k in
         let (x, p, q) = parted (base_in base).list (base_vector base) l (take 6 d) (drop 6 d) m (ap (takes l) (take-append-drop 6 d) ∙ t) in
         let now : takes_on (log_bytes l) base (take 6 d) ≡ taken x = rw back p in
         let o : take_of archive u (log_bytes l) base b ≡ outcome 0 0 (log_bytes x) [] 0 =
-        take_done archive u (log_bytes l) base b x own s (given k (omega arith)) (rw (← records-right g a e k (omega arith)) now) in
+        take_done archive u (log_bytes l) base b x own s (given k (omega arith)) (rw (← records_right g a e k (omega arith)) now) in
         let six : 6 * k + 6 ≡ 6 * suc k = omega arith in
-        let rest = blocks-taken n (suc k) x m (omega arith) (take_left (log_bytes l) base (take 6 d) x s now) (take_back (log_bytes l) base (take 6 d) x s now)
+        let rest = blocks_taken n (suc k) x m (omega arith) (take_left (log_bytes l) base (take 6 d) x s now) (take_back (log_bytes l) base (take 6 d) x s now)
         (ap (λ (i : ℕ). takes x (drop i r)) (sym six) ∙ ap (takes x) (sym (drop-drop 6 (6 * k) r)) ∙ q) in
         rw o (refl, rest)
 
     -- a log takes the blocks of the file as it takes its records
-    pub file-taken : (l m : List Rec) → Good (log_bytes l) base → records_of (log_bytes l) ≡ l → takes l (file_records g) ≡ taken m
+    pub file_taken : (l m : List Rec) → Good (log_bytes l) base → records_of (log_bytes l) ≡ l → takes l (file_records g) ≡ taken m
         → TakesBlocks archive u base g 0 (blocks_in g) (log_bytes l) (log_bytes m)
-    file-taken l m s back t = blocks-taken (blocks_in g) 0 l m (omega arith) s back t
+    file_taken l m s back t = blocks_taken (blocks_in g) 0 l m (omega arith) s back t

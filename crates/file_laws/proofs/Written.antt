@@ -25,9 +25,9 @@ use Rattle.log_laws.proofs.Tests.{vector_of-length, means_sound}
 use Rattle.run_laws.proofs.Sab1.{to_run, no_rows_run, blocks_fault_sab1, count-holds}
 use Rattle.run_laws.proofs.Written as Runs
 use Rattle.take_laws.proofs.Union.{all_eight}
-use Rattle.held_laws.proofs.Records.{sound-faultless, records_sab1}
+use Rattle.held_laws.proofs.Records.{sound_faultless, records_sab1}
 use Rattle.encoding_laws.proofs.Logs.{sound_proper, proper_sized}
-use Rattle.encoding_laws.proofs.Files.{few_blocks, length-fileTo, block_of_file}
+use Rattle.encoding_laws.proofs.Files.{few_blocks, length-file_to, block_of_file}
 
 pub some_blocks : (n : ℕ) → 1 ≤ block_count n
 unfolding block_count
@@ -45,67 +45,67 @@ module _ (archive u : ℕ) (l : List Rec) (s : Sound l) (h : length l ≤ 512) (
   sized : Sized l
   sized = proper_sized l (sound_proper l s)
 
-  pub file-bytes : length file ≡ 512 * blocks
+  pub file_bytes : length file ≡ 512 * blocks
   unfolding file_of
-  file-bytes = length-fileTo archive u l sized blocks
+  file_bytes = length-file_to archive u l sized blocks
 
-  pub file-blocks : blocks_in file ≡ blocks
+  pub file_blocks : blocks_in file ≡ blocks
   unfolding blocks_in
-  file-blocks = omega (arith, file-bytes)
+  file_blocks = omega (arith, file_bytes)
 
-  pub length-accepted : file_length file ≡ true
+  pub length_accepted : file_length file ≡ true
   unfolding file_length
-  length-accepted =
-      let e : length file / 512 ≡ blocks = omega (arith, file-bytes) in
-      rw (eq-eqb (length file % 512) 0 (omega (arith, file-bytes)), e, le-leb 1 blocks (some_blocks (length l)), le-leb blocks 86 (few_blocks (length l) h))
+  length_accepted =
+      let e : length file / 512 ≡ blocks = omega (arith, file_bytes) in
+      rw (eq-eqb (length file % 512) 0 (omega (arith, file_bytes)), e, le-leb 1 blocks (some_blocks (length l)), le-leb blocks 86 (few_blocks (length l) h))
 
   pub block_is : (k : ℕ) → k < blocks → block_at file k ≡ block_of (header_of archive u k (vector_of l)) (take 6 (drop (6 * k) l))
   unfolding block_at padded file_block
   block_is k b =
-      sym (part_front file (replicate (44032 - length file) 0) (512 * k) 512 (omega (arith, file-bytes))) ∙ block_of_file archive u l sized k b
+      sym (part_front file (replicate (44032 - length file) 0) (512 * k) 512 (omega (arith, file_bytes))) ∙ block_of_file archive u l sized k b
 
   -- ---- as no rows and then its records
 
   abbrev H : Header
   H = header_of archive u 0 (vector_of l)
 
-  file-run : file_of archive u l ≡ run_to letters H [] (blocks_for 0) ++ run_to letters (behind H (blocks_for 0)) l blocks
+  file_run : file_of archive u l ≡ run_to letters H [] (blocks_for 0) ++ run_to letters (behind H (blocks_for 0)) l blocks
   unfolding file_of
-  file-run = to_run archive u l blocks ∙ sym (no_rows_run letters H l blocks)
+  file_run = to_run archive u l blocks ∙ sym (no_rows_run letters H l blocks)
 
-  blocks-pass : blocks_fault file 0 (blocks_in file) ≡ fault 0 0
+  blocks_pass : blocks_fault file 0 (blocks_in file) ≡ fault 0 0
   unfolding header_of
-  blocks-pass = blocks_fault_sab1 file (blocks_in file) 0 ∙ rw file-run (Runs.blocks-pass letters refl H refl u7 (vector_of-length l) [] l tt sized blocks (count-holds (length l)))
+  blocks_pass = blocks_fault_sab1 file (blocks_in file) 0 ∙ rw file_run (Runs.blocks_pass letters refl H refl u7 (vector_of-length l) [] l tt sized blocks (count-holds (length l)))
 
   archive_is : archive_in (block_at file 0) ≡ archive
   unfolding header_of
-  archive_is = rw file-run (Runs.archive-read letters refl H refl u7 (vector_of-length l) [] l tt sized blocks (count-holds (length l)))
+  archive_is = rw file_run (Runs.archive_read letters refl H refl u7 (vector_of-length l) [] l tt sized blocks (count-holds (length l)))
 
-  sender-is : sender_in (block_at file 0) ≡ u
+  sender_is : sender_in (block_at file 0) ≡ u
   unfolding header_of
-  sender-is = rw file-run (Runs.sender-read letters refl H refl u7 (vector_of-length l) [] l tt sized blocks (count-holds (length l)))
+  sender_is = rw file_run (Runs.sender_read letters refl H refl u7 (vector_of-length l) [] l tt sized blocks (count-holds (length l)))
 
   vector_is : vector_in (block_at file 0) ≡ vector_of l
   unfolding header_of
-  vector_is = rw file-run (Runs.vector-read letters refl H refl u7 (vector_of-length l) [] l tt sized blocks (count-holds (length l)))
+  vector_is = rw file_run (Runs.vector_read letters refl H refl u7 (vector_of-length l) [] l tt sized blocks (count-holds (length l)))
 
-  pub count-read : records_counted file ≡ length l
+  pub count_read : records_counted file ≡ length l
   unfolding header_of blocks_for
-  count-read = rw file-run (Runs.count-read letters refl H refl u7 (vector_of-length l) [] l tt sized blocks (count-holds (length l)))
+  count_read = rw file_run (Runs.count_read letters refl H refl u7 (vector_of-length l) [] l tt sized blocks (count-holds (length l)))
 
-  pub records-read : file_records file ≡ l
+  pub records_read : file_records file ≡ l
   unfolding header_of blocks_for
-  records-read = rw file-run (Runs.records-read letters refl H refl u7 (vector_of-length l) [] l tt sized blocks (count-holds (length l)))
+  records_read = rw file_run (Runs.records_read letters refl H refl u7 (vector_of-length l) [] l tt sized blocks (count-holds (length l)))
 
   no_fault : file_fault file ≡ fault 0 0
   unfolding file_fault or_else counts_fault fault
   no_fault =
-      let r : records_fault [] 0 l ≡ fault 0 0 = records_sab1 l [] 0 ∙ sound-faultless 255 no_counts 0 l [] 0 (means_sound l s) (λ x i. all_eight (unit x) (unit_of_lem [] l x s i)) (omega arith) in
-      rw (blocks-pass, records-read, r, vector_is, same_refl (vector_of l))
+      let r : records_fault [] 0 l ≡ fault 0 0 = records_sab1 l [] 0 ∙ sound_faultless 255 no_counts 0 l [] 0 (means_sound l s) (λ x i. all_eight (unit x) (unit_of_lem [] l x s i)) (omega arith) in
+      rw (blocks_pass, records_read, r, vector_is, same_refl (vector_of l))
 
-  pub checked-is : (checked_fault file).number ≡ 0
+  pub checked_is : (checked_fault file).number ≡ 0
   unfolding fault
-  checked-is = rw (length-accepted, no_fault)
+  checked_is = rw (length_accepted, no_fault)
 
   pub read_is : (log base : List ℕ) → length log ≡ 40960 → length base ≡ 43032
       → read_of log base file ≡ record { number = 0; place = 0; archive = archive; sender = u; records = length l; vector = vector_of l; log = log_bytes l; base = empty_base }
@@ -114,11 +114,11 @@ module _ (archive u : ℕ) (l : List Rec) (s : Sound l) (h : length l ≤ 512) (
       rw (
         eq-eqb (length log) 40960 e,
         eq-eqb (length base) 43032 d,
-        length-accepted,
+        length_accepted,
         no_fault,
         archive_is,
-        sender-is,
-        count-read,
+        sender_is,
+        count_read,
         vector_is,
-        records-read,
+        records_read,
       )

@@ -14,9 +14,9 @@ use Rattle.byte_slice.proofs.PutAt.{put_whole}
 use Rattle.file_reader.specs.Walk.{record_or_zeros, walked_to}
 
 module _ (f : List ℕ) (i : ℕ) where
-  pub too-high : 516 ≤ i → replicate 80 0 ≡ record_or_zeros f i
+  pub too_high : 516 ≤ i → replicate 80 0 ≡ record_or_zeros f i
   unfolding record_or_zeros
-  too-high h = rw (le-leb 516 i h)
+  too_high h = rw (le-leb 516 i h)
 
   pub too_short : i < 516 → length f < 512 * (i / 6) + (28 + 80 * (i % 6)) + 80 → replicate 80 0 ≡ record_or_zeros f i
   unfolding record_or_zeros

@@ -7,7 +7,7 @@ use mathlib.Core.Bool.{Bool, true, false, cond, not, ◌&&◌}
 use mathlib.Core.List.{List, [], ◌∷◌}
 use lib.Dec.{eqb, leb}
 use lib.ListN.{get_or, length, take, drop}
-use borrow.Author.Tests.{le-leb, not-true, not-false}
+use borrow.Author.Tests.{le-leb, not-true, not_false}
 use Rattle.model.specs.Numbers.{first_of}
 use Rattle.model.specs.Bytes.{word}
 use Rattle.model.specs.Record.{Rec}
@@ -20,17 +20,17 @@ use Rattle.call_model.specs.Fold.{heard_run, counts_as_base, longest, run_of, ru
 use Rattle.byte_slice.proofs.Numbers.{and_true}
 use Rattle.encoding_laws.proofs.Logs.{sound_few}
 use Rattle.base_laws.proofs.Trees.{sound_tells}
-use Rattle.base_laws.proofs.Numbered.{entries-count, asides-count}
+use Rattle.base_laws.proofs.Numbered.{entries_count, asides_count}
 use Rattle.tree_laws.proofs.Steps.{cond_elim}
 use Rattle.tree_table.specs.Rows.{AllProper, tree_in}
 use Rattle.tree_table.proofs.Rows.{tree_back}
 use Rattle.tree_table.proofs.Writes.{flagged-long}
 use Rattle.base_head.specs.Head.{headed}
 use Rattle.call_guard.specs.Opened.{opened, open_of}
-use Rattle.call_guard.proofs.Opening.{number_is, open-long, open-based, open-state, open-used, open-unit, open-folded, open-held, open-entries, open-asides}
-use Rattle.state_tree.proofs.Replayed.{state-base, state-log}
+use Rattle.call_guard.proofs.Opening.{number_is, open_long, open_based, open_state, open_used, open_unit, open_folded, open_held, open_entries, open_asides}
+use Rattle.state_tree.proofs.Replayed.{state_base, state_log}
 use Rattle.fold_count_laws.specs.Counted.{present_count}
-use Rattle.fold_count_laws.proofs.Longest.{left-present, left-asides}
+use Rattle.fold_count_laws.proofs.Longest.{left_present, left_asides}
 use Rattle.fold_base.specs.Written.{base_of}
 use Rattle.fold_tree.specs.Table.{Table}
 use Rattle.fold.specs.Stands.{Stands}
@@ -43,11 +43,11 @@ lists_not m u v b e h = rw (← e, not-true b h)
 
 pub lists_so : (m u : ℕ) (v : List ℕ) (b t : Bool) → b ≡ is_listed m u → not b ≡ false → t ≡ lists_all m v → t ≡ list_fits m u v
 unfolding list_fits
-lists_so m u v b t e h q = rw (← e, not-false b h) q
+lists_so m u v b t e h q = rw (← e, not_false b h) q
 
 pub fits_own : (m u : ℕ) (v : List ℕ) (b : Bool) → b ≡ list_fits m u v → not b ≡ false → is_listed m u ≡ true
 unfolding list_fits
-fits_own m u v b e h = (and_true (is_listed m u) (lists_all m v) (sym e ∙ not-false b h)).0
+fits_own m u v b e h = (and_true (is_listed m u) (lists_all m v) (sym e ∙ not_false b h)).0
 
 -- ---- a state at hand
 
@@ -59,7 +59,7 @@ present_few (x ∷ l) =
 
 module _ {log base : List ℕ} {used : ℕ} {folded₀ held : List ℕ} {e m : ℕ} (s : Stands log base used folded₀ held e m) where
   pub log_sound : sound_log_on folded₀ log ≡ true
-  log_sound = rw s.folded_is (state-log log base s.sound)
+  log_sound = rw s.folded_is (state_log log base s.sound)
 
   pub held_on_is : held ≡ vector_on folded₀ (records_of log)
   held_on_is = s.held_is ∙ rw s.folded_is
@@ -74,14 +74,14 @@ module _ {log base : List ℕ} {used : ℕ} {folded₀ held : List ℕ} {e m : �
   unfolding run_of base_in
   run_is u l k n p q = q ∙ rw (p, s.folded_is)
 
-  starts-small : counts_as_base (base_tree base) (records_of log) 0 ≡ true
+  starts_small : counts_as_base (base_tree base) (records_of log) 0 ≡ true
   unfolding counts_as_base replay_from base_tree
-  starts-small =
-      let t = sound_tells base (state-base log base s.sound) in
+  starts_small =
+      let t = sound_tells base (state_base log base s.sound) in
       let n = word base 2 in
       let k = word base 4 in
-      let a : leb (length (present_ones (base_entries base 0 n))) 512 ≡ true = le-leb (length (present_ones (base_entries base 0 n))) 512 (omega (arith, present_few (base_entries base 0 n), entries-count base 0 n, t.few_entries)) in
-      let c : leb (length (base_asides base 0 k)) 512 ≡ true = le-leb (length (base_asides base 0 k)) 512 (omega (arith, asides-count base 0 k, t.few_asides)) in
+      let a : leb (length (present_ones (base_entries base 0 n))) 512 ≡ true = le-leb (length (present_ones (base_entries base 0 n))) 512 (omega (arith, present_few (base_entries base 0 n), entries_count base 0 n, t.few_entries)) in
+      let c : leb (length (base_asides base 0 k)) 512 ≡ true = le-leb (length (base_asides base 0 k)) 512 (omega (arith, asides_count base 0 k, t.few_asides)) in
       rw (a, c)
 
   module _ (b : List ℕ) (x y u l n : ℕ) (w : Table b x y (replay_from (base_tree base) (take n (records_of log)))) (q : n ≡ run_in l u log base) where
@@ -90,20 +90,20 @@ module _ {log base : List ℕ} {used : ℕ} {folded₀ held : List ℕ} {e m : �
 
     pub table-tree : tree_in b x y ≡ replay_from (base_tree base) (take n (records_of log))
     unfolding work_bytes
-    table-tree = rw (← w.rows, ← w.notes, w.bytes) (tree_back [] (replay_from (base_tree base) (take n (records_of log))) w.proper (omega (arith, w.rows, w.rows_fit)))
+    table-tree = rw (← w.rows, ← w.notes, w.bytes) (tree_back [] (replay_from (base_tree base) (take n (records_of log))) w.proper (omega (arith, w.rows, w.rows_fit_lem)))
 
     pub table-long : length b ≡ 86020
     unfolding work_bytes
-    table-long = rw w.bytes (flagged-long [] (replay_from (base_tree base) (take n (records_of log))).entries (replay_from (base_tree base) (take n (records_of log))).asides w.proper (omega (arith, w.rows, w.rows_fit)) (omega (arith, w.notes, w.notes_fit)))
+    table-long = rw w.bytes (flagged-long [] (replay_from (base_tree base) (take n (records_of log))).entries (replay_from (base_tree base) (take n (records_of log))).asides w.proper (omega (arith, w.rows, w.rows_fit_lem)) (omega (arith, w.notes, w.notes_fit)))
 
-    pub table-bytes : b ≡ work_bytes (tree_in b x y)
-    table-bytes = w.bytes ∙ ap work_bytes (sym table-tree)
+    pub table_bytes_lem : b ≡ work_bytes (tree_in b x y)
+    table_bytes_lem = w.bytes ∙ ap work_bytes (sym table-tree)
 
-    pub table-proper : AllProper (tree_in b x y).entries
-    table-proper = rw table-tree w.proper
+    pub table_proper : AllProper (tree_in b x y).entries
+    table_proper = rw table-tree w.proper
 
-    pub table-rows : x ≤ 1024
-    table-rows = w.rows_fit
+    pub table_rows : x ≤ 1024
+    table_rows = w.rows_fit_lem
 
     run-longest : n ≡ longest (base_tree base) (records_of log) (heard_run l u (base_vector base) (records_of log) (records_of log))
     unfolding run_of base_in
@@ -111,48 +111,48 @@ module _ {log base : List ℕ} {used : ℕ} {folded₀ held : List ℕ} {e m : �
 
     pub table_asides : y ≤ 512
     table_asides =
-        omega (arith, w.notes, ap (λ (k : ℕ). length (replay_from (base_tree base) (take k (records_of log))).asides) run-longest, left-asides (base_tree base) (records_of log) (heard_run l u (base_vector base) (records_of log) (records_of log)) starts-small)
+        omega (arith, w.notes, ap (λ (k : ℕ). length (replay_from (base_tree base) (take k (records_of log))).asides) run-longest, left_asides (base_tree base) (records_of log) (heard_run l u (base_vector base) (records_of log) (records_of log)) starts_small)
 
-    pub table-present : present_count (tree_in b x y) ≤ 512
-    table-present =
-        omega (arith, ap present_count table-tree, ap (λ (k : ℕ). present_count (replay_from (base_tree base) (take k (records_of log)))) run-longest, left-present (base_tree base) (records_of log) (heard_run l u (base_vector base) (records_of log) (records_of log)) starts-small)
+    pub table_present : present_count (tree_in b x y) ≤ 512
+    table_present =
+        omega (arith, ap present_count table-tree, ap (λ (k : ℕ). present_count (replay_from (base_tree base) (take k (records_of log)))) run-longest, left_present (base_tree base) (records_of log) (heard_run l u (base_vector base) (records_of log) (records_of log)) starts_small)
 
     pub base_written : (v c : List ℕ) → v ≡ vector_on folded₀ (take n (records_of log)) → c ≡ base_bytes (base_of l v (trim (tree_in b x y)))
         → c ≡ base_bytes (folded_base l (base_vector base) (base_tree base) (records_of log) n)
     unfolding folded_base
     base_written v c g h = h ∙ rw (g, table-tree, s.folded_is)
 
-    pub work_left : b ≡ work_bytes (replay_from (base_tree base) (take n (records_of log)))
-    work_left = w.bytes
+    pub work_left_lem : b ≡ work_bytes (replay_from (base_tree base) (take n (records_of log)))
+    work_left_lem = w.bytes
 
 -- ---- what the guard tells
 
 module _ (u : ℕ) (log base : List ℕ) (ok row : Bool) {n m k j : ℕ} {v held : List ℕ} {used : ℕ} (e : opened n (headed m v k j) held used ≡ open_of u log base ok row) (z : n ≡ 0) where
-  pub guard-stands : Stands log base used v held k j
-  guard-stands =
+  pub guard_stands : Stands log base used v held k j
+  guard_stands =
       record {
-        long = open-long u log base ok row e z;
-        based = open-based u log base ok row e z;
-        sound = open-state u log base ok row e z;
-        used_is = open-used u log base ok row e z;
-        folded_is = open-folded u log base ok row e z;
-        held_is = open-held u log base ok row e z;
-        entries_are = open-entries u log base ok row e z;
-        asides_are = open-asides u log base ok row e z;
+        long = open_long u log base ok row e z;
+        based = open_based u log base ok row e z;
+        sound = open_state u log base ok row e z;
+        used_is = open_used u log base ok row e z;
+        folded_is = open_folded u log base ok row e z;
+        held_is = open_held u log base ok row e z;
+        entries_are = open_entries u log base ok row e z;
+        asides_are = open_asides u log base ok row e z;
       }
 
-  pub guard-unit : u < 8
-  guard-unit = omega (arith, open-unit u log base ok row e z)
+  pub guard_unit : u < 8
+  guard_unit = omega (arith, open_unit u log base ok row e z)
 
   pub guard_few : (r : ℕ) → r ≤ used → r < 65536
-  guard_few r h = omega (arith, few_used guard-stands)
+  guard_few r h = omega (arith, few_used guard_stands)
 
 -- ---- the ways out
 
 module _ (u : ℕ) (log base work : List ℕ) (l : ℕ) {n m k j : ℕ} {v held : List ℕ} {used : ℕ} (e : opened n (headed m v k j) held used ≡ open_of u log base (eqb (length work) 86020) true) where
-  pub refused-work : (n ≡ 0 → ⊥) → work ≡ fold_work u log base l work
+  pub refused_work : (n ≡ 0 → ⊥) → work ≡ fold_work u log base l work
   unfolding fold_work
-  refused-work h = go n refl
+  refused_work h = go n refl
     where
       go : (x : ℕ) → n ≡ x → work ≡ work_after (first_of (guard_number u log base (eqb (length work) 86020) true) (list_number l u (held_on log base))) (replay_from (base_in base).tree (take (run_in l u log base) (records_of log))) work
       go zero q = absurd (h q)
@@ -163,22 +163,22 @@ module _ (u : ℕ) (log base work : List ℕ) (l : ℕ) {n m k j : ℕ} {v held 
     passed = sym (number_is u log base (eqb (length work) 86020) true e) ∙ z
 
     held_is : held ≡ held_on log base
-    held_is = open-held u log base (eqb (length work) 86020) true e z
+    held_is = open_held u log base (eqb (length work) 86020) true e z
 
     pub not_listed : not b ≡ true → outcome 26 0 log base 0 ≡ fold_of u log base l work
     unfolding fold_of fold_by guarded
     not_listed h = rw (passed, ← held_is, ← f, not-true b h)
 
-    pub not-listed-work : not b ≡ true → work ≡ fold_work u log base l work
+    pub not_listed_work : not b ≡ true → work ≡ fold_work u log base l work
     unfolding fold_work
-    not-listed-work h = rw (passed, ← held_is, ← f, not-true b h)
+    not_listed_work h = rw (passed, ← held_is, ← f, not-true b h)
 
     module _ (h : not b ≡ false) (r : ℕ) (q : r ≡ run_in l u log base) where
       pub done : (log' base' : List ℕ) → log' ≡ log_bytes (drop r (records_of log)) → base' ≡ base_bytes (folded_base l (base_vector base) (base_tree base) (records_of log) r)
           → outcome 0 0 log' base' r ≡ fold_of u log base l work
       unfolding fold_of fold_by guarded folded base_in
-      done log' base' x y = rw (passed, ← held_is, ← f, not-false b h, x, y, q)
+      done log' base' x y = rw (passed, ← held_is, ← f, not_false b h, x, y, q)
 
-      pub done-work : (work' : List ℕ) → work' ≡ work_bytes (replay_from (base_tree base) (take r (records_of log))) → work' ≡ fold_work u log base l work
+      pub done_work : (work' : List ℕ) → work' ≡ work_bytes (replay_from (base_tree base) (take r (records_of log))) → work' ≡ fold_work u log base l work
       unfolding fold_work base_in
-      done-work work' x = rw (passed, ← held_is, ← f, not-false b h, x, q)
+      done_work work' x = rw (passed, ← held_is, ← f, not_false b h, x, q)

@@ -41,31 +41,31 @@ module _ (t d b : List ℕ) (n i j : ℕ) (c : j ≡ present_to t i) where
   unfolding present_to
   keeps-none e = rw (add-one i, eq-eqb (get_or t (4 + 72 * i) 0) 0 e) c
 
-  pub keeps-as : b ≡ put_at d 24 (kept_to t i) → get_or t (4 + 72 * i) 0 ≡ 0 → b ≡ put_at d 24 (kept_to t (i + 1))
+  pub keeps_as : b ≡ put_at d 24 (kept_to t i) → get_or t (4 + 72 * i) 0 ≡ 0 → b ≡ put_at d 24 (kept_to t (i + 1))
   unfolding kept_to
-  keeps-as g e = rw (add-one i, eq-eqb (get_or t (4 + 72 * i) 0) 0 e) g
+  keeps_as g e = rw (add-one i, eq-eqb (get_or t (4 + 72 * i) 0) 0 e) g
 
   module _ (e : get_or t (4 + 72 * i) 0 ≡ 0 → ⊥) where
-    pub keeps-one : j + 1 ≡ present_to t (i + 1)
+    pub keeps_one : j + 1 ≡ present_to t (i + 1)
     unfolding present_to
-    keeps-one = rw (add-one i, ne_eqb (get_or t (4 + 72 * i) 0) 0 e) (omega arith)
+    keeps_one = rw (add-one i, ne_eqb (get_or t (4 + 72 * i) 0) 0 e) (omega arith)
 
-    pub keeps-room : i < n → present_to t n ≤ 512 → j < 512
-    keeps-room h f =
+    pub keeps_room : i < n → present_to t n ≤ 512 → j < 512
+    keeps_room h f =
         let q : n - (i + 1) + (i + 1) ≡ n = omega arith in
         let r = rw q at (present_rises t (i + 1) (n - (i + 1))) in
-        omega (arith, keeps-one)
+        omega (arith, keeps_one)
 
-    pub keeps-fit : length d ≡ 43032 → length t ≡ 86020 → length b ≡ length d → i < n → n ≤ 1024 → present_to t n ≤ 512
+    pub keeps_fit : length d ≡ 43032 → length t ≡ 86020 → length b ≡ length d → i < n → n ≤ 1024 → present_to t n ≤ 512
         → 24 + 72 * j + length (take (4 + 72 * i + 72 - (4 + 72 * i)) (drop (4 + 72 * i) t)) ≤ length b
-    keeps-fit long-d long same h few all = omega (arith, keeps-room h all, lent_length t (4 + 72 * i) 72 (omega arith))
+    keeps_fit long-d long same h few all = omega (arith, keeps_room h all, lent_length t (4 + 72 * i) 72 (omega arith))
 
     pub keeps-row : (b' : List ℕ) → length d ≡ 43032 → length t ≡ 86020 → i < n → n ≤ 1024 → present_to t n ≤ 512 → b ≡ put_at d 24 (kept_to t i)
         → b' ≡ put_at b (24 + 72 * j) (take (4 + 72 * i + 72 - (4 + 72 * i)) (drop (4 + 72 * i) t)) → b' ≡ put_at d 24 (kept_to t (i + 1))
     unfolding kept_to
     keeps-row b' long-d long h few all g f =
         let k : length (kept_to t i) ≡ 72 * j = kept-length t i (omega arith) ∙ ap (λ (x : ℕ). 72 * x) (sym c) in
-        let room = keeps-room h all in
+        let room = keeps_room h all in
         f ∙ rw (part_is t (4 + 72 * i) 72, g, add-one i, ne_eqb (get_or t (4 + 72 * i) 0) 0 e)
         (rw k at (put_more d 24 (kept_to t i) (part t (4 + 72 * i) 72) (omega arith)))
 
@@ -78,8 +78,8 @@ unfolding present_to
 counts_start t = refl
 
 module _ (t : List ℕ) (n i : ℕ) (h : i ≤ n) (g : n ≤ i) where
-  pub keeps-end : (d : List ℕ) {b : List ℕ} → b ≡ put_at d 24 (kept_to t i) → b ≡ put_at d 24 (kept_to t n)
-  keeps-end d e = let q : i ≡ n = omega arith in rw q at e
+  pub keeps_end : (d : List ℕ) {b : List ℕ} → b ≡ put_at d 24 (kept_to t i) → b ≡ put_at d 24 (kept_to t n)
+  keeps_end d e = let q : i ≡ n = omega arith in rw q at e
 
   pub counts_end : {j : ℕ} → j ≡ present_to t i → j ≡ present_to t n
   counts_end e = let q : i ≡ n = omega arith in rw q at e

@@ -19,7 +19,7 @@ use Rattle.vector.proofs.InBytes.{vector_bytes-length}
 use Rattle.tree_table.specs.Rows.{tree_in, AllProper}
 use Rattle.tree_table.proofs.Rows.{rows_length, aside_rows_length}
 use Rattle.tree_finish.specs.Finishing.{kept_to, present_to}
-use Rattle.tree_finish.proofs.Compaction.{kept_rows, present-rows}
+use Rattle.tree_finish.proofs.Compaction.{kept_rows, present_rows}
 use Rattle.tree_lookup.proofs.Working.{entries_length, asides_length}
 use Rattle.fold_count_laws.specs.Counted.{present_count}
 use Rattle.fold_base.specs.Written.{headed, base_of}
@@ -79,7 +79,7 @@ asides_in s es l fit room few =
     let q : part (front ++ (a ++ y)) 73732 (12 * length l) ≡ part (a ++ y) 0 (12 * length l) = rw (add-zero (length front), n) at (part-behind front (a ++ y) 0 (12 * length l)) in
     q ∙ (part_front a y 0 (12 * length l) (omega arith) ∙ (part_start a (12 * length l) ∙ take_all (12 * length l) a (omega arith)))
 
-module _ (b : List ℕ) (n m : ℕ) (t : Tree) (table : b ≡ work_bytes t) (fit : AllProper t.entries) (many : length t.entries ≡ n) (notes : length t.asides ≡ m) (rows_fit : n ≤ 1024) (notes_fit : m ≤ 512) where
+module _ (b : List ℕ) (n m : ℕ) (t : Tree) (table : b ≡ work_bytes t) (fit : AllProper t.entries) (many : length t.entries ≡ n) (notes : length t.asides ≡ m) (rows_fit_lem : n ≤ 1024) (notes_fit : m ≤ 512) where
   kept : kept_to b n ≡ entry_rows [] (present_ones t.entries)
   unfolding work_bytes
   kept =
@@ -89,7 +89,7 @@ module _ (b : List ℕ) (n m : ℕ) (t : Tree) (table : b ≡ work_bytes t) (fit
   shown : present_to b n ≡ present_count t
   unfolding work_bytes present_count
   shown =
-      let e = present-rows [] t.entries t.asides fit (omega arith) n (omega arith) in
+      let e = present_rows [] t.entries t.asides fit (omega arith) n (omega arith) in
       rw table (rw (take_all n t.entries (omega arith)) at e)
 
   noted : part b 73732 (12 * m) ≡ aside_rows t.asides
@@ -119,12 +119,12 @@ asides_many : (b : List ℕ) (n m : ℕ) → length (tree_in b n m).asides ≡ m
 unfolding tree_in
 asides_many b n m = asides_length b 0 m
 
-module _ (b : List ℕ) (n m : ℕ) (table : b ≡ work_bytes (tree_in b n m)) (fit : AllProper (tree_in b n m).entries) (rows_fit : n ≤ 1024) (notes_fit : m ≤ 512) (room : present_count (tree_in b n m) ≤ 512) where
-  pub room-shown : present_to b n ≤ 512
-  room-shown = rw (shown b n m (tree_in b n m) table fit (entries_many b n m) (asides_many b n m) rows_fit notes_fit) room
+module _ (b : List ℕ) (n m : ℕ) (table : b ≡ work_bytes (tree_in b n m)) (fit : AllProper (tree_in b n m).entries) (rows_fit_lem : n ≤ 1024) (notes_fit : m ≤ 512) (room : present_count (tree_in b n m) ≤ 512) where
+  pub room_shown : present_to b n ≤ 512
+  room_shown = rw (shown b n m (tree_in b n m) table fit (entries_many b n m) (asides_many b n m) rows_fit_lem notes_fit) room
 
   pub base_written : (list : ℕ) (v base : List ℕ) {x y z o : List ℕ} {p : ℕ} → length base ≡ 43032 → x ≡ replicate (length base) 0 → y ≡ put_at x 24 (kept_to b n) → p ≡ present_to b n
       → z ≡ put_at y 36888 (part b 73732 (12 * m)) → o ≡ headed z list p m v → o ≡ base_bytes (base_of list v (trim (tree_in b n m)))
   base_written list v base long e f c g h =
-      let q = written b n m (tree_in b n m) table fit (entries_many b n m) (asides_many b n m) rows_fit notes_fit list v room in
+      let q = written b n m (tree_in b n m) table fit (entries_many b n m) (asides_many b n m) rows_fit_lem notes_fit list v room in
       h ∙ rw (g, f, e, long, c) q

@@ -79,8 +79,8 @@ module _ (t : Tree) (l : List Rec) (n : ℕ) (from : counts_as_base t l 0 ≡ tr
   left : room_in (present_count (replay_from t (take (longest t l n) l))) (length (replay_from t (take (longest t l n) l)).asides) ≡ true
   left = sym (counts_exact t l (longest t l n)) ∙ longest-counts t l n from
 
-  pub left-present : present_count (replay_from t (take (longest t l n) l)) ≤ 512
-  left-present = room_present (present_count (replay_from t (take (longest t l n) l))) (length (replay_from t (take (longest t l n) l)).asides) left
+  pub left_present : present_count (replay_from t (take (longest t l n) l)) ≤ 512
+  left_present = room_present (present_count (replay_from t (take (longest t l n) l))) (length (replay_from t (take (longest t l n) l)).asides) left
 
-  pub left-asides : length (replay_from t (take (longest t l n) l)).asides ≤ 512
-  left-asides = room_asides (present_count (replay_from t (take (longest t l n) l))) (length (replay_from t (take (longest t l n) l)).asides) left
+  pub left_asides : length (replay_from t (take (longest t l n) l)).asides ≤ 512
+  left_asides = room_asides (present_count (replay_from t (take (longest t l n) l))) (length (replay_from t (take (longest t l n) l)).asides) left

@@ -11,7 +11,7 @@ use mathlib.Core.List.{List, [], ◌∷◌}
 use lib.Dec.{leb}
 use lib.ListN.{get_or, length, take, drop, length-append, get_or-append}
 use lib.Seq.{get_or_at, drop-cons, drop-length}
-use borrow.Author.Tests.{not-true, not-false, lt-ltb, le-ltb, le-leb, lt-leb, eq-eqb}
+use borrow.Author.Tests.{not-true, not_false, lt-ltb, le-ltb, le-leb, lt-leb, eq-eqb}
 use Rattle.model.specs.Record.{Rec, unit, num}
 use Rattle.model.specs.Log.{all_to, vector_on, records_of, sound_log_on}
 use Rattle.base_model.specs.Base.{is_listed}
@@ -20,7 +20,7 @@ use Rattle.byte_slice.proofs.Numbers.{lt_or_ge, bool_cases, and_right, and_wrong
 use Rattle.log_laws.specs.Members.{Has}
 use Rattle.log_laws.proofs.Tests.{all_to-at}
 use Rattle.fold_heard.specs.Rows.{heard_rows, lower_of, lowers_to, least_to, least_of, run_within}
-use Rattle.fold_heard.proofs.Records.{record_at_lem, units-below}
+use Rattle.fold_heard.proofs.Records.{record_at_lem, units_below}
 use Rattle.fold_heard.proofs.Rows.{rows_at}
 
 -- ---- the lower of two
@@ -124,13 +124,13 @@ heard_least m u v l r h own below =
 -- ---- what `least` is asked
 
 module _ (m : ℕ) (rows : List (List ℕ)) (h : List ℕ) (w : ℕ) (t : Bool) (named : t ≡ is_listed m w) where
-  pub least-skips : {v : List ℕ} → v ≡ least_to m rows h w → not t ≡ true → v ≡ least_to m rows h (w + 1)
+  pub least_skips : {v : List ℕ} → v ≡ least_to m rows h w → not t ≡ true → v ≡ least_to m rows h (w + 1)
   unfolding least_to
-  least-skips e f = rw (add-one w, ← named, not-true t f) e
+  least_skips e f = rw (add-one w, ← named, not-true t f) e
 
-  pub least-lowers : {v o : List ℕ} → v ≡ least_to m rows h w → not t ≡ false → o ≡ lowers_to v (get_or rows w []) 8 → o ≡ least_to m rows h (w + 1)
+  pub least_lowers : {v o : List ℕ} → v ≡ least_to m rows h w → not t ≡ false → o ≡ lowers_to v (get_or rows w []) 8 → o ≡ least_to m rows h (w + 1)
   unfolding least_to
-  least-lowers e f g = rw (add-one w, ← named, not-false t f, ← e) g
+  least_lowers e f g = rw (add-one w, ← named, not_false t f, ← e) g
 
 pub least_ends : (m : ℕ) (rows : List (List ℕ)) (h : List ℕ) (w : ℕ) {v : List ℕ} → w ≤ 8 → 8 ≤ w → v ≡ least_to m rows h w → v ≡ least_of m rows h
 unfolding least_of
@@ -155,11 +155,11 @@ module _ (v base b : List ℕ) (i used : ℕ) (whole : used ≡ length (records_
         let k : i < length (records_of b) = omega arith in
         rw (drop-cons (records_of b) i [] k, ← record_at_lem base b long sound i k, judged)
 
-    pub run-stops : not t ≡ true → i ≡ run_within v (records_of b)
-    run-stops f = let e = rw (not-true t f) at here in omega arith
+    pub run_stops : not t ≡ true → i ≡ run_within v (records_of b)
+    run_stops f = let e = rw (not-true t f) at here in omega arith
 
-    pub run-goes-on : not t ≡ false → i + 1 + run_within v (drop (i + 1) (records_of b)) ≡ run_within v (records_of b)
-    run-goes-on f = let e = rw (not-false t f, ← add-one i) at here in omega arith
+    pub run_goes_on : not t ≡ false → i + 1 + run_within v (drop (i + 1) (records_of b)) ≡ run_within v (records_of b)
+    run_goes_on f = let e = rw (not_false t f, ← add-one i) at here in omega arith
 
   pub run_ends : i ≤ used → used ≤ i → used ≡ run_within v (records_of b)
   unfolding run_within
@@ -175,4 +175,4 @@ run_starts v b = zero-add (run_within v (records_of b))
 pub run_is : (m u : ℕ) (v b : List ℕ) {rows : List (List ℕ)} {held least : List ℕ} {n : ℕ} → length b ≡ 40960 → sound_log_on v b ≡ true → u < 8 → held ≡ vector_on v (records_of b) → is_listed m u ≡ true
     → rows ≡ heard_rows u v (records_of b) → least ≡ least_of m rows held → n ≡ run_within least (records_of b) → n ≡ heard_run m u v (records_of b) (records_of b)
 run_is m u v b long sound h e own f g n =
-    n ∙ rw (g, f, e) (run_exact m u v (records_of b) (records_of b) h own (units-below v b long sound))
+    n ∙ rw (g, f, e) (run_exact m u v (records_of b) (records_of b) h own (units_below v b long sound))

@@ -33,11 +33,11 @@ module _ (v b : List ℕ) (long : length b ≡ 40960) (sound : sound_log_on v b 
       rw (part_is b (80 * i) 80)
       (subst (λ (x : List ℕ). part x (80 * i) 80 ≡ get_or (records_of b) i []) (sound_bytes_on v b long sound) (joined_at (records_of b) i t sized h))
 
-  pub units-below : (r : Rec) → Has r (records_of b) → unit r < 8
-  units-below r i = unit_of_on v [] (records_of b) r (sound_records_on v b sound) i
+  pub units_below : (r : Rec) → Has r (records_of b) → unit r < 8
+  units_below r i = unit_of_on v [] (records_of b) r (sound_records_on v b sound) i
 
-  pub unit-lent : (i used : ℕ) → used ≡ length (records_of b) → i < used → unit (take (80 * i + 80 - 80 * i) (drop (80 * i) b)) < 8
-  unit-lent i used e h = let k : i < length (records_of b) = omega arith in rw (record_at_lem i k) (units-below (get_or (records_of b) i []) (has_at (records_of b) i k))
+  pub unit_lent : (i used : ℕ) → used ≡ length (records_of b) → i < used → unit (take (80 * i + 80 - 80 * i) (drop (80 * i) b)) < 8
+  unit_lent i used e h = let k : i < length (records_of b) = omega arith in rw (record_at_lem i k) (units_below (get_or (records_of b) i []) (has_at (records_of b) i k))
 
 pub few_used : (b : List ℕ) (used : ℕ) → used ≡ length (records_of b) → used ≤ 512
 few_used b used e = omega (arith, sound_few b)

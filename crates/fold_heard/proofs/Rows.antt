@@ -18,7 +18,7 @@ use Rattle.call_model.specs.Fold.{last_of, heard_from, heard_by}
 use Rattle.byte_slice.proofs.Numbers.{lt_or_ge, eq_or_ne}
 use Rattle.log_laws.specs.Members.{Has}
 use Rattle.fold_heard.specs.Rows.{rows_to, heard_rows}
-use Rattle.fold_heard.proofs.Records.{record_at_lem, units-below}
+use Rattle.fold_heard.proofs.Records.{record_at_lem, units_below}
 
 -- ---- rows
 
@@ -106,18 +106,18 @@ all_told v pre (r ∷ l) below =
 -- ---- what `heard` is asked, over plain values
 
 module _ (v b : List ℕ) (i used : ℕ) (whole : used ≡ length (records_of b)) (long : length b ≡ 40960) (sound : sound_log_on v b ≡ true) where
-  pub hears-next : (from : List (List ℕ)) {rows o : List (List ℕ)} → i < used → rows ≡ heard_all_lem from (take i (records_of b))
+  pub hears_next : (from : List (List ℕ)) {rows o : List (List ℕ)} → i < used → rows ≡ heard_all_lem from (take i (records_of b))
       → o ≡ set rows (unit (take (80 * i + 80 - 80 * i) (drop (80 * i) b))) (set (seen_vector (take (80 * i + 80 - 80 * i) (drop (80 * i) b))) (unit (take (80 * i + 80 - 80 * i) (drop (80 * i) b))) (num (take (80 * i + 80 - 80 * i) (drop (80 * i) b))))
       → o ≡ heard_all_lem from (take (i + 1) (records_of b))
-  hears-next from h e o =
+  hears_next from h e o =
       let k : i < length (records_of b) = omega arith in
       let q = record_at_lem v b long sound i k in
       o ∙ rw (e, q, add-one i, take-suc (records_of b) i [] k) (sym (all_append from (take i (records_of b)) (get_or (records_of b) i [])))
 
-  pub hears-own : (u : ℕ) {from rows o : List (List ℕ)} {held : List ℕ} → u < 8 → i ≤ used → used ≤ i → from ≡ replicate 8 v → rows ≡ heard_all_lem from (take i (records_of b))
+  pub hears_own : (u : ℕ) {from rows o : List (List ℕ)} {held : List ℕ} → u < 8 → i ≤ used → used ≤ i → from ≡ replicate 8 v → rows ≡ heard_all_lem from (take i (records_of b))
       → held ≡ vector_on v (records_of b) → o ≡ set rows u held → o ≡ heard_rows u v (records_of b)
-  hears-own u h a c g e f o =
-      o ∙ rw (e, g, f, take_all i (records_of b) (omega arith), told_none v, all_told v [] (records_of b) (units-below v b long sound)) (told_own u v (records_of b) h)
+  hears_own u h a c g e f o =
+      o ∙ rw (e, g, f, take_all i (records_of b) (omega arith), told_none v, all_told v [] (records_of b) (units_below v b long sound)) (told_own u v (records_of b) h)
 
 pub hears_none : (b : List ℕ) (from : List (List ℕ)) → from ≡ heard_all_lem from (take 0 (records_of b))
 unfolding heard_all_lem

@@ -19,13 +19,13 @@ use Rattle.fold_laws.proofs.Stores.{kept-counts, kept_shown}
 -- two stores whose records were used, no number twice by its unit
 module _ (used : List Rec) (s t : Store) (g : Agree used used) (k : Kept used s) (n : Kept used t)
     (e : (x : ℕ) → x < 8 → count_on s.base.vector x s.log ≡ count_on t.base.vector x t.log) where
-  pub same-held : held_of s ≡ held_of t
-  same-held =
+  pub same_held : held_of s ≡ held_of t
+  same_held =
       same (held_of s) (held_of t) k.sound n.sound (λ r q x y u z. g r q (k.from r x) (n.from q y) u z)
       (λ x c. sym (kept-counts used s k x c) ∙ e x c ∙ kept-counts used t n x c)
 
   pub same_shown : table_bytes (replay_from s.base.tree s.log) ≡ table_bytes (replay_from t.base.tree t.log)
-  same_shown = kept_shown used s k ∙ ap (λ (l : List Rec). table_bytes (replay l)) same-held ∙ sym (kept_shown used t n)
+  same_shown = kept_shown used s k ∙ ap (λ (l : List Rec). table_bytes (replay l)) same_held ∙ sym (kept_shown used t n)
 
   pub same_log : ((x : ℕ) → x < 8 → get_or s.base.vector x 0 ≡ get_or t.base.vector x 0) → s.log ≡ t.log
   same_log f =
@@ -33,4 +33,4 @@ module _ (used : List Rec) (s t : Store) (g : Agree used used) (k : Kept used s)
       length-counts y.folded (λ r j. unit_of_lem [] y.folded r (sound_front [] y.folded y.log q.sound) j) in
       let m : length s.folded ≡ length t.folded =
       sym (long s k) ∙ sum_to-eq 8 (λ x. count x s.folded) (λ x. count x t.folded) (λ x c. sym (k.counts x c) ∙ f x c ∙ n.counts x c) ∙ long t n in
-      sym (drop-append_seam s.folded s.log) ∙ ap (drop (length s.folded)) same-held ∙ ap (λ (x : ℕ). drop x (held_of t)) m ∙ drop-append_seam t.folded t.log
+      sym (drop-append_seam s.folded s.log) ∙ ap (drop (length s.folded)) same_held ∙ ap (λ (x : ℕ). drop x (held_of t)) m ∙ drop-append_seam t.folded t.log

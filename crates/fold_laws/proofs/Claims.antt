@@ -59,31 +59,31 @@ module _ (es : List Event) (ok : AllAccepted bare es) where
 
   -- ---- (i) the replay from the base shows what the replay of all records held shows, and the vector counts them all
 
-  pub replay-of-all : (u : ℕ) → table_bytes (replay_from (w.stores u).base.tree (w.stores u).log) ≡ table_bytes (replay (held_of (w.stores u)))
-  replay-of-all u = Stores.kept_shown w.used (w.stores u) (inv.kept u)
+  pub replay_of_all : (u : ℕ) → table_bytes (replay_from (w.stores u).base.tree (w.stores u).log) ≡ table_bytes (replay (held_of (w.stores u)))
+  replay_of_all u = Stores.kept_shown w.used (w.stores u) (inv.kept u)
 
-  pub vector-of-all : (u : ℕ) → vector_held (w.stores u) ≡ vector_of (held_of (w.stores u))
-  vector-of-all u = Stores.kept_vector w.used (w.stores u) (inv.kept u)
+  pub vector_of_all : (u : ℕ) → vector_held (w.stores u) ≡ vector_of (held_of (w.stores u))
+  vector_of_all u = Stores.kept_vector w.used (w.stores u) (inv.kept u)
 
   -- ---- (iv) base and log are sound, the base is of at most 512 rows each, and the list names the units of all records held
 
   pub base_sound : (u : ℕ) → SoundTree (w.stores u).base.vector (w.stores u).base.tree
   base_sound u = Bases.kept_base w.used (w.stores u) (inv.kept u)
 
-  pub base-fits : (u : ℕ) → (length (w.stores u).base.tree.entries ≤ 512) × (length (w.stores u).base.tree.asides ≤ 512)
-  base-fits u = Bases.kept_rows w.used (w.stores u) (inv.kept u)
+  pub base_fits : (u : ℕ) → (length (w.stores u).base.tree.entries ≤ 512) × (length (w.stores u).base.tree.asides ≤ 512)
+  base_fits u = Bases.kept_rows w.used (w.stores u) (inv.kept u)
 
   pub log_sound : (u : ℕ) → sound_after (w.stores u).base.vector [] (w.stores u).log ≡ true
   log_sound u = means_sound_on (w.stores u).base.vector (w.stores u).log (Bases.kept_log w.used (w.stores u) (inv.kept u))
 
-  pub units-listed : (u : ℕ) (r : Rec) → Has r (held_of (w.stores u)) → is_listed (w.stores u).base.list (unit r) ≡ true
-  units-listed u = (inv.kept u).listed
+  pub units_listed : (u : ℕ) (r : Rec) → Has r (held_of (w.stores u)) → is_listed (w.stores u).base.list (unit r) ≡ true
+  units_listed u = (inv.kept u).listed
 
   -- ---- (v) a second fold by the same list folds nothing
 
-  pub second-fold : (u m : ℕ) → run u m (folded_by u m (w.stores u)) ≡ 0
+  pub second_fold : (u m : ℕ) → run u m (folded_by u m (w.stores u)) ≡ 0
   unfolding folded_base
-  second-fold u m =
+  second_fold u m =
       let s : Store = w.stores u in
       any_second_fold m u s.base.vector s.base.tree s.log (run u m s) refl (Bases.kept_log w.used s (inv.kept u)) (base_sound u)
 
@@ -93,8 +93,8 @@ module _ (es : List Event) (ok : AllAccepted bare es) where
 
     module _ (a b : ℕ)
         (e : (x : ℕ) → x < 8 → count_on (w.stores a).base.vector x (w.stores a).log ≡ count_on (w.stores b).base.vector x (w.stores b).log) where
-      pub same-held : held_of (w.stores a) ≡ held_of (w.stores b)
-      same-held = Alike.same-held w.used (w.stores a) (w.stores b) agree (inv.kept a) (inv.kept b) e
+      pub same_held : held_of (w.stores a) ≡ held_of (w.stores b)
+      same_held = Alike.same_held w.used (w.stores a) (w.stores b) agree (inv.kept a) (inv.kept b) e
 
       pub same_shown : table_bytes (replay_from (w.stores a).base.tree (w.stores a).log) ≡ table_bytes (replay_from (w.stores b).base.tree (w.stores b).log)
       same_shown = Alike.same_shown w.used (w.stores a) (w.stores b) agree (inv.kept a) (inv.kept b) e
@@ -109,8 +109,8 @@ module _ (es : List Event) (ok : AllAccepted bare es) where
       low r i = well_unit r (inv.formed r i)
 
       -- a record that b does not hold covers the base of b: 27 is answered to none
-      pub never-27 : (r : Rec) → Has r w.used → (Has r (held_of (w.stores b)) → ⊥) → (u : ℕ) → u < 8 → get_or (w.stores b).base.vector u 0 ≤ seen r u
-      never-27 r i d u k = go steady
+      pub never_27 : (r : Rec) → Has r w.used → (Has r (held_of (w.stores b)) → ⊥) → (u : ℕ) → u < 8 → get_or (w.stores b).base.vector u 0 ≤ seen r u
+      never_27 r i d u k = go steady
         where
           go : Keeping b bare es ⊎ ((w.stores b).folded ≡ []) → get_or (w.stores b).base.vector u 0 ≤ seen r u
           go (inl s) =
@@ -121,5 +121,5 @@ module _ (es : List Event) (ok : AllAccepted bare es) where
           go (inr e) = omega (arith, (inv.kept b).counts u k, ap (count u) e, count-nil u)
 
       -- and its unit is listed at b: nor is 26
-      pub never-26 : (r : Rec) → Has r w.used → is_listed (w.stores b).base.list (unit r) ≡ true
-      never-26 = Worlds.lists_play w.used bare es low named (λ u r i. all_eight (unit r) (low r i)) b
+      pub never_26 : (r : Rec) → Has r w.used → is_listed (w.stores b).base.list (unit r) ≡ true
+      never_26 = Worlds.lists_play w.used bare es low named (λ u r i. all_eight (unit r) (low r i)) b

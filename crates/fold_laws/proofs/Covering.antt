@@ -39,13 +39,13 @@ module _ (used held : List Rec) (b : ℕ) (g : Agree used used) (h : Sound held)
     (made : (r : Rec) → Has r used → Made used r) (form : (r : Rec) → Has r used → well_formed r ≡ true)
     (own : (r : Rec) → Has r used → unit r ≡ b → Has r held) where
   -- a number that b counts is held
-  counted-held : (r : Rec) → Has r used → num r ≤ count (unit r) held → Has r held
-  counted-held r i n =
+  counted_held : (r : Rec) → Has r used → num r ≤ count (unit r) held → Has r held
+  counted_held r i n =
       let (t, j, a, c) = find_held held (unit r) (num r) h (omega (arith, well_own r (form r i))) n in
       subst (λ (x : Rec). Has x held) (g t r (inU t j) i a c) j
 
-  pub never-below : (q : Rec) → unit q < 8 → Behind b used held q → (r : Rec) → Has r used → (Has r held → ⊥) → num q ≤ seen r (unit q)
-  never-below q q8 f r i d =
+  pub never_below : (q : Rec) → unit q < 8 → Behind b used held q → (r : Rec) → Has r used → (Has r held → ⊥) → num q ≤ seen r (unit q)
+  never_below q q8 f r i d =
       ⊎_elim
       (λ e. absurd (d (own r i e)))
       (λ e.
@@ -60,7 +60,7 @@ module _ (used held : List Rec) (b : ℕ) (g : Agree used used) (h : Sound held)
       k)
       (λ n.
       let c : num s ≤ count (unit r) held = subst (λ (u : ℕ). num s ≤ count u held) a (number_held held s h j) in
-      absurd (d (counted-held r i (omega arith))))
+      absurd (d (counted_held r i (omega arith))))
       (lt_or_ge (num s) (num r)))
       (eq_or_ne (unit r) b)
 

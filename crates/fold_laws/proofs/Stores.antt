@@ -22,14 +22,14 @@ use Rattle.log_laws.proofs.Counts.{count-nil, count-append, sound_front, formed,
 use Rattle.log_laws.proofs.Tests.{vector_on_get_d}
 use Rattle.tree_laws.proofs.Trimming.{from_base, shown_from_base}
 use Rattle.take_laws.proofs.Take.{above_base}
-use Rattle.take_laws.proofs.Held.{counts-held, vector-held, take-adds}
-use Rattle.act_laws.proofs.Act.{stamped-unit, act-saw, act-held, wish_fits_lem, act_zero}
+use Rattle.take_laws.proofs.Held.{counts-held, vector_held_lem, take_adds}
+use Rattle.act_laws.proofs.Act.{stamped-unit, act_saw, act-held, wish_fits_lem, act_zero}
 use Rattle.fold_laws.specs.Heard.{Made, Behind}
 use Rattle.fold_laws.specs.Worlds.{Store, fresh, held_of, vector_held, with_log, run, folded_by, made_of, ActAccepted, TakeAccepted, FoldAccepted, NamesAll, Kept, BackAt, OwnAt}
 use Rattle.fold_laws.proofs.Hearing.{fits_counted}
 use Rattle.fold_laws.proofs.Twice.{counts_shift}
 use Rattle.fold_laws.proofs.Bases.{run-counts, kept_log}
-use Rattle.fold_laws.proofs.Covering.{never-below, folded-behind}
+use Rattle.fold_laws.proofs.Covering.{never_below, folded-behind}
 
 -- ---- counts and tree of all records held
 
@@ -37,7 +37,7 @@ pub kept-counts : (used : List Rec) (s : Store) → Kept used s → (x : ℕ) �
 kept-counts used s k = counts-held s.base.vector s.folded k.counts s.log
 
 pub kept_vector : (used : List Rec) (s : Store) → Kept used s → vector_held s ≡ vector_of (held_of s)
-kept_vector used s k = vector-held s.base.vector s.folded k.counts s.log
+kept_vector used s k = vector_held_lem s.base.vector s.folded k.counts s.log
 
 -- the replay from the base shows what the replay of all records held shows
 pub kept_shown : (used : List Rec) (s : Store) → Kept used s → table_bytes (replay_from s.base.tree s.log) ≡ table_bytes (replay (held_of s))
@@ -76,40 +76,40 @@ module _ (used : List Rec) (u : ℕ) (s : Store) (x : List ℕ) (k : Kept used s
   abbrev r : Rec
   r = made_of u s x
 
-  own-wish : (get_or x 0 0 ≡ u) × (well_formed r ≡ true)
-  own-wish = wish_fits_lem u s.base.vector s.log x (act_zero s.base.list u s.base.vector s.base.tree s.log x a.1).well
+  own_wish : (get_or x 0 0 ≡ u) × (well_formed r ≡ true)
+  own_wish = wish_fits_lem u s.base.vector s.log x (act_zero s.base.list u s.base.vector s.base.tree s.log x a.1).well
 
-  pub act-formed : well_formed r ≡ true
-  act-formed = own-wish.1
+  pub act_formed : well_formed r ≡ true
+  act_formed = own_wish.1
 
   pub act-unit : unit r ≡ u
-  act-unit = stamped-unit u s.base.vector s.log x a.0 ∙ own-wish.0
+  act-unit = stamped-unit u s.base.vector s.log x a.0 ∙ own_wish.0
 
-  act-cases : (y : Rec) → Has y (s.folded ++ (s.log ++ (r ∷ []))) → (y ≡ r) ⊎ Has y (held_of s)
-  act-cases y i =
+  act_cases : (y : Rec) → Has y (s.folded ++ (s.log ++ (r ∷ []))) → (y ≡ r) ⊎ Has y (held_of s)
+  act_cases y i =
       ⊎_elim
       (λ j. inr (append_has s.folded s.log y (inl j)))
       (λ j. ⊎_elim (λ q. inr (append_has s.folded s.log y (inr q))) (λ q. ⊎_elim (λ z. inl z) (λ z. absurd z) q) (has_append s.log (r ∷ []) y j))
       (has_append s.folded (s.log ++ (r ∷ [])) y i)
 
-  pub act-grows : Sub (held_of s) (held_of (with_log s (s.log ++ (r ∷ []))))
-  act-grows y j =
+  pub act_grows : Sub (held_of s) (held_of (with_log s (s.log ++ (r ∷ []))))
+  act_grows y j =
       append_has s.folded (s.log ++ (r ∷ [])) y
       (⊎_elim (λ z. inl z) (λ z. inr (append_has s.log (r ∷ []) y (inl z))) (has_append s.folded s.log y j))
 
-  pub act-there : Has r (held_of (with_log s (s.log ++ (r ∷ []))))
-  act-there = append_has s.folded (s.log ++ (r ∷ [])) r (inr (append_has s.log (r ∷ []) r (inr (inl refl))))
+  pub act_there : Has r (held_of (with_log s (s.log ++ (r ∷ []))))
+  act_there = append_has s.folded (s.log ++ (r ∷ [])) r (inr (append_has s.log (r ∷ []) r (inr (inl refl))))
 
   pub act-kept : Kept (r ∷ used) (with_log s (s.log ++ (r ∷ [])))
   act-kept =
       let f = act_zero s.base.list u s.base.vector s.base.tree s.log x a.1 in
       record {
-        sound = act-held u s.base.vector s.log x a.0 s.folded k.counts own-wish.0 act-formed k.sound;
+        sound = act-held u s.base.vector s.log x a.0 s.folded k.counts own_wish.0 act_formed k.sound;
         counts = k.counts;
         based = k.based;
-        from = λ y i. ⊎_elim (λ q. inl q) (λ j. inr (k.from y j)) (act-cases y i);
+        from = λ y i. ⊎_elim (λ q. inl q) (λ j. inr (k.from y j)) (act_cases y i);
         few = omega (arith, length-append s.log (r ∷ []), f.room);
-        listed = λ y i. ⊎_elim (λ (q : y ≡ r). rw q (ap (is_listed s.base.list) act-unit ∙ f.listed)) (λ j. k.listed y j) (act-cases y i);
+        listed = λ y i. ⊎_elim (λ (q : y ≡ r). rw q (ap (is_listed s.base.list) act-unit ∙ f.listed)) (λ j. k.listed y j) (act_cases y i);
         rows = k.rows;
       }
 
@@ -119,18 +119,18 @@ module _ (used : List Rec) (u : ℕ) (s : Store) (x : List ℕ) (k : Kept used s
         held = held_of s;
         sound = k.sound;
         from = λ y i. inr (k.from y i);
-        saw = act-saw u s.base.vector s.log x a.0 s.folded k.counts;
+        saw = act_saw u s.base.vector s.log x a.0 s.folded k.counts;
       }
 
 -- ---- taking records that were used
 
 module _ (used : List Rec) (s : Store) (rs m : List Rec) (k : Kept used s) (a : TakeAccepted s rs m) where
-  pub take-grows : Sub (held_of s) (held_of (with_log s m))
-  take-grows = (take-adds s.base.vector s.folded k.counts s.base.list rs s.log m k.sound a).kept
+  pub take_grows : Sub (held_of s) (held_of (with_log s m))
+  take_grows = (take_adds s.base.vector s.folded k.counts s.base.list rs s.log m k.sound a).kept
 
   pub take-kept : Sub rs used → Kept used (with_log s m)
   take-kept f =
-      let g = take-adds s.base.vector s.folded k.counts s.base.list rs s.log m k.sound a in
+      let g = take_adds s.base.vector s.folded k.counts s.base.list rs s.log m k.sound a in
       record {
         sound = g.sound;
         counts = k.counts;
@@ -205,7 +205,7 @@ covers_base used b s g form made k back own r j d u u8 =
     (λ n.
     let (q, h, e, c) = find_held s.folded u (count u s.folded) (sound_front [] s.folded s.log k.sound) n (omega arith) in
     let z : num q ≤ seen r (unit q) =
-    never-below used (held_of s) b g k.sound k.from made form own q (subst (λ (x : ℕ). x < 8) (sym e) u8) (back q h) r j d in
+    never_below used (held_of s) b g k.sound k.from made form own q (subst (λ (x : ℕ). x < 8) (sym e) u8) (back q h) r j d in
     let y : seen r (unit q) ≡ seen r u = ap (seen r) e in
     omega (arith, k.counts u u8))
     (λ n. omega (arith, k.counts u u8))

@@ -35,20 +35,20 @@ module _ (m u : ℕ) (v : List ℕ) (l : List Rec) (n : ℕ) where
   abbrev l' : List Rec
   l' = drop n l
 
-  same-vector : (x : ℕ) → x < 8 → get_or (vector_on v' l') x 0 ≡ get_or (vector_on v l) x 0
-  same-vector x b =
+  same_vector : (x : ℕ) → x < 8 → get_or (vector_on v' l') x 0 ≡ get_or (vector_on v l) x 0
+  same_vector x b =
       let c : count x l ≡ count x (take n l) + count x (drop n l) = ap (count x) (sym (take-append-drop n l)) ∙ count-append x (take n l) (drop n l) in
       omega (arith, vector_on_get_d v' l' x b, vector_on_get_d v (take n l) x b, vector_on_get_d v l x b)
 
   -- what was heard by all then was heard by all before
-  heard-before : (q : Rec) → unit q < 8 → get_or v' (unit q) 0 < num q → heard_by_all m u v' l' q ≡ true → heard_by_all m u v l q ≡ true
-  heard-before q b above e =
+  heard_before : (q : Rec) → unit q < 8 → get_or v' (unit q) 0 < num q → heard_by_all m u v' l' q ≡ true → heard_by_all m u v l q ≡ true
+  heard_before q b above e =
       heard_all m u v l q (λ w k f.
       let h = all_heard m u v' l' q e w k f in
       ⊎_elim
       (λ (d : w ≡ u).
       let h' : num q ≤ get_or (vector_on v' l') (unit q) 0 = rw (d, heard_self u v' l') at h in
-      rw (d, heard_self u v l) (omega (arith, same-vector (unit q) b)))
+      rw (d, heard_self u v l) (omega (arith, same_vector (unit q) b)))
       (λ (d : w ≡ u → ⊥). rw (heard_other u v l w d) (other w (last_of w l') refl (rw (heard_other u v' l' w d) at h)))
       (eq_or_ne w u))
     where
@@ -66,7 +66,7 @@ module _ (m u : ℕ) (v : List ℕ) (l : List Rec) (n : ℕ) where
     where
       go : (heard_by_all m u v' l' x ≡ true) ⊎ (heard_by_all m u v' l' x ≡ false) → heard_run m u v' l' xs ≤ heard_run m u v l xs
           → cond (heard_by_all m u v' l' x) (suc (heard_run m u v' l' xs)) 0 ≤ cond (heard_by_all m u v l x) (suc (heard_run m u v l xs)) 0
-      go (inl e) k = let d = heard-before x (f x (inl refl)).0 (f x (inl refl)).1 e in rw (e, d) (omega arith)
+      go (inl e) k = let d = heard_before x (f x (inl refl)).0 (f x (inl refl)).1 e in rw (e, d) (omega arith)
       go (inr e) k = rw e (omega arith)
 
 run_drop : (m u : ℕ) (v : List ℕ) (all l : List Rec) (n : ℕ) → n ≤ heard_run m u v all l → heard_run m u v all l ≡ n + heard_run m u v all (drop n l)

@@ -16,7 +16,7 @@ use Rattle.log_laws.proofs.Members.{has_append, append_has}
 use Rattle.take_laws.proofs.Union.{all_eight}
 use Rattle.fold_laws.specs.Heard.{Made, Behind}
 use Rattle.fold_laws.specs.Worlds.{Store, held_of, made_of, World, Event, starts, acts, takes, folds, at, changes, uses, put_store, after, Accepted, bare, play, AllAccepted, NamesAll, Names, Naming, Keeps, Keeping, Kept, Inv, BackAt, Back, Own}
-use Rattle.fold_laws.proofs.Stores.{kept_wider, fresh_kept, act-formed, act-unit, act-grows, act-there, act-kept, act_made, take-grows, take-kept, fold_held, fold_kept, back_grows, back_fold}
+use Rattle.fold_laws.proofs.Stores.{kept_wider, fresh_kept, act_formed, act-unit, act_grows, act_there, act-kept, act_made, take_grows, take-kept, fold_held, fold_kept, back_grows, back_fold}
 
 -- ---- a store after a call
 
@@ -47,7 +47,7 @@ used_cases w (acts u x) i a r (inl j) =
     let q : Rec = made_of u s x in
     let k = i.kept u in
     subst (λ (y : Rec). (well_formed y ≡ true) × Made (q ∷ w.used) y × (unit y ≡ u) × Has y (s.folded ++ (s.log ++ (q ∷ [])))) (sym j)
-    (act-formed w.used u s x k a, act_made w.used u s x k a, act-unit w.used u s x k a, act-there w.used u s x k a)
+    (act_formed w.used u s x k a, act_made w.used u s x k a, act-unit w.used u s x k a, act_there w.used u s x k a)
 used_cases w (acts u x) i a r (inr j) = absurd j
 used_cases w (takes u rs m) i a r j = absurd j
 used_cases w (folds u m) i a r j = absurd j
@@ -76,8 +76,8 @@ unfolding changes at
 left_back U w (starts u) u8 i a n g = λ q h. absurd h
 left_back U w (acts u x) u8 i a n g =
     let s : Store = w.stores u in
-    back_grows U u s (s.log ++ (made_of u s x ∷ [])) (act-grows w.used u s x (i.kept u) a) (g u)
-left_back U w (takes u rs m) u8 i a n g = back_grows U u (w.stores u) m (take-grows w.used (w.stores u) rs m (i.kept u) a.0) (g u)
+    back_grows U u s (s.log ++ (made_of u s x ∷ [])) (act_grows w.used u s x (i.kept u) a) (g u)
+left_back U w (takes u rs m) u8 i a n g = back_grows U u (w.stores u) m (take_grows w.used (w.stores u) rs m (i.kept u) a.0) (g u)
 left_back U w (folds u m) u8 i a n g = back_fold w.used U u m (w.stores u) u8 (i.kept u) n (g u)
 
 pub back_after : (U : List Rec) (w : World) (e : Event) → ((r : Rec) → Has r U → unit r < 8) → Inv w → Accepted w e → Names U e → Back U w → Back U (after w e)
@@ -97,8 +97,8 @@ back_after U w e u8 i a n g u q h =
 left_more : (b : ℕ) (w : World) (e : Event) → Inv w → Accepted w e → Keeps b w e → at e ≡ b → Sub (held_of (w.stores (at e))) (held_of (changes w e))
 unfolding changes at
 left_more b w (starts u) v a k q = λ r j. absurd (subst (Has r) (k q) j)
-left_more b w (acts u x) v a k q = act-grows w.used u (w.stores u) x (v.kept u) a
-left_more b w (takes u rs m) v a k q = take-grows w.used (w.stores u) rs m (v.kept u) a.0
+left_more b w (acts u x) v a k q = act_grows w.used u (w.stores u) x (v.kept u) a
+left_more b w (takes u rs m) v a k q = take_grows w.used (w.stores u) rs m (v.kept u) a.0
 left_more b w (folds u m) v a k q = λ r j. subst (Has r) (sym (fold_held u m (w.stores u))) j
 
 pub own_after : (b : ℕ) (w : World) (e : Event) → Inv w → Accepted w e → Keeps b w e → Own b w → Own b (after w e)

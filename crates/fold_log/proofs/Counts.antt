@@ -16,7 +16,7 @@ use Rattle.log_laws.specs.Sound.{SoundAfter}
 use Rattle.log_laws.proofs.Counts.{count-nil, count_own, count_other, count-append, count_shift}
 use Rattle.log_laws.proofs.Tests.{vector_on-length, vector_on_get_d}
 use Rattle.encoding_laws.proofs.Logs.{sound_records_on, sound_few}
-use Rattle.fold_heard.proofs.Records.{record_at_lem, unit-lent}
+use Rattle.fold_heard.proofs.Records.{record_at_lem, unit_lent}
 
 pub counts-none : (v : List ℕ) → length v ≡ 8 → vector_on v [] ≡ v
 counts-none v e =
@@ -68,7 +68,7 @@ next-at v pre (r ∷ l) (suc i) s h =
 
 module _ (v b : List ℕ) (long : length b ≡ 40960) (sound : sound_log_on v b ≡ true) (n i : ℕ) (few : n ≤ length (records_of b)) where
   pub counts-unit : i < n → unit (take (80 * i + 80 - 80 * i) (drop (80 * i) b)) < 8
-  counts-unit h = unit-lent v b long sound i (length (records_of b)) refl (omega arith)
+  counts-unit h = unit_lent v b long sound i (length (records_of b)) refl (omega arith)
 
   pub counts-next : {x y : List ℕ} → i < n → x ≡ vector_on v (take i (records_of b)) → y ≡ set x (unit (take (80 * i + 80 - 80 * i) (drop (80 * i) b))) (num (take (80 * i + 80 - 80 * i) (drop (80 * i) b)))
       → y ≡ vector_on v (take (i + 1) (records_of b))

@@ -15,31 +15,31 @@ module _ (o before after n : ℕ) where
   counts-aside h = rw (lt-ltb before after h)
 
   module _ (h : after ≤ before) where
-    pub counts-make : o ≤ 2 → n + 1 ≡ count_after o (ltb before after) n
+    pub counts_make : o ≤ 2 → n + 1 ≡ count_after o (ltb before after) n
     unfolding count_after
-    counts-make g = rw (le-ltb before after h, le-leb o 2 g)
+    counts_make g = rw (le-ltb before after h, le-leb o 2 g)
 
-    pub counts-other : 2 < o → (o ≡ 4 → ⊥) → n ≡ count_after o (ltb before after) n
+    pub counts_other : 2 < o → (o ≡ 4 → ⊥) → n ≡ count_after o (ltb before after) n
     unfolding count_after
-    counts-other g d = rw (le-ltb before after h, lt-leb o 2 g, ne_eqb o 4 d)
+    counts_other g d = rw (le-ltb before after h, lt-leb o 2 g, ne_eqb o 4 d)
 
-    pub counts-remove : 2 < o → o ≡ 4 → n - 1 ≡ count_after o (ltb before after) n
+    pub counts_remove : 2 < o → o ≡ 4 → n - 1 ≡ count_after o (ltb before after) n
     unfolding count_after
-    counts-remove g e = rw (le-ltb before after h, lt-leb o 2 g, eq-eqb o 4 e)
+    counts_remove g e = rw (le-ltb before after h, lt-leb o 2 g, eq-eqb o 4 e)
 
     pub counts-none : 2 < o → o ≡ 4 → n ≡ 0 → 0 ≡ count_after o (ltb before after) n
     unfolding count_after
     counts-none g e z = rw (le-ltb before after h, lt-leb o 2 g, eq-eqb o 4 e, z)
 
 module _ (entries asides longer best : ℕ) where
-  pub room-not : 512 < entries → best ≡ cond (room_in entries asides) longer best
+  pub room_not : 512 < entries → best ≡ cond (room_in entries asides) longer best
   unfolding room_in
-  room-not h = rw (lt-leb entries 512 h)
+  room_not h = rw (lt-leb entries 512 h)
 
-  pub room-no-asides : 512 < asides → best ≡ cond (room_in entries asides) longer best
+  pub room_no_asides : 512 < asides → best ≡ cond (room_in entries asides) longer best
   unfolding room_in
-  room-no-asides h = rw (lt-leb asides 512 h, and_wrong (leb entries 512))
+  room_no_asides h = rw (lt-leb asides 512 h, and_wrong (leb entries 512))
 
-  pub room-both : entries ≤ 512 → asides ≤ 512 → longer ≡ cond (room_in entries asides) longer best
+  pub room_both : entries ≤ 512 → asides ≤ 512 → longer ≡ cond (room_in entries asides) longer best
   unfolding room_in
-  room-both h g = rw (le-leb entries 512 h, le-leb asides 512 g)
+  room_both h g = rw (le-leb entries 512 h, le-leb asides 512 g)

@@ -20,9 +20,9 @@ use Rattle.tree_lookup.specs.Roles.{Works, Holds}
 use Rattle.log_check.specs.declared.Layout.TheVariants.{Log}
 use Rattle.log_check.specs.Places.{offset_of, laid_at}
 use Rattle.log_check.specs.InOrder.{listed}
-use Rattle.log_check.proofs.Sound.{listed-records}
+use Rattle.log_check.proofs.Sound.{listed_records}
 use Rattle.tree_replay.specs.Playable.{Playable}
-use Rattle.tree_replay.proofs.Playing.{replay-next, record_is, turn-goes}
+use Rattle.tree_replay.proofs.Playing.{replay-next, record_is, turn_goes}
 
 -- ---- the first records of a log
 
@@ -34,7 +34,7 @@ listed_front at i (suc j) (suc n) h = ap (λ (l : List Rec). at i ∷ l) (listed
 
 pub records_front : (b : List ℕ) (j : ℕ) → j ≤ length (records_of b) → take j (records_of b) ≡ listed (laid_at Log b) 0 j
 records_front b j h =
-    ap (take j) (sym (listed-records b (length (records_of b)) refl)) ∙ listed_front (laid_at Log b) 0 j (length (records_of b)) h
+    ap (take j) (sym (listed_records b (length (records_of b)) refl)) ∙ listed_front (laid_at Log b) 0 j (length (records_of b)) h
 
 -- ---- what `longest_run` is asked, over plain values
 
@@ -49,11 +49,11 @@ module _ (bytes b₀ register₀ : List ℕ) (n₀ m₀ n : ℕ) (few : n ≤ le
     (w : Works b register x y (replay_from (tree_in b₀ n₀ m₀) (listed (laid_at Log bytes) 0 i))) (c : ℕ) (shown : c ≡ present_count (replay_from (tree_in b₀ n₀ m₀) (listed (laid_at Log bytes) 0 i))) where
   pub run_few : c ≤ 1024
   unfolding present_count
-  run_few = let a = w.rows in let d = w.rows_fit in omega (arith, shown, present_few (replay_from (tree_in b₀ n₀ m₀) (listed (laid_at Log bytes) 0 i)).entries)
+  run_few = let a = w.rows in let d = w.rows_fit_lem in omega (arith, shown, present_few (replay_from (tree_in b₀ n₀ m₀) (listed (laid_at Log bytes) 0 i)).entries)
 
   module _ (at : ℕ) (o : at ≡ offset_of Log i) (h : i < n) (b' register' : List ℕ) (x' y' : ℕ) (v : Works b' register' x' y' (step (tree_in b x y) (take (at + 80 - at) (drop at bytes)))) where
     now : Works b' register' x' y' (replay_from (tree_in b₀ n₀ m₀) (listed (laid_at Log bytes) 0 (i + 1)))
-    now = turn-goes Log bytes b₀ register₀ n₀ m₀ n p w₀ b register x y i w at o b' register' x' y' v
+    now = turn_goes Log bytes b₀ register₀ n₀ m₀ n p w₀ b register x y i w at o b' register' x' y' v
 
     pub run-next : (q : ℕ) (k : ℕ) → k ≡ op (take (at + 80 - at) (drop at bytes)) → q ≡ count_after k (ltb y y') c → q ≡ present_count (replay_from (tree_in b₀ n₀ m₀) (listed (laid_at Log bytes) 0 (i + 1)))
     run-next q k e f =
@@ -65,19 +65,19 @@ module _ (bytes b₀ register₀ : List ℕ) (n₀ m₀ n : ℕ) (few : n ≤ le
         let g = rw (a, d, ← shown) at (present_step t r (p.asks i h).known) in
         rw (f, e, record_is Log bytes i at o, s) (sym g)
 
-    pub best-next : (q k best l : ℕ) → k ≡ op (take (at + 80 - at) (drop at bytes)) → q ≡ count_after k (ltb y y') c → best ≡ longest (tree_in b₀ n₀ m₀) (records_of bytes) i → l ≡ cond (room_in q y') (i + 1) best
+    pub best_next : (q k best l : ℕ) → k ≡ op (take (at + 80 - at) (drop at bytes)) → q ≡ count_after k (ltb y y') c → best ≡ longest (tree_in b₀ n₀ m₀) (records_of bytes) i → l ≡ cond (room_in q y') (i + 1) best
         → l ≡ longest (tree_in b₀ n₀ m₀) (records_of bytes) (i + 1)
-    best-next q k best l d f e g =
+    best_next q k best l d f e g =
         let z = longest-next (tree_in b₀ n₀ m₀) (records_of bytes) i in
         let a = now.notes in
         g ∙ rw (z, records_front bytes (i + 1) (omega arith), a, ← run-next q k d f, ← e)
 
 module _ (t : Tree) (bytes : List ℕ) (i n : ℕ) (few : n ≤ length (records_of bytes)) (a : i ≤ n) (z : n ≤ i) where
-  pub works-end : {b register : List ℕ} {x y : ℕ} → Works b register x y (replay_from t (listed (laid_at Log bytes) 0 i)) → Works b register x y (replay_from t (take n (records_of bytes)))
-  works-end w = let f : i ≡ n = omega arith in rw (records_front bytes n few, ← f) w
+  pub works_end : {b register : List ℕ} {x y : ℕ} → Works b register x y (replay_from t (listed (laid_at Log bytes) 0 i)) → Works b register x y (replay_from t (take n (records_of bytes)))
+  works_end w = let f : i ≡ n = omega arith in rw (records_front bytes n few, ← f) w
 
-  pub best-ends : {best : ℕ} → best ≡ longest t (records_of bytes) i → best ≡ longest t (records_of bytes) n
-  best-ends e = let f : i ≡ n = omega arith in rw f at e
+  pub best_ends : {best : ℕ} → best ≡ longest t (records_of bytes) i → best ≡ longest t (records_of bytes) n
+  best_ends e = let f : i ≡ n = omega arith in rw f at e
 
-  pub best-within : {best : ℕ} → best ≡ longest t (records_of bytes) i → best ≤ n
-  best-within e = let f : i ≡ n = omega arith in omega (arith, longest_most t (records_of bytes) i, e)
+  pub best_within : {best : ℕ} → best ≡ longest t (records_of bytes) i → best ≤ n
+  best_within e = let f : i ≡ n = omega arith in omega (arith, longest_most t (records_of bytes) i, e)

@@ -10,6 +10,6 @@ pub record Table (b : List ℕ) (n m : ℕ) (t : Tree) : Type 0 where
   pub bytes : b ≡ work_bytes t
   pub rows : length t.entries ≡ n
   pub notes : length t.asides ≡ m
-  pub rows_fit : n ≤ 1024
+  pub rows_fit_lem : n ≤ 1024
   pub notes_fit : m ≤ 1024
   pub proper : AllProper t.entries

@@ -7,7 +7,7 @@ use mathlib.Core.Bool.{Bool, true, false, not}
 use mathlib.Core.List.{List, [], ◌∷◌, ◌++◌, append-nil}
 use lib.Dec.{eqb}
 use lib.ListN.{length, take, replicate, length-append, length-replicate}
-use borrow.Author.Tests.{not-true, not-false}
+use borrow.Author.Tests.{not-true, not_false}
 use Rattle.model.specs.Bytes.{padded, joined, put_at}
 use Rattle.model.specs.Vector.{covers}
 use Rattle.model.specs.Record.{Rec}
@@ -19,7 +19,7 @@ use Rattle.call_model.specs.Outcome.{outcome, refusal, hand_block, handed, hand_
 use Rattle.byte_slice.proofs.PutAt.{put_whole}
 use Rattle.base_head.specs.Head.{headed}
 use Rattle.call_guard.specs.Opened.{opened, open_of}
-use Rattle.call_guard.proofs.Opening.{open-sound, open-held, open-folded, open_buffer, call-refused, call_passes}
+use Rattle.call_guard.proofs.Opening.{open_sound, open_held, open_folded, open_buffer, call_refused, call_passes}
 
 no_records : (l : List Rec) → length l ≡ 0 → l ≡ []
 no_records [] e = refl
@@ -38,28 +38,28 @@ module _ (a u : ℕ) (b v h : List ℕ) {n : ℕ} {o : List ℕ} (counted : n �
   unfolding hand_block header_of
   none-lacking e f = rw (no_records (take 6 (lacking v (records_of b))) (omega arith)) f
 
-  pub some-lacking : (d : List ℕ) → d ≡ padded 480 (joined (take 6 (lacking v (records_of b)))) → o ≡ sealed (head_bytes (record { archive = a; sender = u; place = 0; vector = h }) n ++ padded 480 d)
+  pub some_lacking : (d : List ℕ) → d ≡ padded 480 (joined (take 6 (lacking v (records_of b)))) → o ≡ sealed (head_bytes (record { archive = a; sender = u; place = 0; vector = h }) n ++ padded 480 d)
       → o ≡ hand_block a u h (records_of b) v
   unfolding hand_block header_of block_of body_bytes
-  some-lacking d e f =
+  some_lacking d e f =
       let l : List Rec = take 6 (lacking v (records_of b)) in
       f ∙ rw (e, padded_twice 480 (joined l), counted)
 
 -- ---- the ways out
 
 module _ (a u : ℕ) (log base v lent : List ℕ) {n m k j : ℕ} {folded held : List ℕ} {used : ℕ} (e : opened n (headed m folded k j) held used ≡ open_of u log base (eqb (length lent) 512) true) where
-  pub hand-refused : (n ≡ 0 → ⊥) → refusal n log lent ≡ hand_of a u log base v lent
+  pub hand_refused : (n ≡ 0 → ⊥) → refusal n log lent ≡ hand_of a u log base v lent
   unfolding hand_of
-  hand-refused h = call-refused u log base lent (eqb (length lent) 512) e (handed a u log base v lent) h
+  hand_refused h = call_refused u log base lent (eqb (length lent) 512) e (handed a u log base v lent) h
 
   module _ (z : n ≡ 0) (t : Bool) (c : t ≡ covers v folded) where
     asks : covers v (base_vector base) ≡ t
-    asks = sym (rw (open-folded u log base (eqb (length lent) 512) true e z) at c)
+    asks = sym (rw (open_folded u log base (eqb (length lent) 512) true e z) at c)
 
     -- what is lacked may be folded
-    pub asked-below : not t ≡ true → refusal 27 log lent ≡ hand_of a u log base v lent
+    pub asked_below : not t ≡ true → refusal 27 log lent ≡ hand_of a u log base v lent
     unfolding hand_of handed
-    asked-below h =
+    asked_below h =
         let d : refusal 27 log lent ≡ handed a u log base v lent = rw (asks, not-true t h) in
         d ∙ call_passes u log base lent (eqb (length lent) 512) e (handed a u log base v lent) z
 
@@ -68,13 +68,13 @@ module _ (a u : ℕ) (log base v lent : List ℕ) {n m k j : ℕ} {folded held :
       unfolding hand_of handed
       handed_out o p q =
           let w : put_at lent 0 bytes ≡ bytes = put_whole lent bytes (long ∙ sym (open_buffer u log base true lent 512 e z)) in
-          let d : outcome 0 0 log o 0 ≡ handed a u log base v lent = rw (p, w, q, open-held u log base (eqb (length lent) 512) true e z, asks, not-false t g) in
+          let d : outcome 0 0 log o 0 ≡ handed a u log base v lent = rw (p, w, q, open_held u log base (eqb (length lent) 512) true e z, asks, not_false t g) in
           d ∙ call_passes u log base lent (eqb (length lent) 512) e (handed a u log base v lent) z
 
 -- the log is sound behind the base vector that the call is told
 pub told_sound : (u : ℕ) (log base : List ℕ) (ok row : Bool) {n m k j : ℕ} {folded held : List ℕ} {used : ℕ} → opened n (headed m folded k j) held used ≡ open_of u log base ok row → n ≡ 0
     → sound_log_on folded log ≡ true
-told_sound u log base ok row e z = rw (open-folded u log base ok row e z) (open-sound u log base ok row e z)
+told_sound u log base ok row e z = rw (open_folded u log base ok row e z) (open_sound u log base ok row e z)
 
 pub block_fits : (u : ℕ) (log base lent bytes : List ℕ) {n m k j : ℕ} {folded held : List ℕ} {used : ℕ} → opened n (headed m folded k j) held used ≡ open_of u log base (eqb (length lent) 512) true → n ≡ 0
     → length bytes ≡ 512 → 0 + length bytes ≤ length lent

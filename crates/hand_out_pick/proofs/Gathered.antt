@@ -10,7 +10,7 @@ use mathlib.Core.List.{List, [], ◌∷◌, ◌++◌, append-nil}
 use lib.Dec.{ltb}
 use lib.ListN.{get_or, length, take, drop, replicate, take-append-drop, length-append, length-replicate}
 use lib.Seq.{take-suc, take_all, take_at}
-use borrow.Author.Tests.{not-true, not-false}
+use borrow.Author.Tests.{not-true, not_false}
 use Rattle.model.specs.Bytes.{part, padded, joined, put_at}
 use Rattle.model.specs.Record.{Rec, unit, num}
 use Rattle.model.specs.Log.{records_of, sound_log_on, log_bytes, lacking}
@@ -76,9 +76,9 @@ module _ (base v b : List ℕ) (long : length b ≡ 40960) (sound : sound_log_on
   pub unit-below : (i : ℕ) → i < length (records_of b) → unit (part b (80 * i) 80) < 8
   unit-below i h = rw (record_at_lem i h) (unit_of_on base [] (records_of b) (get_or (records_of b) i []) (sound_records_on base b sound) (has_at (records_of b) i h))
 
-  length-gathered : (i : ℕ) → length (joined (gathered v b i)) ≡ 80 * length (gathered v b i)
+  length_gathered : (i : ℕ) → length (joined (gathered v b i)) ≡ 80 * length (gathered v b i)
   unfolding gathered
-  length-gathered i = length-joined (lacking v (take i (records_of b))) (sized_lacking v (take i (records_of b)) (sized_take i (records_of b) sized))
+  length_gathered i = length-joined (lacking v (take i (records_of b))) (sized_lacking v (take i (records_of b)) (sized_take i (records_of b) sized))
 
   -- one record more
   gathered_next : (i : ℕ) (t : Bool) → i < length (records_of b) → t ≡ ltb (get_or v (unit (part b (80 * i) 80)) 0) (num (part b (80 * i) 80))
@@ -89,23 +89,23 @@ module _ (base v b : List ℕ) (long : length b ≡ 40960) (sound : sound_log_on
       rw (add-one i, take-suc (records_of b) i [] h, ← record_at_lem i h, lacking-append v (take i (records_of b)) (r ∷ []), lacking_one v r t e)
 
   -- gathering ends when six are there, or all records were looked at
-  gathered-six : (i : ℕ) → length (gathered v b i) ≡ 6 → take 6 (lacking v (records_of b)) ≡ gathered v b i
+  gathered_six : (i : ℕ) → length (gathered v b i) ≡ 6 → take 6 (lacking v (records_of b)) ≡ gathered v b i
   unfolding gathered
-  gathered-six i e =
+  gathered_six i e =
       let f : lacking v (records_of b) ≡ lacking v (take i (records_of b)) ++ lacking v (drop i (records_of b)) =
       ap (lacking v) (sym (take-append-drop i (records_of b))) ∙ lacking-append v (take i (records_of b)) (drop i (records_of b)) in
       rw f (take_at (lacking v (take i (records_of b))) (lacking v (drop i (records_of b))) 6 e)
 
-  gathered-all : (i : ℕ) → i ≡ length (records_of b) → length (gathered v b i) ≤ 6 → take 6 (lacking v (records_of b)) ≡ gathered v b i
+  gathered_all : (i : ℕ) → i ≡ length (records_of b) → length (gathered v b i) ≤ 6 → take 6 (lacking v (records_of b)) ≡ gathered v b i
   unfolding gathered
-  gathered-all i e h =
+  gathered_all i e h =
       let f : take i (records_of b) ≡ records_of b = take_all i (records_of b) (omega arith) in
       rw f (take_all 6 (lacking v (records_of b)) (rw f at h))
 
   -- what `gather` is asked, over plain values; the part is as the code lends it
   module _ (i used n : ℕ) (whole : used ≡ length (records_of b)) (counted : n ≡ length (gathered v b i)) where
-    pub unit-lent : i < used → unit (take (80 * i + 80 - 80 * i) (drop (80 * i) b)) < 8
-    unit-lent h = rw (part_is b (80 * i) 80) (unit-below i (omega arith))
+    pub unit_lent : i < used → unit (take (80 * i + 80 - 80 * i) (drop (80 * i) b)) < 8
+    unit_lent h = rw (part_is b (80 * i) 80) (unit-below i (omega arith))
 
     module _ (t : Bool) (at : i < used) (judged : t ≡ ltb (get_or v (unit (take (80 * i + 80 - 80 * i) (drop (80 * i) b))) 0) (num (take (80 * i + 80 - 80 * i) (drop (80 * i) b)))) where
       next : gathered v b (i + 1) ≡ gathered v b i ++ cond t (part b (80 * i) 80 ∷ []) []
@@ -115,49 +115,49 @@ module _ (base v b : List ℕ) (long : length b ≡ 40960) (sound : sound_log_on
       skipped e = next ∙ rw (not-true t e, append-nil)
 
       added : not t ≡ false → gathered v b (i + 1) ≡ gathered v b i ++ (part b (80 * i) 80 ∷ [])
-      added e = next ∙ rw (not-false t e)
+      added e = next ∙ rw (not_false t e)
 
-      pub skips-count : not t ≡ true → n ≡ length (gathered v b (i + 1))
-      skips-count e = rw (skipped e) counted
+      pub skips_count : not t ≡ true → n ≡ length (gathered v b (i + 1))
+      skips_count e = rw (skipped e) counted
 
-      pub skips-laid : (z : ℕ) {d : List ℕ} → not t ≡ true → d ≡ padded z (joined (gathered v b i)) → d ≡ padded z (joined (gathered v b (i + 1)))
-      skips-laid z e f = rw (skipped e) f
+      pub skips_laid : (z : ℕ) {d : List ℕ} → not t ≡ true → d ≡ padded z (joined (gathered v b i)) → d ≡ padded z (joined (gathered v b (i + 1)))
+      skips_laid z e f = rw (skipped e) f
 
-      pub adds-count : not t ≡ false → n + 1 ≡ length (gathered v b (i + 1))
-      adds-count e = omega (arith, ap (λ (l : List Rec). length l) (added e), length-append (gathered v b i) (part b (80 * i) 80 ∷ []))
+      pub adds_count : not t ≡ false → n + 1 ≡ length (gathered v b (i + 1))
+      adds_count e = omega (arith, ap (λ (l : List Rec). length l) (added e), length-append (gathered v b i) (part b (80 * i) 80 ∷ []))
 
-      pub adds-laid : (z : ℕ) {d o : List ℕ} {to : ℕ} → not t ≡ false → to ≡ 80 * n → d ≡ padded z (joined (gathered v b i)) → o ≡ put_at d to (take (80 * i + 80 - 80 * i) (drop (80 * i) b))
+      pub adds_laid : (z : ℕ) {d o : List ℕ} {to : ℕ} → not t ≡ false → to ≡ 80 * n → d ≡ padded z (joined (gathered v b i)) → o ≡ put_at d to (take (80 * i + 80 - 80 * i) (drop (80 * i) b))
           → o ≡ padded z (joined (gathered v b (i + 1)))
-      adds-laid z {d} {o} {to} e k f g =
+      adds_laid z {d} {o} {to} e k f g =
           let r = part b (80 * i) 80 in
-          let m : to ≡ length (joined (gathered v b i)) = omega (arith, length-gathered i) in
+          let m : to ≡ length (joined (gathered v b i)) = omega (arith, length_gathered i) in
           let w : joined (gathered v b (i + 1)) ≡ joined (gathered v b i) ++ r = rw (added e) (joined-append (gathered v b i) (r ∷ []) ∙ rw (joined_one r)) in
           g ∙ rw (part_is b (80 * i) 80, f, m, w) (put-padded z (joined (gathered v b i)) r)
 
-    pub full-count : n ≡ 6 → 6 ≡ length (take 6 (lacking v (records_of b)))
-    full-count e = let m : length (gathered v b i) ≡ 6 = omega arith in rw (gathered-six i m) (sym m)
+    pub full_count : n ≡ 6 → 6 ≡ length (take 6 (lacking v (records_of b)))
+    full_count e = let m : length (gathered v b i) ≡ 6 = omega arith in rw (gathered_six i m) (sym m)
 
-    pub full-laid : {d : List ℕ} → n ≡ 6 → d ≡ padded 480 (joined (gathered v b i)) → d ≡ padded 480 (joined (take 6 (lacking v (records_of b))))
-    full-laid e f = let m : length (gathered v b i) ≡ 6 = omega arith in rw (gathered-six i m) f
+    pub full_laid : {d : List ℕ} → n ≡ 6 → d ≡ padded 480 (joined (gathered v b i)) → d ≡ padded 480 (joined (take 6 (lacking v (records_of b))))
+    full_laid e f = let m : length (gathered v b i) ≡ 6 = omega arith in rw (gathered_six i m) f
 
-    pub ends-count : n ≤ 6 → i ≤ used → used ≤ i → n ≡ length (take 6 (lacking v (records_of b)))
-    ends-count h k j = let m : length (gathered v b i) ≤ 6 = omega arith in rw (gathered-all i (omega arith) m) counted
+    pub ends_count : n ≤ 6 → i ≤ used → used ≤ i → n ≡ length (take 6 (lacking v (records_of b)))
+    ends_count h k j = let m : length (gathered v b i) ≤ 6 = omega arith in rw (gathered_all i (omega arith) m) counted
 
-    pub ends-laid : {d : List ℕ} → n ≤ 6 → i ≤ used → used ≤ i → d ≡ padded 480 (joined (gathered v b i)) → d ≡ padded 480 (joined (take 6 (lacking v (records_of b))))
-    ends-laid h k j f = let m : length (gathered v b i) ≤ 6 = omega arith in rw (gathered-all i (omega arith) m) f
+    pub ends_laid : {d : List ℕ} → n ≤ 6 → i ≤ used → used ≤ i → d ≡ padded 480 (joined (gathered v b i)) → d ≡ padded 480 (joined (take 6 (lacking v (records_of b))))
+    ends_laid h k j f = let m : length (gathered v b i) ≤ 6 = omega arith in rw (gathered_all i (omega arith) m) f
 
 -- ---- all that a vector lacks
 
 module _ (v b : List ℕ) (i used n : ℕ) (whole : used ≡ length (records_of b)) (counted : n ≡ length (gathered v b i)) (h : used ≤ i) where
-  gathered-whole : gathered v b i ≡ lacking v (records_of b)
+  gathered_whole : gathered v b i ≡ lacking v (records_of b)
   unfolding gathered
-  gathered-whole = rw (take_all i (records_of b) (omega arith))
+  gathered_whole = rw (take_all i (records_of b) (omega arith))
 
   pub whole-count : n ≡ length (lacking v (records_of b))
-  whole-count = counted ∙ ap (λ (l : List Rec). length l) gathered-whole
+  whole-count = counted ∙ ap (λ (l : List Rec). length l) gathered_whole
 
-  pub whole-laid : (z : ℕ) {d : List ℕ} → d ≡ padded z (joined (gathered v b i)) → d ≡ padded z (joined (lacking v (records_of b)))
-  whole-laid z f = rw gathered-whole at f
+  pub whole_laid : (z : ℕ) {d : List ℕ} → d ≡ padded z (joined (gathered v b i)) → d ≡ padded z (joined (lacking v (records_of b)))
+  whole_laid z f = rw gathered_whole at f
 
 pub starts_log : {d : List ℕ} → d ≡ replicate 40960 0 → length d ≡ 40960
 starts_log e = ap (λ (l : List ℕ). length l) e ∙ length-replicate {A = ℕ} 40960 0

@@ -11,7 +11,7 @@ use lib.Dec.{eqb}
 use lib.ListN.{length, take, drop, replicate, length-append, length-take, length-drop, length-replicate}
 use lib.Seq.{take_all, drop-length, drop-drop, drop-append-add}
 use borrow.Rule.Slice.PartMut.{put_mid}
-use borrow.Author.Tests.{not-true, not-false}
+use borrow.Author.Tests.{not-true, not_false}
 use Rattle.model.specs.Vector.{covers, blocks_for}
 use Rattle.model.specs.Bytes.{part, padded, joined, put_at}
 use Rattle.model.specs.Record.{Rec}
@@ -27,9 +27,9 @@ use Rattle.block_laws.proofs.Fields.{Sized, joined-part}
 use Rattle.encoding_laws.proofs.Logs.{sound_proper_on, proper_sized, sound_records_on}
 use Rattle.base_head.specs.Head.{headed}
 use Rattle.call_guard.specs.Opened.{opened, open_of}
-use Rattle.call_guard.proofs.Opening.{open-sound, open-held, open-folded, call-refused, call_passes}
+use Rattle.call_guard.proofs.Opening.{open_sound, open_held, open_folded, call_refused, call_passes}
 use Rattle.hand_out_pick.proofs.Gathered.{sized_lacking}
-use Rattle.row_laws.proofs.Raised.{length-rowBlock, length-rowTo}
+use Rattle.row_laws.proofs.Raised.{length-row_block, length-row_to}
 use Rattle.row_model.specs.Row.{row_block, row_to, row_of, handed_row, hand_row_of}
 
 -- ---- how many blocks
@@ -99,28 +99,28 @@ module _ (base b v own : List ℕ) (sound : sound_log_on base b ≡ true) where
 
   module _ (a u : ℕ) (d : List ℕ) (room : length d ≡ 44032) where
     -- the records of block k are not yet written over
-    pub still-lies : (k n : ℕ) {e : List ℕ} → drop 3072 d ≡ padded 40960 (joined (lacking v (records_of b))) → e ≡ row_to a u own (lacking v (records_of b)) k ++ drop (512 * k) d → k < n → n ≤ 86
+    pub still_lies : (k n : ℕ) {e : List ℕ} → drop 3072 d ≡ padded 40960 (joined (lacking v (records_of b))) → e ≡ row_to a u own (lacking v (records_of b)) k ++ drop (512 * k) d → k < n → n ≤ 86
         → drop (3072 + 480 * k) e ≡ drop (480 * k) (padded 40960 (joined (lacking v (records_of b))))
     unfolding w
-    still-lies k n laid p h g =
+    still_lies k n laid p h g =
         let f = row_to a u own w k in
         let i : ℕ = 3072 - 32 * k in
-        let lf : length f ≡ 512 * k = length-rowTo a u own w sized k in
+        let lf : length f ≡ 512 * k = length-row_to a u own w sized k in
         let at : 3072 + 480 * k ≡ length f + i = omega arith in
         let to : 512 * k + i ≡ 3072 + 480 * k = omega arith in
         let x : drop (3072 + 480 * k) (f ++ drop (512 * k) d) ≡ drop i (drop (512 * k) d) = rw at (drop-append-add f (drop (512 * k) d) i) in
         rw p (x ∙ drop-drop i (512 * k) d ∙ rw (to, ← laid) (sym (drop-drop (480 * k) 3072 d)))
 
     -- one block more
-    pub goes_on : (k n : ℕ) {e s o : List ℕ} → o ≡ put_at e (512 * k) s → s ≡ row_block a u own (lacking v (records_of b)) k
+    pub goes_on_lem : (k n : ℕ) {e s o : List ℕ} → o ≡ put_at e (512 * k) s → s ≡ row_block a u own (lacking v (records_of b)) k
         → e ≡ row_to a u own (lacking v (records_of b)) k ++ drop (512 * k) d → k < n → n ≤ 86
         → o ≡ row_to a u own (lacking v (records_of b)) (k + 1) ++ drop (512 * (k + 1)) d
     unfolding row_to w
-    goes_on k n r q p h g =
+    goes_on_lem k n r q p h g =
         let f = row_to a u own w k in
         let x = row_block a u own w k in
-        let lf : length f ≡ 512 * k = length-rowTo a u own w sized k in
-        let lw : length (f ++ x) ≡ 512 * (k + 1) = omega (arith, length-append f x, length-rowBlock a u own w sized k) in
+        let lf : length f ≡ 512 * k = length-row_to a u own w sized k in
+        let lw : length (f ++ x) ≡ 512 * (k + 1) = omega (arith, length-append f x, length-row_block a u own w sized k) in
         let y : put_at (f ++ drop (512 * k) d) (512 * k) x ≡ (f ++ x) ++ drop (512 * (k + 1)) d = rw (lf, lw) at (put_grows d f x (omega arith)) in
         r ∙ rw (p, q, y, add-one k)
 
@@ -133,7 +133,7 @@ module _ (base b v own : List ℕ) (sound : sound_log_on base b ≡ true) where
         let y : List ℕ = replicate (44032 - 512 * n) 0 in
         let kn : k ≡ n = omega arith in
         let nc : n ≡ blocks_for (length (lacking v (records_of b))) = all_counted (lacking v (records_of b)) m n q r in
-        let lf : length f ≡ 512 * n = length-rowTo a u own w sized n in
+        let lf : length f ≡ 512 * n = length-row_to a u own w sized n in
         let lz : length (f ++ y) ≡ length d = omega (arith, length-append f y, length-replicate {A = ℕ} (44032 - 512 * n) 0) in
         let x : put_at (f ++ drop (512 * n) d) (512 * n) y ≡ f ++ y = (rw (lf, lz) at (put_grows d f y (omega arith))) ∙ rw (drop-length d, append-nil) in
         z ∙ rw (p, kn, x, ← nc, lf)
@@ -141,27 +141,27 @@ module _ (base b v own : List ℕ) (sound : sound_log_on base b ≡ true) where
 -- ---- the ways out
 
 module _ (a u : ℕ) (log base v lent : List ℕ) {n m k j : ℕ} {folded held : List ℕ} {used : ℕ} (e : opened n (headed m folded k j) held used ≡ open_of u log base (eqb (length lent) 44032) true) where
-  pub hand-refused : (n ≡ 0 → ⊥) → outcome n 0 log lent 0 ≡ hand_row_of a u log base v lent
+  pub hand_refused : (n ≡ 0 → ⊥) → outcome n 0 log lent 0 ≡ hand_row_of a u log base v lent
   unfolding hand_row_of
-  hand-refused h = call-refused u log base lent (eqb (length lent) 44032) e (handed_row a u log base v lent) h
+  hand_refused h = call_refused u log base lent (eqb (length lent) 44032) e (handed_row a u log base v lent) h
 
   module _ (z : n ≡ 0) where
     pub told_sound : sound_log_on folded log ≡ true
-    told_sound = rw (open-folded u log base (eqb (length lent) 44032) true e z) (open-sound u log base (eqb (length lent) 44032) true e z)
+    told_sound = rw (open_folded u log base (eqb (length lent) 44032) true e z) (open_sound u log base (eqb (length lent) 44032) true e z)
 
     module _ (t : Bool) (c : t ≡ covers v folded) where
       asks : covers v (base_vector base) ≡ t
-      asks = sym (rw (open-folded u log base (eqb (length lent) 44032) true e z) at c)
+      asks = sym (rw (open_folded u log base (eqb (length lent) 44032) true e z) at c)
 
       -- what is lacked may be folded
-      pub asked-below : not t ≡ true → outcome 27 0 log lent 0 ≡ hand_row_of a u log base v lent
+      pub asked_below : not t ≡ true → outcome 27 0 log lent 0 ≡ hand_row_of a u log base v lent
       unfolding hand_row_of handed_row
-      asked-below h =
+      asked_below h =
           let d : outcome 27 0 log lent 0 ≡ handed_row a u log base v lent = rw (asks, not-true t h) in
           d ∙ call_passes u log base lent (eqb (length lent) 44032) e (handed_row a u log base v lent) z
 
-      pub all-handed : not t ≡ false → {i : ℕ} {o : List ℕ} → o ≡ padded 44032 (row_of a u held (records_of log) v) → i ≡ blocks_for (length (lacking v (records_of log))) → outcome 0 0 log o i ≡ hand_row_of a u log base v lent
+      pub all_handed : not t ≡ false → {i : ℕ} {o : List ℕ} → o ≡ padded 44032 (row_of a u held (records_of log) v) → i ≡ blocks_for (length (lacking v (records_of log))) → outcome 0 0 log o i ≡ hand_row_of a u log base v lent
       unfolding hand_row_of handed_row
-      all-handed g {i} {o} p q =
-          let d : outcome 0 0 log o i ≡ handed_row a u log base v lent = rw (p, q, open-held u log base (eqb (length lent) 44032) true e z, asks, not-false t g) in
+      all_handed g {i} {o} p q =
+          let d : outcome 0 0 log o i ≡ handed_row a u log base v lent = rw (p, q, open_held u log base (eqb (length lent) 44032) true e z, asks, not_false t g) in
           d ∙ call_passes u log base lent (eqb (length lent) 44032) e (handed_row a u log base v lent) z

@@ -31,36 +31,36 @@ module _ (from : ℕ) where
   found_here : (l : List ℕ) (q r : ℕ) → 1 ≤ q → row_at from l q ≡ r → Found from l q r
   found_here l q r h e = record { steps = 1; there = (h, inl e) }
 
-  found-later : (l : List ℕ) (q r : ℕ) → 1 ≤ q → Found from l (behind from l q) r → Found from l q r
-  found-later l q r h f = record { steps = suc f.steps; there = (h, inr f.there) }
+  found_later : (l : List ℕ) (q r : ℕ) → 1 ≤ q → Found from l (behind from l q) r → Found from l q r
+  found_later l q r h f = record { steps = suc f.steps; there = (h, inr f.there) }
 
   -- the nodes up to c are the same
   abbrev Alike : List ℕ → List ℕ → ℕ → Type 0
   Alike l m c = (q : ℕ) → 1 ≤ q → q ≤ c → (row_at from m q ≡ row_at from l q) × (behind from m q ≡ behind from l q)
 
   module _ (l m : List ℕ) (c : ℕ) (a : Alike l m c) (f : (q : ℕ) → 1 ≤ q → q ≤ c → behind from l q < q) where
-    reach-kept : (s q r : ℕ) → q ≤ c → Reach from l s q r → Reach from m s q r
-    reach-kept zero q r h x = x
-    reach-kept (suc s) q r h x = (
+    reach_kept : (s q r : ℕ) → q ≤ c → Reach from l s q r → Reach from m s q r
+    reach_kept zero q r h x = x
+    reach_kept (suc s) q r h x = (
       x.0,
       ⊎_elim (λ (e : row_at from l q ≡ r). inl ((a q x.0 h).0 ∙ e))
-          (λ (y : Reach from l s (behind from l q) r). inr (rw (a q x.0 h).1 (reach-kept s (behind from l q) r (omega (arith, f q x.0 h)) y)))
+          (λ (y : Reach from l s (behind from l q) r). inr (rw (a q x.0 h).1 (reach_kept s (behind from l q) r (omega (arith, f q x.0 h)) y)))
           x.1,
     )
 
     found-kept : (q r : ℕ) → q ≤ c → Found from l q r → Found from m q r
-    found-kept q r h x = record { steps = x.steps; there = reach-kept x.steps q r h x.there }
+    found-kept q r h x = record { steps = x.steps; there = reach_kept x.steps q r h x.there }
 
   -- ---- numbers beside the chains are written
 
   module _ (l m : List ℕ) (w : Chains from l) (same : (i : ℕ) → from ≤ i → i < from + 4097 → get_or m i 0 ≡ get_or l i 0) where
-    pub kept-nodes : nodes_in from m ≡ nodes_in from l
+    pub kept_nodes : nodes_in from m ≡ nodes_in from l
     unfolding nodes_in
-    kept-nodes = same (from + 4096) (omega arith) (omega arith)
+    kept_nodes = same (from + 4096) (omega arith) (omega arith)
 
-    kept-first : (h : ℕ) → h < 1024 → first_of from m h ≡ first_of from l h
+    kept_first : (h : ℕ) → h < 1024 → first_of from m h ≡ first_of from l h
     unfolding first_of
-    kept-first h g = same (from + h) (omega arith) (omega arith)
+    kept_first h g = same (from + h) (omega arith) (omega arith)
 
     kept-behind : (q : ℕ) → q ≤ nodes_in from l → behind from m q ≡ behind from l q
     unfolding behind
@@ -70,27 +70,27 @@ module _ (from : ℕ) where
     unfolding row_at
     kept_row q g = let f = w.few in same (from + 2559 + q) (omega arith) (omega arith)
 
-    pub kept-chains : length m ≡ length l → Chains from m
-    kept-chains e =
+    pub kept_chains : length m ≡ length l → Chains from m
+    kept_chains e =
         record {
           long = rw e w.long;
-          few = rw kept-nodes w.few;
-          firsts = λ h g. rw (kept-nodes, kept-first h g) (w.firsts h g);
-          falls = λ q h g. let z = rw kept-nodes at g in rw (kept-behind q z) (w.falls q h z);
+          few = rw kept_nodes w.few;
+          firsts = λ h g. rw (kept_nodes, kept_first h g) (w.firsts h g);
+          falls = λ q h g. let z = rw kept_nodes at g in rw (kept-behind q z) (w.falls q h z);
         }
 
     pub kept-found : (h r : ℕ) → h < 1024 → Found from l (first_of from l h) r → Found from m (first_of from m h) r
-    kept-found h r g f = rw (kept-first h g) (found-kept l m (nodes_in from l) (λ q _ z. (kept_row q z, kept-behind q z)) w.falls (first_of from l h) r (w.firsts h g) f)
+    kept-found h r g f = rw (kept_first h g) (found-kept l m (nodes_in from l) (λ q _ z. (kept_row q z, kept-behind q z)) w.falls (first_of from l h) r (w.firsts h g) f)
 
     pub kept_rows : (P : ℕ → Type 0) → ((q : ℕ) → 1 ≤ q → q ≤ nodes_in from l → P (row_at from l q)) → (q : ℕ) → 1 ≤ q → q ≤ nodes_in from m → P (row_at from m q)
-    kept_rows P f q h g = let z = rw kept-nodes at g in rw (kept_row q z) (f q h z)
+    kept_rows P f q h g = let z = rw kept_nodes at g in rw (kept_row q z) (f q h z)
 
   -- ---- a node more
 
   module _ (l : List ℕ) (h row : ℕ) where
-    pushed-cell : (i : ℕ) → (i ≡ from + 2560 + nodes_in from l → ⊥) → (i ≡ from + 1024 + nodes_in from l → ⊥) → (i ≡ from + h → ⊥) → (i ≡ from + 4096 → ⊥) → get_or (pushed from l h row) i 0 ≡ get_or l i 0
+    pushed_cell : (i : ℕ) → (i ≡ from + 2560 + nodes_in from l → ⊥) → (i ≡ from + 1024 + nodes_in from l → ⊥) → (i ≡ from + h → ⊥) → (i ≡ from + 4096 → ⊥) → get_or (pushed from l h row) i 0 ≡ get_or l i 0
     unfolding pushed
-    pushed-cell i a b d e =
+    pushed_cell i a b d e =
         let c = nodes_in from l in
         let l1 = set l (from + 2560 + c) row in
         let l2 = set l1 (from + 1024 + c) (first_of from l h) in
@@ -102,38 +102,38 @@ module _ (from : ℕ) where
 
     -- what stands before the chains stays
     pub pushed-below : (i : ℕ) → i < from → get_or (pushed from l h row) i 0 ≡ get_or l i 0
-    pushed-below i x = pushed-cell i (λ z. omega arith) (λ z. omega arith) (λ z. omega arith) (λ z. omega arith)
+    pushed-below i x = pushed_cell i (λ z. omega arith) (λ z. omega arith) (λ z. omega arith) (λ z. omega arith)
 
     pub pushed_long : length (pushed from l h row) ≡ length l
     unfolding pushed
     pushed_long = simp length-set
 
     module _ (w : Chains from l) (room : nodes_in from l < 1536) (low : h < 1024) where
-      pub pushed-nodes : nodes_in from (pushed from l h row) ≡ nodes_in from l + 1
+      pub pushed_nodes : nodes_in from (pushed from l h row) ≡ nodes_in from l + 1
       unfolding pushed nodes_in
-      pushed-nodes =
+      pushed_nodes =
           let c = get_or l (from + 4096) 0 in
           let long = w.long in
           let l3 = set (set (set l (from + 2560 + c) row) (from + 1024 + c) (first_of from l h)) (from + h) (c + 1) in
           get_or-set_same l3 (from + 4096) (c + 1) 0 (simp length-set (omega arith))
 
       -- what stands behind the chains stays
-      pub pushed-above : (i : ℕ) → from + 4097 ≤ i → get_or (pushed from l h row) i 0 ≡ get_or l i 0
-      pushed-above i x = pushed-cell i (λ z. omega arith) (λ z. omega arith) (λ z. omega arith) (λ z. omega arith)
+      pub pushed_above : (i : ℕ) → from + 4097 ≤ i → get_or (pushed from l h row) i 0 ≡ get_or l i 0
+      pushed_above i x = pushed_cell i (λ z. omega arith) (λ z. omega arith) (λ z. omega arith) (λ z. omega arith)
 
-      pushed-first : first_of from (pushed from l h row) h ≡ nodes_in from l + 1
+      pushed_first : first_of from (pushed from l h row) h ≡ nodes_in from l + 1
       unfolding pushed first_of
-      pushed-first =
+      pushed_first =
           let c = nodes_in from l in
           let long = w.long in
           let l2 = set (set l (from + 2560 + c) row) (from + 1024 + c) (get_or l (from + h) 0) in
           get_or-set_other (set l2 (from + h) (c + 1)) (from + 4096) (from + h) (c + 1) 0 (λ e. omega arith)
           ∙ get_or-set_same l2 (from + h) (c + 1) 0 (simp length-set (omega arith))
 
-      pushed-first-other : (g : ℕ) → g < 1024 → (g ≡ h → ⊥) → first_of from (pushed from l h row) g ≡ first_of from l g
+      pushed_first_other : (g : ℕ) → g < 1024 → (g ≡ h → ⊥) → first_of from (pushed from l h row) g ≡ first_of from l g
       unfolding first_of
-      pushed-first-other g k e =
-          pushed-cell (from + g) (λ z. omega arith) (λ z. omega arith) (λ z. e (omega arith)) (λ z. omega arith)
+      pushed_first_other g k e =
+          pushed_cell (from + g) (λ z. omega arith) (λ z. omega arith) (λ z. e (omega arith)) (λ z. omega arith)
 
       pushed-behind : behind from (pushed from l h row) (nodes_in from l + 1) ≡ first_of from l h
       unfolding pushed behind
@@ -165,30 +165,30 @@ module _ (from : ℕ) where
       pushed-alike : Alike l (pushed from l h row) (nodes_in from l)
       unfolding behind row_at
       pushed-alike q a b = (
-        pushed-cell (from + 2559 + q) (λ z. omega arith) (λ z. omega arith) (λ z. omega arith) (λ z. omega arith),
-        pushed-cell (from + 1023 + q) (λ z. omega arith) (λ z. omega arith) (λ z. omega arith) (λ z. omega arith),
+        pushed_cell (from + 2559 + q) (λ z. omega arith) (λ z. omega arith) (λ z. omega arith) (λ z. omega arith),
+        pushed_cell (from + 1023 + q) (λ z. omega arith) (λ z. omega arith) (λ z. omega arith) (λ z. omega arith),
       )
 
-      pub pushed-chains : Chains from (pushed from l h row)
-      pushed-chains =
+      pub pushed_chains : Chains from (pushed from l h row)
+      pushed_chains =
           record {
             long = rw pushed_long w.long;
-            few = omega (arith, pushed-nodes);
+            few = omega (arith, pushed_nodes);
             firsts = λ g k.
-                ⊎_elim (λ (e : g ≡ h). rw (e, pushed-first, pushed-nodes) (omega arith))
-                (λ (e : g ≡ h → ⊥). rw (pushed-first-other g k e) (omega (arith, pushed-nodes, w.firsts g k)))
+                ⊎_elim (λ (e : g ≡ h). rw (e, pushed_first, pushed_nodes) (omega arith))
+                (λ (e : g ≡ h → ⊥). rw (pushed_first_other g k e) (omega (arith, pushed_nodes, w.firsts g k)))
                 (eq_or_ne g h);
             falls = λ q a b.
                 ⊎_elim (λ (e : q ≡ nodes_in from l + 1). rw (e, pushed-behind) (omega (arith, w.firsts h low)))
                 (λ (e : q ≡ nodes_in from l + 1 → ⊥).
-                let z : q ≤ nodes_in from l = omega (arith, pushed-nodes) in
+                let z : q ≤ nodes_in from l = omega (arith, pushed_nodes) in
                 rw (pushed-alike q a z).1 (w.falls q a z))
                 (eq_or_ne q (nodes_in from l + 1));
           }
 
       -- the row is found, and what was found still is
-      pub pushed-new : Found from (pushed from l h row) (first_of from (pushed from l h row) h) row
-      pushed-new = rw pushed-first (found_here (pushed from l h row) (nodes_in from l + 1) row (omega arith) pushed_row)
+      pub pushed_new : Found from (pushed from l h row) (first_of from (pushed from l h row) h) row
+      pushed_new = rw pushed_first (found_here (pushed from l h row) (nodes_in from l + 1) row (omega arith) pushed_row)
 
       pub pushed-found : (g r : ℕ) → g < 1024 → Found from l (first_of from l g) r → Found from (pushed from l h row) (first_of from (pushed from l h row) g) r
       pushed-found g r k f =
@@ -196,16 +196,16 @@ module _ (from : ℕ) where
           found-kept l (pushed from l h row) (nodes_in from l) pushed-alike w.falls (first_of from l g) r (w.firsts g k) f in
           ⊎_elim
           (λ (e : g ≡ h).
-          rw (e, pushed-first) (found-later (pushed from l h row) (nodes_in from l + 1) r (omega arith) (rw pushed-behind (rw e at old))))
-          (λ (e : g ≡ h → ⊥). rw (pushed-first-other g k e) old)
+          rw (e, pushed_first) (found_later (pushed from l h row) (nodes_in from l + 1) r (omega arith) (rw pushed-behind (rw e at old))))
+          (λ (e : g ≡ h → ⊥). rw (pushed_first_other g k e) old)
           (eq_or_ne g h)
 
-      pub pushed-rows : (P : ℕ → Type 0) → P row → ((q : ℕ) → 1 ≤ q → q ≤ nodes_in from l → P (row_at from l q))
+      pub pushed_rows : (P : ℕ → Type 0) → P row → ((q : ℕ) → 1 ≤ q → q ≤ nodes_in from l → P (row_at from l q))
           → (q : ℕ) → 1 ≤ q → q ≤ nodes_in from (pushed from l h row) → P (row_at from (pushed from l h row) q)
-      pushed-rows P u f q a b =
+      pushed_rows P u f q a b =
           ⊎_elim (λ (e : q ≡ nodes_in from l + 1). rw (e, pushed_row) u)
           (λ (e : q ≡ nodes_in from l + 1 → ⊥).
-          let z : q ≤ nodes_in from l = omega (arith, pushed-nodes) in
+          let z : q ≤ nodes_in from l = omega (arith, pushed_nodes) in
           rw (pushed-alike q a z).0 (f q a z))
           (eq_or_ne q (nodes_in from l + 1))
 
@@ -213,10 +213,10 @@ module _ (from : ℕ) where
 
   module _ (l : List ℕ) (h row : ℕ) where
     -- the chain is left, or loses a first node of the row
-    pop-cases : (popped from l h row ≡ l)
+    pop_cases : (popped from l h row ≡ l)
         ⊎ ((1 ≤ first_of from l h) × (row_at from l (first_of from l h) ≡ row) × (popped from l h row ≡ set l (from + h) (behind from l (first_of from l h))))
     unfolding popped
-    pop-cases =
+    pop_cases =
         let q = first_of from l h in
         ⊎_elim (λ (e : q ≡ 0). inl (rw (eq-eqb q 0 e)))
         (λ (e : q ≡ 0 → ⊥).
@@ -225,69 +225,69 @@ module _ (from : ℕ) where
         (eq_or_ne (row_at from l q) row))
         (eq_or_ne q 0)
 
-    popped-cell : (i : ℕ) → (i ≡ from + h → ⊥) → get_or (popped from l h row) i 0 ≡ get_or l i 0
-    popped-cell i e =
+    popped_cell : (i : ℕ) → (i ≡ from + h → ⊥) → get_or (popped from l h row) i 0 ≡ get_or l i 0
+    popped_cell i e =
         ⊎_elim (λ (z : popped from l h row ≡ l). rw z)
         (λ (z : (1 ≤ first_of from l h) × (row_at from l (first_of from l h) ≡ row) × (popped from l h row ≡ set l (from + h) (behind from l (first_of from l h)))).
         rw z.2 (get_or-set_other l (from + h) i (behind from l (first_of from l h)) 0 e))
-        pop-cases
+        pop_cases
 
     pub popped-below : (i : ℕ) → i < from → get_or (popped from l h row) i 0 ≡ get_or l i 0
-    popped-below i x = popped-cell i (λ z. omega arith)
+    popped-below i x = popped_cell i (λ z. omega arith)
 
     pub popped-long : length (popped from l h row) ≡ length l
     popped-long =
         ⊎_elim (λ (z : popped from l h row ≡ l). rw z)
         (λ (z : (1 ≤ first_of from l h) × (row_at from l (first_of from l h) ≡ row) × (popped from l h row ≡ set l (from + h) (behind from l (first_of from l h)))).
         rw z.2 (length-set l (from + h) (behind from l (first_of from l h))))
-        pop-cases
+        pop_cases
 
     module _ (w : Chains from l) (low : h < 1024) where
-      pub popped-nodes : nodes_in from (popped from l h row) ≡ nodes_in from l
+      pub popped_nodes : nodes_in from (popped from l h row) ≡ nodes_in from l
       unfolding nodes_in
-      popped-nodes = popped-cell (from + 4096) (λ e. omega arith)
+      popped_nodes = popped_cell (from + 4096) (λ e. omega arith)
 
-      pub popped-above : (i : ℕ) → from + 4097 ≤ i → get_or (popped from l h row) i 0 ≡ get_or l i 0
-      popped-above i x = popped-cell i (λ z. omega arith)
+      pub popped_above : (i : ℕ) → from + 4097 ≤ i → get_or (popped from l h row) i 0 ≡ get_or l i 0
+      popped_above i x = popped_cell i (λ z. omega arith)
 
       popped-row : (q : ℕ) → row_at from (popped from l h row) q ≡ row_at from l q
       unfolding row_at
-      popped-row q = popped-cell (from + 2559 + q) (λ e. omega arith)
+      popped-row q = popped_cell (from + 2559 + q) (λ e. omega arith)
 
       popped-behind : (q : ℕ) → 1 ≤ q → behind from (popped from l h row) q ≡ behind from l q
       unfolding behind
-      popped-behind q a = popped-cell (from + 1023 + q) (λ e. omega arith)
+      popped-behind q a = popped_cell (from + 1023 + q) (λ e. omega arith)
 
-      popped-first-other : (g : ℕ) → (g ≡ h → ⊥) → first_of from (popped from l h row) g ≡ first_of from l g
+      popped_first_other : (g : ℕ) → (g ≡ h → ⊥) → first_of from (popped from l h row) g ≡ first_of from l g
       unfolding first_of
-      popped-first-other g e = popped-cell (from + g) (λ z. e (omega arith))
+      popped_first_other g e = popped_cell (from + g) (λ z. e (omega arith))
 
-      popped-first : (first_of from (popped from l h row) h ≡ first_of from l h)
+      popped_first : (first_of from (popped from l h row) h ≡ first_of from l h)
           ⊎ ((1 ≤ first_of from l h) × (row_at from l (first_of from l h) ≡ row) × (first_of from (popped from l h row) h ≡ behind from l (first_of from l h)))
       unfolding first_of
-      popped-first =
+      popped_first =
           let long = w.long in
           ⊎_elim (λ (z : popped from l h row ≡ l). inl (rw z))
           (λ (z : (1 ≤ first_of from l h) × (row_at from l (first_of from l h) ≡ row) × (popped from l h row ≡ set l (from + h) (behind from l (first_of from l h)))).
           inr (z.0, z.1, rw z.2 (get_or-set_same l (from + h) (behind from l (first_of from l h)) 0 (omega arith))))
-          pop-cases
+          pop_cases
 
-      pub popped-chains : Chains from (popped from l h row)
-      popped-chains =
+      pub popped_chains : Chains from (popped from l h row)
+      popped_chains =
           record {
             long = rw popped-long w.long;
-            few = rw popped-nodes w.few;
+            few = rw popped_nodes w.few;
             firsts = λ g k.
                 ⊎_elim
                 (λ (e : g ≡ h).
                 let old = w.firsts h low in
-                ⊎_elim (λ (z : first_of from (popped from l h row) h ≡ first_of from l h). rw (e, z, popped-nodes) old)
+                ⊎_elim (λ (z : first_of from (popped from l h row) h ≡ first_of from l h). rw (e, z, popped_nodes) old)
                 (λ (z : (1 ≤ first_of from l h) × (row_at from l (first_of from l h) ≡ row) × (first_of from (popped from l h row) h ≡ behind from l (first_of from l h))).
-                rw (e, z.2, popped-nodes) (omega (arith, w.falls (first_of from l h) z.0 old)))
-                popped-first)
-                (λ (e : g ≡ h → ⊥). rw (popped-first-other g e, popped-nodes) (w.firsts g k))
+                rw (e, z.2, popped_nodes) (omega (arith, w.falls (first_of from l h) z.0 old)))
+                popped_first)
+                (λ (e : g ≡ h → ⊥). rw (popped_first_other g e, popped_nodes) (w.firsts g k))
                 (eq_or_ne g h);
-            falls = λ q a b. rw (popped-behind q a) (w.falls q a (rw popped-nodes at b));
+            falls = λ q a b. rw (popped-behind q a) (w.falls q a (rw popped_nodes at b));
           }
 
       -- every other row is still found
@@ -306,41 +306,41 @@ module _ (from : ℕ) where
           (λ (y : Found from l (behind from l (first_of from l h)) r).
           rw (e, z.2) (kept (behind from l (first_of from l h)) (omega (arith, w.falls (first_of from l h) z.0 old)) y))
           (found-next l (first_of from l h) r f1))
-          popped-first)
-          (λ (e : g ≡ h → ⊥). rw (popped-first-other g e) (kept (first_of from l g) (w.firsts g k) f))
+          popped_first)
+          (λ (e : g ≡ h → ⊥). rw (popped_first_other g e) (kept (first_of from l g) (w.firsts g k) f))
           (eq_or_ne g h)
 
-      pub popped-rows : (P : ℕ → Type 0) → ((q : ℕ) → 1 ≤ q → q ≤ nodes_in from l → P (row_at from l q))
+      pub popped_rows : (P : ℕ → Type 0) → ((q : ℕ) → 1 ≤ q → q ≤ nodes_in from l → P (row_at from l q))
           → (q : ℕ) → 1 ≤ q → q ≤ nodes_in from (popped from l h row) → P (row_at from (popped from l h row) q)
-      popped-rows P f q a b = rw (popped-row q) (f q a (rw popped-nodes at b))
+      popped_rows P f q a b = rw (popped-row q) (f q a (rw popped_nodes at b))
 
   -- ---- what the functions are asked, over plain values
 
   module _ (l : List ℕ) (w : Chains from l) (r : ℕ) where
-    pub nodes-few : r ≡ get_or l (from + 4096) 0 → r ≤ 1536
+    pub nodes_few : r ≡ get_or l (from + 4096) 0 → r ≤ 1536
     unfolding nodes_in
-    nodes-few e = omega (arith, w.few)
+    nodes_few e = omega (arith, w.few)
 
-    pub first-is : (h : ℕ) → h < 1024 → r ≡ get_or l (from + h) 0 → r ≤ nodes_in from l
+    pub first_is : (h : ℕ) → h < 1024 → r ≡ get_or l (from + h) 0 → r ≤ nodes_in from l
     unfolding first_of
-    first-is h k e = omega (arith, w.firsts h k)
+    first_is h k e = omega (arith, w.firsts h k)
 
-    pub behind-is : (q : ℕ) → 1 ≤ q → q ≤ nodes_in from l → r ≡ get_or l (from + 1023 + q) 0 → r < q
+    pub behind_is : (q : ℕ) → 1 ≤ q → q ≤ nodes_in from l → r ≡ get_or l (from + 1023 + q) 0 → r < q
     unfolding behind
-    behind-is q a b e = omega (arith, w.falls q a b)
+    behind_is q a b e = omega (arith, w.falls q a b)
 
   module _ (l : List ℕ) (h row q : ℕ) where
-    pub pop-empty : q ≡ first_of from l h → q ≡ 0 → l ≡ popped from l h row
+    pub pop_empty : q ≡ first_of from l h → q ≡ 0 → l ≡ popped from l h row
     unfolding popped
-    pop-empty e z = rw (eq-eqb (first_of from l h) 0 (sym e ∙ z))
+    pop_empty e z = rw (eq-eqb (first_of from l h) 0 (sym e ∙ z))
 
-    pub pop-other : (x : ℕ) → x ≡ row_at from l q → (x ≡ row → ⊥) → q ≡ first_of from l h → (q ≡ 0 → ⊥) → l ≡ popped from l h row
+    pub pop_other : (x : ℕ) → x ≡ row_at from l q → (x ≡ row → ⊥) → q ≡ first_of from l h → (q ≡ 0 → ⊥) → l ≡ popped from l h row
     unfolding popped
-    pop-other x f g e z =
+    pop_other x f g e z =
         rw (ne_eqb (first_of from l h) 0 (λ (y : first_of from l h ≡ 0). z (e ∙ y)), ne_eqb (row_at from l (first_of from l h)) row (λ (y : row_at from l (first_of from l h) ≡ row). g (f ∙ rw e y)))
 
-    pub pop-first : (x : ℕ) → x ≡ row_at from l q → x ≡ row → q ≡ first_of from l h → (q ≡ 0 → ⊥) → (v : ℕ) → v ≡ behind from l q → (m : List ℕ) → m ≡ set l (from + h) v → m ≡ popped from l h row
+    pub pop_first : (x : ℕ) → x ≡ row_at from l q → x ≡ row → q ≡ first_of from l h → (q ≡ 0 → ⊥) → (v : ℕ) → v ≡ behind from l q → (m : List ℕ) → m ≡ set l (from + h) v → m ≡ popped from l h row
     unfolding popped
-    pop-first x f g e z v p m y =
+    pop_first x f g e z v p m y =
         y
         ∙ rw (ne_eqb (first_of from l h) 0 (λ (y : first_of from l h ≡ 0). z (e ∙ y)), eq-eqb (row_at from l (first_of from l h)) row ((rw e at (sym f)) ∙ g), p, e)

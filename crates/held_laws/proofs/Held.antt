@@ -21,7 +21,7 @@ use Rattle.byte_slice.proofs.Numbers.{bool_cases}
 use Rattle.byte_slice.proofs.Compare.{same_eq, eq_same}
 use Rattle.log_laws.proofs.Tests.{vector_on-none}
 use Rattle.base_laws.proofs.Fresh.{empty_vector}
-use Rattle.held_laws.proofs.Records.{records-small, records_sab1}
+use Rattle.held_laws.proofs.Records.{records_small, records_sab1}
 
 -- ---- the first of two faults
 
@@ -78,10 +78,10 @@ module _ (b : List ℕ) (p n : ℕ) (w : List ℕ) (l : List Rec) where
   unfolding held_fault or_else fault
   held-right r e = rw (r, counts-right (base_vector b) n w l e)
 
-  pub held-from : (stands : Bool) → (held_fault stands b p n w l).number ≡ 0
+  pub held_from : (stands : Bool) → (held_fault stands b p n w l).number ≡ 0
       → (stands ≡ true) × ((records_fault_on (get_or b 0 0) (base_vector b) p [] 0 l).number ≡ 0) × (w ≡ vector_on (base_vector b) l)
   unfolding held_fault fault
-  held-from stands e =
+  held_from stands e =
       let c : Fault = counts_fault_on (base_vector b) n w l in
       let r : Fault = records_fault_on (get_or b 0 0) (base_vector b) p [] 0 l in
       let (x, y) = no_fault (cond stands (fault 0 0) (fault 31 0)) (or_else r c) e in
@@ -95,16 +95,16 @@ module _ (b : List ℕ) (p n : ℕ) (w : List ℕ) (l : List Rec) where
       )
 
   -- 31 at place 0 where list and base do not stand
-  pub held-31 : held_fault false b p n w l ≡ fault 31 0
+  pub held_31 : held_fault false b p n w l ≡ fault 31 0
   unfolding held_fault or_else fault
-  held-31 = refl
+  held_31 = refl
 
   -- and no such number where they do
   pub held_small : (held_fault true b p n w l).number ≤ 26
   unfolding held_fault fault
   held_small =
       else_small (fault 0 0) (or_else (records_fault_on (get_or b 0 0) (base_vector b) p [] 0 l) (counts_fault_on (base_vector b) n w l)) 26 (omega arith)
-      (else_small (records_fault_on (get_or b 0 0) (base_vector b) p [] 0 l) (counts_fault_on (base_vector b) n w l) 26 (records-small (get_or b 0 0) (base_vector b) p l [] 0) (counts_small (base_vector b) n w l))
+      (else_small (records_fault_on (get_or b 0 0) (base_vector b) p [] 0 l) (counts_fault_on (base_vector b) n w l) 26 (records_small (get_or b 0 0) (base_vector b) p l [] 0) (counts_small (base_vector b) n w l))
 
 -- ---- an SAB1 file
 

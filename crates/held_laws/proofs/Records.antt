@@ -32,17 +32,17 @@ read_all v pre r =
     (bool_cases (well_formed r))
 
 module _ (m : ℕ) (v : List ℕ) (pre : List Rec) (r : Rec) where
-  read-test : record_fault v pre r ≡ 0 → is_listed m (unit r) ≡ true → read_fault m v pre r ≡ 0
+  read_test : record_fault v pre r ≡ 0 → is_listed m (unit r) ≡ true → read_fault m v pre r ≡ 0
   unfolding read_fault record_fault
-  read-test e h =
+  read_test e h =
       ⊎_elim
       (λ (w : well_formed r ≡ true). rw (w, h) (rw w at e))
       (λ (w : well_formed r ≡ false). let z : ◌≡◌ {A = ℕ} 7 0 = rw w at e in absurd (omega arith))
       (bool_cases (well_formed r))
 
-  read-from : read_fault m v pre r ≡ 0 → (record_fault v pre r ≡ 0) × (is_listed m (unit r) ≡ true)
+  read_from_lem : read_fault m v pre r ≡ 0 → (record_fault v pre r ≡ 0) × (is_listed m (unit r) ≡ true)
   unfolding read_fault
-  read-from e =
+  read_from_lem e =
       ⊎_elim
       (λ (w : well_formed r ≡ true).
       ⊎_elim
@@ -69,22 +69,22 @@ module _ (m : ℕ) (v : List ℕ) (pre : List Rec) (r : Rec) where
 
 module _ (m : ℕ) (v : List ℕ) (p : ℕ) where
   -- sound records of listed units have no fault
-  pub sound-faultless : (l pre : List Rec) (i : ℕ) → sound_after v pre l ≡ true → ((s : Rec) → Has s l → is_listed m (unit s) ≡ true) → i + length l ≤ 512
+  pub sound_faultless : (l pre : List Rec) (i : ℕ) → sound_after v pre l ≡ true → ((s : Rec) → Has s l → is_listed m (unit s) ≡ true) → i + length l ≤ 512
       → records_fault_on m v p pre i l ≡ fault 0 0
   unfolding records_fault_on sound_after
-  sound-faultless [] pre i s a h = refl
-  sound-faultless (r ∷ l) pre i s a h =
+  sound_faultless [] pre i s a h = refl
+  sound_faultless (r ∷ l) pre i s a h =
       let (x, y) = and_true (eqb (record_fault v pre r) 0) (sound_after v (r ∷ pre) l) s in
-      let z : read_fault m v pre r ≡ 0 = read-test m v pre r (eqb-true (record_fault v pre r) 0 x) (a r (inl refl)) in
-      rw (lt-ltb i 512 (omega arith), z) (sound-faultless l (r ∷ pre) (suc i) y (λ t k. a t (inr k)) (omega arith))
+      let z : read_fault m v pre r ≡ 0 = read_test m v pre r (eqb-true (record_fault v pre r) 0 x) (a r (inl refl)) in
+      rw (lt-ltb i 512 (omega arith), z) (sound_faultless l (r ∷ pre) (suc i) y (λ t k. a t (inr k)) (omega arith))
 
   -- and those without a fault are sound, of listed units, and at most 512
-  pub faultless-sound : (l pre : List Rec) (i : ℕ) → i ≤ 512 → (records_fault_on m v p pre i l).number ≡ 0
+  pub faultless_sound : (l pre : List Rec) (i : ℕ) → i ≤ 512 → (records_fault_on m v p pre i l).number ≡ 0
       → (sound_after v pre l ≡ true) × (i + length l ≤ 512) × ((s : Rec) → Has s l → is_listed m (unit s) ≡ true)
   unfolding records_fault_on sound_after fault
-  faultless-sound [] pre i k e = (refl, omega arith, λ s h. absurd h)
-  faultless-sound (r ∷ l) pre i k e =
-      go (bool_cases (ltb i 512)) (bool_cases (eqb (read_fault m v pre r) 0)) (λ h d. faultless-sound l (r ∷ pre) (suc i) h d)
+  faultless_sound [] pre i k e = (refl, omega arith, λ s h. absurd h)
+  faultless_sound (r ∷ l) pre i k e =
+      go (bool_cases (ltb i 512)) (bool_cases (eqb (read_fault m v pre r) 0)) (λ h d. faultless_sound l (r ∷ pre) (suc i) h d)
     where
       go : (ltb i 512 ≡ true) ⊎ (ltb i 512 ≡ false) → (eqb (read_fault m v pre r) 0 ≡ true) ⊎ (eqb (read_fault m v pre r) 0 ≡ false)
           → (suc i ≤ 512 → (records_fault_on m v p (r ∷ pre) (suc i) l).number ≡ 0
@@ -92,7 +92,7 @@ module _ (m : ℕ) (v : List ℕ) (p : ℕ) where
           → (sound_after v pre (r ∷ l) ≡ true) × (i + length (r ∷ l) ≤ 512) × ((s : Rec) → Has s (r ∷ l) → is_listed m (unit s) ≡ true)
       go (inl a) (inl b) f =
           let (x, y, z) = f (omega (arith, ltb-true i 512 a)) (rw (a, b) at e) in
-          let (q, w) = read-from m v pre r (eqb-true (read_fault m v pre r) 0 b) in (
+          let (q, w) = read_from_lem m v pre r (eqb-true (read_fault m v pre r) 0 b) in (
             true_and (eqb (record_fault v pre r) 0) (sound_after v (r ∷ pre) l) (eq-eqb (record_fault v pre r) 0 q) x,
             omega arith,
             λ s h. ⊎_elim (λ (j : s ≡ r). rw j w) (λ (j : Has s l). z s j) h,
@@ -101,14 +101,14 @@ module _ (m : ℕ) (v : List ℕ) (p : ℕ) where
       go (inr a) b f = let z : ◌≡◌ {A = ℕ} 11 0 = rw a at e in absurd (omega arith)
 
   -- 7, 26, 20, 8, 9, 11 or 0
-  pub records-small : (l pre : List Rec) (i : ℕ) → (records_fault_on m v p pre i l).number ≤ 26
+  pub records_small : (l pre : List Rec) (i : ℕ) → (records_fault_on m v p pre i l).number ≤ 26
   unfolding records_fault_on fault
-  records-small [] pre i = omega arith
-  records-small (r ∷ l) pre i =
+  records_small [] pre i = omega arith
+  records_small (r ∷ l) pre i =
       ⊎_elim
       (λ (a : ltb i 512 ≡ true).
       ⊎_elim
-      (λ (b : eqb (read_fault m v pre r) 0 ≡ true). rw (a, b) (records-small l (r ∷ pre) (suc i)))
+      (λ (b : eqb (read_fault m v pre r) 0 ≡ true). rw (a, b) (records_small l (r ∷ pre) (suc i)))
       (λ (b : eqb (read_fault m v pre r) 0 ≡ false). rw (a, b) (read_small m v pre r))
       (bool_cases (eqb (read_fault m v pre r) 0)))
       (λ (a : ltb i 512 ≡ false). rw a (omega arith))

@@ -21,13 +21,13 @@ use Rattle.index_act.specs.Inside.{Inside}
 -- ---- the entry in a row
 
 module _ (b T : List ℕ) (n row : ℕ) where
-  pub remove-none : n ≤ row → b ≡ removed_in b (row_in T n row)
+  pub remove_none : n ≤ row → b ≡ removed_in b (row_in T n row)
   unfolding removed_in row_in
-  remove-none h = rw (le-ltb row n h)
+  remove_none h = rw (le-ltb row n h)
 
-  pub rename-none : (r : Rec) → n ≤ row → b ≡ renamed_in r b (row_in T n row)
+  pub rename_none : (r : Rec) → n ≤ row → b ≡ renamed_in r b (row_in T n row)
   unfolding renamed_in row_in
-  rename-none r h = rw (le-ltb row n h)
+  rename_none r h = rw (le-ltb row n h)
 
   label_lent : take (4 + 72 * row + 24 + 32 - (4 + 72 * row + 24)) (drop (4 + 72 * row + 24) T) ≡ (entry_in T (4 + 72 * row)).label
   unfolding entry_in
@@ -39,22 +39,22 @@ module _ (b T : List ℕ) (n row : ℕ) where
   unfolding removed_in row_in
   remove_there h x k e q = rw (lt-ltb row n h) (q ∙ rw (e, label_lent))
 
-  pub rename-there : row < n → (r : Rec) (x : List ℕ) (k m : ℕ) → k ≡ (entry_in T (4 + 72 * row)).inside → m ≡ (entry_in T (4 + 72 * row)).made
+  pub rename_there : row < n → (r : Rec) (x : List ℕ) (k m : ℕ) → k ≡ (entry_in T (4 + 72 * row)).inside → m ≡ (entry_in T (4 + 72 * row)).made
       → x ≡ move_in b k (take (4 + 72 * row + 24 + 32 - (4 + 72 * row + 24)) (drop (4 + 72 * row + 24) T)) k (take 32 (drop 32 r)) m
       → x ≡ renamed_in r b (row_in T n row)
   unfolding renamed_in row_in label_of part
-  rename-there h r x k m e f q = rw (lt-ltb row n h) (q ∙ rw (e, f, label_lent))
+  rename_there h r x k m e f q = rw (lt-ltb row n h) (q ∙ rw (e, f, label_lent))
 
 module _ (b T : List ℕ) (n row : ℕ) (r : Rec) where
   pub move_none : n ≤ row → b ≡ moved_in r b (row_in T n row)
   unfolding moved_in row_in
   move_none h = rw (le-ltb row n h)
 
-  pub move-there : row < n → (x : List ℕ) (k m g : ℕ) → k ≡ (entry_in T (4 + 72 * row)).inside → m ≡ (entry_in T (4 + 72 * row)).made → g ≡ folder_of r
+  pub move_there : row < n → (x : List ℕ) (k m g : ℕ) → k ≡ (entry_in T (4 + 72 * row)).inside → m ≡ (entry_in T (4 + 72 * row)).made → g ≡ folder_of r
       → x ≡ move_in b k (take (4 + 72 * row + 24 + 32 - (4 + 72 * row + 24)) (drop (4 + 72 * row + 24) T)) g (take 32 (drop 32 r)) m
       → x ≡ moved_in r b (row_in T n row)
   unfolding moved_in row_in label_of part
-  move-there h x k m g e f p q = rw (lt-ltb row n h) (q ∙ rw (e, f, p, label_lent b T n row))
+  move_there h x k m g e f p q = rw (lt-ltb row n h) (q ∙ rw (e, f, p, label_lent b T n row))
 
 pub folder_low : (T : List ℕ) (n row k : ℕ) → Inside T n → row < n → k ≡ (entry_in T (4 + 72 * row)).inside → k < 524288
 folder_low T n row k w h e = rw e (w.folder row h)
@@ -80,19 +80,19 @@ unfolding op
 asked_object r k a h e = rw e (a.object h)
 
 module _ (r : Rec) (T : List ℕ) (n m : ℕ) (b x : List ℕ) where
-  pub change-make : get_or r 1 0 ≤ 2 → (f k : ℕ) → f ≡ folder_of r → k ≡ self_of r → x ≡ put_in b f (take 32 (drop 32 r)) k → x ≡ change_in r (tree_in T n m) b
+  pub change_make : get_or r 1 0 ≤ 2 → (f k : ℕ) → f ≡ folder_of r → k ≡ self_of r → x ≡ put_in b f (take 32 (drop 32 r)) k → x ≡ change_in r (tree_in T n m) b
   unfolding change_in op label_of part
-  change-make o f k p q e = e ∙ rw (p, q, le-leb (get_or r 1 0) 2 o)
+  change_make o f k p q e = e ∙ rw (p, q, le-leb (get_or r 1 0) 2 o)
 
   module _ (o : 2 < get_or r 1 0) where
-    pub change-remove : get_or r 1 0 ≡ 4 → (k row : ℕ) → k ≡ object_of r → row_in T n row ≡ entry_of k (entries_from T 0 n) → x ≡ removed_in b (row_in T n row) → x ≡ change_in r (tree_in T n m) b
+    pub change_remove : get_or r 1 0 ≡ 4 → (k row : ℕ) → k ≡ object_of r → row_in T n row ≡ entry_of k (entries_from T 0 n) → x ≡ removed_in b (row_in T n row) → x ≡ change_in r (tree_in T n m) b
     unfolding change_in op tree_in
-    change-remove h k row p q e = e ∙ rw (q, p, lt-leb (get_or r 1 0) 2 o, eq-eqb (get_or r 1 0) 4 h)
+    change_remove h k row p q e = e ∙ rw (q, p, lt-leb (get_or r 1 0) 2 o, eq-eqb (get_or r 1 0) 4 h)
 
     module _ (g : get_or r 1 0 ≡ 4 → ⊥) where
-      pub change-rename : get_or r 1 0 ≡ 5 → (k row : ℕ) → k ≡ object_of r → row_in T n row ≡ entry_of k (entries_from T 0 n) → x ≡ renamed_in r b (row_in T n row) → x ≡ change_in r (tree_in T n m) b
+      pub change_rename : get_or r 1 0 ≡ 5 → (k row : ℕ) → k ≡ object_of r → row_in T n row ≡ entry_of k (entries_from T 0 n) → x ≡ renamed_in r b (row_in T n row) → x ≡ change_in r (tree_in T n m) b
       unfolding change_in op tree_in
-      change-rename h k row p q e = e ∙ rw (q, p, lt-leb (get_or r 1 0) 2 o, ne_eqb (get_or r 1 0) 4 g, eq-eqb (get_or r 1 0) 5 h)
+      change_rename h k row p q e = e ∙ rw (q, p, lt-leb (get_or r 1 0) 2 o, ne_eqb (get_or r 1 0) 4 g, eq-eqb (get_or r 1 0) 5 h)
 
 pub change_move : (r : Rec) (T : List ℕ) (n m : ℕ) (b x : List ℕ) → get_or r 1 0 ≡ 7 → (k row : ℕ) → k ≡ object_of r → row_in T n row ≡ entry_of k (entries_from T 0 n) → x ≡ moved_in r b (row_in T n row) → x ≡ change_in r (tree_in T n m) b
 unfolding change_in op tree_in

@@ -12,7 +12,7 @@ use Rattle.model.specs.Table.{entry_in}
 use Rattle.log_laws.proofs.Members.{All, all_at}
 use Rattle.tree_table.specs.Rows.{entries_from, tree_in}
 use Rattle.tree_lookup.specs.Roles.{Works}
-use Rattle.tree_lookup.proofs.Working.{works-tree, proper_at}
+use Rattle.tree_lookup.proofs.Working.{works_tree, proper_at}
 use Rattle.tree_laws.proofs.Verdicts.{Under, Reason, reason_least, reason_range}
 use Rattle.tree_judge.specs.Judged.{verdict_of}
 use Rattle.tree_judge.proofs.Verdicts.{verdict_numbers}
@@ -30,7 +30,7 @@ nobody = record { made = 0; kind = 0; inside = 0; label = []; contents = 0; date
 pub laid_inside : (b register : List ℕ) (n m : ℕ) (t : Tree) → Works b register n m t → All Rowed t.entries → Inside b n
 unfolding tree_in
 laid_inside b register n m t w a =
-    let q : entries_from b 0 n ≡ t.entries = ap (λ (x : Tree). x.entries) (works-tree b register n m t w) in
+    let q : entries_from b 0 n ≡ t.entries = ap (λ (x : Tree). x.entries) (works_tree b register n m t w) in
     let row : (i : ℕ) → i < n → entry_in b (4 + 72 * i) ≡ get_or t.entries i nobody =
     λ i h. let z : 0 + i ≡ i = omega arith in sym (rw z at (entries_at b 0 n i nobody h)) ∙ rw q in
     let c = w.rows in
@@ -47,13 +47,13 @@ reason_zero fits h e = refl
 reason_zero (aside n k) h e = absurd (omega (arith, reason_least n h))
 
 module _ (r : Rec) (t : Tree) (x k : ℕ) (e : verdict_of x k ≡ judge r t) where
-  pub reason-is : x ≡ reason_of (judge r t)
-  reason-is = (verdict_numbers x k (judge r t) e).0
+  pub reason_is : x ≡ reason_of (judge r t)
+  reason_is = (verdict_numbers x k (judge r t) e).0
 
   module _ (index : List ℕ) where
-    pub changed-it : x ≡ 0 → (y : List ℕ) → y ≡ if_lent index (change_in r t index) → y ≡ if_lent index (step_in (judge r t) r t index)
+    pub changed_it : x ≡ 0 → (y : List ℕ) → y ≡ if_lent index (change_in r t index) → y ≡ if_lent index (step_in (judge r t) r t index)
     unfolding step_in
-    changed-it h y q = rw (reason_zero (judge r t) (reason_range r t) (sym reason-is ∙ h)) q
+    changed_it h y q = rw (reason_zero (judge r t) (reason_range r t) (sym reason_is ∙ h)) q
 
     pub left_it : (x ≡ 0 → ⊥) → index ≡ if_lent index (step_in (judge r t) r t index)
     unfolding verdict_of step_in

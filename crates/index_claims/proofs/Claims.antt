@@ -17,34 +17,34 @@ use Rattle.log_laws.proofs.Counts.{count-append, formed_on}
 use Rattle.log_laws.proofs.Tests.{vector_on_get_d}
 use Rattle.tree_laws.proofs.Settling.{replay-append}
 use Rattle.call_laws.specs.Keeps.{Good}
-use Rattle.call_laws.proofs.States.{good-records}
+use Rattle.call_laws.proofs.States.{good_records}
 use Rattle.index_model.specs.Index.{index_size, ordered, index_rows, index_bytes, index_of, find_in, list_in, made_of}
 use Rattle.index_model.specs.Acting.{step_in}
 use Rattle.index_model.specs.Kept.{index_of_log}
 use Rattle.index_laws.specs.Listed.{Listed}
-use Rattle.index_laws.proofs.Exact.{find-right, list_right}
+use Rattle.index_laws.proofs.Exact.{find_right, list_right}
 use Rattle.index_laws.proofs.Acting.{Fit, effect-right}
-use Rattle.index_state.proofs.States.{state-fit}
+use Rattle.index_state.proofs.States.{state_fit}
 use Rattle.index_claims.specs.Lists.{SmallOn}
 
 nobody : Entry
 nobody = record { made = 0; kind = 0; inside = 0; label = []; contents = 0; date = []; mark = []; placing = 0 }
 
 fit_of : (log base : List ℕ) → Good log base → SmallOn log base → Fit (tree_of log base).entries
-fit_of log base g small = state-fit log base g.long.1 g.sound small
+fit_of log base g small = state_fit log base g.long.1 g.sound small
 
 module _ (log base : List ℕ) (good : Good log base) (small : SmallOn log base) (f : ℕ) (within : f < 4294967296) where
   -- I1: looking up a folder and a label, in capitals or small letters, gives the identity of the one entry that has them, or 0 where the tree has none
-  pub find-exact : (t : List ℕ) → find_in (index_of_log log base) f t ≡ made_of (holder_of root f t (tree_of log base).entries)
+  pub find_exact : (t : List ℕ) → find_in (index_of_log log base) f t ≡ made_of (holder_of root f t (tree_of log base).entries)
   unfolding index_of
-  find-exact t =
+  find_exact t =
       let w = fit_of log base good small in
-      find-right (tree_of log base).entries w.few w.rowed f within nobody t w.apart w.named
+      find_right (tree_of log base).entries w.few w.rowed f within nobody t w.apart w.named
 
   -- I2: listing a folder gives its entries and no other, each once, in label order
-  pub list-exact : Listed f (tree_of log base).entries (list_in (index_of_log log base) f)
+  pub list_exact : Listed f (tree_of log base).entries (list_in (index_of_log log base) f)
   unfolding index_of
-  list-exact =
+  list_exact =
       let w = fit_of log base good small in
       list_right (tree_of log base).entries w.few w.rowed f within nobody w.apart w.named
 
@@ -77,8 +77,8 @@ module _ (log next base : List ℕ) (r : Rec) (more : records_of next ≡ record
   unfolding tree_of
   tree-next = ap (replay_from (base_tree base)) more ∙ one_more (base_tree base) (records_of log) r
 
-  small-before : SmallOn next base → SmallOn log base
-  small-before small u h =
+  small_before : SmallOn next base → SmallOn log base
+  small_before small u h =
       let v : List ℕ = base_vector base in
       let q : get_or (held_on next base) u 0 ≡ get_or v u 0 + (count u (records_of log ++ (r ∷ []))) = vector_on_get_d v (records_of next) u h ∙ rw more in
       omega (arith, small u h, vector_on_get_d v (records_of log) u h, count-append u (records_of log) (r ∷ []))
@@ -86,8 +86,8 @@ module _ (log next base : List ℕ) (r : Rec) (more : records_of next ≡ record
   pub index_kept : Good log base → Good next base → SmallOn next base
       → step_in (judge r (tree_of log base)) r (tree_of log base) (index_of_log log base) ≡ index_of_log next base
   index_kept g h small =
-      let a : Fit (tree_of log base).entries = fit_of log base g (small-before small) in
+      let a : Fit (tree_of log base).entries = fit_of log base g (small_before small) in
       let b : Fit (step (tree_of log base) r).entries = rw tree-next at (fit_of next base h small) in
       let i : Member r (records_of next) = rw more (last_of (records_of log) r) in
-      let one : 1 ≤ op r = omega (arith, (well_ops r (formed_on (base_vector base) [] (records_of next) r (good-records next base h) i)).0) in
+      let one : 1 ≤ op r = omega (arith, (well_ops r (formed_on (base_vector base) [] (records_of next) r (good_records next base h) i)).0) in
       rw tree-next (step_right (tree_of log base) r one a b)

@@ -28,7 +28,7 @@ use Rattle.base_laws.proofs.Claims.{fold_shows_the_same}
 use Rattle.act_laws.proofs.Acting.{act_accepted}
 use Rattle.call_laws.specs.Keeps.{Good}
 use Rattle.call_laws.proofs.States.{empty_vector, empty_tree_lem, sound_back, zeros_good}
-use Rattle.call_laws.proofs.Calls.{guard_good, start_keeps, act-keeps, act-cases, take-keeps}
+use Rattle.call_laws.proofs.Calls.{guard_good, start_keeps, act-keeps, act_cases, take-keeps}
 use Rattle.call_laws.proofs.Keeping.{fold_keeps}
 use Rattle.row_laws.proofs.Stops.{row_good}
 use Rattle.index_model.specs.Index.{index_size, index_places, ordered, index_rows, index_bytes, index_of}
@@ -38,10 +38,10 @@ use Rattle.index_laws.specs.Copied.{index_from}
 use Rattle.index_laws.proofs.Reading.{Long, rows_long}
 use Rattle.index_laws.proofs.Sorted.{has_ordered}
 use Rattle.index_laws.proofs.Exact.{Rowed, all_has, has_all, length-ordered}
-use Rattle.index_state.proofs.States.{state-fit, index_made}
+use Rattle.index_state.proofs.States.{state_fit, index_made}
 use Rattle.index_claims.specs.Lists.{UnitCall, starts, acts, takes, takes_row, folds, Carried, carried, leaves, leaves_all, Given, AllGiven, Bytes, SmallOn, Right}
 use Rattle.index_claims.proofs.Claims.{start_index, index_kept}
-use Rattle.index_claims.proofs.Small.{act-small, take_small, row_small}
+use Rattle.index_claims.proofs.Small.{act_small, take_small, row_small}
 
 -- ---- a fresh index has its length
 
@@ -53,7 +53,7 @@ pub fresh-long : (log base : List ℕ) → Good log base → SmallOn log base �
 unfolding index_of
 fresh-long log base g small =
     let es : List Entry = present_ones (tree_of log base).entries in
-    let w = state-fit log base g.long.1 g.sound small in
+    let w = state_fit log base g.long.1 g.sound small in
     bytes_long (ordered es) (omega (arith, length-ordered es, w.few))
     (all_has Long (ordered es) (λ x i. (has_all Rowed es x w.rowed (has_ordered es x i)).0))
 
@@ -146,28 +146,28 @@ start_right archive u s r =
 -- ---- acting
 
 module _ (u : ℕ) (log base i w work : List ℕ) (g : Good log base) (small : SmallOn log base) (e : i ≡ index_of_log log base) (z : (act_of u log base w work).number ≡ 0) where
-  act-adds : (records_of (act_of u log base w work).log ≡ records_of log ++ (stamped u (base_vector base) (records_of log) w ∷ []))
+  act_adds : (records_of (act_of u log base w work).log ≡ records_of log ++ (stamped u (base_vector base) (records_of log) w ∷ []))
       × (length w ≡ 80)
       × (count_on (base_vector base) u (records_of log) < 65535)
       × (judge (stamped u (base_vector base) (records_of log) w) (tree_of log base) ≡ fits)
   unfolding tree_of base_in
-  act-adds =
+  act_adds =
       ⊎_elim
       (λ k. absurd (omega (arith, sym (ap (λ (o : Outcome). o.number) k.1) ∙ z)))
       (λ k. let a = (act_accepted (base_in base).list u (base_vector base) (base_in base).tree (records_of log) w).0 k.2 in (k.1, k.3, a.3, a.5))
-      (act-cases u log base w work)
+      (act_cases u log base w work)
 
-  act-good : Good (act_of u log base w work).log base
-  act-good = (act-keeps u log base w work).accepted z
+  act_good : Good (act_of u log base w work).log base
+  act_good = (act-keeps u log base w work).accepted z
 
-  acted-small : SmallOn (act_of u log base w work).log base
-  acted-small = act-small log base g small u w (act_of u log base w work).log act-adds.1 act-adds.2 act-good act-adds.0
+  acted_small : SmallOn (act_of u log base w work).log base
+  acted_small = act_small log base g small u w (act_of u log base w work).log act_adds.1 act_adds.2 act_good act_adds.0
 
   acted-fresh : change_in (stamped u (base_vector base) (records_of log) w) (tree_of log base) i ≡ index_of_log (act_of u log base w work).log base
   unfolding step_in
   acted-fresh =
       let r : Rec = stamped u (base_vector base) (records_of log) w in
-      rw e (rw act-adds.3 at (index_kept log (act_of u log base w work).log base r act-adds.0 g act-good acted-small))
+      rw e (rw act_adds.3 at (index_kept log (act_of u log base w work).log base r act_adds.0 g act_good acted_small))
 
 act-right : (archive u : ℕ) (w work : List ℕ) (s : Carried) → Right s → Right (leaves archive u (acts w work) s)
 unfolding leaves act_kept
@@ -182,8 +182,8 @@ act-right archive u w work s r =
     let e = r.fresh in
     subst Right (sym (same a refl b))
     (record {
-      good = act-good u s.log s.base s.index w work g k e z;
-      small = acted-small u s.log s.base s.index w work g k e z;
+      good = act_good u s.log s.base s.index w work g k e z;
+      small = acted_small u s.log s.base s.index w work g k e z;
       fresh = acted-fresh u s.log s.base s.index w work g k e z;
     }))
     (kept_cases (index_fits s.index) s.log [] s.index o j (right_lent s r) (act-keeps u s.log s.base w work).refused)
@@ -218,10 +218,10 @@ module _ (archive u : ℕ) (base row : List ℕ) where
       (λ (a : eqb o.number 0 ≡ false). rw a (omega arith))
       (bool_cases (eqb o.number 0))
 
-  none-taken : (n k : ℕ) (log : List ℕ) → (try_from archive u base row log k n).taken ≡ k → (try_from archive u base row log k n).log ≡ log
+  none_taken : (n k : ℕ) (log : List ℕ) → (try_from archive u base row log k n).taken ≡ k → (try_from archive u base row log k n).log ≡ log
   unfolding try_from
-  none-taken zero k log z = refl
-  none-taken (suc n) k log z = go (bool_cases (eqb (take_of archive u log base (block_at row k)).number 0))
+  none_taken zero k log z = refl
+  none_taken (suc n) k log z = go (bool_cases (eqb (take_of archive u log base (block_at row k)).number 0))
     where
       go : (eqb (take_of archive u log base (block_at row k)).number 0 ≡ true) ⊎ (eqb (take_of archive u log base (block_at row k)).number 0 ≡ false) → (try_from archive u base row log k (suc n)).log ≡ log
       go (inl a) =
@@ -242,7 +242,7 @@ module _ (archive u : ℕ) (base row : List ℕ) where
       go : (m : ℕ) → guard_number u log base true (row_fits (length row)) ≡ m → Good (left m).log base × SmallOn (left m).log base × ((left m).taken ≡ 0 → (left m).log ≡ log)
       go zero a =
           let (_, b, _, _) = guard_good u log base true (row_fits (length row)) a in
-          (row_good archive u log base row b g, row_small archive u base row h (blocks_in row) 0 log g small, λ z. none-taken (blocks_in row) 0 log z)
+          (row_good archive u log base row b g, row_small archive u base row h (blocks_in row) 0 log g small, λ z. none_taken (blocks_in row) 0 log z)
       go (suc m) a = (g, small, λ z. refl)
 
 row-right : (archive u : ℕ) (row work : List ℕ) (s : Carried) → Bytes row → Right s → Right (leaves archive u (takes_row row work) s)

@@ -19,7 +19,7 @@ use Rattle.model.specs.File.{block_at}
 use Rattle.base_model.specs.Base.{base_vector}
 use Rattle.call_model.specs.Outcome.{Outcome, stamped, take_of}
 use Rattle.row_model.specs.Row.{try_from}
-use Rattle.record.proofs.Ranks.{num-bound}
+use Rattle.record.proofs.Ranks.{num_bound}
 use Rattle.log_laws.specs.Members.{Has}
 use Rattle.log_laws.specs.Sound.{SoundOn}
 use Rattle.log_laws.proofs.Members.{has_append}
@@ -27,8 +27,8 @@ use Rattle.log_laws.proofs.Counts.{find_held_on, number_held_on, unit_of_on}
 use Rattle.log_laws.proofs.Tests.{vector_on_get_d}
 use Rattle.act_laws.proofs.Act.{stamped-num}
 use Rattle.call_laws.specs.Keeps.{Good}
-use Rattle.call_laws.proofs.States.{good-records}
-use Rattle.call_laws.proofs.Calls.{take-keeps, take_cases, take-grown}
+use Rattle.call_laws.proofs.States.{good_records}
+use Rattle.call_laws.proofs.Calls.{take-keeps, take_cases, take_grown}
 use Rattle.index_claims.specs.Lists.{Bytes, SmallOn}
 
 -- ---- from the numbers of the records
@@ -51,18 +51,18 @@ module _ (log base : List ℕ) (g : Good log base) (small : SmallOn log base) wh
   held_small : (s : Rec) → Has s (records_of log) → num s < 65536
   held_small s i =
       let v : List ℕ = base_vector base in
-      let h = good-records log base g in
+      let h = good_records log base g in
       let k = unit_of_on v [] (records_of log) s h i in
       omega (arith, number_held_on v (records_of log) s h i, small (unit s) k, vector_on_get_d v (records_of log) (unit s) k)
 
   -- ---- acting
 
-  pub act-small : (u : ℕ) (w next : List ℕ) → length w ≡ 80 → count_on (base_vector base) u (records_of log) < 65535 → Good next base
+  pub act_small : (u : ℕ) (w next : List ℕ) → length w ≡ 80 → count_on (base_vector base) u (records_of log) < 65535 → Good next base
       → records_of next ≡ records_of log ++ (stamped u (base_vector base) (records_of log) w ∷ []) → SmallOn next base
-  act-small u w next n c h e =
+  act_small u w next n c h e =
       let v : List ℕ = base_vector base in
       let r : Rec = stamped u v (records_of log) w in
-      small_from v (records_of next) (good-records next base h) base_small (λ s i.
+      small_from v (records_of next) (good_records next base h) base_small (λ s i.
       ⊎_elim
       (λ j. held_small s j)
       (⊎_elim (λ (q : s ≡ r). rw q (omega (arith, stamped-num u v (records_of log) w n))) (λ q. absurd q))
@@ -88,14 +88,14 @@ from_bytes b i (suc n) h s (inr k) = from_bytes b (suc i) n h s k
 
 block_small : (b : List ℕ) → Bytes b → (s : Rec) → Has s (block_records b) → num s < 65536
 unfolding block_records
-block_small b h s i = num-bound s (from_bytes b 0 (count_in b) h s i)
+block_small b h s i = num_bound s (from_bytes b 0 (count_in b) h s i)
 
 pub take_small : (archive u : ℕ) (log base b : List ℕ) → Good log base → SmallOn log base → Bytes b → SmallOn (take_of archive u log base b).log base
 take_small archive u log base b g small h =
     ⊎_elim
     (λ (e : (take_of archive u log base b).log ≡ log). subst (λ (x : List ℕ). SmallOn x base) (sym e) small)
     (λ (m, e, q, _).
-    let w = take-grown log base (block_records b) m g e in
+    let w = take_grown log base (block_records b) m g e in
     subst (λ (l : List Rec). (k : ℕ) → k < 8 → get_or (vector_on (base_vector base) l) k 0 < 65536) (sym q)
     (small_from (base_vector base) m w.sound (base_small log base g small) (λ s i.
     ⊎_elim (λ j. held_small log base g small s j) (λ j. block_small b h s j) (w.from s i))))

@@ -7,7 +7,7 @@ use mathlib.Core.Bool.{Bool, true, false, not, ◌&&◌}
 use mathlib.Core.List.{List}
 use lib.Dec.{ltb, eqb}
 use lib.ListN.{length, take, drop, replicate}
-use borrow.Author.Tests.{eq-eqb, ne_eqb, lt-ltb, le-ltb, ltb-true, not-true, not-false}
+use borrow.Author.Tests.{eq-eqb, ne_eqb, lt-ltb, le-ltb, ltb-true, not-true, not_false}
 use Rattle.byte_slice.proofs.Numbers.{and_true, and_wrong, test_false}
 use Rattle.byte_slice.proofs.Parts.{part_is, part_length}
 use Rattle.record_label.proofs.Same.{same_key, key_length}
@@ -52,14 +52,14 @@ module _ (b : List ℕ) (f : ℕ) (t : List ℕ) (i : ℕ) where
 -- ---- the answers
 
 module _ (b : List ℕ) (f : ℕ) (t : List ℕ) where
-  pub find-bad-index : (length b ≡ index_size → ⊥) → found 1 0 ≡ find_of b f t
+  pub find_bad_index : (length b ≡ index_size → ⊥) → found 1 0 ≡ find_of b f t
   unfolding find_of
-  find-bad-index h = rw (ne_eqb (length b) index_size h)
+  find_bad_index h = rw (ne_eqb (length b) index_size h)
 
   module _ (h : length b ≡ index_size) where
-    pub find-bad-label : (length t ≡ 32 → ⊥) → found 1 0 ≡ find_of b f t
+    pub find_bad_label : (length t ≡ 32 → ⊥) → found 1 0 ≡ find_of b f t
     unfolding find_of
-    find-bad-label g = rw (eq-eqb (length b) index_size h, ne_eqb (length t) 32 g)
+    find_bad_label g = rw (eq-eqb (length b) index_size h, ne_eqb (length t) 32 g)
 
     module _ (g : length t ≡ 32) {n k i : ℕ} (p : n ≡ rows_in b) (q : k ≡ folder_key f) (s : i ≡ halve (row_before b k t) 11 0 n) {r : Bool} (e : r ≡ row_is b f t i) where
       sought : i ≡ seek b (folder_key f) t
@@ -72,16 +72,16 @@ module _ (b : List ℕ) (f : ℕ) (t : List ℕ) where
           let w : row_is b f t (seek b (folder_key f) t) ≡ false = rw (← sought) (sym e ∙ not-true r z) in
           rw (eq-eqb (length b) index_size h, eq-eqb (length t) 32 g, w)
 
-      pub find-there : not r ≡ false → (x : ℕ) → x ≡ entry_at b i → found 0 x ≡ find_of b f t
+      pub find_there : not r ≡ false → (x : ℕ) → x ≡ entry_at b i → found 0 x ≡ find_of b f t
       unfolding find_of find_in
-      find-there z x y =
-          let w : row_is b f t (seek b (folder_key f) t) ≡ true = rw (← sought) (sym e ∙ not-false r z) in
+      find_there z x y =
+          let w : row_is b f t (seek b (folder_key f) t) ≡ true = rw (← sought) (sym e ∙ not_false r z) in
           rw (eq-eqb (length b) index_size h, eq-eqb (length t) 32 g, w, ← sought, y)
 
       pub row_within : not r ≡ false → n ≤ index_places → i < index_places
       unfolding row_is
       row_within z few =
-          let (u, v) = and_true (ltb i (rows_in b)) (eqb (folder_at b i) f && same_label (label_at b i) t) (sym e ∙ not-false r z) in
+          let (u, v) = and_true (ltb i (rows_in b)) (eqb (folder_at b i) f && same_label (label_at b i) t) (sym e ∙ not_false r z) in
           omega (arith, ltb-true i (rows_in b) u)
 
 pub list_bad_index : (b : List ℕ) (f : ℕ) → (length b ≡ index_size → ⊥) → range 1 0 0 ≡ range_of b f
@@ -90,18 +90,18 @@ list_bad_index b f h = rw (ne_eqb (length b) index_size h)
 
 module _ (b : List ℕ) (f : ℕ) (h : length b ≡ index_size) {n k a z : ℕ} (p : n ≡ rows_in b) (q : k ≡ folder_key f)
     (x : a ≡ halve (row_before b k (replicate 32 0)) 11 0 n) (y : z ≡ halve (row_before b (k + 1) (replicate 32 0)) 11 0 n) where
-  first-is : a ≡ first_in b f
+  first_is : a ≡ first_in b f
   unfolding first_in seek
-  first-is = x ∙ rw (p, q)
+  first_is = x ∙ rw (p, q)
 
   end_is : z ≡ end_in b f
   unfolding end_in seek
   end_is = y ∙ rw (p, q)
 
-  pub list-none : z < a → range 0 a 0 ≡ range_of b f
+  pub list_none : z < a → range 0 a 0 ≡ range_of b f
   unfolding range_of
-  list-none g = let m : z - a ≡ 0 = omega arith in rw (eq-eqb (length b) index_size h, ← first-is, ← end_is, m)
+  list_none g = let m : z - a ≡ 0 = omega arith in rw (eq-eqb (length b) index_size h, ← first_is, ← end_is, m)
 
-  pub list-there : range 0 a (z - a) ≡ range_of b f
+  pub list_there : range 0 a (z - a) ≡ range_of b f
   unfolding range_of
-  list-there = rw (eq-eqb (length b) index_size h, ← first-is, ← end_is)
+  list_there = rw (eq-eqb (length b) index_size h, ← first_is, ← end_is)

@@ -25,13 +25,13 @@ gone zero (x ∷ s) h = absurd (omega arith)
 gone (suc i) (x ∷ s) h = gone i s (omega arith)
 
 module _ (a b : List ℕ) (i : ℕ) (inv : comes_before (label_key (drop i a)) (label_key (drop i b)) ≡ comes_before (label_key a) (label_key b)) where
-  pub before-short : i < length a → length b ≤ i → false ≡ comes_before (label_key a) (label_key b)
+  pub before_short : i < length a → length b ≤ i → false ≡ comes_before (label_key a) (label_key b)
   unfolding comes_before label_key
-  before-short h g = rw (drop_more a i h, gone i b g) at inv
+  before_short h g = rw (drop_more a i h, gone i b g) at inv
 
-  pub before-end : length a ≤ i → i ≤ length b → ltb i (length b) ≡ comes_before (label_key a) (label_key b)
+  pub before_end : length a ≤ i → i ≤ length b → ltb i (length b) ≡ comes_before (label_key a) (label_key b)
   unfolding comes_before label_key
-  before-end h g =
+  before_end h g =
       ⊎_elim
       (λ (k : i < length b). rw (lt-ltb i (length b) k) (rw (gone i a h, drop_more b i k) at inv))
       (λ (k : length b ≤ i). rw (le-ltb i (length b) k) (rw (gone i a h, gone i b k) at inv))
@@ -49,14 +49,14 @@ module _ (a b : List ℕ) (i : ℕ) (inv : comes_before (label_key (drop i a)) (
     before-next e = rw (le-ltb x y (omega arith), eq-eqb x y e) at both
 
 module _ (f : ℕ) (t : List ℕ) (g : ℕ) (s : List ℕ) where
-  pub key-less : f < g → true ≡ key_before f t g s
+  pub key_less : f < g → true ≡ key_before f t g s
   unfolding key_before
-  key-less h = rw (lt-ltb f g h)
+  key_less h = rw (lt-ltb f g h)
 
   pub key_more : g < f → false ≡ key_before f t g s
   unfolding key_before
   key_more h = rw (le-ltb f g (omega arith), ne_eqb f g (omega arith))
 
-  pub key-text : g ≤ f → f ≤ g → (r : Bool) → r ≡ comes_before (label_key t) (label_key s) → r ≡ key_before f t g s
+  pub key_text : g ≤ f → f ≤ g → (r : Bool) → r ≡ comes_before (label_key t) (label_key s) → r ≡ key_before f t g s
   unfolding key_before
-  key-text h k r e = rw (le-ltb f g h, eq-eqb f g (omega arith)) e
+  key_text h k r e = rw (le-ltb f g h, eq-eqb f g (omega arith)) e

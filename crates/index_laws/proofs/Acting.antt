@@ -25,7 +25,7 @@ use Rattle.index_laws.proofs.Sorted.{Sorted, ordered_sorted, ordered_has, has_or
 use Rattle.index_laws.proofs.Reading.{Long, rows_counted, has_at, key_one}
 use Rattle.index_laws.proofs.Exact.{Rowed, low_32, all_has, has_all, has_present, length-ordered, There, row_there}
 use Rattle.index_laws.proofs.Unique.{SameKey, KeysApart, ordered_more, ordered_less, without}
-use Rattle.index_laws.proofs.Changing.{put_right, row-less}
+use Rattle.index_laws.proofs.Changing.{put_right, row_less}
 
 -- ---- lists with one in the middle
 
@@ -54,55 +54,55 @@ keys_middle (e ∷ p) x q a y (inl z) s =
 keys_middle (e ∷ p) x q a y (inr i) s = keys_middle p x q a.1 y i s
 
 module _ (p : List Entry) (x : Entry) (q : List Entry) where
-  middle-has : (y : Entry) → Has y (p ++ (x ∷ q)) → (y ≡ x) ⊎ Has y (p ++ q)
-  middle-has y i =
+  middle_has : (y : Entry) → Has y (p ++ (x ∷ q)) → (y ≡ x) ⊎ Has y (p ++ q)
+  middle_has y i =
       ⊎_elim
       (λ j. inr (append_has p q y (inl j)))
       (⊎_elim (λ z. inl z) (λ j. inr (append_has p q y (inr j))))
       (has_append p (x ∷ q) y i)
 
-  has-middle : (y : Entry) → (y ≡ x) ⊎ Has y (p ++ q) → Has y (p ++ (x ∷ q))
-  has-middle y (inl z) = append_has p (x ∷ q) y (inr (inl z))
-  has-middle y (inr i) = append_has p (x ∷ q) y (⊎_elim (λ j. inl j) (λ j. inr (inr j)) (has_append p q y i))
+  has_middle : (y : Entry) → (y ≡ x) ⊎ Has y (p ++ q) → Has y (p ++ (x ∷ q))
+  has_middle y (inl z) = append_has p (x ∷ q) y (inr (inl z))
+  has_middle y (inr i) = append_has p (x ∷ q) y (⊎_elim (λ j. inl j) (λ j. inr (inr j)) (has_append p q y i))
 
-  length-middle : length (p ++ (x ∷ q)) ≡ suc (length (p ++ q))
-  length-middle = omega (arith, length-append p (x ∷ q), length-append p q)
+  length_middle : length (p ++ (x ∷ q)) ≡ suc (length (p ++ q))
+  length_middle = omega (arith, length-append p (x ∷ q), length-append p q)
 
   module _ (few : length (p ++ (x ∷ q)) ≤ index_places) (rowed : All Rowed (p ++ (x ∷ q))) (keys : KeysApart (p ++ (x ∷ q))) (d : Entry) where
-    rowed-at : (y : Entry) → Has y (p ++ (x ∷ q)) → Rowed y
-    rowed-at y i = has_all Rowed (p ++ (x ∷ q)) y rowed i
+    rowed_at : (y : Entry) → Has y (p ++ (x ∷ q)) → Rowed y
+    rowed_at y i = has_all Rowed (p ++ (x ∷ q)) y rowed i
 
     -- one entry more
-    put-middle : put_in (index_bytes (ordered (p ++ q))) x.inside x.label x.made ≡ index_bytes (ordered (p ++ (x ∷ q)))
-    put-middle =
+    put_middle : put_in (index_bytes (ordered (p ++ q))) x.inside x.label x.made ≡ index_bytes (ordered (p ++ (x ∷ q)))
+    put_middle =
         let l = ordered (p ++ q) in
-        put_right l (omega (arith, length-ordered (p ++ q), length-middle))
-        (all_has Long l (λ y i. (rowed-at y (has-middle y (inr (has_ordered (p ++ q) y i)))).0))
-        (ordered_sorted (p ++ q)) x d (rowed-at x (has-middle x (inl refl))).0
-        ∙ ap index_bytes (sym (ordered_more (p ++ q) (p ++ (x ∷ q)) x (keys_less p x q keys) keys (keys_middle p x q keys) middle-has has-middle))
+        put_right l (omega (arith, length-ordered (p ++ q), length_middle))
+        (all_has Long l (λ y i. (rowed_at y (has_middle y (inr (has_ordered (p ++ q) y i)))).0))
+        (ordered_sorted (p ++ q)) x d (rowed_at x (has_middle x (inl refl))).0
+        ∙ ap index_bytes (sym (ordered_more (p ++ q) (p ++ (x ∷ q)) x (keys_less p x q keys) keys (keys_middle p x q keys) middle_has has_middle))
 
     -- one entry less
-    take-middle : take_out (index_bytes (ordered (p ++ (x ∷ q)))) x.inside x.label ≡ index_bytes (ordered (p ++ q))
+    take_middle : take_out (index_bytes (ordered (p ++ (x ∷ q)))) x.inside x.label ≡ index_bytes (ordered (p ++ q))
     unfolding take_out
-    take-middle =
+    take_middle =
         let m = p ++ (x ∷ q) in
         let l = ordered m in
         let lf : length l ≤ index_places = omega (arith, length-ordered m) in
-        let long : All Long l = all_has Long l (λ y i. (rowed-at y (has_ordered m y i)).0) in
+        let long : All Long l = all_has Long l (λ y i. (rowed_at y (has_ordered m y i)).0) in
         let r = seek (index_bytes l) (folder_key x.inside) x.label in
-        let xi = has-middle x (inl refl) in
-        let w = row_there l lf long (ordered_sorted m) (λ y i. rowed-at y (has_ordered m y i)) x.inside (low_32 x.inside (rowed-at x xi).1) d x.label x (ordered_has m x xi) refl refl in
+        let xi = has_middle x (inl refl) in
+        let w = row_there l lf long (ordered_sorted m) (λ y i. rowed_at y (has_ordered m y i)) x.inside (low_32 x.inside (rowed_at x xi).1) d x.label x (ordered_has m x xi) refl refl in
         let y = get_or l r d in
         let is : y ≡ x =
         ⊎_elim
         (λ z. z)
         (λ i. absurd (keys_middle p x q keys y i (ap folder_key (sym w.folder), sym w.label)))
-        (middle-has y (has_ordered m y (has_at l r d w.low))) in
+        (middle_has y (has_ordered m y (has_at l r d w.low))) in
         let o : ordered (p ++ q) ≡ without r l =
         ordered_less m (p ++ q) r d w.low keys (keys_less p x q keys)
-        (λ z i. (has-middle z (inr i), λ e. keys_middle p x q keys z i (ap (λ (v : Entry). folder_key v.inside) (sym (e ∙ is)), ap (λ (v : Entry). label_key v.label) (sym (e ∙ is)))))
-        (λ z i n. ⊎_elim (λ e. absurd (n (e ∙ sym is))) (λ j. j) (middle-has z i)) in
-        rw (w.found, rows_counted l lf long, row-less l long r d w.low lf, o)
+        (λ z i. (has_middle z (inr i), λ e. keys_middle p x q keys z i (ap (λ (v : Entry). folder_key v.inside) (sym (e ∙ is)), ap (λ (v : Entry). label_key v.label) (sym (e ∙ is)))))
+        (λ z i n. ⊎_elim (λ e. absurd (n (e ∙ sym is))) (λ j. j) (middle_has z i)) in
+        rw (w.found, rows_counted l lf long, row_less l long r d w.low lf, o)
 
 -- ---- entries that have the same rows
 
@@ -288,12 +288,12 @@ unfolding is_present new_entry
 new_there r h = rw (ne_eqb (op r) 0 (omega arith))
 
 module _ (d : Entry) where
-  make-right : (es : List Entry) (e : Entry) → Fit (es ++ (e ∷ [])) → is_present e ≡ true
+  make_right : (es : List Entry) (e : Entry) → Fit (es ++ (e ∷ [])) → is_present e ≡ true
       → put_in (index_bytes (ordered (present_ones es))) e.inside e.label e.made ≡ index_bytes (ordered (present_ones (es ++ (e ∷ []))))
   unfolding present_ones
-  make-right es e fit p =
+  make_right es e fit p =
       let q : present_ones (es ++ (e ∷ [])) ≡ present_ones es ++ (e ∷ []) = present_middle es e [] p in
-      let w = put-middle (present_ones es) e [] (rw q at fit.few) (rw q at fit.rowed) (rw q at (keys (es ++ (e ∷ [])) fit)) d in
+      let w = put_middle (present_ones es) e [] (rw q at fit.few) (rw q at fit.rowed) (rw q at (keys (es ++ (e ∷ [])) fit)) d in
       rw (append-nil (present_ones es), ← q) at w
 
   module _ (es : List Entry) (k : ℕ) (x : Entry) (e : entry_of k es ≡ some x) (fit : Fit es) where
@@ -306,16 +306,16 @@ module _ (d : Entry) where
     less : take_out (index_bytes (ordered (present_ones es))) x.inside x.label ≡ index_bytes (ordered (present_ones w.front ++ present_ones w.back))
     less =
         rw whole
-        (take-middle (present_ones w.front) x (present_ones w.back) (rw whole at fit.few) (rw whole at fit.rowed) (rw whole at (keys es fit)) d)
+        (take_middle (present_ones w.front) x (present_ones w.back) (rw whole at fit.few) (rw whole at fit.rowed) (rw whole at (keys es fit)) d)
 
-    remove-right : take_out (index_bytes (ordered (present_ones es))) x.inside x.label ≡ index_bytes (ordered (present_ones (changed removed k es)))
-    remove-right =
+    remove_right : take_out (index_bytes (ordered (present_ones es))) x.inside x.label ≡ index_bytes (ordered (present_ones (changed removed k es)))
+    remove_right =
         let q : present_ones (changed removed k es) ≡ present_ones w.front ++ present_ones w.back =
         ap present_ones (w.change removed) ∙ present_gone w.front (removed x) w.back (removed_gone x) in
         less ∙ ap (λ (l : List Entry). index_bytes (ordered l)) (sym q)
 
-    store-right : (r : Rec) → index_bytes (ordered (present_ones es)) ≡ index_bytes (ordered (present_ones (changed (stored r) k es)))
-    store-right r =
+    store_right : (r : Rec) → index_bytes (ordered (present_ones es)) ≡ index_bytes (ordered (present_ones (changed (stored r) k es)))
+    store_right r =
         let q : present_ones (changed (stored r) k es) ≡ present_ones w.front ++ (stored r x ∷ present_ones w.back) =
         ap present_ones (w.change (stored r)) ∙ present_middle w.front (stored r x) w.back (stored_there r x w.there) in
         rw (whole, q)
@@ -323,23 +323,23 @@ module _ (d : Entry) where
         (alike-ordered (present_ones w.front ++ (x ∷ present_ones w.back)) (present_ones w.front ++ (stored r x ∷ present_ones w.back))
         (alike_middle (present_ones w.front) x (stored r x) (present_ones w.back) (stored_same r x))))
 
-    rename-right : (r : Rec) → Fit (changed (renamed r) k es)
+    rename_right : (r : Rec) → Fit (changed (renamed r) k es)
         → move_in (index_bytes (ordered (present_ones es))) x.inside x.label x.inside (label_of r) x.made ≡ index_bytes (ordered (present_ones (changed (renamed r) k es)))
     unfolding move_in renamed
-    rename-right r fit' =
+    rename_right r fit' =
         let q : present_ones (changed (renamed r) k es) ≡ present_ones w.front ++ (renamed r x ∷ present_ones w.back) =
         ap present_ones (w.change (renamed r)) ∙ present_middle w.front (renamed r x) w.back (renamed_there r x w.there) in
         rw (less, q)
-        (put-middle (present_ones w.front) (renamed r x) (present_ones w.back) (rw q at fit'.few) (rw q at fit'.rowed) (rw q at (keys (changed (renamed r) k es) fit')) d)
+        (put_middle (present_ones w.front) (renamed r x) (present_ones w.back) (rw q at fit'.few) (rw q at fit'.rowed) (rw q at (keys (changed (renamed r) k es) fit')) d)
 
-    move-right : (r : Rec) → Fit (changed (moved r) k es)
+    move_right : (r : Rec) → Fit (changed (moved r) k es)
         → move_in (index_bytes (ordered (present_ones es))) x.inside x.label (folder_of r) (label_of r) x.made ≡ index_bytes (ordered (present_ones (changed (moved r) k es)))
     unfolding move_in moved
-    move-right r fit' =
+    move_right r fit' =
         let q : present_ones (changed (moved r) k es) ≡ present_ones w.front ++ (moved r x ∷ present_ones w.back) =
         ap present_ones (w.change (moved r)) ∙ present_middle w.front (moved r x) w.back (moved_there r x w.there) in
         rw (less, q)
-        (put-middle (present_ones w.front) (moved r x) (present_ones w.back) (rw q at fit'.few) (rw q at fit'.rowed) (rw q at (keys (changed (moved r) k es) fit')) d)
+        (put_middle (present_ones w.front) (moved r x) (present_ones w.back) (rw q at fit'.few) (rw q at fit'.rowed) (rw q at (keys (changed (moved r) k es) fit')) d)
 
   -- ---- a record
 
@@ -350,31 +350,31 @@ module _ (d : Entry) where
     removes : (o : Option Entry) → entry_of (object_of r) t.entries ≡ o → removed_in b o ≡ index_bytes (ordered (present_ones (changed removed (object_of r) t.entries)))
     unfolding removed_in b
     removes none e = rw (changed-none removed (object_of r) t.entries e)
-    removes (some x) e = remove-right t.entries (object_of r) x e fit
+    removes (some x) e = remove_right t.entries (object_of r) x e fit
 
     stores : (o : Option Entry) → entry_of (object_of r) t.entries ≡ o → b ≡ index_bytes (ordered (present_ones (changed (stored r) (object_of r) t.entries)))
     unfolding b
     stores none e = rw (changed-none (stored r) (object_of r) t.entries e)
-    stores (some x) e = store-right t.entries (object_of r) x e fit r
+    stores (some x) e = store_right t.entries (object_of r) x e fit r
 
     renames : (o : Option Entry) → entry_of (object_of r) t.entries ≡ o → Fit (changed (renamed r) (object_of r) t.entries)
         → renamed_in r b o ≡ index_bytes (ordered (present_ones (changed (renamed r) (object_of r) t.entries)))
     unfolding renamed_in b
     renames none e f = rw (changed-none (renamed r) (object_of r) t.entries e)
-    renames (some x) e f = rename-right t.entries (object_of r) x e fit r f
+    renames (some x) e f = rename_right t.entries (object_of r) x e fit r f
 
     moves : (o : Option Entry) → entry_of (object_of r) t.entries ≡ o → Fit (changed (moved r) (object_of r) t.entries)
         → moved_in r b o ≡ index_bytes (ordered (present_ones (changed (moved r) (object_of r) t.entries)))
     unfolding moved_in b
     moves none e f = rw (changed-none (moved r) (object_of r) t.entries e)
-    moves (some x) e f = move-right t.entries (object_of r) x e fit r f
+    moves (some x) e f = move_right t.entries (object_of r) x e fit r f
 
     -- what a record that fits does to the index leaves the index of the tree that it leaves
     pub effect-right : Fit (effect r t).entries → change_in r t (index_of t) ≡ index_of (effect r t)
     unfolding change_in index_of new_entry b
     effect-right =
         effect_elim (λ (x : Tree). Fit x.entries → change_in r t (index_of t) ≡ index_of x) r t
-        (λ o f. rw (le-leb (op r) 2 o) (make-right t.entries (new_entry r) f (new_there r one)))
+        (λ o f. rw (le-leb (op r) 2 o) (make_right t.entries (new_entry r) f (new_there r one)))
         (λ o f. rw (lt-leb (op r) 2 (omega arith), ne_eqb (op r) 4 (omega arith), ne_eqb (op r) 5 (omega arith), lt-leb 7 (op r) (omega arith)) (stores (entry_of (object_of r) t.entries) refl))
         (λ o f. rw (lt-leb (op r) 2 (omega arith), eq-eqb (op r) 4 o) (removes (entry_of (object_of r) t.entries) refl))
         (λ o f. rw (lt-leb (op r) 2 (omega arith), ne_eqb (op r) 4 (omega arith), eq-eqb (op r) 5 o) (renames (entry_of (object_of r) t.entries) refl f))

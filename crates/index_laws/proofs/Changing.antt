@@ -104,8 +104,8 @@ module _ (l : List Entry) (long : All Long l) where
   back_long : (i : ℕ) → length (index_rows (drop i l)) ≡ 40 * (length l - i)
   back_long i = omega (arith, rows_long (drop i l) (all_drop Long i l long), length-drop i l)
 
-  part-back : (i : ℕ) → i ≤ length l → part (index_bytes l) (4 + 40 * i) (40 * (length l - i)) ≡ index_rows (drop i l)
-  part-back i h =
+  part_back : (i : ℕ) → i ≤ length l → part (index_bytes l) (4 + 40 * i) (40 * (length l - i)) ≡ index_rows (drop i l)
+  part_back i h =
       rw (bytes_cut i, part_rows (length l) (index_rows (take i l) ++ (index_rows (drop i l) ++ Z)) (40 * i) (40 * (length l - i)))
       (rw (front_long i h, back_long i) at (part_middle (index_rows (take i l)) (index_rows (drop i l)) Z))
 
@@ -139,13 +139,13 @@ module _ (l : List Entry) (long : All Long l) where
       let ly : length (R ++ B) ≡ length B + 40 = omega (arith, length-append R B) in
       let d : drop (length (R ++ B)) (B ++ Z) ≡ drop 40 Z = rw ly (drop-append-add B Z 40) in
       let m : length (take i l ++ (e ∷ drop i l)) ≡ length l + 1 = omega (arith, length-append (take i l) (e ∷ drop i l), length-take i l, length-drop i l) in
-      rw (part-back i h, bytes_cut i, rows_written (length l) (length l + 1) A (B ++ Z) (R ++ B) (40 * i) (sym la), d)
+      rw (part_back i h, bytes_cut i, rows_written (length l) (length l + 1) A (B ++ Z) (R ++ B) (40 * i) (sym la), d)
       (more_bytes i e h n m)
 
-  less-bytes : (i : ℕ) → i < length l → length l ≤ index_places → length (take i l ++ drop (suc i) l) ≡ length l - 1
+  less_bytes : (i : ℕ) → i < length l → length l ≤ index_places → length (take i l ++ drop (suc i) l) ≡ length l - 1
       → head (length l - 1) ++ (index_rows (take i l) ++ ((index_rows (drop (suc i) l) ++ replicate 40 0) ++ Z)) ≡ index_bytes (take i l ++ drop (suc i) l)
   unfolding index_bytes padded head Z
-  less-bytes i h few m =
+  less_bytes i h few m =
       let A = index_rows (take i l) in
       let C = index_rows (drop (suc i) l) in
       let M = A ++ C in
@@ -157,14 +157,14 @@ module _ (l : List Entry) (long : All Long l) where
       let v : two (length l - 1) ++ (0 ∷ 0 ∷ (M ++ replicate (40960 - length M) 0)) ≡ index_bytes (take i l ++ drop (suc i) l) = rw (m, q) in
       ap (λ (x : List ℕ). two (length l - 1) ++ (0 ∷ 0 ∷ x)) u ∙ v
 
-  rows-from : (i : ℕ) (d : Entry) → i < length l → index_rows (drop i l) ≡ index_row (get_or l i d) ++ index_rows (drop (suc i) l)
+  rows_from : (i : ℕ) (d : Entry) → i < length l → index_rows (drop i l) ≡ index_row (get_or l i d) ++ index_rows (drop (suc i) l)
   unfolding index_rows
-  rows-from i d h = ap index_rows (drop-cons l i d h)
+  rows_from i d h = ap index_rows (drop-cons l i d h)
 
   -- row i taken out
-  pub row-less : (i : ℕ) (d : Entry) → i < length l → length l ≤ index_places → take_row (index_bytes l) (length l) i ≡ index_bytes (without i l)
+  pub row_less : (i : ℕ) (d : Entry) → i < length l → length l ≤ index_places → take_row (index_bytes l) (length l) i ≡ index_bytes (without i l)
   unfolding take_row
-  row-less i d h few =
+  row_less i d h few =
       let A = index_rows (take i l) in
       let C = index_rows (drop (suc i) l) in
       let R = index_row (get_or l i d) in
@@ -173,11 +173,11 @@ module _ (l : List Entry) (long : All Long l) where
       let n : length l - i - 1 ≡ length l - suc i = omega arith in
       let lb = back_long i in
       let lc = back_long (suc i) in
-      let ly : length Y ≡ length (R ++ C) = omega (arith, length-append C (replicate 40 0), length-replicate {A = ℕ} 40 0, ap (λ (x : List ℕ). length x) (rows-from i d h)) in
-      let g : drop (length Y) (index_rows (drop i l) ++ Z) ≡ Z = rw (ly, rows-from i d h) (drop-append_seam (R ++ C) Z) in
+      let ly : length Y ≡ length (R ++ C) = omega (arith, length-append C (replicate 40 0), length-replicate {A = ℕ} 40 0, ap (λ (x : List ℕ). length x) (rows_from i d h)) in
+      let g : drop (length Y) (index_rows (drop i l) ++ Z) ≡ Z = rw (ly, rows_from i d h) (drop-append_seam (R ++ C) Z) in
       let m : length (take i l ++ drop (suc i) l) ≡ length l - 1 = omega (arith, length-append (take i l) (drop (suc i) l), length-take i l, length-drop (suc i) l) in
-      rw (at, n, part-back (suc i) (omega arith), bytes_cut i, rows_written (length l) (length l - 1) A (index_rows (drop i l) ++ Z) Y (40 * i) (sym (front_long i (omega arith))), g, without_is i l)
-      (less-bytes i h few m)
+      rw (at, n, part_back (suc i) (omega arith), bytes_cut i, rows_written (length l) (length l - 1) A (index_rows (drop i l) ++ Z) Y (40 * i) (sym (front_long i (omega arith))), g, without_is i l)
+      (less_bytes i h few m)
 
 -- ---- an entry put in where it belongs
 

@@ -21,7 +21,7 @@ use Rattle.tree_laws.proofs.Labels.{Apart, Named, holds_from, the_holder, holder
 use Rattle.index_model.specs.Index.{index_places, comes_before, folder_key, key_before, entry_before, placed, ordered, index_bytes, index_of, rows_in, folder_at, label_at, entry_at, row_before, row_is, seek, find_in, first_in, end_in, entries_in, list_in, in_folder, made_of}
 use Rattle.index_laws.specs.Listed.{Rising, Listed}
 use Rattle.index_laws.proofs.Sorted.{Sorted, ordered_sorted, ordered_has, has_ordered, has_placed, Sought, key_same, key_not_self, key_instead}
-use Rattle.index_laws.proofs.Reading.{Long, rows_counted, folder-back, label-back, entry-back, before_back, entries_back, has_at, place_of, sorted_at, entry_keys, seek_finds, rows-rise, key_one, key_blank}
+use Rattle.index_laws.proofs.Reading.{Long, rows_counted, folder_back, label_back, entry_back, before_back, entries_back, has_at, place_of, sorted_at, entry_keys, seek_finds, rows_rise, key_one, key_blank}
 
 -- ---- members
 
@@ -217,10 +217,10 @@ distinct-ordered (e ∷ l) u =
 -- ---- in label order
 
 module _ (es : List Entry) (a : Apart es) (one : Named es) (f : ℕ) where
-  text-rises : (e x : Entry) → Has e es → Has x es → is_in f e ≡ true → is_in f x ≡ true → entry_before x e ≡ false → (e.made ≡ x.made → ⊥)
+  text_rises : (e x : Entry) → Has e es → Has x es → is_in f e ≡ true → is_in f x ≡ true → entry_before x e ≡ false → (e.made ≡ x.made → ⊥)
       → comes_before (label_key e.label) (label_key x.label) ≡ true
   unfolding key_before
-  text-rises e x i j p q s n =
+  text_rises e x i j p q s n =
       let k : folder_key e.inside ≡ folder_key x.inside = ap folder_key (in_inside f e p ∙ sym (in_inside f x q)) in
       test_true (comes_before (label_key e.label) (label_key x.label))
       (λ c.
@@ -229,12 +229,12 @@ module _ (es : List Entry) (a : Apart es) (one : Named es) (f : ℕ) where
       let (u, v) = key_same (folder_key e.inside) e.label (folder_key x.inside) x.label m (entry_keys x e s) in
       n (ap (λ (y : Entry). y.made) (one_label es a one e x i j (in_present f e p) (in_present f x q) (in_inside f x q ∙ sym (in_inside f e p)) (sym v))))
 
-  rising-of : (l : List Entry) → Sorted l → Distinct (makers l) → ((x : Entry) → Has x l → Has x es × (is_in f x ≡ true)) → Rising l
+  rising_of : (l : List Entry) → Sorted l → Distinct (makers l) → ((x : Entry) → Has x l → Has x es × (is_in f x ≡ true)) → Rising l
   unfolding makers
-  rising-of [] s u h = tt
-  rising-of (e ∷ l) s u h = (
-    λ x i. text-rises e x (h e (inl refl)).0 (h x (inr i)).0 (h e (inl refl)).1 (h x (inr i)).1 (s.0 x i) (λ q. u.0 (maker_has l e.made x i q)),
-    rising-of l s.1 u.1 (λ x i. h x (inr i)),
+  rising_of [] s u h = tt
+  rising_of (e ∷ l) s u h = (
+    λ x i. text_rises e x (h e (inl refl)).0 (h x (inr i)).0 (h e (inl refl)).1 (h x (inr i)).1 (s.0 x i) (λ q. u.0 (maker_has l e.made x i q)),
+    rising_of l s.1 u.1 (λ x i. h x (inr i)),
   )
 
 -- ---- looking up
@@ -270,7 +270,7 @@ row_there l few long sorted rowed f fits d t h i p q =
     let xi : x.inside ≡ f = key_one x.inside f (low_32 x.inside (rowed x (has_at l r d rn)).1) fits m in
     record {
       found =
-          rw (rows_counted l few long, lt-ltb r (length l) rn, folder-back l few long r d rn, label-back l few long r d rn, eq-eqb x.inside f xi)
+          rw (rows_counted l few long, lt-ltb r (length l) rn, folder_back l few long r d rn, label_back l few long r d rn, eq-eqb x.inside f xi)
           (same-of-key x.label t o);
       low = rn;
       folder = xi;
@@ -281,28 +281,28 @@ module _ (es : List Entry) (few : length (present_ones es) ≤ index_places) (ro
   L : List Entry
   L = ordered (present_ones es)
 
-  L-few : length L ≤ index_places
+  L_few : length L ≤ index_places
   unfolding L
-  L-few = omega (arith, length-ordered (present_ones es))
+  L_few = omega (arith, length-ordered (present_ones es))
 
-  L-has : (x : Entry) → Has x L → Has x es × (is_present x ≡ true)
+  L_has : (x : Entry) → Has x L → Has x es × (is_present x ≡ true)
   unfolding L
-  L-has x i = has_present es x (has_ordered (present_ones es) x i)
+  L_has x i = has_present es x (has_ordered (present_ones es) x i)
 
-  has-L : (x : Entry) → Has x es → is_present x ≡ true → Has x L
+  has_L : (x : Entry) → Has x es → is_present x ≡ true → Has x L
   unfolding L
-  has-L x i p = ordered_has (present_ones es) x (present_has es x i p)
+  has_L x i p = ordered_has (present_ones es) x (present_has es x i p)
 
-  L-rowed : (x : Entry) → Has x L → Rowed x
+  L_rowed : (x : Entry) → Has x L → Rowed x
   unfolding L
-  L-rowed x i = has_all Rowed (present_ones es) x rowed (has_ordered (present_ones es) x i)
+  L_rowed x i = has_all Rowed (present_ones es) x rowed (has_ordered (present_ones es) x i)
 
-  L-long : All Long L
-  L-long = all_has Long L (λ x i. (L-rowed x i).0)
+  L_long : All Long L
+  L_long = all_has Long L (λ x i. (L_rowed x i).0)
 
-  L-sorted : Sorted L
+  L_sorted : Sorted L
   unfolding L
-  L-sorted = ordered_sorted (present_ones es)
+  L_sorted = ordered_sorted (present_ones es)
 
   module _ (f : ℕ) (f-fits : f < 4294967296) (d : Entry) where
     module _ (t : List ℕ) where
@@ -315,7 +315,7 @@ module _ (es : List Entry) (few : length (present_ones es) ≤ index_places) (ro
       -- where an entry has the folder and the label, seeking finds a row that has them
       row-found : (h : Entry) → Has h L → h.inside ≡ f → label_key h.label ≡ label_key t → row_is b f t r ≡ true
       unfolding b r
-      row-found h i p q = (row_there L L-few L-long L-sorted L-rowed f f-fits d t h i p q).found
+      row-found h i p q = (row_there L L_few L_long L_sorted L_rowed f f-fits d t h i p q).found
 
       -- a row that has the folder and the label holds an entry that has them
       row-holds : row_is b f t r ≡ true → (x : Entry) × Has x L × (x.inside ≡ f) × (label_key x.label ≡ label_key t) × (entry_at b r ≡ x.made)
@@ -325,22 +325,22 @@ module _ (es : List Entry) (few : length (present_ones es) ≤ index_places) (ro
           let n = seek (index_bytes L) k t in
           let (u, v) = and_true (ltb n (rows_in (index_bytes L))) (eqb (folder_at (index_bytes L) n) f && same_label (label_at (index_bytes L) n) t) e in
           let (p, q) = and_true (eqb (folder_at (index_bytes L) n) f) (same_label (label_at (index_bytes L) n) t) v in
-          let rn : n < length L = omega (arith, ltb-true n (rows_in (index_bytes L)) u, rows_counted L L-few L-long) in (
+          let rn : n < length L = omega (arith, ltb-true n (rows_in (index_bytes L)) u, rows_counted L L_few L_long) in (
             get_or L n d,
             has_at L n d rn,
-            sym (folder-back L L-few L-long n d rn) ∙ eqb-true (folder_at (index_bytes L) n) f p,
-            ap label_key (sym (label-back L L-few L-long n d rn)) ∙ same_key (label_at (index_bytes L) n) t q,
-            entry-back L L-few L-long n d rn,
+            sym (folder_back L L_few L_long n d rn) ∙ eqb-true (folder_at (index_bytes L) n) f p,
+            ap label_key (sym (label_back L L_few L_long n d rn)) ∙ same_key (label_at (index_bytes L) n) t q,
+            entry_back L L_few L_long n d rn,
           )
 
       -- looking up gives the holder's identity, or 0
-      find-L : Apart es → Named es → find_in (index_bytes L) f t ≡ made_of (holder_of root f t es)
+      find_L : Apart es → Named es → find_in (index_bytes L) f t ≡ made_of (holder_of root f t es)
       unfolding find_in b r
-      find-L a one =
+      find_L a one =
           ⊎_elim
           (λ (c : row_is (index_bytes L) f t (seek (index_bytes L) (folder_key f) t) ≡ true).
           let (x, i, p, q, m) = row-holds c in
-          let (j, k) = L-has x i in
+          let (j, k) = L_has x i in
           let h : holder_of root f t es ≡ some x = sym (holder_key root f x.label t q es) ∙ (rw p at (the_holder es a one x j k)) in
           rw (c, m, h) (made_some x))
           (λ (c : row_is (index_bytes L) f t (seek (index_bytes L) (folder_key f) t) ≡ false). rw c (missing c (holder_of root f t es) refl))
@@ -350,91 +350,91 @@ module _ (es : List Entry) (few : length (present_ones es) ≤ index_places) (ro
           missing c none e = made_none
           missing c (some h) e =
               let u = holder_some root f t es h e in
-              absurd (not_both (row_is (index_bytes L) f t (seek (index_bytes L) (folder_key f) t)) (row-found h (has-L h u.0 u.1) u.2 u.3) c)
+              absurd (not_both (row_is (index_bytes L) f t (seek (index_bytes L) (folder_key f) t)) (row-found h (has_L h u.0 u.1) u.2 u.3) c)
 
-      pub find-right : Apart es → Named es → find_in (index_bytes (ordered (present_ones es))) f t ≡ made_of (holder_of root f t es)
+      pub find_right : Apart es → Named es → find_in (index_bytes (ordered (present_ones es))) f t ≡ made_of (holder_of root f t es)
       unfolding L
-      find-right a one = find-L a one
+      find_right a one = find_L a one
 
     -- ---- listing
 
     row-blank : (g i : ℕ) → i < length L → row_before (index_bytes L) g (replicate 32 0) i ≡ ltb (folder_key (get_or L i d).inside) g
     row-blank g i h =
-        before_back L L-few L-long i d h g (replicate 32 0)
-        ∙ key_blank (folder_key (get_or L i d).inside) (get_or L i d).label g (L-rowed (get_or L i d) (has_at L i d h)).0
+        before_back L L_few L_long i d h g (replicate 32 0)
+        ∙ key_blank (folder_key (get_or L i d).inside) (get_or L i d).label g (L_rowed (get_or L i d) (has_at L i d h)).0
 
     -- seeking without a label parts the rows of lesser folders from the others
-    cut-to : (g : ℕ) → seek (index_bytes L) g (replicate 32 0) ≤ length L
-    cut-to g = (seek_finds L L-few L-long L-sorted d g (replicate 32 0)).to
+    cut_to : (g : ℕ) → seek (index_bytes L) g (replicate 32 0) ≤ length L
+    cut_to g = (seek_finds L L_few L_long L_sorted d g (replicate 32 0)).to
 
-    cut-before : (g i : ℕ) → i < seek (index_bytes L) g (replicate 32 0) → folder_key (get_or L i d).inside < g
-    cut-before g i h =
-        let w = seek_finds L L-few L-long L-sorted d g (replicate 32 0) in
+    cut_before : (g i : ℕ) → i < seek (index_bytes L) g (replicate 32 0) → folder_key (get_or L i d).inside < g
+    cut_before g i h =
+        let w = seek_finds L L_few L_long L_sorted d g (replicate 32 0) in
         ltb-true (folder_key (get_or L i d).inside) g (sym (row-blank g i (omega (arith, w.to))) ∙ w.before i (omega arith) h)
 
-    cut-behind : (g i : ℕ) → seek (index_bytes L) g (replicate 32 0) ≤ i → i < length L → g ≤ folder_key (get_or L i d).inside
-    cut-behind g i h k =
-        let w = seek_finds L L-few L-long L-sorted d g (replicate 32 0) in
+    cut_behind : (g i : ℕ) → seek (index_bytes L) g (replicate 32 0) ≤ i → i < length L → g ≤ folder_key (get_or L i d).inside
+    cut_behind g i h k =
+        let w = seek_finds L L_few L_long L_sorted d g (replicate 32 0) in
         let r = seek (index_bytes L) g (replicate 32 0) in
         ⊎_elim
         (λ (c : folder_key (get_or L i d).inside < g).
         let p : row_before (index_bytes L) g (replicate 32 0) i ≡ true = row-blank g i k ∙ lt-ltb (folder_key (get_or L i d).inside) g c in
-        absurd (not_both (row_before (index_bytes L) g (replicate 32 0) r) (rows-rise L L-few L-long L-sorted d g (replicate 32 0) r i h k p) (w.at (omega arith))))
+        absurd (not_both (row_before (index_bytes L) g (replicate 32 0) r) (rows_rise L L_few L_long L_sorted d g (replicate 32 0) r i h k p) (w.at (omega arith))))
         (λ c. c)
         (lt_or_ge (folder_key (get_or L i d).inside) g)
 
-    in-it : (i : ℕ) → i < length L → folder_key (get_or L i d).inside ≡ folder_key f → is_in f (get_or L i d) ≡ true
+    in_it : (i : ℕ) → i < length L → folder_key (get_or L i d).inside ≡ folder_key f → is_in f (get_or L i d) ≡ true
     unfolding is_in
-    in-it i h e =
+    in_it i h e =
         let x = get_or L i d in
         let m = has_at L i d h in
-        true_and (is_present x) (eqb x.inside f) (L-has x m).1 (eq-eqb x.inside f (key_one x.inside f (low_32 x.inside (L-rowed x m).1) f-fits e))
+        true_and (is_present x) (eqb x.inside f) (L_has x m).1 (eq-eqb x.inside f (key_one x.inside f (low_32 x.inside (L_rowed x m).1) f-fits e))
 
-    not-in-it : (i : ℕ) → (folder_key (get_or L i d).inside ≡ folder_key f → ⊥) → is_in f (get_or L i d) ≡ false
+    not_in_it : (i : ℕ) → (folder_key (get_or L i d).inside ≡ folder_key f → ⊥) → is_in f (get_or L i d) ≡ false
     unfolding is_in
-    not-in-it i n =
+    not_in_it i n =
         let x = get_or L i d in
         test_false (is_present x && eqb x.inside f) (λ e. n (ap folder_key (eqb-true x.inside f (and_true (is_present x) (eqb x.inside f) e).1)))
 
-    list-L : list_in (index_bytes L) f ≡ makers (in_folder f L)
+    list_L : list_in (index_bytes L) f ≡ makers (in_folder f L)
     unfolding list_in first_in end_in
-    list-L =
+    list_L =
         let k = folder_key f in
         let a = seek (index_bytes L) k (replicate 32 0) in
         let z = seek (index_bytes L) (k + 1) (replicate 32 0) in
-        let an = cut-to k in
-        let zn = cut-to (k + 1) in
+        let an = cut_to k in
+        let zn = cut_to (k + 1) in
         let az : a ≤ z =
         ⊎_elim
-        (λ (c : z < a). absurd (omega (arith, cut-before k z c, cut-behind (k + 1) z (omega arith) (omega arith))))
+        (λ (c : z < a). absurd (omega (arith, cut_before k z c, cut_behind (k + 1) z (omega arith) (omega arith))))
         (λ c. c)
         (lt_or_ge z a) in
-        entries_back L L-few L-long d a (z - a) (omega arith)
+        entries_back L L_few L_long d a (z - a) (omega arith)
         ∙ ap makers
         (sym
         (filtered f L a z d az zn
-        (λ i h. not-in-it i (λ e. omega (arith, cut-before k i h)))
-        (λ i h g. in-it i (omega arith) (let u = cut-behind k i h (omega arith) in let v = cut-before (k + 1) i g in omega arith))
-        (λ i h g. not-in-it i (λ e. omega (arith, cut-behind (k + 1) i h g)))))
+        (λ i h. not_in_it i (λ e. omega (arith, cut_before k i h)))
+        (λ i h g. in_it i (omega arith) (let u = cut_behind k i h (omega arith) in let v = cut_before (k + 1) i g in omega arith))
+        (λ i h g. not_in_it i (λ e. omega (arith, cut_behind (k + 1) i h g)))))
 
-    in-there : (e : Entry) → Has e (in_folder f L) ↔ (Has e es × (is_in f e ≡ true))
-    in-there e = (
-      λ i. let (u, v) = has_filter f L e i in ((L-has e u).0, v),
-      λ i. filter_has f L e (has-L e i.0 (in_present f e i.1)) i.1,
+    in_there : (e : Entry) → Has e (in_folder f L) ↔ (Has e es × (is_in f e ≡ true))
+    in_there e = (
+      λ i. let (u, v) = has_filter f L e i in ((L_has e u).0, v),
+      λ i. filter_has f L e (has_L e i.0 (in_present f e i.1)) i.1,
     )
 
-    list-right-L : Apart es → Named es → Listed f es (list_in (index_bytes L) f)
+    list_right_L : Apart es → Named es → Listed f es (list_in (index_bytes L) f)
     unfolding L
-    list-right-L a one =
+    list_right_L a one =
         let o : Distinct (makers (in_folder f L)) = distinct_filter f L (distinct-ordered (present_ones es) (distinct_present es one.once)) in
         record {
           rows = in_folder f L;
-          are = list-L;
-          each = in-there;
-          once = rw list-L o;
-          rising = rising-of es a one f (in_folder f L) (filter_sorted f L L-sorted) o (λ x i. (in-there x).0 i);
+          are = list_L;
+          each = in_there;
+          once = rw list_L o;
+          rising = rising_of es a one f (in_folder f L) (filter_sorted f L L_sorted) o (λ x i. (in_there x).0 i);
         }
 
     pub list_right : Apart es → Named es → Listed f es (list_in (index_bytes (ordered (present_ones es))) f)
     unfolding L
-    list_right a one = list-right-L a one
+    list_right a one = list_right_L a one

@@ -115,9 +115,9 @@ module _ (b o : List ℕ) (n k : ℕ) (long : length o ≡ index_places) (few : 
   same_at i h = sym (get_or-take k o i 0 h) ∙ rw inv
 
   module _ (row at : ℕ) (e : at ≡ halve (order_before b o row) 11 0 k) where
-    place-sought : Sought (order_before b o row) 0 k at
+    place_sought : Sought (order_before b o row) 0 k at
     unfolding order_before
-    place-sought =
+    place_sought =
         rw e
         (sought (order_before b o row) 11 0 k
         (λ i j _ y z p. rw (same_at i (omega arith)) (order_rises b (n - k) k row i j y z (rw (same_at j z) at p)))
@@ -126,7 +126,7 @@ module _ (b o : List ℕ) (n k : ℕ) (long : length o ≡ index_places) (few : 
     row_in : placed_row b row (ordered_rows b (n - k) k) ≡ take at o ++ (row ∷ part o at (k - at))
     unfolding order_before part
     row_in =
-        let w = place-sought in
+        let w = place_sought in
         let r = ordered_rows b (n - k) k in
         let m = ordered_many b (n - k) k in
         let a : at ≤ k = w.to in
@@ -136,10 +136,10 @@ module _ (b o : List ℕ) (n k : ℕ) (long : length o ≡ index_places) (few : 
         let x : drop at r ≡ take (k - at) (drop at o) = rw (← inv) (drop-take at k o) in
         rw (u, v, x)
 
-    pub order-next : row ≡ n - k - 1 → (o' : List ℕ) → o' ≡ put_at o at (row ∷ part o at (k - at)) → take (k + 1) o' ≡ ordered_rows b (n - (k + 1)) (k + 1)
+    pub order_next : row ≡ n - k - 1 → (o' : List ℕ) → o' ≡ put_at o at (row ∷ part o at (k - at)) → take (k + 1) o' ≡ ordered_rows b (n - (k + 1)) (k + 1)
     unfolding ordered_rows put_at
-    order-next q o' p =
-        let a : at ≤ k = place-sought.to in
+    order_next q o' p =
+        let a : at ≤ k = place_sought.to in
         let s : List ℕ = row ∷ part o at (k - at) in
         let l : length (take at o ++ s) ≡ k + 1 = omega (arith, length-append (take at o) s, length-take at o, part_length o at (k - at) (omega arith)) in
         let t : take (k + 1) o' ≡ take at o ++ s = rw (p, ← append_assoc (take at o) s (drop (at + length s) o)) (take_at (take at o ++ s) (drop (at + length s) o) (k + 1) l) in

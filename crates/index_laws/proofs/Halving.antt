@@ -14,24 +14,24 @@ halve-none p zero lo hi h = refl
 halve-none p (suc n) lo hi h = rw (le-ltb lo hi h)
 
 module _ (p : ℕ → Bool) (m k lo hi : ℕ) {r : ℕ} (inv : halve p (m - k) lo hi ≡ r) where
-  pub seek-stops : hi ≤ lo → lo ≡ r
-  seek-stops h = sym (halve-none p (m - k) lo hi h) ∙ inv
+  pub seek_stops : hi ≤ lo → lo ≡ r
+  seek_stops h = sym (halve-none p (m - k) lo hi h) ∙ inv
 
   pub seek-done : m ≤ k → lo ≡ r
   unfolding halve
   seek-done h = let e : m - k ≡ 0 = omega arith in rw e at inv
 
   module _ (few : k < m) (more : lo < hi) {t : Bool} (e : t ≡ p (lo + (hi - lo) / 2)) where
-    pub seek-up : t ≡ true → {x y : ℕ} → x ≡ lo + (hi - lo) / 2 + 1 → y ≡ hi → halve p (m - (k + 1)) x y ≡ r
+    pub seek_up : t ≡ true → {x y : ℕ} → x ≡ lo + (hi - lo) / 2 + 1 → y ≡ hi → halve p (m - (k + 1)) x y ≡ r
     unfolding halve
-    seek-up g u v =
+    seek_up g u v =
         let n : m - k ≡ suc (m - (k + 1)) = omega arith in
         let q : p (lo + (hi - lo) / 2) ≡ true = sym e ∙ g in
         rw (u, v) (rw (n, lt-ltb lo hi more, q) at inv)
 
-    pub seek-down : t ≡ false → {x y : ℕ} → x ≡ lo → y ≡ lo + (hi - lo) / 2 → halve p (m - (k + 1)) x y ≡ r
+    pub seek_down : t ≡ false → {x y : ℕ} → x ≡ lo → y ≡ lo + (hi - lo) / 2 → halve p (m - (k + 1)) x y ≡ r
     unfolding halve
-    seek-down g u v =
+    seek_down g u v =
         let n : m - k ≡ suc (m - (k + 1)) = omega arith in
         let q : p (lo + (hi - lo) / 2) ≡ false = sym e ∙ g in
         rw (u, v) (rw (n, lt-ltb lo hi more, q) at inv)

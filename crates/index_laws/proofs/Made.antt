@@ -105,10 +105,10 @@ module _ (t : Tree) (few : length (present_ones t.entries) ≤ index_places) (pr
         let w : part b (4 + 72 * i + 4) 4 ≡ identity_bytes e.made = sym (part-part b (4 + 72 * i) 72 4 4 (omega arith)) ∙ rw (row-at i h) (row_made f e) in
         rw (entry_at i h, u, v, w)
 
-    rows-copied : (o : List ℕ) → All (λ (j : ℕ). j < length ps) o → copied_rows (table_bytes t) o ≡ index_rows (rows_of (table_bytes t) o)
+    rows_copied : (o : List ℕ) → All (λ (j : ℕ). j < length ps) o → copied_rows (table_bytes t) o ≡ index_rows (rows_of (table_bytes t) o)
     unfolding copied_rows index_rows rows_of
-    rows-copied [] a = refl
-    rows-copied (i ∷ o) a = rw (row_copied i a.0, rows-copied o a.1)
+    rows_copied [] a = refl
+    rows_copied (i ∷ o) a = rw (row_copied i a.0, rows_copied o a.1)
 
     made : index_from (table_bytes t) (length ps) ≡ index_bytes (ordered ps)
     unfolding index_from index_bytes
@@ -116,12 +116,12 @@ module _ (t : Tree) (few : length (present_ones t.entries) ≤ index_places) (pr
         let b = table_bytes t in
         let n = length ps in
         let q : copied_rows b (ordered_rows b 0 n) ≡ index_rows (ordered ps) =
-        rows-copied (ordered_rows b 0 n) (ordered-below b 0 n n (omega arith)) ∙ ap index_rows (rows_ordered b 0 n ∙ ap ordered shown) in
+        rows_copied (ordered_rows b 0 n) (ordered-below b 0 n n (omega arith)) ∙ ap index_rows (rows_ordered b 0 n ∙ ap ordered shown) in
         rw (q, length-ordered ps)
 
-    pub made-fresh : index_from (table_bytes t) (word (table_bytes t) 0) ≡ index_of t
+    pub made_fresh : index_from (table_bytes t) (word (table_bytes t) 0) ≡ index_of t
     unfolding index_of ps
-    made-fresh = rw counted made
+    made_fresh = rw counted made
 
   pub count_few : word (table_bytes t) 0 ≤ index_places
   unfolding ps

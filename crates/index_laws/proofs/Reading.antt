@@ -23,7 +23,7 @@ use Rattle.log_laws.proofs.Members.{All, all_at}
 use Rattle.tree_laws.specs.Replayed.{Has, makers}
 use Rattle.tree_table.proofs.Rows.{identity-behind}
 use Rattle.index_model.specs.Index.{index_places, comes_before, folder_key, key_before, entry_before, index_row, index_rows, index_bytes, halve, rows_in, folder_at, label_at, entry_at, row_before, seek, entries_in}
-use Rattle.index_laws.proofs.Sorted.{Sorted, Sought, sought, key-trans, key_same, key_not_self, same_keys}
+use Rattle.index_laws.proofs.Sorted.{Sorted, Sought, sought, key_trans, key_same, key_not_self, same_keys}
 
 -- ---- rows
 
@@ -108,26 +108,26 @@ module _ (l : List Entry) (few : length l ≤ index_places) (long : All Long l) 
     unfolding index_bytes padded
     shown = shows-behind (two (length l) ++ (0 ∷ 0 ∷ [])) (index_rows l ++ replicate (40960 - length (index_rows l)) 0) (40 * i) (get_or l i d) (rows_show l (replicate (40960 - length (index_rows l)) 0) i d h long)
 
-    pub folder-back : folder_at (index_bytes l) i ≡ (get_or l i d).inside
+    pub folder_back : folder_at (index_bytes l) i ≡ (get_or l i d).inside
     unfolding folder_at
-    folder-back = shown.folder
+    folder_back = shown.folder
 
-    pub label-back : label_at (index_bytes l) i ≡ (get_or l i d).label
+    pub label_back : label_at (index_bytes l) i ≡ (get_or l i d).label
     unfolding label_at
-    label-back = shown.label
+    label_back = shown.label
 
-    pub entry-back : entry_at (index_bytes l) i ≡ (get_or l i d).made
+    pub entry_back : entry_at (index_bytes l) i ≡ (get_or l i d).made
     unfolding entry_at
-    entry-back = shown.entry
+    entry_back = shown.entry
 
     pub before_back : (f : ℕ) (t : List ℕ) → row_before (index_bytes l) f t i ≡ key_before (folder_key (get_or l i d).inside) (get_or l i d).label f t
     unfolding row_before
-    before_back f t = rw (folder-back, label-back)
+    before_back f t = rw (folder_back, label_back)
 
   pub entries_back : (d : Entry) (i n : ℕ) → i + n ≤ length l → entries_in (index_bytes l) i n ≡ makers (take n (drop i l))
   unfolding entries_in makers
   entries_back d i zero h = refl
-  entries_back d i (suc n) h = rw (drop-cons l i d (omega arith), entry-back i d (omega arith), entries_back d (suc i) n (omega arith))
+  entries_back d i (suc n) h = rw (drop-cons l i d (omega arith), entry_back i d (omega arith), entries_back d (suc i) n (omega arith))
 
 -- ---- entries in order, by place
 
@@ -164,7 +164,7 @@ key_monotone g s f t h r p q =
     (λ (c : key_before h r f t ≡ false).
     absurd
     (⊎_elim
-    (λ (e : key_before f t h r ≡ true). not_both (key_before g s h r) (key-trans g s f t h r p e) q)
+    (λ (e : key_before f t h r ≡ true). not_both (key_before g s h r) (key_trans g s f t h r p e) q)
     (λ (e : key_before f t h r ≡ false).
     let (u, v) = key_same h r f t c e in
     not_both (key_before g s h r) (same_keys g s f t h r (sym u) (sym v) p) q)
@@ -172,8 +172,8 @@ key_monotone g s f t h r p q =
     (bool_cases (key_before h r f t))
 
 module _ (l : List Entry) (few : length l ≤ index_places) (long : All Long l) (sorted : Sorted l) (d : Entry) where
-  pub rows-rise : (f : ℕ) (t : List ℕ) (i j : ℕ) → i ≤ j → j < length l → row_before (index_bytes l) f t j ≡ true → row_before (index_bytes l) f t i ≡ true
-  rows-rise f t i j h k p =
+  pub rows_rise : (f : ℕ) (t : List ℕ) (i j : ℕ) → i ≤ j → j < length l → row_before (index_bytes l) f t j ≡ true → row_before (index_bytes l) f t i ≡ true
+  rows_rise f t i j h k p =
       let x = get_or l i d in
       let y = get_or l j d in
       before_back l few long i d (omega arith) f t
@@ -186,7 +186,7 @@ module _ (l : List Entry) (few : length l ≤ index_places) (long : All Long l) 
   unfolding seek
   seek_finds f t =
       rw (rows_counted l few long)
-      (sought (row_before (index_bytes l) f t) 11 0 (length l) (λ i j _ y z. rows-rise f t i j y z) (omega arith) (omega arith))
+      (sought (row_before (index_bytes l) f t) 11 0 (length l) (λ i j _ y z. rows_rise f t i j y z) (omega arith) (omega arith))
 
 -- ---- keys of folders
 

@@ -29,26 +29,26 @@ module _ (v : List ℕ) (small : (u : ℕ) → u < 8 → get_or v u 0 < 65536) w
   pub named-range : (k : ℕ) → NamedIn v k → InRange k
   named-range k n = record { low = omega (arith, n.0); high = omega (arith, n.1, small (k % 8) (omega arith)) }
 
-  entry-rowed : (e : Entry) → EntryFits v e → Rowed e
-  entry-rowed e f =
+  entry_rowed : (e : Entry) → EntryFits v e → Rowed e
+  entry_rowed e f =
       (f.label_length, ⊎_elim (λ (z : e.inside ≡ root). omega arith) (λ z. let h = (named-range e.inside z).high in omega arith) f.folder_named)
 
   module _ (t : Tree) (s : SoundTree v t) where
-    pub tree-rowed : All Rowed t.entries
-    tree-rowed = all_map entry-rowed t.entries s.entries_fit
+    pub tree_rowed : All Rowed t.entries
+    tree_rowed = all_map entry_rowed t.entries s.entries_fit
 
-    pub present-rowed : All Rowed (present_ones t.entries)
-    present-rowed = all_has Rowed (present_ones t.entries) (λ x i. has_all Rowed t.entries x tree-rowed (has_present t.entries x i).0)
+    pub present_rowed : All Rowed (present_ones t.entries)
+    present_rowed = all_has Rowed (present_ones t.entries) (λ x i. has_all Rowed t.entries x tree_rowed (has_present t.entries x i).0)
 
     pub own_range : All (λ (e : Entry). InRange e.made) t.entries
     own_range = all_map (λ (e : Entry) f. named-range e.made f.own_named) t.entries s.entries_fit
 
     -- an index holds the entries of a sound tree, where it has room for them
-    pub tree-fit : length (present_ones t.entries) ≤ index_places → Fit t.entries
-    tree-fit few =
+    pub tree_fit : length (present_ones t.entries) ≤ index_places → Fit t.entries
+    tree_fit few =
         record {
           apart = label_apart t.entries s.one_label;
           named = record { once = s.rooted.alone; none-root = λ y k z. s.rooted.rootless (rw z at (has_made t.entries y k)) };
-          rowed = present-rowed;
+          rowed = present_rowed;
           few = few;
         }

@@ -85,9 +85,9 @@ text_same (x ∷ a) (y ∷ b) p q =
 -- ---- the order of keys
 
 module _ (f : ℕ) (t : List ℕ) (g : ℕ) (s : List ℕ) where
-  pub key-trans : (h : ℕ) (r : List ℕ) → key_before f t g s ≡ true → key_before g s h r ≡ true → key_before f t h r ≡ true
+  pub key_trans : (h : ℕ) (r : List ℕ) → key_before f t g s ≡ true → key_before g s h r ≡ true → key_before f t h r ≡ true
   unfolding key_before
-  key-trans h r p q =
+  key_trans h r p q =
       less_if f h (comes_before (label_key t) (label_key r))
       (⊎_elim
       (λ (u : f < g). ⊎_elim (λ (v : g < h). inl (omega arith)) (λ v. inl (omega (arith, v.0))) (less g h (comes_before (label_key s) (label_key r)) q))
@@ -119,7 +119,7 @@ module _ (f : ℕ) (t : List ℕ) (g : ℕ) (s : List ℕ) where
 
 pub entry_trans : (e x y : Entry) → entry_before e x ≡ true → entry_before x y ≡ true → entry_before e y ≡ true
 unfolding entry_before
-entry_trans e x y = key-trans (folder_key e.inside) e.label (folder_key x.inside) x.label (folder_key y.inside) y.label
+entry_trans e x y = key_trans (folder_key e.inside) e.label (folder_key x.inside) x.label (folder_key y.inside) y.label
 
 pub key_not_self : (f : ℕ) (t : List ℕ) → key_before f t f t ≡ false
 unfolding key_before

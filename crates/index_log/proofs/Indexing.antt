@@ -17,21 +17,21 @@ use Rattle.model.specs.Log.{vector_on, records_of, sound_log_on}
 use Rattle.model.specs.Table.{table_bytes}
 use Rattle.base_model.specs.Base.{base_vector, held_on, sound_state, tree_of}
 use Rattle.call_model.specs.Outcome.{Outcome, outcome, refusal}
-use Rattle.base_laws.proofs.Folds.{state-log}
+use Rattle.base_laws.proofs.Folds.{state_log}
 use Rattle.base_head.specs.Head.{BaseHead, headed, head_of}
 use Rattle.state_tree.specs.Small.{Small}
 use Rattle.call_guard.specs.Opened.{opened, open_of}
-use Rattle.call_guard.proofs.Opening.{open_lent, call-refused, call_passes}
+use Rattle.call_guard.proofs.Opening.{open_lent, call_refused, call_passes}
 use Rattle.index_model.specs.Index.{index_size, index_places}
 use Rattle.index_model.specs.Kept.{index_of_log, index_lent, indexed_of, indexed_work}
 use Rattle.index_laws.specs.Copied.{index_from}
-use Rattle.index_state.proofs.States.{table-few, index_made}
+use Rattle.index_state.proofs.States.{table_few, index_made}
 
 -- ---- an index laid
 
 module _ (log base held : List ℕ) (long : length base ≡ 43032) (sound : sound_state log base ≡ true) (e : held ≡ held_on log base) (small : Small held) where
-  pub table-within : (b : List ℕ) → b ≡ table_bytes (tree_of log base) → word b 0 ≤ index_places
-  table-within b q = rw q (table-few log base long sound (λ u h. rw e at (small.at u h)))
+  pub table_within_lem : (b : List ℕ) → b ≡ table_bytes (tree_of log base) → word b 0 ≤ index_places
+  table_within_lem b q = rw q (table_few log base long sound (λ u h. rw e at (small.at u h)))
 
   pub index_laid : (b x : List ℕ) → b ≡ table_bytes (tree_of log base) → x ≡ index_from b (word b 0) → x ≡ index_of_log log base
   index_laid b x q p = p ∙ rw q (index_made log base long sound (λ u h. rw e at (small.at u h)))
@@ -43,34 +43,34 @@ module _ (base : List ℕ) {m k j : ℕ} {v : List ℕ} (e : headed m v k j ≡ 
   unfolding head_of
   folded_is = ap (λ (x : BaseHead). x.folded) e
 
-  pub head-entries : k ≡ word base 2
+  pub head_entries : k ≡ word base 2
   unfolding head_of
-  head-entries = ap (λ (x : BaseHead). x.entries) e
+  head_entries = ap (λ (x : BaseHead). x.entries) e
 
-  pub head-asides : j ≡ word base 4
+  pub head_asides : j ≡ word base 4
   unfolding head_of
-  head-asides = ap (λ (x : BaseHead). x.asides) e
+  head_asides = ap (λ (x : BaseHead). x.asides) e
 
   module _ (log : List ℕ) where
-    pub head-log : sound_state log base ≡ true → sound_log_on v log ≡ true
-    head-log s = rw folded_is (state-log log base s)
+    pub head_log : sound_state log base ≡ true → sound_log_on v log ≡ true
+    head_log s = rw folded_is (state_log log base s)
 
-    pub head-held : (h : List ℕ) (n : ℕ) → n ≡ length (records_of log) → h ≡ vector_on v (take n (records_of log)) → h ≡ held_on log base
-    head-held h n q p = p ∙ rw (folded_is, take_all n (records_of log) (omega arith))
+    pub head_held : (h : List ℕ) (n : ℕ) → n ≡ length (records_of log) → h ≡ vector_on v (take n (records_of log)) → h ≡ held_on log base
+    head_held h n q p = p ∙ rw (folded_is, take_all n (records_of log) (omega arith))
 
 -- ---- the call
 
 module _ (log base i work : List ℕ) {lent : Bool} (l : lent ≡ index_lent i work) {n m k j used : ℕ} {v held : List ℕ} (e : opened n (headed m v k j) held used ≡ open_of 0 log base lent true) where
   refused_is : (n ≡ 0 → ⊥) → refusal n log i ≡ indexed_of log base i work
   unfolding indexed_of
-  refused_is z = rw (← l) (call-refused 0 log base i lent e (outcome 0 0 log (index_of_log log base) 0) z)
+  refused_is z = rw (← l) (call_refused 0 log base i lent e (outcome 0 0 log (index_of_log log base) 0) z)
 
-  pub not-indexed : (n ≡ 0 → ⊥) → outcome n 0 log i 0 ≡ indexed_of log base i work
-  not-indexed z = refused_is z
+  pub not_indexed : (n ≡ 0 → ⊥) → outcome n 0 log i 0 ≡ indexed_of log base i work
+  not_indexed z = refused_is z
 
-  pub work_left : (n ≡ 0 → ⊥) → work ≡ indexed_work log base i work
+  pub work_left_lem : (n ≡ 0 → ⊥) → work ≡ indexed_work log base i work
   unfolding indexed_work
-  work_left z =
+  work_left_lem z =
       let q : (indexed_of log base i work).number ≡ n = ap (λ (o : Outcome). o.number) (sym (refused_is z)) in
       rw (q, ne_eqb n 0 z)
 
@@ -78,11 +78,11 @@ module _ (log base i work : List ℕ) {lent : Bool} (l : lent ≡ index_lent i w
     both : index_lent i work ≡ true
     both = sym l ∙ open_lent 0 log base lent true e z
 
-    pub index-there : length i ≡ index_size
-    index-there = eqb-true (length i) index_size (and_true (eqb (length i) index_size) (eqb (length work) tree_size) both).0
+    pub index_there : length i ≡ index_size
+    index_there = eqb-true (length i) index_size (and_true (eqb (length i) index_size) (eqb (length work) tree_size) both).0
 
-    pub work-there : length work ≡ tree_size
-    work-there = eqb-true (length work) tree_size (and_true (eqb (length i) index_size) (eqb (length work) tree_size) both).1
+    pub work_there : length work ≡ tree_size
+    work_there = eqb-true (length work) tree_size (and_true (eqb (length i) index_size) (eqb (length work) tree_size) both).1
 
     passed_is : outcome 0 0 log (index_of_log log base) 0 ≡ indexed_of log base i work
     unfolding indexed_of
@@ -91,8 +91,8 @@ module _ (log base i work : List ℕ) {lent : Bool} (l : lent ≡ index_lent i w
     pub indexed : (x : List ℕ) → x ≡ index_of_log log base → outcome 0 0 log x 0 ≡ indexed_of log base i work
     indexed x q = rw q passed_is
 
-    pub work-filled : (y : List ℕ) → y ≡ table_bytes (tree_of log base) → y ≡ indexed_work log base i work
+    pub work_filled : (y : List ℕ) → y ≡ table_bytes (tree_of log base) → y ≡ indexed_work log base i work
     unfolding indexed_work
-    work-filled y q =
+    work_filled y q =
         let p : (indexed_of log base i work).number ≡ 0 = ap (λ (o : Outcome). o.number) (sym passed_is) in
         rw p q

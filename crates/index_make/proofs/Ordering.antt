@@ -15,7 +15,7 @@ use Rattle.model.specs.Bytes.{part, put_at}
 use Rattle.log_laws.proofs.Members.{All, all_at}
 use Rattle.index_model.specs.Index.{index_places, folder_key, key_before, entry_before, halve}
 use Rattle.index_laws.specs.Copied.{entry_row_at, order_before, ordered_rows, Low}
-use Rattle.index_laws.proofs.Fresh.{ordered_many, ordered-below, order-next}
+use Rattle.index_laws.proofs.Fresh.{ordered_many, ordered-below, order_next}
 
 -- ---- one row
 

@@ -62,28 +62,28 @@ module _ (b o : List ℕ) (n : ℕ) (lb : length b ≡ tree_size) (room : n ≤ 
   unfolding copied_rows
   copied_more j h = rw (add-one j, take-suc o j 0 (omega arith), copied_append b (take j o) (get_or o j 0 ∷ []), append-nil (copied_row b (get_or o j 0)))
 
-  copied-long : (j : ℕ) → j ≤ n → length (copied_rows b (take j o)) ≡ 40 * j
+  copied_long : (j : ℕ) → j ≤ n → length (copied_rows b (take j o)) ≡ 40 * j
   unfolding copied_rows
-  copied-long zero h = refl
-  copied-long (suc j) h =
+  copied_long zero h = refl
+  copied_long (suc j) h =
       rw (← add-one j, copied_more j (omega arith))
-      (omega (arith, length-append (copied_rows b (take j o)) (copied_row b (get_or o j 0)), copied-long j (omega arith), row-long b (get_or o j 0) lb (w.low j (omega arith))))
+      (omega (arith, length-append (copied_rows b (take j o)) (copied_row b (get_or o j 0)), copied_long j (omega arith), row-long b (get_or o j 0) lb (w.low j (omega arith))))
 
-  pub write-none : (d : List ℕ) → d ≡ put_at d 4 (copied_rows b (take 0 o))
+  pub write_none : (d : List ℕ) → d ≡ put_at d 4 (copied_rows b (take 0 o))
   unfolding copied_rows
-  write-none d = sym (put-nil d 4)
+  write_none d = sym (put-nil d 4)
 
-  pub write-next : (d x y : List ℕ) (j : ℕ) → length d ≡ index_size → j < n → x ≡ put_at d 4 (copied_rows b (take j o)) → (r : ℕ) → r ≡ get_or o j 0 → y ≡ put_at x (4 + 40 * j) (copied_row b r)
+  pub write_next : (d x y : List ℕ) (j : ℕ) → length d ≡ index_size → j < n → x ≡ put_at d 4 (copied_rows b (take j o)) → (r : ℕ) → r ≡ get_or o j 0 → y ≡ put_at x (4 + 40 * j) (copied_row b r)
       → y ≡ put_at d 4 (copied_rows b (take (j + 1) o))
-  write-next d x y j ld h p r g q =
-      let m = copied-long j (omega arith) in
+  write_next d x y j ld h p r g q =
+      let m = copied_long j (omega arith) in
       let s = copied_rows b (take j o) in
       let t = copied_row b (get_or o j 0) in
       let u : put_at (put_at d 4 s) (4 + 40 * j) t ≡ put_at d 4 (s ++ t) = rw m at (put_more d 4 s t (omega arith)) in
       q ∙ rw (p, g, u, copied_more j h)
 
-  pub write-end : (d x : List ℕ) (j : ℕ) → j ≤ n → n ≤ j → x ≡ put_at d 4 (copied_rows b (take j o)) → x ≡ put_at d 4 (copied_rows b (take n o))
-  write-end d x j h g e = let q : j ≡ n = omega arith in rw q at e
+  pub write_end : (d x : List ℕ) (j : ℕ) → j ≤ n → n ≤ j → x ≡ put_at d 4 (copied_rows b (take j o)) → x ≡ put_at d 4 (copied_rows b (take n o))
+  write_end d x j h g e = let q : j ≡ n = omega arith in rw q at e
 
 -- ---- the whole
 

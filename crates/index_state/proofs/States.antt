@@ -19,16 +19,16 @@ use Rattle.tree_laws.specs.Trees.{EntryFits, SoundTree}
 use Rattle.tree_laws.specs.Replayed.{makers, making, makes_fit}
 use Rattle.tree_laws.proofs.Steps.{cond_elim, makers-replay}
 use Rattle.tree_laws.proofs.Roots.{length-makers, present_few}
-use Rattle.base_laws.proofs.Folds.{state-base, state-tree}
+use Rattle.base_laws.proofs.Folds.{state_base, state_tree}
 use Rattle.base_laws.proofs.Trees.{sound_tells}
-use Rattle.base_laws.proofs.Numbered.{entries-count}
+use Rattle.base_laws.proofs.Numbered.{entries_count}
 use Rattle.tree_table.specs.Rows.{Proper, AllProper}
 use Rattle.index_model.specs.Index.{index_places, index_of}
 use Rattle.index_laws.specs.Copied.{index_from}
 use Rattle.index_laws.proofs.Exact.{Rowed, all_has, has_all, has_present}
 use Rattle.index_laws.proofs.Acting.{Fit}
-use Rattle.index_laws.proofs.Made.{made-fresh, count_few}
-use Rattle.index_laws.proofs.Rowed.{named-range, tree-rowed, tree-fit}
+use Rattle.index_laws.proofs.Made.{made_fresh, count_few}
+use Rattle.index_laws.proofs.Rowed.{named-range, tree_rowed, tree_fit}
 
 -- ---- at most one entry more for a record
 
@@ -60,18 +60,18 @@ module _ (log base : List ℕ) (long : length base ≡ 43032) (sound : sound_sta
   pub shown_few : length (present_ones (tree_of log base).entries) ≤ index_places
   unfolding tree_of base_tree
   shown_few =
-      let n = (sound_tells base (state-base log base sound)).few_entries in
-      omega (arith, present_few (replay_from (base_tree base) (records_of log)).entries, replay_few (base_tree base) (records_of log), entries-count base 0 (word base 2), sound_few log)
+      let n = (sound_tells base (state_base log base sound)).few_entries in
+      omega (arith, present_few (replay_from (base_tree base) (records_of log)).entries, replay_few (base_tree base) (records_of log), entries_count base 0 (word base 2), sound_few log)
 
   module _ (small : (u : ℕ) → u < 8 → get_or (held_on log base) u 0 < 65536) where
-    tree-sound : SoundTree (held_on log base) (tree_of log base)
-    tree-sound = state-tree log base sound long
+    tree_sound : SoundTree (held_on log base) (tree_of log base)
+    tree_sound = state_tree log base sound long
 
-    pub state-rowed : All Rowed (tree_of log base).entries
-    state-rowed = tree-rowed (held_on log base) small (tree_of log base) tree-sound
+    pub state_rowed : All Rowed (tree_of log base).entries
+    state_rowed = tree_rowed (held_on log base) small (tree_of log base) tree_sound
 
-    pub state-fit : Fit (tree_of log base).entries
-    state-fit = tree-fit (held_on log base) small (tree_of log base) tree-sound shown_few
+    pub state_fit : Fit (tree_of log base).entries
+    state_fit = tree_fit (held_on log base) small (tree_of log base) tree_sound shown_few
 
     proper : (e : Entry) → EntryFits (held_on log base) e → Proper e
     proper e f =
@@ -82,15 +82,15 @@ module _ (log base : List ℕ) (long : length base ≡ 43032) (sound : sound_sta
           mark_long = f.mark_length;
         }
 
-    pub state-proper : AllProper (present_ones (tree_of log base).entries)
-    state-proper =
-        let a : All Proper (tree_of log base).entries = all_map proper (tree_of log base).entries tree-sound.entries_fit in
+    pub state_proper : AllProper (present_ones (tree_of log base).entries)
+    state_proper =
+        let a : All Proper (tree_of log base).entries = all_map proper (tree_of log base).entries tree_sound.entries_fit in
         let es : List Entry = present_ones (tree_of log base).entries in
         proper_all es (all_has Proper es (λ x i. has_all Proper (tree_of log base).entries x a (has_present (tree_of log base).entries x i).0))
 
     -- the table that shows the tree counts at most 1,024 entries, and of it the index is made
-    pub table-few : word (table_bytes (tree_of log base)) 0 ≤ index_places
-    table-few = count_few (tree_of log base) shown_few state-proper
+    pub table_few : word (table_bytes (tree_of log base)) 0 ≤ index_places
+    table_few = count_few (tree_of log base) shown_few state_proper
 
     pub index_made : index_from (table_bytes (tree_of log base)) (word (table_bytes (tree_of log base)) 0) ≡ index_of (tree_of log base)
-    index_made = made-fresh (tree_of log base) shown_few state-proper nobody
+    index_made = made_fresh (tree_of log base) shown_few state_proper nobody

@@ -6,7 +6,7 @@ use mathlib.Core.Bool.{Bool, true, false, cond, not, ◌||◌}
 use mathlib.Core.List.{List}
 use lib.Dec.{eqb}
 use lib.ListN.{length}
-use borrow.Author.Tests.{eqb-true, eq-eqb, ne_eqb, not-true, not-false}
+use borrow.Author.Tests.{eqb-true, eq-eqb, ne_eqb, not-true, not_false}
 use Rattle.byte_slice.proofs.Numbers.{and_true}
 use Rattle.model.specs.Lengths.{tree_size}
 use Rattle.call_model.specs.Outcome.{Outcome, outcome}
@@ -25,7 +25,7 @@ unfolding index_fits
 some_bytes i h = rw (ne_eqb (length i) 0 h)
 
 pub fits_by : {fit : Bool} (b : Bool) → b ≡ fit → not b ≡ false → fit ≡ true
-fits_by b e h = sym e ∙ not-false b h
+fits_by b e h = sym e ∙ not_false b h
 
 pub lent_long : (i : List ℕ) → index_fits i ≡ true → (length i ≡ 0 → ⊥) → length i ≡ index_size
 unfolding index_fits
@@ -38,30 +38,30 @@ or_false true = refl
 or_false false = refl
 
 module _ (i work : List ℕ) where
-  pub both-none : length i ≡ 0 → eqb (length work) 0 ≡ both_fit i work
+  pub both_none : length i ≡ 0 → eqb (length work) 0 ≡ both_fit i work
   unfolding both_fit
-  both-none h = rw h (or_false (eqb (length work) 0))
+  both_none h = rw h (or_false (eqb (length work) 0))
 
-  pub lent-wrong : (length i ≡ index_size → ⊥) → false ≡ index_lent i work
-  lent-wrong g = rw (ne_eqb (length i) index_size g)
+  pub lent_wrong : (length i ≡ index_size → ⊥) → false ≡ index_lent i work
+  lent_wrong g = rw (ne_eqb (length i) index_size g)
 
-  pub lent-some : length i ≡ index_size → eqb (length work) tree_size ≡ index_lent i work
-  lent-some g = rw g
+  pub lent_some : length i ≡ index_size → eqb (length work) tree_size ≡ index_lent i work
+  lent_some g = rw g
 
   pub both_some : (length i ≡ 0 → ⊥) → (b : Bool) → b ≡ index_lent i work → b ≡ both_fit i work
   unfolding both_fit
   both_some h b e = rw (ne_eqb (length i) 0 h) e
 
   module _ (f : both_fit i work ≡ true) (h : length i ≡ 0 → ⊥) where
-    pub both-lent : index_lent i work ≡ true
+    pub both_lent : index_lent i work ≡ true
     unfolding both_fit
-    both-lent = rw (ne_eqb (length i) 0 h) at f
+    both_lent = rw (ne_eqb (length i) 0 h) at f
 
-    pub both-index : length i ≡ index_size
-    both-index = eqb-true (length i) index_size (and_true (eqb (length i) index_size) (eqb (length work) tree_size) both-lent).0
+    pub both_index : length i ≡ index_size
+    both_index = eqb-true (length i) index_size (and_true (eqb (length i) index_size) (eqb (length work) tree_size) both_lent).0
 
-    pub both-work : length work ≡ tree_size
-    both-work = eqb-true (length work) tree_size (and_true (eqb (length i) index_size) (eqb (length work) tree_size) both-lent).1
+    pub both_work : length work ≡ tree_size
+    both_work = eqb-true (length work) tree_size (and_true (eqb (length i) index_size) (eqb (length work) tree_size) both_lent).1
 
 -- ---- what becomes of a lent index
 
@@ -84,18 +84,18 @@ lent_same i = same_cond (eqb (length i) 0) i
 -- ---- a call's ways out
 
 module _ (fit : Bool) (log lent i : List ℕ) (o : Outcome) (j : List ℕ) where
-  pub wrong-index : (b : Bool) → b ≡ fit → not b ≡ true → kept 1 0 log i lent ≡ kept_of fit log lent i o j
+  pub wrong_index : (b : Bool) → b ≡ fit → not b ≡ true → kept 1 0 log i lent ≡ kept_of fit log lent i o j
   unfolding kept_of
-  wrong-index b e h = rw (← e, not-true b h)
+  wrong_index b e h = rw (← e, not-true b h)
 
   module _ (f : fit ≡ true) {n p k : ℕ} {x z : List ℕ} (e : outcome n p x z k ≡ o) where
-    pub kept-accepted : n ≡ 0 → (y : List ℕ) → y ≡ if_lent i j → kept n p x y z ≡ kept_of fit log lent i o j
+    pub kept_accepted : n ≡ 0 → (y : List ℕ) → y ≡ if_lent i j → kept n p x y z ≡ kept_of fit log lent i o j
     unfolding kept_of
-    kept-accepted a y q = rw (f, ← e, a, q)
+    kept_accepted a y q = rw (f, ← e, a, q)
 
-    pub kept-refused : (n ≡ 0 → ⊥) → kept n p x i z ≡ kept_of fit log lent i o j
+    pub kept_refused : (n ≡ 0 → ⊥) → kept n p x i z ≡ kept_of fit log lent i o j
     unfolding kept_of
-    kept-refused a = rw (f, ← e, ne_eqb n 0 a)
+    kept_refused a = rw (f, ← e, ne_eqb n 0 a)
 
     pub kept-none : length i ≡ 0 → kept n p x i z ≡ kept_of fit log lent i o j
     unfolding kept_of
@@ -104,14 +104,14 @@ module _ (fit : Bool) (log lent i : List ℕ) (o : Outcome) (j : List ℕ) where
 -- ---- and those of a row
 
 module _ (fit : Bool) (log base i : List ℕ) (o : RowTaken) where
-  pub wrong-index-row : (b : Bool) → b ≡ fit → not b ≡ true → row_kept 1 0 0 0 log i ≡ row_kept_of fit log base i o
+  pub wrong_index_row : (b : Bool) → b ≡ fit → not b ≡ true → row_kept 1 0 0 0 log i ≡ row_kept_of fit log base i o
   unfolding row_kept_of
-  wrong-index-row b e h = rw (← e, not-true b h)
+  wrong_index_row b e h = rw (← e, not-true b h)
 
   module _ (f : fit ≡ true) {n p k s : ℕ} {x : List ℕ} (e : row_taken n p k s x ≡ o) where
-    pub row-renewed : (k ≡ 0 → ⊥) → (y : List ℕ) → y ≡ if_lent i (index_of_log x base) → row_kept n p k s x y ≡ row_kept_of fit log base i o
+    pub row_renewed : (k ≡ 0 → ⊥) → (y : List ℕ) → y ≡ if_lent i (index_of_log x base) → row_kept n p k s x y ≡ row_kept_of fit log base i o
     unfolding row_kept_of
-    row-renewed z y q = rw (f, ← e, ne_eqb k 0 z, q)
+    row_renewed z y q = rw (f, ← e, ne_eqb k 0 z, q)
 
     pub row-left : k ≡ 0 → row_kept n p k s x i ≡ row_kept_of fit log base i o
     unfolding row_kept_of

@@ -11,7 +11,7 @@ use Rattle.call_model.specs.Outcome.{outcome, start_of}
 use Rattle.byte_slice.proofs.Numbers.{eq_or_ne}
 use Rattle.index_model.specs.Index.{index_size}
 use Rattle.index_model.specs.Kept.{index_fits, if_lent, kept, start_kept}
-use Rattle.keep_lent.proofs.Lent.{fits_by, lent_long, none_lent, is_lent, wrong-index, kept-accepted, kept-refused}
+use Rattle.keep_lent.proofs.Lent.{fits_by, lent_long, none_lent, is_lent, wrong_index, kept_accepted, kept_refused}
 
 no_byte : (i : List ℕ) → length i ≡ 0 → i ≡ []
 no_byte [] h = refl
@@ -26,17 +26,17 @@ zeros_lent i f =
     (eq_or_ne (length i) 0)
 
 module _ (u : ℕ) (log base i : List ℕ) {b : Bool} (e : b ≡ index_fits i) where
-  pub index-wrong : not b ≡ true → kept 1 0 log i base ≡ start_kept u log base i
+  pub index_wrong : not b ≡ true → kept 1 0 log i base ≡ start_kept u log base i
   unfolding start_kept
-  index-wrong h = wrong-index (index_fits i) log base i (start_of u log base) (replicate index_size 0) b e h
+  index_wrong h = wrong_index (index_fits i) log base i (start_of u log base) (replicate index_size 0) b e h
 
   module _ (h : not b ≡ false) {n p : ℕ} {x y : List ℕ} (q : outcome n p x y 0 ≡ start_of u log base) where
     pub cleared : n ≡ 0 → (j : List ℕ) → j ≡ replicate (length i) 0 → kept n p x j y ≡ start_kept u log base i
     unfolding start_kept
     cleared z j w =
         let f = fits_by b e h in
-        kept-accepted (index_fits i) log base i (start_of u log base) (replicate index_size 0) f q z j (w ∙ zeros_lent i f)
+        kept_accepted (index_fits i) log base i (start_of u log base) (replicate index_size 0) f q z j (w ∙ zeros_lent i f)
 
-    pub not-cleared : (n ≡ 0 → ⊥) → kept n p x i y ≡ start_kept u log base i
+    pub not_cleared : (n ≡ 0 → ⊥) → kept n p x i y ≡ start_kept u log base i
     unfolding start_kept
-    not-cleared z = kept-refused (index_fits i) log base i (start_of u log base) (replicate index_size 0) (fits_by b e h) q z
+    not_cleared z = kept_refused (index_fits i) log base i (start_of u log base) (replicate index_size 0) (fits_by b e h) q z

@@ -16,7 +16,7 @@ use Rattle.call_laws.specs.Keeps.{Good}
 use Rattle.call_laws.proofs.Calls.{take-keeps}
 use Rattle.index_model.specs.Index.{index_size}
 use Rattle.index_model.specs.Kept.{index_of_log, index_lent, both_fit, kept, take_kept, take_kept_work}
-use Rattle.keep_lent.proofs.Lent.{fits_by, both-lent, both-index, both-work, is_lent, wrong-index, kept-accepted, kept-refused, kept-none}
+use Rattle.keep_lent.proofs.Lent.{fits_by, both_lent, both_index, both_work, is_lent, wrong_index, kept_accepted, kept_refused, kept-none}
 
 -- ---- memory to work in
 
@@ -42,22 +42,22 @@ module _ (archive u : ℕ) (log base i b work : List ℕ) where
   work_none h = left (none_lent_both i work h)
 
   module _ {fit : Bool} (e : fit ≡ both_fit i work) where
-    pub index-wrong : not fit ≡ true → kept 1 0 log i [] ≡ take_kept archive u log base i b work
+    pub index_wrong : not fit ≡ true → kept 1 0 log i [] ≡ take_kept archive u log base i b work
     unfolding take_kept
-    index-wrong h = wrong-index (both_fit i work) log [] i (take_of archive u log base b) (index_of_log (take_of archive u log base b).log base) fit e h
+    index_wrong h = wrong_index (both_fit i work) log [] i (take_of archive u log base b) (index_of_log (take_of archive u log base b).log base) fit e h
 
-    pub work-wrong : not fit ≡ true → work ≡ take_kept_work archive u log base i b work
-    work-wrong h = left (not_lent i work (sym e ∙ not-true fit h))
+    pub work_wrong : not fit ≡ true → work ≡ take_kept_work archive u log base i b work
+    work_wrong h = left (not_lent i work (sym e ∙ not-true fit h))
 
     module _ (h : not fit ≡ false) where
       fits : both_fit i work ≡ true
       fits = fits_by fit e h
 
-      pub index-long : (length i ≡ 0 → ⊥) → length i ≡ index_size
-      index-long k = both-index i work fits k
+      pub index_long : (length i ≡ 0 → ⊥) → length i ≡ index_size
+      index_long k = both_index i work fits k
 
-      pub work-long : (length i ≡ 0 → ⊥) → length work ≡ tree_size
-      work-long k = both-work i work fits k
+      pub work_long : (length i ≡ 0 → ⊥) → length work ≡ tree_size
+      work_long k = both_work i work fits k
 
       module _ {n p : ℕ} {x : List ℕ} (q : outcome n p x [] 0 ≡ take_of archive u log base b) where
         pub no_index : length i ≡ 0 → kept n p x i [] ≡ take_kept archive u log base i b work
@@ -69,31 +69,31 @@ module _ (archive u : ℕ) (log base i b work : List ℕ) where
           unfolding take_kept
           renewed z y w =
               let j : List ℕ = index_of_log (take_of archive u log base b).log base in
-              kept-accepted (both_fit i work) log [] i (take_of archive u log base b) j fits q z y
+              kept_accepted (both_fit i work) log [] i (take_of archive u log base b) j fits q z y
               (is_lent i j y k (w ∙ ap (λ (o : Outcome). index_of_log o.log base) q))
 
-          pub not-renewed : (n ≡ 0 → ⊥) → kept n p x i [] ≡ take_kept archive u log base i b work
+          pub not_renewed : (n ≡ 0 → ⊥) → kept n p x i [] ≡ take_kept archive u log base i b work
           unfolding take_kept
-          not-renewed z = kept-refused (both_fit i work) log [] i (take_of archive u log base b) (index_of_log (take_of archive u log base b).log base) fits q z
+          not_renewed z = kept_refused (both_fit i work) log [] i (take_of archive u log base b) (index_of_log (take_of archive u log base b).log base) fits q z
 
-          pub work-renewed : n ≡ 0 → (y : List ℕ) → y ≡ table_bytes (tree_of x base) → y ≡ take_kept_work archive u log base i b work
+          pub work_renewed : n ≡ 0 → (y : List ℕ) → y ≡ table_bytes (tree_of x base) → y ≡ take_kept_work archive u log base i b work
           unfolding take_kept_work
-          work-renewed z y w = rw (both-lent i work fits k, ← q, z) w
+          work_renewed z y w = rw (both_lent i work fits k, ← q, z) w
 
-          pub work-not-renewed : (n ≡ 0 → ⊥) → work ≡ take_kept_work archive u log base i b work
+          pub work_not_renewed : (n ≡ 0 → ⊥) → work ≡ take_kept_work archive u log base i b work
           unfolding take_kept_work
-          work-not-renewed z = rw (both-lent i work fits k, ← q, ne_eqb n 0 z)
+          work_not_renewed z = rw (both_lent i work fits k, ← q, ne_eqb n 0 z)
 
 -- an accepted take leaves a good state
 module _ (archive u : ℕ) (log base b : List ℕ) {n p : ℕ} {x : List ℕ} (q : outcome n p x [] 0 ≡ take_of archive u log base b) (z : n ≡ 0) where
   good : Good x base
   good = subst (λ (o : Outcome). Good o.log base) (sym q) ((take-keeps archive u log base b).accepted (sym (ap (λ (o : Outcome). o.number) q) ∙ z))
 
-  pub taken-long : length x ≡ 40960
-  taken-long = good.long.0
+  pub taken_long : length x ≡ 40960
+  taken_long = good.long.0
 
   pub base_long : length base ≡ 43032
   base_long = good.long.1
 
-  pub taken-sound : sound_state x base ≡ true
-  taken-sound = good.sound
+  pub taken_sound : sound_state x base ≡ true
+  taken_sound = good.sound

@@ -17,7 +17,7 @@ use Rattle.call_laws.proofs.Calls.{guard_good}
 use Rattle.row_laws.proofs.Stops.{row_good}
 use Rattle.index_model.specs.Index.{index_size}
 use Rattle.index_model.specs.Kept.{index_of_log, index_lent, both_fit, row_kept, take_row_kept, take_row_kept_work}
-use Rattle.keep_lent.proofs.Lent.{fits_by, both-lent, both-index, both-work, is_lent, wrong-index-row, row-renewed, row-left, row-none}
+use Rattle.keep_lent.proofs.Lent.{fits_by, both_lent, both_index, both_work, is_lent, wrong_index_row, row_renewed, row-left, row-none}
 
 -- ---- memory to work in
 
@@ -43,22 +43,22 @@ module _ (archive u : ℕ) (log base i row work : List ℕ) where
   work_none h = left (none_lent_both i work h)
 
   module _ {fit : Bool} (e : fit ≡ both_fit i work) where
-    pub index-wrong : not fit ≡ true → row_kept 1 0 0 0 log i ≡ take_row_kept archive u log base i row work
+    pub index_wrong : not fit ≡ true → row_kept 1 0 0 0 log i ≡ take_row_kept archive u log base i row work
     unfolding take_row_kept
-    index-wrong h = wrong-index-row (both_fit i work) log base i (take_row_of archive u log base row) fit e h
+    index_wrong h = wrong_index_row (both_fit i work) log base i (take_row_of archive u log base row) fit e h
 
-    pub work-wrong : not fit ≡ true → work ≡ take_row_kept_work archive u log base i row work
-    work-wrong h = left (not_lent i work (sym e ∙ not-true fit h))
+    pub work_wrong : not fit ≡ true → work ≡ take_row_kept_work archive u log base i row work
+    work_wrong h = left (not_lent i work (sym e ∙ not-true fit h))
 
     module _ (h : not fit ≡ false) where
       fits : both_fit i work ≡ true
       fits = fits_by fit e h
 
-      pub index-long : (length i ≡ 0 → ⊥) → length i ≡ index_size
-      index-long k = both-index i work fits k
+      pub index_long : (length i ≡ 0 → ⊥) → length i ≡ index_size
+      index_long k = both_index i work fits k
 
-      pub work-long : (length i ≡ 0 → ⊥) → length work ≡ tree_size
-      work-long k = both-work i work fits k
+      pub work_long : (length i ≡ 0 → ⊥) → length work ≡ tree_size
+      work_long k = both_work i work fits k
 
       module _ {n p t s : ℕ} {x : List ℕ} (q : row_taken n p t s x ≡ take_row_of archive u log base row) where
         pub no_index : length i ≡ 0 → row_kept n p t s x i ≡ take_row_kept archive u log base i row work
@@ -68,19 +68,19 @@ module _ (archive u : ℕ) (log base i row work : List ℕ) where
         module _ (k : length i ≡ 0 → ⊥) where
           pub renewed : (t ≡ 0 → ⊥) → (y : List ℕ) → y ≡ index_of_log x base → row_kept n p t s x y ≡ take_row_kept archive u log base i row work
           unfolding take_row_kept
-          renewed z y w = row-renewed (both_fit i work) log base i (take_row_of archive u log base row) fits q z y (is_lent i (index_of_log x base) y k w)
+          renewed z y w = row_renewed (both_fit i work) log base i (take_row_of archive u log base row) fits q z y (is_lent i (index_of_log x base) y k w)
 
-          pub not-renewed : t ≡ 0 → row_kept n p t s x i ≡ take_row_kept archive u log base i row work
+          pub not_renewed : t ≡ 0 → row_kept n p t s x i ≡ take_row_kept archive u log base i row work
           unfolding take_row_kept
-          not-renewed z = row-left (both_fit i work) log base i (take_row_of archive u log base row) fits q z
+          not_renewed z = row-left (both_fit i work) log base i (take_row_of archive u log base row) fits q z
 
-          pub work-renewed : (t ≡ 0 → ⊥) → (y : List ℕ) → y ≡ table_bytes (tree_of x base) → y ≡ take_row_kept_work archive u log base i row work
+          pub work_renewed : (t ≡ 0 → ⊥) → (y : List ℕ) → y ≡ table_bytes (tree_of x base) → y ≡ take_row_kept_work archive u log base i row work
           unfolding take_row_kept_work
-          work-renewed z y w = rw (both-lent i work fits k, ← q, ne_eqb t 0 z) w
+          work_renewed z y w = rw (both_lent i work fits k, ← q, ne_eqb t 0 z) w
 
-          pub work-not-renewed : t ≡ 0 → work ≡ take_row_kept_work archive u log base i row work
+          pub work_not_renewed : t ≡ 0 → work ≡ take_row_kept_work archive u log base i row work
           unfolding take_row_kept_work
-          work-not-renewed z = rw (both-lent i work fits k, ← q, z)
+          work_not_renewed z = rw (both_lent i work fits k, ← q, z)
 
 -- ---- a row of which a block was taken leaves a good state
 
@@ -95,11 +95,11 @@ module _ (archive u : ℕ) (log base row : List ℕ) {n p t s : ℕ} {x : List �
           subst (λ (y : List ℕ). Good y base) (sym (ap (λ (o : RowTaken). o.log) w)) (row_good archive u log base row b g)
       go (suc m) a w = absurd (z (ap (λ (o : RowTaken). o.taken) w))
 
-  pub taken-long : length x ≡ 40960
-  taken-long = good.long.0
+  pub taken_long : length x ≡ 40960
+  taken_long = good.long.0
 
   pub base_long : length base ≡ 43032
   base_long = good.long.1
 
-  pub taken-sound : sound_state x base ≡ true
-  taken-sound = good.sound
+  pub taken_sound : sound_state x base ≡ true
+  taken_sound = good.sound

@@ -45,14 +45,14 @@ settled_fits s at n room e = rw (settled_is s e) at room
 -- ---- what is written
 
 module _ {a b : List ℕ} {at r : ℕ} where
-  pub wrote-dash : (s : List ℕ) (t : Bool) → t ≡ blank s → t ≡ true → Wrote a b at r (45 ∷ []) → Wrote a b at r (marked_text s)
-  wrote-dash s t e f w = rw (none_is s t e f) w
+  pub wrote_dash : (s : List ℕ) (t : Bool) → t ≡ blank s → t ≡ true → Wrote a b at r (45 ∷ []) → Wrote a b at r (marked_text s)
+  wrote_dash s t e f w = rw (none_is s t e f) w
 
-  pub wrote-marked : (s : List ℕ) (t : Bool) → t ≡ blank s → t ≡ false → Wrote a b at r (identity_text s) → Wrote a b at r (marked_text s)
-  wrote-marked s t e f w = rw (marked_is s t e f) w
+  pub wrote_marked : (s : List ℕ) (t : Bool) → t ≡ blank s → t ≡ false → Wrote a b at r (identity_text s) → Wrote a b at r (marked_text s)
+  wrote_marked s t e f w = rw (marked_is s t e f) w
 
-  pub wrote-open : (s : ℕ) → s ≡ 1 → Wrote a b at r open_word → Wrote a b at r (state_text s)
-  wrote-open s e w = rw (open_is s e) w
+  pub wrote_open : (s : ℕ) → s ≡ 1 → Wrote a b at r open_word → Wrote a b at r (state_text s)
+  wrote_open s e w = rw (open_is s e) w
 
-  pub wrote-settled : (s : ℕ) → (s ≡ 1 → ⊥) → Wrote a b at r settled_word → Wrote a b at r (state_text s)
-  wrote-settled s e w = rw (settled_is s e) w
+  pub wrote_settled : (s : ℕ) → (s ≡ 1 → ⊥) → Wrote a b at r settled_word → Wrote a b at r (state_text s)
+  wrote_settled s e w = rw (settled_is s e) w

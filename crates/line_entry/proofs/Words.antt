@@ -55,14 +55,14 @@ disputed_fits d at n room e = rw (disputed_is d e) at room
 -- ---- what is written
 
 module _ {a b : List ℕ} {at r : ℕ} where
-  pub wrote-folder : (k : ℕ) → k ≡ 1 → Wrote a b at r folder_word → Wrote a b at r (kind_text k)
-  wrote-folder k e w = rw (folder_is k e) w
+  pub wrote_folder : (k : ℕ) → k ≡ 1 → Wrote a b at r folder_word → Wrote a b at r (kind_text k)
+  wrote_folder k e w = rw (folder_is k e) w
 
-  pub wrote-trace : (k : ℕ) → (k ≡ 1 → ⊥) → Wrote a b at r trace_word → Wrote a b at r (kind_text k)
-  wrote-trace k e w = rw (trace_is k e) w
+  pub wrote_trace : (k : ℕ) → (k ≡ 1 → ⊥) → Wrote a b at r trace_word → Wrote a b at r (kind_text k)
+  wrote_trace k e w = rw (trace_is k e) w
 
-  pub wrote-disputed : (d : ℕ) → d ≡ 1 → Wrote a b at r disputed_word → Wrote a b at r (disputed_text d)
-  wrote-disputed d e w = rw (disputed_is d e) w
+  pub wrote_disputed : (d : ℕ) → d ≡ 1 → Wrote a b at r disputed_word → Wrote a b at r (disputed_text d)
+  wrote_disputed d e w = rw (disputed_is d e) w
 
 pub wrote_unmarked : (a : List ℕ) (at k : ℕ) (b : List ℕ) → k ≡ 1 → Wrote a a at at (mark_text k b)
 wrote_unmarked a at k b e = rw (unmarked_is k b e) (wrote_none a at)

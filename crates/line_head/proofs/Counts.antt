@@ -7,7 +7,7 @@ use mathlib.Core.List.{List, [], ◌∷◌, ◌++◌, append_assoc, append-nil}
 use lib.ListN.{length, take, get_or}
 use Rattle.model.specs.Listing.{decimal, counts_text}
 use Rattle.line_text.specs.Written.{Wrote}
-use Rattle.line_text.proofs.Written.{room_first, room_rest, wrote_length, wrote_more, text-room, wrote-next, wrote_all}
+use Rattle.line_text.proofs.Written.{room_first, room_rest, wrote_length, wrote_more, text_room, wrote_next, wrote_all}
 
 -- ---- a count
 
@@ -16,8 +16,8 @@ unfolding counts_text
 count_is c = rw (append-nil (decimal c))
 
 module _ (c : ℕ) (a : List ℕ) (at : ℕ) (room : at + length (counts_text (c ∷ [])) ≤ length a) where
-  pub count-space-fits : at + 1 ≤ length a
-  count-space-fits = room_first at (length a) (32 ∷ []) (decimal c) (rw (count_is c) at room)
+  pub count_space_fits : at + 1 ≤ length a
+  count_space_fits = room_first at (length a) (32 ∷ []) (decimal c) (rw (count_is c) at room)
 
   pub count_fits_lem : {b : List ℕ} {m : ℕ} → Wrote a b at m (32 ∷ []) → m + length (decimal c) ≤ length b
   count_fits_lem x = room_rest (decimal c) (rw (count_is c) at room) x
@@ -36,14 +36,14 @@ module _ (a b t : List ℕ) (at m i : ℕ) (room : at + length (counts_text t) �
   below : i < length t
   below = omega arith
 
-  pub next-count-fits : m + length (counts_text (get_or t i 0 ∷ [])) ≤ length b
-  next-count-fits =
-      let n = text-room counts_text counts-append t i below in
+  pub next_count_fits : m + length (counts_text (get_or t i 0 ∷ [])) ≤ length b
+  next_count_fits =
+      let n = text_room counts_text counts-append t i below in
       let l = wrote_length (omega arith) so_far in
       omega (arith, so_far.next)
 
-  pub wrote-next-count : {c : List ℕ} {r : ℕ} → Wrote b c m r (counts_text (get_or t i 0 ∷ [])) → Wrote a c at r (counts_text (take (i + 1) t))
-  wrote-next-count {c} {r} x = wrote-next counts_text counts-append a b c t at m r i room below so_far x
+  pub wrote_next_count : {c : List ℕ} {r : ℕ} → Wrote b c m r (counts_text (get_or t i 0 ∷ [])) → Wrote a c at r (counts_text (take (i + 1) t))
+  wrote_next_count {c} {r} x = wrote_next counts_text counts-append a b c t at m r i room below so_far x
 
 pub wrote_all_counts : (a b t : List ℕ) (at r i : ℕ) → Wrote a b at r (counts_text (take i t)) → length t ≡ 8 → 8 ≤ i → Wrote a b at r (counts_text t)
 wrote_all_counts a b t at r i w e h = wrote_all counts_text a b t at r i (omega arith) w

@@ -56,21 +56,21 @@ escaped-append (x ∷ s) t = go (eqb x 34 || eqb x 92) (escaped-append s t)
 -- ---- a label
 
 module _ (t a b c : List ℕ) (at m k n : ℕ) (e : n ≡ text_length t) (room : at + length (label_text t) ≤ length a) where
-  label-parts : label_text t ≡ (34 ∷ []) ++ (escaped (take (n - 0) t) ++ (34 ∷ []))
+  label_parts : label_text t ≡ (34 ∷ []) ++ (escaped (take (n - 0) t) ++ (34 ∷ []))
   unfolding label_text
-  label-parts = rw (sub-zero n, e)
+  label_parts = rw (sub-zero n, e)
 
-  label-room : at + length ((34 ∷ []) ++ (escaped (take (n - 0) t) ++ (34 ∷ []))) ≤ length a
-  label-room = rw label-parts at room
+  label_room : at + length ((34 ∷ []) ++ (escaped (take (n - 0) t) ++ (34 ∷ []))) ≤ length a
+  label_room = rw label_parts at room
 
   pub text_fits : Wrote a b at m (34 ∷ []) → m + length (escaped (take (n - 0) t)) ≤ length b
-  text_fits x = room_first m (length b) (escaped (take (n - 0) t)) (34 ∷ []) (room_rest (escaped (take (n - 0) t) ++ (34 ∷ [])) label-room x)
+  text_fits x = room_first m (length b) (escaped (take (n - 0) t)) (34 ∷ []) (room_rest (escaped (take (n - 0) t) ++ (34 ∷ [])) label_room x)
 
-  pub quote-fits : Wrote a b at m (34 ∷ []) → Wrote b c m k (escaped (take (n - 0) t)) → k + 1 ≤ length c
-  quote-fits x y = room_rest (34 ∷ []) (room_rest (escaped (take (n - 0) t) ++ (34 ∷ [])) label-room x) y
+  pub quote_fits : Wrote a b at m (34 ∷ []) → Wrote b c m k (escaped (take (n - 0) t)) → k + 1 ≤ length c
+  quote_fits x y = room_rest (34 ∷ []) (room_rest (escaped (take (n - 0) t) ++ (34 ∷ [])) label_room x) y
 
-  pub wrote-label : (d : List ℕ) (r : ℕ) → Wrote a b at m (34 ∷ []) → Wrote b c m k (escaped (take (n - 0) t)) → Wrote c d k r (34 ∷ []) → Wrote a d at r (label_text t)
-  wrote-label d r x y z = rw label-parts (wrote_then label-room x (λ q. wrote_more q y z))
+  pub wrote_label : (d : List ℕ) (r : ℕ) → Wrote a b at m (34 ∷ []) → Wrote b c m k (escaped (take (n - 0) t)) → Wrote c d k r (34 ∷ []) → Wrote a d at r (label_text t)
+  wrote_label d r x y z = rw label_parts (wrote_then label_room x (λ q. wrote_more q y z))
 
 pub first_quote_fits : (t a : List ℕ) (at : ℕ) → at + length (label_text t) ≤ length a → at + 1 ≤ length a
 unfolding label_text

@@ -18,16 +18,16 @@ third_fits {t = t} u z room x y = second_fits u z (room_rest (t ++ (u ++ z)) roo
 -- ---- room for the last part, and the whole
 
 module _ {a b c : List ℕ} {at m k : ℕ} {s t : List ℕ} (u : List ℕ) (room : at + length (s ++ (t ++ u)) ≤ length a) (x : Wrote a b at m s) (y : Wrote b c m k t) where
-  pub last-of-three : k + length u ≤ length c
-  last-of-three = room_rest u (room_rest (t ++ u) room x) y
+  pub last_of_three : k + length u ≤ length c
+  last_of_three = room_rest u (room_rest (t ++ u) room x) y
 
-  pub wrote-three : {d : List ℕ} {r : ℕ} → Wrote c d k r u → Wrote a d at r (s ++ (t ++ u))
-  wrote-three w = wrote_then room x (λ q. wrote_more q y w)
+  pub wrote_three : {d : List ℕ} {r : ℕ} → Wrote c d k r u → Wrote a d at r (s ++ (t ++ u))
+  wrote_three w = wrote_then room x (λ q. wrote_more q y w)
 
 module _ {a b c d : List ℕ} {at m k l : ℕ} {s t u : List ℕ} (v : List ℕ) (room : at + length (s ++ (t ++ (u ++ v))) ≤ length a) (x : Wrote a b at m s) (y : Wrote b c m k t)
     (z : Wrote c d k l u) where
-  pub last-of-four : l + length v ≤ length d
-  last-of-four = last-of-three v (room_rest (t ++ (u ++ v)) room x) y z
+  pub last_of_four : l + length v ≤ length d
+  last_of_four = last_of_three v (room_rest (t ++ (u ++ v)) room x) y z
 
-  pub wrote-four : {e : List ℕ} {r : ℕ} → Wrote d e l r v → Wrote a e at r (s ++ (t ++ (u ++ v)))
-  wrote-four w = wrote_then room x (λ q. wrote-three v q y z w)
+  pub wrote_four : {e : List ℕ} {r : ℕ} → Wrote d e l r v → Wrote a e at r (s ++ (t ++ (u ++ v)))
+  wrote_four w = wrote_then room x (λ q. wrote_three v q y z w)

@@ -60,8 +60,8 @@ more_digits n h g = ap length (decimal_more n h g) ∙ length-append (decimal (n
 
 -- the digits of `left` are the first i of D: the last of them, and those before it
 module _ (D : List ℕ) (left i : ℕ) (small : left < 4294967296) (pos : 0 < i) (fits : i ≤ length D) (e : decimal left ≡ take i D) where
-  pub last-digit : get_or D (i - 1) 0 ≡ 48 + left % 10
-  last-digit =
+  pub last_digit : get_or D (i - 1) 0 ≡ 48 + left % 10
+  last_digit =
       ⊎_elim
       (λ (h : left < 10).
       let q : i ≡ 1 = sym (length-take-le i D fits) ∙ ap length (sym e) ∙ one_digit left h in
@@ -76,8 +76,8 @@ module _ (D : List ℕ) (left i : ℕ) (small : left < 4294967296) (pos : 0 < i)
       ∙ get_or-append_seam (decimal (left / 10)) (48 + left % 10) [] 0)
       (lt_or_ge left 10)
 
-  pub digits-before : 0 < i - 1 → decimal (left / 10) ≡ take (i - 1) D
-  digits-before p =
+  pub digits_before : 0 < i - 1 → decimal (left / 10) ≡ take (i - 1) D
+  digits_before p =
       ⊎_elim
       (λ (h : left < 10).
       let q : i ≡ 1 = sym (length-take-le i D fits) ∙ ap length (sym e) ∙ one_digit left h in

@@ -28,14 +28,14 @@ module _ (s a b c : List ℕ) (at m k u v w : ℕ) (room : at + length (identity
   whole_room : at + length (decimal u ++ ((46 ∷ []) ++ decimal v)) ≤ length a
   whole_room = rw (identity_parts s u v e (g ∙ f)) at room
 
-  pub dot-fits : Wrote a b at m (decimal u) → m + 1 ≤ length b
-  dot-fits x = room_first m (length b) (46 ∷ []) (decimal v) (room_rest ((46 ∷ []) ++ decimal v) whole_room x)
+  pub dot_fits : Wrote a b at m (decimal u) → m + 1 ≤ length b
+  dot_fits x = room_first m (length b) (46 ∷ []) (decimal v) (room_rest ((46 ∷ []) ++ decimal v) whole_room x)
 
   pub number_fits : Wrote a b at m (decimal u) → Wrote b c m k (46 ∷ []) → k + length (decimal v) ≤ length c
   number_fits x y = room_rest (decimal v) (room_rest ((46 ∷ []) ++ decimal v) whole_room x) y
 
-  pub wrote-identity : (d : List ℕ) (r : ℕ) → Wrote a b at m (decimal u) → Wrote b c m k (46 ∷ []) → Wrote c d k r (decimal v) → Wrote a d at r (identity_text s)
-  wrote-identity d r x y z = rw (identity_parts s u v e (g ∙ f)) (wrote_then whole_room x (λ q. wrote_more q y z))
+  pub wrote_identity : (d : List ℕ) (r : ℕ) → Wrote a b at m (decimal u) → Wrote b c m k (46 ∷ []) → Wrote c d k r (decimal v) → Wrote a d at r (identity_text s)
+  wrote_identity d r x y z = rw (identity_parts s u v e (g ∙ f)) (wrote_then whole_room x (λ q. wrote_more q y z))
 
 pub unit_fits : (s a : List ℕ) (at u : ℕ) → at + length (identity_text s) ≤ length a → u ≡ get_or s 0 0 → at + length (decimal u) ≤ length a
 unit_fits s a at u room e = room_first at (length a) (decimal u) ((46 ∷ []) ++ decimal (word s 2)) (whole_room s a a a at at at u (word s 2) (word s 2) room e refl refl)

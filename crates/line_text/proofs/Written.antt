@@ -49,22 +49,22 @@ wrote_same s t e w = rw (← e) w
 
 -- of a text that goes over lists laid end to end: the next element, and the room for it
 module _ (f : List ℕ → List ℕ) (over : (s t : List ℕ) → f (s ++ t) ≡ f s ++ f t) (t : List ℕ) where
-  pub next-text : (i : ℕ) → i < length t → f (take (i + 1) t) ≡ f (take i t) ++ f (get_or t i 0 ∷ [])
-  next-text i h = rw (add-one i, take-suc t i 0 h) (over (take i t) (get_or t i 0 ∷ []))
+  pub next_text : (i : ℕ) → i < length t → f (take (i + 1) t) ≡ f (take i t) ++ f (get_or t i 0 ∷ [])
+  next_text i h = rw (add-one i, take-suc t i 0 h) (over (take i t) (get_or t i 0 ∷ []))
 
-  pub text-room : (i : ℕ) → i < length t → length (f (take i t)) + length (f (get_or t i 0 ∷ [])) ≤ length (f t)
-  text-room i h =
+  pub text_room : (i : ℕ) → i < length t → length (f (take i t)) + length (f (get_or t i 0 ∷ [])) ≤ length (f t)
+  text_room i h =
       let e : f t ≡ f (take (i + 1) t) ++ f (drop (i + 1) t) = ap f (sym (take-append-drop (i + 1) t)) ∙ over (take (i + 1) t) (drop (i + 1) t) in
       let n = ap length e ∙ length-append (f (take (i + 1) t)) (f (drop (i + 1) t)) in
-      let m = ap length (next-text i h) ∙ length-append (f (take i t)) (f (get_or t i 0 ∷ [])) in
+      let m = ap length (next_text i h) ∙ length-append (f (take i t)) (f (get_or t i 0 ∷ [])) in
       omega arith
 
 -- a turn of a loop that writes element by element, and its end
 module _ (f : List ℕ → List ℕ) (over : (s t : List ℕ) → f (s ++ t) ≡ f s ++ f t) (a b c t : List ℕ) (at m r i : ℕ) where
-  pub wrote-next : at + length (f t) ≤ length a → i < length t → Wrote a b at m (f (take i t)) → Wrote b c m r (f (get_or t i 0 ∷ [])) → Wrote a c at r (f (take (i + 1) t))
-  wrote-next room h v w =
+  pub wrote_next : at + length (f t) ≤ length a → i < length t → Wrote a b at m (f (take i t)) → Wrote b c m r (f (get_or t i 0 ∷ [])) → Wrote a c at r (f (take (i + 1) t))
+  wrote_next room h v w =
       let n = length-append (f (take i t)) (f (get_or t i 0 ∷ [])) in
-      rw (next-text f over t i h) (wrote_more (omega (arith, text-room f over t i h)) v w)
+      rw (next_text f over t i h) (wrote_more (omega (arith, text_room f over t i h)) v w)
 
 pub wrote_all : (f : List ℕ → List ℕ) (a b t : List ℕ) (at r i : ℕ) → length t ≤ i → Wrote a b at r (f (take i t)) → Wrote a b at r (f t)
 wrote_all f a b t at r i h w = rw (← take_all i t h) w

@@ -28,7 +28,7 @@ use Rattle.sab2_laws.proofs.Calls.{read_accepted}
 use Rattle.sab2_laws.proofs.Listing as State
 use Rattle.listing_laws.proofs.Rows.{entries_counted, asides_counted}
 use Rattle.listing_laws.proofs.Lines.{refused_line_length}
-use Rattle.listing_laws.proofs.Claims.{entries_few, asides_few, state-lines-fit, unit_read}
+use Rattle.listing_laws.proofs.Claims.{entries_few, asides_few, state_lines_fit, unit_read}
 use Rattle.base_head.specs.Head.{headed, head_of, BaseHead}
 use Rattle.state_tree.specs.Small.{Small}
 use Rattle.line_text.specs.Written.{Wrote}
@@ -38,34 +38,34 @@ use Rattle.listing.specs.Lists.{Lists}
 -- ---- a lent length that is wrong
 
 module _ (f log base tree text : List ℕ) (n p k : ℕ) (one : (n ≡ 1) × (p ≡ 0) × (k ≡ 0)) where
-  pub wrong-log : (length log ≡ 40960 → ⊥) → listed n p k log base tree text ≡ either_listed f log base tree text
+  pub wrong_log : (length log ≡ 40960 → ⊥) → listed n p k log base tree text ≡ either_listed f log base tree text
   unfolding either_listed listing_lent
-  wrong-log a = rw (one.0, one.1, one.2, ne_eqb (length log) 40960 a)
+  wrong_log a = rw (one.0, one.1, one.2, ne_eqb (length log) 40960 a)
 
-  pub wrong-base : length log ≡ 40960 → (length base ≡ 43032 → ⊥) → listed n p k log base tree text ≡ either_listed f log base tree text
+  pub wrong_base : length log ≡ 40960 → (length base ≡ 43032 → ⊥) → listed n p k log base tree text ≡ either_listed f log base tree text
   unfolding either_listed listing_lent
-  wrong-base a b = rw (one.0, one.1, one.2, eq-eqb (length log) 40960 a, ne_eqb (length base) 43032 b)
+  wrong_base a b = rw (one.0, one.1, one.2, eq-eqb (length log) 40960 a, ne_eqb (length base) 43032 b)
 
-  pub wrong-tree : length log ≡ 40960 → length base ≡ 43032 → (length tree ≡ 86020 → ⊥) → listed n p k log base tree text ≡ either_listed f log base tree text
+  pub wrong_tree : length log ≡ 40960 → length base ≡ 43032 → (length tree ≡ 86020 → ⊥) → listed n p k log base tree text ≡ either_listed f log base tree text
   unfolding either_listed listing_lent
-  wrong-tree a b c = rw (one.0, one.1, one.2, eq-eqb (length log) 40960 a, eq-eqb (length base) 43032 b, ne_eqb (length tree) 86020 c)
+  wrong_tree a b c = rw (one.0, one.1, one.2, eq-eqb (length log) 40960 a, eq-eqb (length base) 43032 b, ne_eqb (length tree) 86020 c)
 
-  pub wrong-text : length log ≡ 40960 → length base ≡ 43032 → length tree ≡ 86020 → (length text ≡ 172544 → ⊥)
+  pub wrong_text : length log ≡ 40960 → length base ≡ 43032 → length tree ≡ 86020 → (length text ≡ 172544 → ⊥)
       → listed n p k log base tree text ≡ either_listed f log base tree text
   unfolding either_listed listing_lent
-  wrong-text a b c d =
+  wrong_text a b c d =
       rw (one.0, one.1, one.2, eq-eqb (length log) 40960 a, eq-eqb (length base) 43032 b, eq-eqb (length tree) 86020 c, ne_eqb (length text) 172544 d)
 
 -- ---- the counts of a base
 
 module _ (base v : List ℕ) (m n k : ℕ) (head : headed m v n k ≡ head_of base) where
-  pub head-entries : n ≡ word base 2
+  pub head_entries : n ≡ word base 2
   unfolding head_of
-  head-entries = ap (λ (h : BaseHead). h.entries) head
+  head_entries = ap (λ (h : BaseHead). h.entries) head
 
-  pub head-asides : k ≡ word base 4
+  pub head_asides : k ≡ word base 4
   unfolding head_of
-  head-asides = ap (λ (h : BaseHead). h.asides) head
+  head_asides = ap (λ (h : BaseHead). h.asides) head
 
 -- ---- the lines of a sound state
 
@@ -81,20 +81,20 @@ module _ (log base tree' : List ℕ) (table_is : tree' ≡ table_bytes (tree_of 
     few_asides = rw table_is (omega (arith, asides_counted (tree_of log base), asides_few log base good))
 
     module _ (archive u n : ℕ) (v : List ℕ) (low : u ≤ 7) (count : n ≡ length (records_of log)) (held : v ≡ held_on log base) (small : Small v) where
-      lines-length : length (head_line archive u n ++ (seen_line v ++ tree_lines tree')) ≤ 172123
+      lines_length : length (head_line archive u n ++ (seen_line v ++ tree_lines tree')) ≤ 172123
       unfolding state_lines
-      lines-length = rw (table_is, count, held) (state-lines-fit log base good (rw held at small.at) archive u low)
+      lines_length = rw (table_is, count, held) (state_lines_fit log base good (rw held at small.at) archive u low)
 
-      pub lines-room : (text : List ℕ) → length text ≡ 172544 → length (head_line archive u n ++ (seen_line v ++ tree_lines tree')) ≤ length text
-      lines-room text e = omega (arith, lines-length)
+      pub lines_room : (text : List ℕ) → length text ≡ 172544 → length (head_line archive u n ++ (seen_line v ++ tree_lines tree')) ≤ length text
+      lines_room text e = omega (arith, lines_length)
 
-      pub lines-small : {text text' : List ℕ} {r : ℕ} → Wrote text text' 0 r (head_line archive u n ++ (seen_line v ++ tree_lines tree')) → r < 4294967296
-      lines-small w = omega (arith, lines-length, w.next)
+      pub lines_small : {text text' : List ℕ} {r : ℕ} → Wrote text text' 0 r (head_line archive u n ++ (seen_line v ++ tree_lines tree')) → r < 4294967296
+      lines_small w = omega (arith, lines_length, w.next)
 
-  pub state-listed : {archive u n : ℕ} {v text text' : List ℕ} {r : ℕ} → n ≡ length (records_of log) → v ≡ held_on log base
+  pub state_listed : {archive u n : ℕ} {v text text' : List ℕ} {r : ℕ} → n ≡ length (records_of log) → v ≡ held_on log base
       → Wrote text text' 0 r (head_line archive u n ++ (seen_line v ++ tree_lines tree')) → Lists archive u log base tree' text text' r
   unfolding state_lines
-  state-listed c h w = record { table = table_is; lines = rw (← c, ← h, ← table_is) w }
+  state_listed c h w = record { table = table_is; lines = rw (← c, ← h, ← table_is) w }
 
 -- ---- the line of a refused file
 
@@ -114,9 +114,9 @@ module _ (f : List ℕ) where
   unfolding read_either read_sab2 read_back
   place_read = ⊎_elim (λ (s : is_sab2 f ≡ true). rw s) (λ (s : is_sab2 f ≡ false). rw s) (bool_cases (is_sab2 f))
 
-  vector-read : (read_either f).vector ≡ vector_in (block_at f 0)
+  vector_read : (read_either f).vector ≡ vector_in (block_at f 0)
   unfolding read_either read_sab2 read_back
-  vector-read = ⊎_elim (λ (s : is_sab2 f ≡ true). rw s) (λ (s : is_sab2 f ≡ false). rw s) (bool_cases (is_sab2 f))
+  vector_read = ⊎_elim (λ (s : is_sab2 f ≡ true). rw s) (λ (s : is_sab2 f ≡ false). rw s) (bool_cases (is_sab2 f))
 
 -- the line of a file that is not read
 refused_is : (log base f : List ℕ) → length log ≡ 40960 → length base ≡ 43032 → ((read_either_of log base f).number ≡ 0 → ⊥)
@@ -124,12 +124,12 @@ refused_is : (log base f : List ℕ) → length log ≡ 40960 → length base �
 unfolding read_either_of read_either read_sab2 read_back not_read either_listing
 refused_is log base f long based bad =
     ⊎_elim
-    (λ (c : eqb (either_fault f).number 0 ≡ true). absurd (bad (number-none c)))
+    (λ (c : eqb (either_fault f).number 0 ≡ true). absurd (bad (number_none c)))
     (λ (c : eqb (either_fault f).number 0 ≡ false). rw (eq-eqb (length log) 40960 long, eq-eqb (length base) 43032 based, c))
     (bool_cases (eqb (either_fault f).number 0))
   where
-    number-none : eqb (either_fault f).number 0 ≡ true → (read_either_of log base f).number ≡ 0
-    number-none c =
+    number_none : eqb (either_fault f).number 0 ≡ true → (read_either_of log base f).number ≡ 0
+    number_none c =
         ⊎_elim
         (λ (s : is_sab2 f ≡ true). rw (eq-eqb (length log) 40960 long, eq-eqb (length base) 43032 based, c, s))
         (λ (s : is_sab2 f ≡ false). rw (eq-eqb (length log) 40960 long, eq-eqb (length base) 43032 based, c, s))
@@ -154,10 +154,10 @@ module _ (f log base tree text log' base' v : List ℕ) (n p a u k : ℕ) (back 
   number_is = ap (λ (x : ReadBack). x.number) back
 
   -- a refused file leaves log and base, and the table is cleared
-  pub refused-left : {tree' text' : List ℕ} {r : ℕ} → (n ≡ 0 → ⊥) → tree' ≡ replicate 86020 0 → Wrote text text' 0 r (refused_line n p)
+  pub refused_left : {tree' text' : List ℕ} {r : ℕ} → (n ≡ 0 → ⊥) → tree' ≡ replicate 86020 0 → Wrote text text' 0 r (refused_line n p)
       → listed n p r log' base' tree' text' ≡ either_listed f log base tree text
   unfolding either_listed listed_read
-  refused-left {tree'} {text'} {r} bad clear w =
+  refused_left {tree'} {text'} {r} bad clear w =
       let bad' : (read_either_of log base f).number ≡ 0 → ⊥ = λ z. bad (number_is ∙ z) in
       let e : refused_line n p ≡ either_listing f =
       ap₂ refused_line number_is (ap (λ (x : ReadBack). x.place) back) ∙ sym (refused_is log base f long based bad') in
@@ -177,27 +177,27 @@ module _ (f log base tree text log' base' v : List ℕ) (n p a u k : ℕ) (back 
     log_is : log' ≡ (read_either f).log
     log_is = ap (λ (x : ReadBack). x.log) reads
 
-    base-is : base' ≡ (read_either f).base
-    base-is = ap (λ (x : ReadBack). x.base) reads
+    base_is : base' ≡ (read_either f).base
+    base_is = ap (λ (x : ReadBack). x.base) reads
 
     -- what is left is a sound state of the stated lengths, with so many records and this vector
     good_left : Good log' base'
-    good_left = rw (log_is, base-is) state.good
+    good_left = rw (log_is, base_is) state.good
 
     pub long-left : length log' ≡ 40960
     long-left = good_left.long.0
 
-    pub based-left : length base' ≡ 43032
-    based-left = good_left.long.1
+    pub based_left : length base' ≡ 43032
+    based_left = good_left.long.1
 
-    pub sound-left : sound_state log' base' ≡ true
-    sound-left = good_left.sound
+    pub sound_left : sound_state log' base' ≡ true
+    sound_left = good_left.sound
 
     pub count_left : k ≡ length (records_of log')
     count_left = rw log_is (ap (λ (x : ReadBack). x.records) reads ∙ state.counted)
 
     pub held-left : v ≡ held_on log' base'
-    held-left = rw (log_is, base-is) (ap (λ (x : ReadBack). x.vector) reads ∙ (vector-read f ∙ sym state.vector))
+    held-left = rw (log_is, base_is) (ap (λ (x : ReadBack). x.vector) reads ∙ (vector_read f ∙ sym state.vector))
 
     pub unit_left : u ≤ 7
     unit_left = rw (ap (λ (x : ReadBack). x.sender) reads) (unit_read f faultless)
@@ -208,10 +208,10 @@ module _ (f log base tree text log' base' v : List ℕ) (n p a u k : ℕ) (back 
     place_none : p ≡ 0
     place_none = ap (λ (x : ReadBack). x.place) reads ∙ place_read f
 
-    pub accepted-left : {tree' text' : List ℕ} {r : ℕ} → Lists a u log' base' tree' text text' r
+    pub accepted_left : {tree' text' : List ℕ} {r : ℕ} → Lists a u log' base' tree' text text' r
         → listed 0 0 r log' base' tree' text' ≡ either_listed f log base tree text
     unfolding either_listed listed_read
-    accepted-left {tree'} {text'} {r} w =
+    accepted_left {tree'} {text'} {r} w =
         let size : r ≡ length (either_listing f) = w.lines.next ∙ rw lines_are (omega arith) in
         let t : tree' ≡ (show_of log' base' tree).lent = w.table ∙ sym (shows log' base' tree good_left wide) in
         rw (whole, ← back, z, place_none, t, size, w.lines.bytes, lines_are)

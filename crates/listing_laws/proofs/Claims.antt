@@ -28,21 +28,21 @@ use Rattle.run_laws.proofs.Again.{Bytes, bytes_part}
 use Rattle.encoding_laws.proofs.Logs.{sound_few}
 use Rattle.tree_laws.specs.Trees.{SoundTree}
 use Rattle.tree_laws.proofs.Roots.{present_few}
-use Rattle.base_laws.proofs.Numbered.{entries-count, asides-count}
+use Rattle.base_laws.proofs.Numbered.{entries_count, asides_count}
 use Rattle.base_laws.proofs.Trees.{sound_tells}
 use Rattle.base_laws.proofs.Claims.{state_tree_sound}
 use Rattle.call_laws.specs.Keeps.{Good}
-use Rattle.call_laws.proofs.States.{good-base}
+use Rattle.call_laws.proofs.States.{good_base}
 use Rattle.call_laws.proofs.Reading.{checked-right}
 use Rattle.file_laws.proofs.Rewritten as Sab1
-use Rattle.index_state.proofs.States.{shown_few, state-proper}
+use Rattle.index_state.proofs.States.{shown_few, state_proper}
 use Rattle.sab2_laws.specs.Listed.{state_lines, Listed}
 use Rattle.sab2_laws.proofs.Listing.{listed}
 use Rattle.sab2_laws.proofs.Forms.{sab1_fault, sab2_fault_lem}
 use Rattle.sab2_laws.proofs.Altered.{whole_accepted}
 use Rattle.sab2_laws.proofs.Rewritten as Sab2
 use Rattle.listing_laws.proofs.Lines.{head_line_length, seen_line_length, refused_line_length}
-use Rattle.listing_laws.proofs.Rows.{Small, replay_size, replay_asides, tree-lines-few}
+use Rattle.listing_laws.proofs.Rows.{Small, replay_size, replay_asides, tree_lines_few}
 
 -- of a sound state at most 1,024 entries are shown, and 1,536 rows
 module _ (log base : List ℕ) (g : Good log base) where
@@ -52,39 +52,39 @@ module _ (log base : List ℕ) (g : Good log base) where
   pub asides_few : length (tree_of log base).asides ≤ 1024
   unfolding tree_of base_tree
   asides_few =
-      let s = sound_tells base (good-base log base g) in
-      omega (arith, replay_asides (base_tree base) (records_of log), asides-count base 0 (word base 4), s.few_asides, sound_few log)
+      let s = sound_tells base (good_base log base g) in
+      omega (arith, replay_asides (base_tree base) (records_of log), asides_count base 0 (word base 4), s.few_asides, sound_few log)
 
   rows_few : length (present_ones (tree_of log base).entries) + length (tree_of log base).asides ≤ 1536
   unfolding tree_of base_tree
   rows_few =
-      let s = sound_tells base (good-base log base g) in
+      let s = sound_tells base (good_base log base g) in
       omega (
         arith,
         present_few (replay_from (base_tree base) (records_of log)).entries,
         replay_size (base_tree base) (records_of log),
-        entries-count base 0 (word base 2),
-        asides-count base 0 (word base 4),
+        entries_count base 0 (word base 2),
+        asides_count base 0 (word base 4),
         s.few_entries,
         s.few_asides,
         sound_few log,
       )
 
   module _ (s : Small (held_on log base)) where
-    pub tree-lines-fit : length (tree_lines (table_bytes (tree_of log base))) ≤ 172032
-    tree-lines-fit =
+    pub tree_lines_fit : length (tree_lines (table_bytes (tree_of log base))) ≤ 172032
+    tree_lines_fit =
         let t : Tree = tree_of log base in
         omega (
           arith,
           entries_few,
           rows_few,
-          tree-lines-few (held_on log base) s t (state_tree_sound log base g.long.1 g.sound) entries_few (state-proper log base g.long.1 g.sound s),
+          tree_lines_few (held_on log base) s t (state_tree_sound log base g.long.1 g.sound) entries_few (state_proper log base g.long.1 g.sound s),
         )
 
     -- behind a head of 38 bytes and a vector of 53
-    pub state-lines-fit : (archive u : ℕ) → u ≤ 7 → length (state_lines archive u log base) ≤ 172123
+    pub state_lines_fit : (archive u : ℕ) → u ≤ 7 → length (state_lines archive u log base) ≤ 172123
     unfolding state_lines
-    state-lines-fit archive u h =
+    state_lines_fit archive u h =
         let v : List ℕ = held_on log base in
         let n : ℕ = length (records_of log) in
         let head : List ℕ = head_line archive u n in
@@ -97,7 +97,7 @@ module _ (log base : List ℕ) (g : Good log base) where
           length-append seen lines,
           head_line_length archive u n (omega arith) (omega arith),
           seen_line_length v (vector_on-length (base_vector base) (records_of log)) (λ i k. omega (arith, s i k)),
-          tree-lines-fit,
+          tree_lines_fit,
         )
 
 -- ---- the listing of a file
@@ -107,8 +107,8 @@ pub unit_read : (f : List ℕ) → (either_fault f).number ≡ 0 → (read_eithe
 unfolding read_either read_sab2 read_back
 unit_read f e =
     ⊎_elim
-    (λ (s : is_sab2 f ≡ true). rw s (Sab2.sender-right f (rw (sab2_fault_lem f s) at e)))
-    (λ (s : is_sab2 f ≡ false). let (x, y) = checked-right f (rw (sab1_fault f s) at e) in rw s (Sab1.sender-right f x y))
+    (λ (s : is_sab2 f ≡ true). rw s (Sab2.sender_right f (rw (sab2_fault_lem f s) at e)))
+    (λ (s : is_sab2 f ≡ false). let (x, y) = checked-right f (rw (sab1_fault f s) at e) in rw s (Sab1.sender_right f x y))
     (bool_cases (is_sab2 f))
 
 -- the counts in a header of bytes are numbers of 16 bits
@@ -132,4 +132,4 @@ either_listing_fits f g =
     accepted e =
         let L : Listed f = listed f e in
         let s : Small (held_on (read_either f).log (read_either f).base) = rw L.vector (counts_small f g (whole_accepted f e)) in
-        rw L.lines (state-lines-fit (read_either f).log (read_either f).base L.good s (read_either f).archive (read_either f).sender (unit_read f e))
+        rw L.lines (state_lines_fit (read_either f).log (read_either f).base L.good s (read_either f).archive (read_either f).sender (unit_read f e))

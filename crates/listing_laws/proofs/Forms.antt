@@ -13,7 +13,7 @@ use Rattle.sab2_model.specs.Sab2.{is_sab2, either_fault}
 use Rattle.sab2_model.specs.Calls.{as_sab2, read_either, read_either_of, either_listing}
 use Rattle.sab2_laws.specs.Listed.{state_lines}
 use Rattle.sab2_laws.proofs.Forms.{sab1_fault, sab2_fault_lem}
-use Rattle.sab2_laws.proofs.Ways.{is-sab1, up-chosen, up-faultless, up-reads}
+use Rattle.sab2_laws.proofs.Ways.{is_sab1, up_chosen, up_faultless, up_reads}
 use Rattle.sab2_laws.proofs.Listing.{listed}
 
 -- a file that does not begin with SAB2 is listed as document 01 says
@@ -33,10 +33,10 @@ converted_listing f e =
     let base : List ℕ = replicate 43032 0 in
     let m : length log ≡ 40960 = length-replicate {A = ℕ} 40960 0 in
     let n : length base ≡ 43032 = length-replicate {A = ℕ} 43032 0 in
-    let one : (either_fault f).number ≡ 0 = rw (sab1_fault f (is-sab1 f e)) e in
-    let two : (either_fault (as_sab2 f)).number ≡ 0 = rw (sab2_fault_lem (as_sab2 f) (up-chosen f e), up-faultless f e) in
+    let one : (either_fault f).number ≡ 0 = rw (sab1_fault f (is_sab1 f e)) e in
+    let two : (either_fault (as_sab2 f)).number ≡ 0 = rw (sab2_fault_lem (as_sab2 f) (up_chosen f e), up_faultless f e) in
     let same : read_either (as_sab2 f) ≡ read_either f =
-    sym (read_right log base (as_sab2 f) m n two) ∙ up-reads f e log base m n ∙ read_right log base f m n one in
+    sym (read_right log base (as_sab2 f) m n two) ∙ up_reads f e log base m n ∙ read_right log base f m n one in
     (listed (as_sab2 f) two).lines
     ∙ ap (λ (x : ReadBack). state_lines x.archive x.sender x.log x.base) same
     ∙ sym (listed f one).lines

@@ -141,25 +141,25 @@ unfolding aside_row identity_bytes word
 note_line a h k n = aside_line_length (aside_row a) (omega arith, omega arith) n (omega arith, omega arith)
 
 module _ (v : List ℕ) (s : Small v) (t : Tree) (f : SoundTree v t) (few : length (present_ones t.entries) ≤ 1024) (a : AllProper (present_ones t.entries)) where
-  present-fit : All (EntryFits v) (present_ones t.entries)
-  present-fit =
+  present_fit : All (EntryFits v) (present_ones t.entries)
+  present_fit =
       all_has (EntryFits v) (present_ones t.entries) (λ x i. has_all (EntryFits v) t.entries x f.entries_fit (has_present t.entries x i).0)
 
-  entry-few : (i : ℕ) → i < length (present_ones t.entries) → length (entry_line (part (table_bytes t) (4 + 72 * i) 72)) ≤ 145
-  entry-few i h =
+  entry_few : (i : ℕ) → i < length (present_ones t.entries) → length (entry_line (part (table_bytes t) (4 + 72 * i) 72)) ≤ 145
+  entry_few i h =
       let none : Entry = record { made = 0; kind = 0; inside = 0; label = []; contents = 0; date = []; mark = []; placing = 0 } in
       let e : Entry = get_or (present_ones t.entries) i none in
-      let F : EntryFits v e = all_at (EntryFits v) (present_ones t.entries) i none h present-fit in
+      let F : EntryFits v e = all_at (EntryFits v) (present_ones t.entries) i none h present_fit in
       rw (row-at t few a i none h) (row_line (flag_of t.asides e) e (named-range v s e.made F.own_named).high (named_few v s e.inside F.folder_named))
 
-  aside-few : (i : ℕ) → i < length t.asides → length (aside_line (part (table_bytes t) (73732 + 12 * i) 12)) ≤ 46
-  aside-few i h =
+  aside_few : (i : ℕ) → i < length t.asides → length (aside_line (part (table_bytes t) (73732 + 12 * i) 12)) ≤ 46
+  aside_few i h =
       let none : Aside = record { who = 0; reason = 0; marked = 0; is_open = true } in
       let x : Aside = get_or t.asides i none in
       let F : AsideFits v x = all_at (AsideFits v) t.asides i none h f.asides_fit in
       let r : x.reason < 100 = ⊎_elim (λ (z : (12 ≤ x.reason) × (x.reason ≤ 18)). omega (arith, z.1)) (λ (z : x.reason ≡ 25). omega arith) F.a_reason in
       rw (aside-at t few a i none h) (note_line x (named-range v s x.who F.who_named).high (named_few v s x.marked F.mark_named) r)
 
-  pub tree-lines-few : length (tree_lines (table_bytes t)) ≤ 145 * length (present_ones t.entries) + 46 * length t.asides
-  tree-lines-few =
-      tree_lines_length (table_bytes t) (length (present_ones t.entries)) (length t.asides) (entries_counted t) (asides_counted t) entry-few aside-few
+  pub tree_lines_few : length (tree_lines (table_bytes t)) ≤ 145 * length (present_ones t.entries) + 46 * length t.asides
+  tree_lines_few =
+      tree_lines_length (table_bytes t) (length (present_ones t.entries)) (length t.asides) (entries_counted t) (asides_counted t) entry_few aside_few

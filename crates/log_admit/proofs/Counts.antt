@@ -96,10 +96,10 @@ alike-cons r k = record { counts = λ u. rw (k.counts u); records = λ u c. rw (
 
 -- a record that stands somewhere inside counts as one that stands first
 module _ (r : Rec) (q : List Rec) where
-  count-inside : (u : ℕ) (p : List Rec) → count u (p ++ r ∷ q) ≡ count u (r ∷ (p ++ q))
+  count_inside : (u : ℕ) (p : List Rec) → count u (p ++ r ∷ q) ≡ count u (r ∷ (p ++ q))
   unfolding count
-  count-inside u [] = refl
-  count-inside u (x ∷ p) = rw (count-inside u p) (go (eqb (unit x) u) (eqb (unit r) u))
+  count_inside u [] = refl
+  count_inside u (x ∷ p) = rw (count_inside u p) (go (eqb (unit x) u) (eqb (unit r) u))
     where
       go : (a b : Bool) → cond a (suc (cond b (suc (count u (p ++ q))) (count u (p ++ q)))) (cond b (suc (count u (p ++ q))) (count u (p ++ q))) ≡ cond b (suc (cond a (suc (count u (p ++ q))) (count u (p ++ q)))) (cond a (suc (count u (p ++ q))) (count u (p ++ q)))
       go true true = refl
@@ -107,27 +107,27 @@ module _ (r : Rec) (q : List Rec) where
       go false true = refl
       go false false = refl
 
-  byId-skips : (u c : ℕ) → (Same r u c → ⊥) → (p : List Rec) → by_id u c (p ++ r ∷ q) ≡ by_id u c (p ++ q)
+  by_id_skips : (u c : ℕ) → (Same r u c → ⊥) → (p : List Rec) → by_id u c (p ++ r ∷ q) ≡ by_id u c (p ++ q)
   unfolding by_id
-  byId-skips u c d [] = rw (other_test r u c d)
-  byId-skips u c d (x ∷ p) = rw (byId-skips u c d p)
+  by_id_skips u c d [] = rw (other_test r u c d)
+  by_id_skips u c d (x ∷ p) = rw (by_id_skips u c d p)
 
-  byId-meets : (u c : ℕ) → Same r u c → (p : List Rec) → by_id u c (p ++ q) ≡ none → by_id u c (p ++ r ∷ q) ≡ some r
+  by_id_meets : (u c : ℕ) → Same r u c → (p : List Rec) → by_id u c (p ++ q) ≡ none → by_id u c (p ++ r ∷ q) ≡ some r
   unfolding by_id
-  byId-meets u c s [] e = rw (same_test r u c s)
-  byId-meets u c s (x ∷ p) e = go (eqb (unit x) u && eqb (num x) c) e (λ f. byId-meets u c s p f)
+  by_id_meets u c s [] e = rw (same_test r u c s)
+  by_id_meets u c s (x ∷ p) e = go (eqb (unit x) u && eqb (num x) c) e (λ f. by_id_meets u c s p f)
     where
       go : (t : Bool) → cond t (some x) (by_id u c (p ++ q)) ≡ none → (by_id u c (p ++ q) ≡ none → by_id u c (p ++ r ∷ q) ≡ some r) → cond t (some x) (by_id u c (p ++ r ∷ q)) ≡ some r
       go true f k = absurd (let z : ◌≡◌ {A = ℕ} 0 1 = cc in omega arith)
       go false f k = k f
 
-  pub alike-inside : (p : List Rec) → by_id (unit r) (num r) (p ++ q) ≡ none → Alike (r ∷ (p ++ q)) (p ++ r ∷ q)
-  alike-inside p e =
+  pub alike_inside : (p : List Rec) → by_id (unit r) (num r) (p ++ q) ≡ none → Alike (r ∷ (p ++ q)) (p ++ r ∷ q)
+  alike_inside p e =
       record {
-        counts = λ u. sym (count-inside u p);
+        counts = λ u. sym (count_inside u p);
         records = λ u c. ⊎_elim
-            (λ (s : Same r u c). by_id_same r (p ++ q) u c s.0 s.1 ∙ sym (byId-meets u c s p (absent s e)))
-            (λ d. by_id_other r (p ++ q) u c d ∙ sym (byId-skips u c d p))
+            (λ (s : Same r u c). by_id_same r (p ++ q) u c s.0 s.1 ∙ sym (by_id_meets u c s p (absent s e)))
+            (λ d. by_id_other r (p ++ q) u c d ∙ sym (by_id_skips u c d p))
             (same_or_not r u c);
       }
     where

@@ -7,7 +7,7 @@ use mathlib.Core.Bool.{Bool, true, false, cond, not, ◌&&◌}
 use mathlib.Core.List.{List}
 use lib.Dec.{leb, eqb}
 use lib.ListN.{get_or, set}
-use borrow.Author.Tests.{le-leb, lt-leb, eq-eqb, ne_eqb, eqb-true, not-true, not-false}
+use borrow.Author.Tests.{le-leb, lt-leb, eq-eqb, ne_eqb, eqb-true, not-true, not_false}
 use Rattle.model.specs.Bytes.{put_at}
 use Rattle.model.specs.Vector.{covers}
 use Rattle.model.specs.Record.{Rec, unit, num, seen_vector, well_formed}
@@ -18,19 +18,19 @@ use Rattle.log_laws.proofs.Formed.{well_unit}
 
 -- the next number, as the code compares it
 module _ (n c a t : ℕ) (e : a ≡ n) (f : t ≡ c) where
-  pub next-yes : a ≡ t + 1 → true ≡ eqb n (suc c)
-  next-yes h = sym (eq-eqb n (suc c) (omega arith))
+  pub next_yes : a ≡ t + 1 → true ≡ eqb n (suc c)
+  next_yes h = sym (eq-eqb n (suc c) (omega arith))
 
-  pub next-no : (a ≡ t + 1 → ⊥) → false ≡ eqb n (suc c)
-  next-no h = sym (ne_eqb n (suc c) (λ k. h (omega arith)))
+  pub next_no : (a ≡ t + 1 → ⊥) → false ≡ eqb n (suc c)
+  next_no h = sym (ne_eqb n (suc c) (λ k. h (omega arith)))
 
 pub formed : (r : Rec) (t : Bool) → t ≡ well_formed r → not t ≡ false → well_formed r ≡ true
-formed r t e g = sym e ∙ not-false t g
+formed r t e g = sym e ∙ not_false t g
 
 -- what is seen lies within what is held, so its positions lie in the tables
 pub placed_within : (base held s places : List ℕ) (t : Bool) → Placed base held places → t ≡ covers held s → not t ≡ false → Placed base s places
 placed_within base held s places t p e g =
-    let w : covers held s ≡ true = sym e ∙ not-false t g in
+    let w : covers held s ≡ true = sym e ∙ not_false t g in
     record {
       few = λ u h. omega (arith, covers_at held s w u h, p.few u h);
       inside = λ u c h l k. p.inside u c h l (omega (arith, covers_at held s w u h));
@@ -40,36 +40,36 @@ placed_within base held s places t p e g =
 
 module _ (r : Rec) (base held places seens : List ℕ) where
   module _ (w : well_formed r ≡ true) (u : ℕ) (a : u ≡ unit r) where
-    pub unit-small : u < 8
-    unit-small = rw a (well_unit r w)
+    pub unit_small : u < 8
+    unit_small = rw a (well_unit r w)
 
   module _ (u n : ℕ) (x : Bool) (a : u ≡ unit r) (b : n ≡ num r) (d : x ≡ eqb n (suc (get_or held u 0))) where
-    pub join-number : not x ≡ true → 8 ≡ join_fault base held places seens r
+    pub join_number : not x ≡ true → 8 ≡ join_fault base held places seens r
     unfolding join_fault
-    join-number y = rw (← a, ← b, ← d, not-true x y)
+    join_number y = rw (← a, ← b, ← d, not-true x y)
 
     module _ (y : not x ≡ false) (s : List ℕ) (v : s ≡ seen_vector r) (t : Bool) (f : t ≡ covers held s) where
-      pub join-above : not t ≡ true → 8 ≡ join_fault base held places seens r
+      pub join_above : not t ≡ true → 8 ≡ join_fault base held places seens r
       unfolding join_fault
-      join-above z = rw (← a, ← b, ← d, not-false x y, ← v, ← f, not-true t z)
+      join_above z = rw (← a, ← b, ← d, not_false x y, ← v, ← f, not-true t z)
 
       module _ (z : not t ≡ false) (o : Bool) (i : o ≡ closed_by base places seens s) where
-        pub join-open : not o ≡ true → 9 ≡ join_fault base held places seens r
+        pub join_open : not o ≡ true → 9 ≡ join_fault base held places seens r
         unfolding join_fault
-        join-open w = rw (← a, ← b, ← d, not-false x y, ← v, ← f, not-false t z, ← i, not-true o w)
+        join_open w = rw (← a, ← b, ← d, not_false x y, ← v, ← f, not_false t z, ← i, not-true o w)
 
-        pub join-quick : o ≡ true → 0 ≡ join_fault base held places seens r
+        pub join_quick : o ≡ true → 0 ≡ join_fault base held places seens r
         unfolding join_fault
-        join-quick w = rw (← a, ← b, ← d, not-false x y, ← v, ← f, not-false t z, ← i, w)
+        join_quick w = rw (← a, ← b, ← d, not_false x y, ← v, ← f, not_false t z, ← i, w)
 
-        pub join-none : not o ≡ false → 0 ≡ join_fault base held places seens r
+        pub join_none : not o ≡ false → 0 ≡ join_fault base held places seens r
         unfolding join_fault
-        join-none w = rw (← a, ← b, ← d, not-false x y, ← v, ← f, not-false t z, ← i, not-false o w)
+        join_none w = rw (← a, ← b, ← d, not_false x y, ← v, ← f, not_false t z, ← i, not_false o w)
 
   -- a record that joins is its unit's next
-  pub join-next : join_fault base held places seens r ≡ 0 → num r ≡ suc (get_or held (unit r) 0)
+  pub join_next : join_fault base held places seens r ≡ 0 → num r ≡ suc (get_or held (unit r) 0)
   unfolding join_fault
-  join-next z = go (eqb (num r) (suc (get_or held (unit r) 0))) refl z
+  join_next z = go (eqb (num r) (suc (get_or held (unit r) 0))) refl z
     where
       go : (a : Bool) → eqb (num r) (suc (get_or held (unit r) 0)) ≡ a → ◌≡◌ {A = ℕ} (cond (a && covers held (seen_vector r)) (cond (closed_by base places seens (seen_vector r)) 0 9) 8) 0 → num r ≡ suc (get_or held (unit r) 0)
       go true q x = eqb-true (num r) (suc (get_or held (unit r) 0)) q
@@ -83,20 +83,20 @@ module _ (r : Rec) (base : List ℕ) (floor : ℕ) (held places seens : List ℕ
   fault-malformed g = rw (← e, not-true w g)
 
   module _ (g : not w ≡ false) (k : ℕ) (q : k ≡ rank r) where
-    pub fault-low : k < floor → 20 ≡ fault_by base floor held places seens r
+    pub fault_low : k < floor → 20 ≡ fault_by base floor held places seens r
     unfolding fault_by
-    fault-low h = rw (← e, not-false w g, ← q, lt-leb floor k h)
+    fault_low h = rw (← e, not_false w g, ← q, lt-leb floor k h)
 
-    pub fault-joins : floor ≤ k → (n : ℕ) → n ≡ join_fault base held places seens r → n ≡ fault_by base floor held places seens r
+    pub fault_joins : floor ≤ k → (n : ℕ) → n ≡ join_fault base held places seens r → n ≡ fault_by base floor held places seens r
     unfolding fault_by
-    fault-joins h n f = rw (← e, not-false w g, ← q, le-leb floor k h) f
+    fault_joins h n f = rw (← e, not_false w g, ← q, le-leb floor k h) f
 
 -- ---- a record behind others is admitted
 
 module _ (r : Rec) (base : List ℕ) (floor : ℕ) (held places seens : List ℕ) (n : ℕ) (e : n ≡ fault_by base floor held places seens r) where
-  pub admit-refuses : (p : ℕ) → (n ≡ 0 → ⊥) → noted n held floor places seens ≡ admit_of base r p held floor places seens
+  pub admit_refuses : (p : ℕ) → (n ≡ 0 → ⊥) → noted n held floor places seens ≡ admit_of base r p held floor places seens
   unfolding admit_of
-  admit-refuses p h = rw (← e, ne_eqb n 0 h)
+  admit_refuses p h = rw (← e, ne_eqb n 0 h)
 
   module _ (z : n ≡ 0) where
     pub no_fault : (well_formed r ≡ true) × (num r ≡ suc (get_or held (unit r) 0))
@@ -104,33 +104,33 @@ module _ (r : Rec) (base : List ℕ) (floor : ℕ) (held places seens : List ℕ
     no_fault = go (well_formed r) (leb floor (rank r)) refl (sym e ∙ z)
       where
         go : (a b : Bool) → well_formed r ≡ a → ◌≡◌ {A = ℕ} (cond a (cond b (join_fault base held places seens r) 20) 7) 0 → (well_formed r ≡ true) × (num r ≡ suc (get_or held (unit r) 0))
-        go true true p x = (p, join-next r base held places seens x)
+        go true true p x = (p, join_next r base held places seens x)
         go true false p x = absurd (omega arith)
         go false b p x = absurd (omega arith)
 
     module _ (u : ℕ) (a : u ≡ unit r) where
-      pub unit-admitted : u < 8
-      unit-admitted = rw a (well_unit r no_fault.0)
+      pub unit_admitted : u < 8
+      unit_admitted = rw a (well_unit r no_fault.0)
 
       module _ (c : ℕ) (b : c ≡ num r) where
         next-held : c ≡ suc (get_or held u 0)
         next-held = b ∙ rw a no_fault.1
 
-        pub number-above : Spare base held → get_or held u 0 < c
-        number-above s = omega (arith, next-held)
+        pub number_above : Spare base held → get_or held u 0 < c
+        number_above s = omega (arith, next-held)
 
         module _ (s : Spare base held) where
           pub number_behind : get_or base u 0 ≤ c
-          number_behind = omega (arith, next-held, s.behind u unit-admitted)
+          number_behind = omega (arith, next-held, s.behind u unit_admitted)
 
-          pub number-least : 1 ≤ c - get_or base u 0
-          number-least = omega (arith, next-held, s.behind u unit-admitted)
+          pub number_least : 1 ≤ c - get_or base u 0
+          number_least = omega (arith, next-held, s.behind u unit_admitted)
 
-          pub number-most : c - get_or base u 0 ≤ 512
-          number-most = omega (arith, next-held, s.below u unit-admitted)
+          pub number_most : c - get_or base u 0 ≤ 512
+          number_most = omega (arith, next-held, s.below u unit_admitted)
 
-    pub admit-notes : (p u c d k : ℕ) (s held' places' seens' : List ℕ) → u ≡ unit r → c ≡ num r → d ≡ c - get_or base u 0 → k ≡ rank r → s ≡ seen_vector r
+    pub admit_notes : (p u c d k : ℕ) (s held' places' seens' : List ℕ) → u ≡ unit r → c ≡ num r → d ≡ c - get_or base u 0 → k ≡ rank r → s ≡ seen_vector r
         → held' ≡ set held u (get_or held u 0 + 1) → places' ≡ set places (slot_of u d) p → seens' ≡ put_at seens (8 * p) s
         → noted 0 held' (k + 1) places' seens' ≡ admit_of base r p held floor places seens
     unfolding admit_of
-    admit-notes p u c d k s held' places' seens' a b q o f g h i = rw (← e, z, g, h, i, q, a, b, o, f)
+    admit_notes p u c d k s held' places' seens' a b q o f g h i = rw (← e, z, g, h, i, q, a, b, o, f)

@@ -59,18 +59,18 @@ module _ (base : List ℕ) (at : ℕ → Rec) (top : ℕ) (m : List Rec) (held p
   pub held_at : (u : ℕ) → u < 8 → get_or held u 0 ≡ count_on base u m
   held_at u k = rw h.counts (vector_on_get_d base m u k)
 
-  pub indexed-placed : Placed base held places
-  indexed-placed =
+  pub indexed_placed : Placed base held places
+  indexed_placed =
       record {
         few = λ u k. omega (arith, held_at u k, count_few u m, h.few);
         inside = λ u c k l g. omega (arith, (h.stands u c k l (omega (arith, held_at u k))).below, h.room);
       }
 
   -- the seen of the record of a count is nowhere above, by the tables and by the list
-  closed-unit : (r : Rec) → covers held (seen_vector r) ≡ true → (u : ℕ) → u < 8
+  closed_unit : (r : Rec) → covers held (seen_vector r) ≡ true → (u : ℕ) → u < 8
       → unit_closed base places seens (seen_vector r) u ≡ cond (leb (seen r u) (get_or base u 0)) true (nowhere_above r (by_id u (seen r u) m))
   unfolding unit_closed nowhere_above
-  closed-unit r w u k =
+  closed_unit r w u k =
       rw (seen_vector_get_d r u k)
       (⊎_elim
       (λ (e : get_or base u 0 < seen r u).
@@ -83,21 +83,21 @@ module _ (base : List ℕ) (at : ℕ → Rec) (top : ℕ) (m : List Rec) (held p
 
   closed_is : (r : Rec) → covers held (seen_vector r) ≡ true → closed_by base places seens (seen_vector r) ≡ is_closed base m r
   unfolding closed_by is_closed
-  closed_is r w = all_same 8 (unit_closed base places seens (seen_vector r)) _ (closed-unit r w)
+  closed_is r w = all_same 8 (unit_closed base places seens (seen_vector r)) _ (closed_unit r w)
 
-  next-is : (r : Rec) → unit r < 8 → eqb (num r) (suc (get_or held (unit r) 0)) ≡ is_next base m r
+  next_is : (r : Rec) → unit r < 8 → eqb (num r) (suc (get_or held (unit r) 0)) ≡ is_next base m r
   unfolding is_next
-  next-is r k = rw (held_at (unit r) k)
+  next_is r k = rw (held_at (unit r) k)
 
-  within-is : (r : Rec) → covers held (seen_vector r) ≡ is_within base m r
+  within_is : (r : Rec) → covers held (seen_vector r) ≡ is_within base m r
   unfolding is_within
-  within-is r = rw h.counts
+  within_is r = rw h.counts
 
   -- joining, by the tables and by the list
   pub join_is : (r : Rec) → unit r < 8 → join_fault base held places seens r ≡ cond (is_next base m r && is_within base m r) (cond (is_closed base m r) 0 not_closed) not_next
   unfolding join_fault
   join_is r k =
-      rw (next-is r k, ← within-is r)
+      rw (next_is r k, ← within_is r)
       (⊎_elim
       (λ (c : covers held (seen_vector r) ≡ true). rw (closed_is r c))
       (λ (c : covers held (seen_vector r) ≡ false). rw c (none_within (is_next base m r) (closed_by base places seens (seen_vector r)) (is_closed base m r)))
@@ -107,9 +107,9 @@ module _ (base : List ℕ) (at : ℕ → Rec) (top : ℕ) (m : List Rec) (held p
       none_within true a b = refl
       none_within false a b = refl
 
-  pub fault-is : (floor : ℕ) → floor ≡ floor_of m → (r : Rec) → fault_by base floor held places seens r ≡ record_fault base m r
+  pub fault_is : (floor : ℕ) → floor ≡ floor_of m → (r : Rec) → fault_by base floor held places seens r ≡ record_fault base m r
   unfolding fault_by record_fault
-  fault-is floor f r =
+  fault_is floor f r =
       ⊎_elim
       (λ (w : well_formed r ≡ true). rw (w, f, rises_is m r, join_is r (well_unit r w)))
       (λ (w : well_formed r ≡ false). rw w)
@@ -137,9 +137,9 @@ module _ (base : List ℕ) (at : ℕ → Rec) (top : ℕ) (m : List Rec) (held p
     nth : ℕ
     nth = num r - get_or base (unit r) 0
 
-    nth-is : nth ≡ suc (count (unit r) m)
+    nth_is : nth ≡ suc (count (unit r) m)
     unfolding nth
-    nth-is = omega arith
+    nth_is = omega arith
 
     number_is : get_or base (unit r) 0 + nth ≡ num r
     unfolding nth
@@ -151,17 +151,17 @@ module _ (base : List ℕ) (at : ℕ → Rec) (top : ℕ) (m : List Rec) (held p
     rows : List ℕ
     rows = put_at seens (8 * p) (seen_vector r)
 
-    slot-new : position_of slots (unit r) nth ≡ p
+    slot_new : position_of slots (unit r) nth ≡ p
     unfolding position_of slots
-    slot-new =
+    slot_new =
         get_or-set_same places (slot_of (unit r) nth) p 0
-        (omega (arith, h.places_long, slot_below (unit r) nth u8 (omega (arith, nth-is)) (omega (arith, nth-is, count_few (unit r) m))))
+        (omega (arith, h.places_long, slot_below (unit r) nth u8 (omega (arith, nth_is)) (omega (arith, nth_is, count_few (unit r) m))))
 
-    slot-old : (u c : ℕ) → 1 ≤ c → c ≤ count u m → ((unit r ≡ u) × (num r ≡ get_or base u 0 + c) → ⊥) → position_of slots u c ≡ position_of places u c
+    slot_old : (u c : ℕ) → 1 ≤ c → c ≤ count u m → ((unit r ≡ u) × (num r ≡ get_or base u 0 + c) → ⊥) → position_of slots u c ≡ position_of places u c
     unfolding position_of slots
-    slot-old u c l g d =
+    slot_old u c l g d =
         get_or-set_other places (slot_of (unit r) nth) (slot_of u c) p 0
-        (slot_apart u c (unit r) nth l (omega (arith, count_few u m)) (omega (arith, nth-is)) (omega (arith, nth-is, count_few (unit r) m)) clash)
+        (slot_apart u c (unit r) nth l (omega (arith, count_few u m)) (omega (arith, nth_is)) (omega (arith, nth_is, count_few (unit r) m)) clash)
       where
         clash : (u ≡ unit r) × (c ≡ nth) → ⊥
         clash s = d (sym s.0, rw (s.0, s.1) (sym number_is))
@@ -174,27 +174,27 @@ module _ (base : List ℕ) (at : ℕ → Rec) (top : ℕ) (m : List Rec) (held p
     unfolding row_at rows
     row_old q g = part_put_before seens (8 * p) (seen_vector r) (8 * q) 8 (omega arith) (omega (arith, h.seens_long))
 
-    stands-new : Stands base at (suc p) (r ∷ m) slots rows (unit r) nth
-    stands-new =
+    stands_new : Stands base at (suc p) (r ∷ m) slots rows (unit r) nth
+    stands_new =
         record {
-          below = rw slot-new (omega arith);
-          found = rw (slot-new, e, number_is) (by_id_same r m (unit r) (num r) refl refl);
-          row = rw (slot-new, e) row_new;
+          below = rw slot_new (omega arith);
+          found = rw (slot_new, e, number_is) (by_id_same r m (unit r) (num r) refl refl);
+          row = rw (slot_new, e) row_new;
         }
 
-    stands-old : (u c : ℕ) → u < 8 → 1 ≤ c → c ≤ count u m → ((unit r ≡ u) × (num r ≡ get_or base u 0 + c) → ⊥) → Stands base at (suc p) (r ∷ m) slots rows u c
-    stands-old u c v l g d =
+    stands_old : (u c : ℕ) → u < 8 → 1 ≤ c → c ≤ count u m → ((unit r ≡ u) × (num r ≡ get_or base u 0 + c) → ⊥) → Stands base at (suc p) (r ∷ m) slots rows u c
+    stands_old u c v l g d =
         let s = h.stands u c v l g in
         record {
-          below = rw (slot-old u c l g d) (omega (arith, s.below));
-          found = rw (slot-old u c l g d, by_id_other r m u (get_or base u 0 + c) d) s.found;
-          row = rw (slot-old u c l g d, row_old (position_of places u c) s.below) s.row;
+          below = rw (slot_old u c l g d) (omega (arith, s.below));
+          found = rw (slot_old u c l g d, by_id_other r m u (get_or base u 0 + c) d) s.found;
+          row = rw (slot_old u c l g d, row_old (position_of places u c) s.below) s.row;
         }
 
     -- the record r at the position p is noted
-    pub indexed-note : Indexed base at (suc p) (r ∷ m) (set held (unit r) (get_or held (unit r) 0 + 1)) (set places (slot_of (unit r) (num r - get_or base (unit r) 0)) p) (put_at seens (8 * p) (seen_vector r))
+    pub indexed_note : Indexed base at (suc p) (r ∷ m) (set held (unit r) (get_or held (unit r) 0 + 1)) (set places (slot_of (unit r) (num r - get_or base (unit r) 0)) p) (put_at seens (8 * p) (seen_vector r))
     unfolding nth slots rows
-    indexed-note =
+    indexed_note =
         record {
           counts = rw h.counts (sym (vector_cons base r m u8));
           places_long = simp length-set h.places_long;
@@ -202,8 +202,8 @@ module _ (base : List ℕ) (at : ℕ → Rec) (top : ℕ) (m : List Rec) (held p
           few = omega arith;
           room = omega arith;
           stands = λ u c v l g. ⊎_elim
-              (λ (s : (unit r ≡ u) × (nth ≡ c)). subst (λ (w : ℕ). Stands base at (suc p) (r ∷ m) slots rows w c) s.0 (subst (λ (w : ℕ). Stands base at (suc p) (r ∷ m) slots rows (unit r) w) s.1 stands-new))
-              (λ s. stands-old u c v l s.0 s.1)
+              (λ (s : (unit r ≡ u) × (nth ≡ c)). subst (λ (w : ℕ). Stands base at (suc p) (r ∷ m) slots rows w c) s.0 (subst (λ (w : ℕ). Stands base at (suc p) (r ∷ m) slots rows (unit r) w) s.1 stands_new))
+              (λ s. stands_old u c v l s.0 s.1)
               (old_or_new base r m n u c g);
           beyond = λ u c g. past u c g (count-cons u r m);
         }
@@ -215,8 +215,8 @@ module _ (base : List ℕ) (at : ℕ → Rec) (top : ℕ) (m : List Rec) (held p
         past u c g (inr a) = by_id_other r m u c (λ s. a.0 s.0) ∙ h.beyond u c (omega arith)
 
   -- the same of a list that is like it, of positions that are like them, and of more room
-  pub indexed-alike : (l : List Rec) → Alike m l → length l ≤ 512 → Indexed base at top l held places seens
-  indexed-alike l k f =
+  pub indexed_alike : (l : List Rec) → Alike m l → length l ≤ 512 → Indexed base at top l held places seens
+  indexed_alike l k f =
       record {
         counts = h.counts ∙ alike_vector base k;
         places_long = h.places_long;
@@ -229,8 +229,8 @@ module _ (base : List ℕ) (at : ℕ → Rec) (top : ℕ) (m : List Rec) (held p
         beyond = λ u c g. sym (k.records u c) ∙ h.beyond u c (omega (arith, k.counts u));
       }
 
-  pub indexed-where : (to : ℕ → Rec) (more : ℕ) → top ≤ more → more ≤ 518 → ((p : ℕ) → p < top → at p ≡ to p) → Indexed base to more m held places seens
-  indexed-where to more lo hi same =
+  pub indexed_where : (to : ℕ → Rec) (more : ℕ) → top ≤ more → more ≤ 518 → ((p : ℕ) → p < top → at p ≡ to p) → Indexed base to more m held places seens
+  indexed_where to more lo hi same =
       record {
         counts = h.counts;
         places_long = h.places_long;

@@ -10,7 +10,7 @@ use mathlib.Core.List.{List, [], ◌∷◌}
 use lib.Dec.{eqb}
 use lib.ListN.{length, take, drop, replicate, length-drop}
 use lib.Seq.{drop-drop, take_all}
-use borrow.Author.Tests.{eq-eqb, ne_eqb, eqb-true, not-false}
+use borrow.Author.Tests.{eq-eqb, ne_eqb, eqb-true, not_false}
 use Rattle.model.specs.Bytes.{blank, part}
 use Rattle.model.specs.Record.{Rec}
 use Rattle.model.specs.Log.{vector_of, no_counts, record_fault, sound_after, records_in, records_of, sound_log_on, sound_log}
@@ -27,36 +27,36 @@ use Rattle.log_check.specs.InOrder.{listed, before, Found, first_fault, scanned,
 -- ---- the records of a log, place by place
 
 module _ (b : List ℕ) where
-  place-step : (i : ℕ) → i < 512
+  place_step : (i : ℕ) → i < 512
       → records_in (512 - i) (drop (80 * i) b)
       ≡ cond (blank (part b (80 * i) 80)) [] (part b (80 * i) 80 ∷ records_in (512 - (i + 1)) (drop (80 * (i + 1)) b))
   unfolding records_in part
-  place-step i h =
+  place_step i h =
       let e : 512 - i ≡ suc (512 - (i + 1)) = omega arith in
       let f : 80 * i + 80 ≡ 80 * (i + 1) = omega arith in
       rw (e, drop-drop 80 (80 * i) b, f)
 
   -- what the loop of `used` is asked, over plain values
-  pub used-none : 0 + length (records_in (512 - 0) (drop (80 * 0) b)) ≡ length (records_of b)
+  pub used_none : 0 + length (records_in (512 - 0) (drop (80 * 0) b)) ≡ length (records_of b)
   unfolding records_of
-  used-none = zero-add (length (records_in 512 b))
+  used_none = zero-add (length (records_in 512 b))
 
   module _ (i : ℕ) (inv : i + length (records_in (512 - i) (drop (80 * i) b)) ≡ length (records_of b)) where
     module _ (h : i < 512) (t : Bool) (e : t ≡ blank (take (80 * i + 80 - 80 * i) (drop (80 * i) b))) where
       judged : blank (part b (80 * i) 80) ≡ t
       judged = sym (rw (part_is b (80 * i) 80) at e)
 
-      pub used-stops : t ≡ true → i ≡ length (records_of b)
-      used-stops z = rw (place-step i h, judged, z, add-zero) at inv
+      pub used_stops : t ≡ true → i ≡ length (records_of b)
+      used_stops z = rw (place_step i h, judged, z, add-zero) at inv
 
       pub used_next : t ≡ false → i + 1 + length (records_in (512 - (i + 1)) (drop (80 * (i + 1)) b)) ≡ length (records_of b)
       used_next z =
-          let m : i + suc (length (records_in (512 - (i + 1)) (drop (80 * (i + 1)) b))) ≡ length (records_of b) = rw (place-step i h, judged, z) at inv in
+          let m : i + suc (length (records_in (512 - (i + 1)) (drop (80 * (i + 1)) b))) ≡ length (records_of b) = rw (place_step i h, judged, z) at inv in
           omega arith
 
-    pub used-ends : i ≤ 512 → 512 ≤ i → 512 ≡ length (records_of b)
+    pub used_ends : i ≤ 512 → 512 ≤ i → 512 ≡ length (records_of b)
     unfolding records_in
-    used-ends h k = let e : i ≡ 512 = omega arith in rw (e, add-zero) at inv
+    used_ends h k = let e : i ≡ 512 = omega arith in rw (e, add-zero) at inv
 
   -- the records are those of the places in use
   listed_in : (k i : ℕ) → records_in k (drop (80 * i) b) ≡ listed (laid_at Log b) i (length (records_in k (drop (80 * i) b)))
@@ -72,9 +72,9 @@ module _ (b : List ℕ) where
       (λ (c : (blank r ≡ false) × (cond (blank r) [] (r ∷ l) ≡ r ∷ l)). subst (λ (x : List Rec). x ≡ listed (laid_at Log b) i (length x)) (sym c.1) (λ j. r ∷ q j))
       (cond_cases (blank r) [] (r ∷ l))
 
-  pub listed-records : (n : ℕ) → n ≡ length (records_of b) → listed (laid_at Log b) 0 n ≡ records_of b
+  pub listed_records : (n : ℕ) → n ≡ length (records_of b) → listed (laid_at Log b) 0 n ≡ records_of b
   unfolding records_of
-  listed-records n e = rw e (sym (listed_in 512 0))
+  listed_records n e = rw e (sym (listed_in 512 0))
 
 -- ---- sound by the pass
 
@@ -90,49 +90,49 @@ sound_pass base at i (suc n) =
 -- ---- what `check_into` and `check` are asked, over plain values
 
 module _ (b : List ℕ) (n : ℕ) (e : n ≡ length (records_of b)) where
-  pub log-laid : length b ≡ 40960 → Laid Log b n
+  pub log_laid : length b ≡ 40960 → Laid Log b n
   unfolding offset_of
-  log-laid k = record { inside = λ i h. omega (arith, sound_few b) }
+  log_laid k = record { inside = λ i h. omega (arith, sound_few b) }
 
-  pub log-few : n ≤ 512
-  log-few = omega (arith, sound_few b)
+  pub log_few : n ≤ 512
+  log_few = omega (arith, sound_few b)
 
   module _ (base : List ℕ) (number place : ℕ) (held places seens : List ℕ) (g : ScanGives base (laid_at Log b) n number place held places seens) where
-    pass-is : sound_after base [] (records_of b) ≡ eqb number 0
+    pass_is : sound_after base [] (records_of b) ≡ eqb number 0
     unfolding before
-    pass-is =
-        rw (← listed-records b n e) (sound_pass base (laid_at Log b) 0 n)
+    pass_is =
+        rw (← listed_records b n e) (sound_pass base (laid_at Log b) 0 n)
         ∙ ap (λ (x : Found). eqb x.number 0) (sym g.first)
 
     pub fault-unsound : (number ≡ 0 → ⊥) → sound_log_on base b ≡ true → ⊥
     unfolding sound_log_on
-    fault-unsound z t = z (eqb-true number 0 (sym pass-is ∙ (and_true (sound_after base [] (records_of b)) (blank (drop (80 * length (records_of b)) b)) t).0))
+    fault-unsound z t = z (eqb-true number 0 (sym pass_is ∙ (and_true (sound_after base [] (records_of b)) (blank (drop (80 * length (records_of b)) b)) t).0))
 
-    pub records-indexed : number ≡ 0 → Indexed base (laid_at Log b) n (records_of b) held places seens
-    records-indexed z = subst (λ (l : List Rec). Indexed base (laid_at Log b) n l held places seens) (listed-records b n e) (g.holds z)
+    pub records_indexed : number ≡ 0 → Indexed base (laid_at Log b) n (records_of b) held places seens
+    records_indexed z = subst (λ (l : List Rec). Indexed base (laid_at Log b) n l held places seens) (listed_records b n e) (g.holds z)
 
     module _ (places₀ seens₀ : List ℕ) (o : scanned number place held places seens ≡ scan_of base (laid_at Log b) n places₀ seens₀) where
       pub fault-left : (number ≡ 0 → ⊥) → checked false n held places seens ≡ check_of base b places₀ seens₀
       unfolding check_of held_of sound_log_on
       fault-left z =
           let h : held ≡ replicate 8 0 = fault-zeros base (laid_at Log b) n places₀ seens₀ (scanned number place held places seens) o z in
-          rw (h, pass-is, ne_eqb number 0 z, ← e, ← o)
+          rw (h, pass_is, ne_eqb number 0 z, ← e, ← o)
 
       pub records_left_lem : length b ≡ 40960 → number ≡ 0 → (t : Bool) → t ≡ blank (take (40960 - 80 * n) (drop (80 * n) b)) → checked t n held places seens ≡ check_of base b places₀ seens₀
       unfolding check_of held_of sound_log_on
       records_left_lem k z t q =
           let d : take (40960 - 80 * n) (drop (80 * n) b) ≡ drop (80 * n) b = take_all (40960 - 80 * n) (drop (80 * n) b) (simp length-drop (omega arith)) in
-          rw (q, d, pass-is, eq-eqb number 0 z, ← e, ← o, ← (records-indexed z).counts)
+          rw (q, d, pass_is, eq-eqb number 0 z, ← e, ← o, ← (records_indexed z).counts)
 
 -- what `check_into` leaves, told apart
 module _ (base b places₀ seens₀ : List ℕ) {t : Bool} {n : ℕ} {held places seens : List ℕ} (o : checked t n held places seens ≡ check_of base b places₀ seens₀) where
-  pub checked-sound : t ≡ sound_log_on base b
+  pub checked_sound : t ≡ sound_log_on base b
   unfolding check_of
-  checked-sound = ap (λ (x : Check). x.sound) o
+  checked_sound = ap (λ (x : Check). x.sound) o
 
-  pub checked-used : n ≡ length (records_of b)
+  pub checked_used : n ≡ length (records_of b)
   unfolding check_of
-  checked-used = ap (λ (x : Check). x.used) o
+  checked_used = ap (λ (x : Check). x.used) o
 
   pub checked-held : held ≡ held_of base b
   unfolding check_of
@@ -146,9 +146,9 @@ plain_sound b = refl
 
 -- what is known of a log that was checked and found sound
 module _ (b : List ℕ) {s : Bool} (judged : s ≡ sound_log b) (holds : not s ≡ false) where
-  pub known-sound : sound_log b ≡ true
-  known-sound = sym judged ∙ not-false s holds
+  pub known_sound : sound_log b ≡ true
+  known_sound = sym judged ∙ not_false s holds
 
-  pub known-held : {h : List ℕ} → h ≡ held_of no_counts b → h ≡ vector_of (records_of b)
+  pub known_held : {h : List ℕ} → h ≡ held_of no_counts b → h ≡ vector_of (records_of b)
   unfolding held_of sound_log sound_log_on
-  known-held e = e ∙ rw (and_true (sound_after no_counts [] (records_of b)) (blank (drop (80 * length (records_of b)) b)) known-sound).0 (vector_on-none (records_of b))
+  known_held e = e ∙ rw (and_true (sound_after no_counts [] (records_of b)) (blank (drop (80 * length (records_of b)) b)) known_sound).0 (vector_on-none (records_of b))

@@ -8,12 +8,12 @@ use mathlib.Core.Logic.{⊎_elim}
 use mathlib.Core.Bool.{Bool, true, false, not}
 use mathlib.Core.List.{List, [], ◌∷◌}
 use lib.ListN.{get_or, length}
-use borrow.Author.Tests.{le-leb, lt-leb, not-true, not-false}
+use borrow.Author.Tests.{le-leb, lt-leb, not-true, not_false}
 use Rattle.model.specs.Vector.{covers, covers_to}
 use Rattle.model.specs.Log.{all_to}
 use Rattle.byte_slice.proofs.Numbers.{lt_or_ge, and_wrong}
 use Rattle.byte_slice.proofs.Parts.{part_length, get_d_part}
-use Rattle.vector.proofs.Dominance.{less_fails, covers-next, covers-ends}
+use Rattle.vector.proofs.Dominance.{less_fails, covers-next, covers_ends}
 use Rattle.vector.proofs.Higher.{eight}
 use Rattle.log_closure.specs.Tables.{position_of, row_at, unit_closed, closed_by, Placed}
 
@@ -45,15 +45,15 @@ module _ (base places seens s : List ℕ) where
       sym (covers-next s (row_at seens p) v true (sym e)) ∙ le-leb (get_or (row_at seens p) v 0) (get_or s v 0) c
 
   -- the counts seen, and the positions of their records, lie in the tables
-  pub few-seen : (u : ℕ) → Placed base s places → u < 8 → get_or s u 0 - get_or base u 0 ≤ 512
-  few-seen u p h = omega (arith, p.few u h)
+  pub few_seen : (u : ℕ) → Placed base s places → u < 8 → get_or s u 0 - get_or base u 0 ≤ 512
+  few_seen u p h = omega (arith, p.few u h)
 
   pub place_inside : (u p : ℕ) → Placed base s places → u < 8 → get_or base u 0 < get_or s u 0 → p ≡ position_of places u (get_or s u 0 - get_or base u 0) → p < 518
   place_inside u p k h e q = rw q (k.inside u (get_or s u 0 - get_or base u 0) h (omega arith) (omega arith))
 
-  zero-closed : (u : ℕ) → get_or s u 0 ≤ get_or base u 0 → unit_closed base places seens s u ≡ true
+  zero_closed : (u : ℕ) → get_or s u 0 ≤ get_or base u 0 → unit_closed base places seens s u ≡ true
   unfolding unit_closed
-  zero-closed u e = rw (le-leb (get_or s u 0) (get_or base u 0) e)
+  zero_closed u e = rw (le-leb (get_or s u 0) (get_or base u 0) e)
 
   unit_is : (u : ℕ) → get_or base u 0 < get_or s u 0 → (p : ℕ) → p ≡ position_of places u (get_or s u 0 - get_or base u 0) → unit_closed base places seens s u ≡ covers s (row_at seens p)
   unfolding unit_closed
@@ -61,12 +61,12 @@ module _ (base places seens s : List ℕ) where
 
   -- a unit of which no record behind the base vector is seen
   pub none_counted : (u : ℕ) → all_to u (unit_closed base places seens s) ≡ true → get_or s u 0 ≤ get_or base u 0 → all_to (u + 1) (unit_closed base places seens s) ≡ true
-  none_counted u a e = all_next u (unit_closed base places seens s) a (zero-closed u e)
+  none_counted u a e = all_next u (unit_closed base places seens s) a (zero_closed u e)
 
   -- the eight counts of a row, written out
-  pub row-flat : (p : ℕ) → length seens ≡ 4144 → p < 518
+  pub row_flat : (p : ℕ) → length seens ≡ 4144 → p < 518
       → get_or seens (8 * p) 0 ∷ get_or seens (8 * p + 1) 0 ∷ get_or seens (8 * p + 2) 0 ∷ get_or seens (8 * p + 3) 0 ∷ get_or seens (8 * p + 4) 0 ∷ get_or seens (8 * p + 5) 0 ∷ get_or seens (8 * p + 6) 0 ∷ get_or seens (8 * p + 7) 0 ∷ [] ≡ row_at seens p
-  row-flat p n h =
+  row_flat p n h =
       let z : 8 * p + 0 ≡ 8 * p = omega arith in
       let first : get_or (row_at seens p) 0 0 ≡ get_or seens (8 * p) 0 = rw z at (row-at p 0 (omega arith)) in
       rw (← first, ← row-at p 1 (omega arith), ← row-at p 2 (omega arith), ← row-at p 3 (omega arith), ← row-at p 4 (omega arith), ← row-at p 5 (omega arith), ← row-at p 6 (omega arith), ← row-at p 7 (omega arith))
@@ -74,33 +74,33 @@ module _ (base places seens s : List ℕ) where
 
   -- one unit by itself
   pub unit-none : (u : ℕ) → get_or s u 0 ≤ get_or base u 0 → true ≡ unit_closed base places seens s u
-  unit-none u e = sym (zero-closed u e)
+  unit-none u e = sym (zero_closed u e)
 
   pub unit_row : (u p : ℕ) (row : List ℕ) (t : Bool) → get_or base u 0 < get_or s u 0 → p ≡ position_of places u (get_or s u 0 - get_or base u 0) → row ≡ row_at seens p → t ≡ covers s row → t ≡ unit_closed base places seens s u
   unit_row u p row t e q r c = (rw r at c) ∙ sym (unit_is u e p q)
 
   -- the units one by one
-  pub units-next : (u : ℕ) (t : Bool) → all_to u (unit_closed base places seens s) ≡ true → t ≡ unit_closed base places seens s u → not t ≡ false → all_to (u + 1) (unit_closed base places seens s) ≡ true
-  units-next u t a e h = all_next u (unit_closed base places seens s) a (sym e ∙ not-false t h)
+  pub units_next : (u : ℕ) (t : Bool) → all_to u (unit_closed base places seens s) ≡ true → t ≡ unit_closed base places seens s u → not t ≡ false → all_to (u + 1) (unit_closed base places seens s) ≡ true
+  units_next u t a e h = all_next u (unit_closed base places seens s) a (sym e ∙ not_false t h)
 
-  pub unit-open : (u : ℕ) (t : Bool) → u < 8 → t ≡ unit_closed base places seens s u → not t ≡ true → false ≡ closed_by base places seens s
+  pub unit_open : (u : ℕ) (t : Bool) → u < 8 → t ≡ unit_closed base places seens s u → not t ≡ true → false ≡ closed_by base places seens s
   unfolding closed_by
-  unit-open u t h e k = sym (all_false 8 (unit_closed base places seens s) u h (sym e ∙ not-true t k))
+  unit_open u t h e k = sym (all_false 8 (unit_closed base places seens s) u h (sym e ∙ not-true t k))
 
-  pub units-all : (u : ℕ) → u ≤ 8 → 8 ≤ u → all_to u (unit_closed base places seens s) ≡ true → true ≡ closed_by base places seens s
+  pub units_all : (u : ℕ) → u ≤ 8 → 8 ≤ u → all_to u (unit_closed base places seens s) ≡ true → true ≡ closed_by base places seens s
   unfolding closed_by
-  units-all u h k e = let n : u ≡ 8 = omega arith in sym (rw n at e)
+  units_all u h k e = let n : u ≡ 8 = omega arith in sym (rw n at e)
 
   -- a unit whose last record seen is nowhere above
   pub none_above : (u p d v : ℕ) → all_to u (unit_closed base places seens s) ≡ true → get_or base u 0 < get_or s u 0 → p ≡ position_of places u d → d ≡ get_or s u 0 - get_or base u 0
       → v ≤ 8 → 8 ≤ v → covers_to s (row_at seens p) v ≡ true → all_to (u + 1) (unit_closed base places seens s) ≡ true
-  none_above u p d v a e q z h k w = all_next u (unit_closed base places seens s) a (unit_is u e p (rw z at q) ∙ sym (covers-ends s (row_at seens p) v true h k (sym w)))
+  none_above u p d v a e q z h k w = all_next u (unit_closed base places seens s) a (unit_is u e p (rw z at q) ∙ sym (covers_ends s (row_at seens p) v true h k (sym w)))
 
   -- a count that breaks closure
-  pub one-above : (u p v : ℕ) → u < 8 → get_or base u 0 < get_or s u 0 → p ≡ position_of places u (get_or s u 0 - get_or base u 0) → v < 8 → get_or s v 0 < get_or seens (8 * p + v) 0 → false ≡ closed_by base places seens s
+  pub one_above : (u p v : ℕ) → u < 8 → get_or base u 0 < get_or s u 0 → p ≡ position_of places u (get_or s u 0 - get_or base u 0) → v < 8 → get_or s v 0 < get_or seens (8 * p + v) 0 → false ≡ closed_by base places seens s
   unfolding closed_by
-  one-above u p v l e q h k =
+  one_above u p v l e q h k =
       sym (all_false 8 (unit_closed base places seens s) u l (unit_is u e p q ∙ less_fails s (row_at seens p) v h (rw (row-at p v h) k)))
 
   pub all_closed : (u : ℕ) (t : Bool) → u ≤ 8 → 8 ≤ u → t ≡ true → all_to u (unit_closed base places seens s) ≡ true → t ≡ closed_by base places seens s
-  all_closed u t h k e a = e ∙ units-all u h k a
+  all_closed u t h k e a = e ∙ units_all u h k a

@@ -18,9 +18,9 @@ use Rattle.block_laws.proofs.Fields.{joined-append}
 use Rattle.log_check.specs.declared.Layout.TheVariants.{Log}
 use Rattle.log_check.specs.Places.{offset_of, laid_at}
 use Rattle.log_check.specs.InOrder.{listed}
-use Rattle.log_check.proofs.Sound.{listed-records}
+use Rattle.log_check.proofs.Sound.{listed_records}
 use Rattle.log_insert.specs.Where.{place_behind, Rising, Ordered, insert_to}
-use Rattle.log_insert.proofs.Ranked.{place-at-most, place_same, insert-at}
+use Rattle.log_insert.proofs.Ranked.{place_at_most, place_same, insert-at}
 use Rattle.log_insert.proofs.Rising.{insertFrom, insert_front, either_way}
 
 joined-cons : (r : Rec) (l : List Rec) → joined (r ∷ l) ≡ r ++ joined l
@@ -46,28 +46,28 @@ pub record Merging (log₀ recs : List ℕ) (n k : ℕ) (log : List ℕ) (end le
 
 module _ (log₀ recs : List ℕ) (n k : ℕ) (long : length log₀ ≡ 40960) (s : Ordered log₀ n) (e : n ≡ length (records_of log₀)) (room : n + k ≤ 512) (up : Rising (laid_at Log recs) k) where
   -- behind the records of the log there are zeros
-  rest-zero : drop (80 * (n + k)) log₀ ≡ replicate (40960 - 80 * (n + k)) 0
-  rest-zero =
+  rest_zero : drop (80 * (n + k)) log₀ ≡ replicate (40960 - 80 * (n + k)) 0
+  rest_zero =
       let f : 80 * n + 80 * k ≡ 80 * (n + k) = omega arith in
       let d : blank (drop (80 * (n + k)) log₀) ≡ true = rw (drop-drop (80 * k) (80 * n) log₀, f) at (blank-drop (80 * k) (drop (80 * n) log₀) s.clear) in
       let m : length (drop (80 * (n + k)) log₀) ≡ 40960 - 80 * (n + k) = simp length-drop (omega arith) in
       rw m at (blank-eq (drop (80 * (n + k)) log₀) d)
 
-  pub merging-starts : Merging log₀ recs n k log₀ n k
+  pub merging_starts : Merging log₀ recs n k log₀ n k
   unfolding insertFrom joined
-  merging-starts =
+  merging_starts =
       record {
         rest = [];
-        parted = rw (sub_self, append-nil (listed (laid_at Log log₀) 0 n)) (sym (listed-records log₀ n e));
+        parted = rw (sub_self, append-nil (listed (laid_at Log log₀) 0 n)) (sym (listed_records log₀ n e));
         above = λ r m h. rw (append-nil m, append-nil (insert r m));
         front = refl;
-        back = rest-zero;
+        back = rest_zero;
       }
 
   module _ (log : List ℕ) (end left : ℕ) (m : Merging log₀ recs n k log end left) (same : length log ≡ length log₀) (g : end ≤ n) (h : left ≤ k) where
-    pub merging-ends : left ≤ 0 → log ≡ log_bytes (insert_to (records_of log₀) (laid_at Log recs) k)
+    pub merging_ends : left ≤ 0 → log ≡ log_bytes (insert_to (records_of log₀) (laid_at Log recs) k)
     unfolding log_bytes padded
-    merging-ends z =
+    merging_ends z =
         let q : left ≡ 0 = omega arith in
         let o : end + 0 ≡ end = omega arith in
         let w : k - 0 ≡ k = omega arith in
@@ -89,17 +89,17 @@ module _ (log₀ recs : List ℕ) (n k : ℕ) (long : length log₀ ≡ 40960) (
       lent_is = part_is recs (80 * (left - 1)) 80
 
       -- the records before the gap are those of the log as it was
-      same-record : (j : ℕ) → j < end → laid_at Log log j ≡ laid_at Log log₀ j
+      same_record : (j : ℕ) → j < end → laid_at Log log j ≡ laid_at Log log₀ j
       unfolding laid_at offset_of
-      same-record j l = sym (part-take log (80 * end) (80 * j) 80 (omega arith)) ∙ rw m.front (part-take log₀ (80 * end) (80 * j) 80 (omega arith))
+      same_record j l = sym (part-take log (80 * end) (80 * j) 80 (omega arith)) ∙ rw m.front (part-take log₀ (80 * end) (80 * j) 80 (omega arith))
 
       place : p ≡ place_behind (laid_at Log log₀) (rank r) end
       place =
           let w : v ≡ rank r = v-is ∙ ap rank lent_is in
-          p-is ∙ ap (λ (x : ℕ). place_behind (laid_at Log log) x end) w ∙ place_same (laid_at Log log) (laid_at Log log₀) (rank r) end same-record
+          p-is ∙ ap (λ (x : ℕ). place_behind (laid_at Log log) x end) w ∙ place_same (laid_at Log log) (laid_at Log log₀) (rank r) end same_record
 
-      pub place-within : p ≤ end
-      place-within = rw place (place-at-most (laid_at Log log₀) (rank r) end)
+      pub place_within : p ≤ end
+      place_within = rw place (place_at_most (laid_at Log log₀) (rank r) end)
 
       moved : List Rec
       moved = listed (laid_at Log log₀) p (end - p)
@@ -112,54 +112,54 @@ module _ (log₀ recs : List ℕ) (n k : ℕ) (long : length log₀ ≡ 40960) (
       bytes : part log (80 * p) (80 * end - 80 * p) ≡ joined moved
       unfolding moved
       bytes =
-          let w = place-within in
+          let w = place_within in
           let f : 80 * (end - p) ≡ 80 * end - 80 * p = omega arith in
           rw (joined-listed log₀ p (end - p), f) (sym (part-take log (80 * end) (80 * p) (80 * end - 80 * p) (omega arith)) ∙ rw m.front (part-take log₀ (80 * end) (80 * p) (80 * end - 80 * p) (omega arith)))
 
       module _ (u o : List ℕ) (u-is : u ≡ put_at log (80 * p + 80 * left) (part log (80 * p) (80 * end - 80 * p)))
           (o_is : o ≡ put_at u (80 * (p + (left - 1))) (take (80 * (left - 1) + 80 - 80 * (left - 1)) (drop (80 * (left - 1)) recs))) (sized : length recs ≡ 80 * k) where
-        r-long : length r ≡ 80
+        r_long : length r ≡ 80
         unfolding r laid_at offset_of
-        r-long = part_length recs (80 * (left - 1)) 80 (omega arith)
+        r_long = part_length recs (80 * (left - 1)) 80 (omega arith)
 
         moved-long : length (joined moved) ≡ 80 * end - 80 * p
-        moved-long = let w = place-within in sym (ap length bytes) ∙ part_length log (80 * p) (80 * end - 80 * p) (omega arith)
+        moved-long = let w = place_within in sym (ap length bytes) ∙ part_length log (80 * p) (80 * end - 80 * p) (omega arith)
 
         once : o ≡ put_at log (80 * (p + (left - 1))) (r ++ joined moved)
         once =
-            let w = place-within in
+            let w = place_within in
             let f : 80 * p + 80 * left ≡ 80 * (p + (left - 1)) + 80 = omega arith in
-            o_is ∙ rw (u-is, lent_is, bytes, f) (rw r-long at (put_front log (80 * (p + (left - 1))) r (joined moved) (omega (arith, r-long, moved-long))))
+            o_is ∙ rw (u-is, lent_is, bytes, f) (rw r_long at (put_front log (80 * (p + (left - 1))) r (joined moved) (omega (arith, r_long, moved-long))))
 
-        new-front : take (80 * p) o ≡ take (80 * p) log₀
-        new-front =
-            let w = place-within in
+        new_front : take (80 * p) o ≡ take (80 * p) log₀
+        new_front =
+            let w = place_within in
             sym (take-take (80 * p) (80 * (p + (left - 1))) o (omega arith))
             ∙ rw (once, take_put log (80 * (p + (left - 1))) (r ++ joined moved) (omega arith), take-take (80 * p) (80 * (p + (left - 1))) log (omega arith))
             (sym (take-take (80 * p) (80 * end) log (omega arith)) ∙ rw (m.front, take-take (80 * p) (80 * end) log₀ (omega arith)))
 
-        new-back : drop (80 * (p + (left - 1))) o ≡ joined (r ∷ (moved ++ m.rest)) ++ replicate (40960 - 80 * (n + k)) 0
-        new-back =
-            let w = place-within in
+        new_back : drop (80 * (p + (left - 1))) o ≡ joined (r ∷ (moved ++ m.rest)) ++ replicate (40960 - 80 * (n + k)) 0
+        new_back =
+            let w = place_within in
             let zs : List ℕ = replicate (40960 - 80 * (n + k)) 0 in
-            let f : 80 * (p + (left - 1)) + length (r ++ joined moved) ≡ 80 * (end + left) = simp length-append (omega (arith, r-long, moved-long)) in
+            let f : 80 * (p + (left - 1)) + length (r ++ joined moved) ≡ 80 * (end + left) = simp length-append (omega (arith, r_long, moved-long)) in
             rw (once, drop_put_at log (80 * (p + (left - 1))) (r ++ joined moved) (omega arith), f, m.back, joined-cons, joined-append, append_assoc r (joined moved), append_assoc r (joined moved ++ joined m.rest), append_assoc (joined moved) (joined m.rest))
 
-        new-parted : insertFrom (laid_at Log recs) (records_of log₀) (left - 1) (k - (left - 1)) ≡ listed (laid_at Log log₀) 0 p ++ r ∷ (moved ++ m.rest)
+        new_parted : insertFrom (laid_at Log recs) (records_of log₀) (left - 1) (k - (left - 1)) ≡ listed (laid_at Log log₀) 0 p ++ r ∷ (moved ++ m.rest)
         unfolding insertFrom r
-        new-parted =
+        new_parted =
             let f : k - (left - 1) ≡ suc (k - left) = omega arith in
             let d : suc (left - 1) ≡ left = omega arith in
             let lower : left < k → rank r < rank (laid_at Log recs left) = λ l. rw d at (up.rises (left - 1) (omega arith)) in
             rw (f, d, m.parted, m.above r (listed (laid_at Log log₀) 0 end) lower, put_in) (append_assoc (listed (laid_at Log log₀) 0 p) (r ∷ moved) m.rest)
 
-        pub merging-next : Merging log₀ recs n k o p (left - 1)
+        pub merging_next : Merging log₀ recs n k o p (left - 1)
         unfolding r laid_at
-        merging-next =
+        merging_next =
             record {
               rest = r ∷ (moved ++ m.rest);
-              parted = new-parted;
+              parted = new_parted;
               above = λ q l c. insert_front q r l (moved ++ m.rest) (c (omega arith));
-              front = new-front;
-              back = new-back;
+              front = new_front;
+              back = new_back;
             }

@@ -34,19 +34,19 @@ module _ (at : ℕ → Rec) where
       (λ k. let e : j ≡ i = omega arith in inl (ap at e))
       (lt_or_ge i j)
 
-  sound-rises : (base : List ℕ) (pre : List Rec) (i n : ℕ) → SoundAfter base pre (listed at i n) → (j : ℕ) → i ≤ j → suc j < i + n → rank (at j) < rank (at (suc j))
+  sound_rises : (base : List ℕ) (pre : List Rec) (i n : ℕ) → SoundAfter base pre (listed at i n) → (j : ℕ) → i ≤ j → suc j < i + n → rank (at j) < rank (at (suc j))
   unfolding listed
-  sound-rises base pre i zero h j a c = absurd (omega arith)
-  sound-rises base pre i (suc n) h j a c =
+  sound_rises base pre i zero h j a c = absurd (omega arith)
+  sound_rises base pre i (suc n) h j a c =
       ⊎_elim
-      (λ (l : i < j). sound-rises base (at i ∷ pre) (suc i) n h.1 j l (omega arith))
+      (λ (l : i < j). sound_rises base (at i ∷ pre) (suc i) n h.1 j l (omega arith))
       (λ l.
       let e : j ≡ i = omega arith in
       rw e (above_all_on base (at i ∷ pre) (listed at (suc i) n) (at i) (at (suc i)) h.1 (inl refl) (has_listed (suc i) n (suc i) (omega arith) (omega arith))))
       (lt_or_ge i j)
 
   pub sound_rising : (base : List ℕ) (n : ℕ) → SoundOn base (listed at 0 n) → Rising at n
-  sound_rising base n h = record { rises = λ j l. sound-rises base [] 0 n h j (omega arith) (omega arith) }
+  sound_rising base n h = record { rises = λ j l. sound_rises base [] 0 n h j (omega arith) (omega arith) }
 
   -- records that rise from each to the next rise altogether
   rises : (n : ℕ) → Rising at n → (j k : ℕ) → j < k → k < n → rank (at j) < rank (at k)
@@ -59,12 +59,12 @@ module _ (at : ℕ → Rec) where
 
   -- ---- the place
 
-  pub place-at-most : (k n : ℕ) → place_behind at k n ≤ n
+  pub place_at_most : (k n : ℕ) → place_behind at k n ≤ n
   unfolding place_behind
-  place-at-most k zero = omega arith
-  place-at-most k (suc n) =
+  place_at_most k zero = omega arith
+  place_at_most k (suc n) =
       ⊎_elim
-      (λ (h : k < rank (at n)). rw (lt-leb (rank (at n)) k h) (omega (arith, place-at-most k n)))
+      (λ (h : k < rank (at n)). rw (lt-leb (rank (at n)) k h) (omega (arith, place_at_most k n)))
       (λ (h : rank (at n) ≤ k). rw (le-leb (rank (at n)) k h) (omega arith))
       (lt_or_ge k (rank (at n)))
 
@@ -84,14 +84,14 @@ module _ (at : ℕ → Rec) where
       absurd (omega arith))
       (lt_or_ge k (rank (at n)))
 
-  last-below : (k n : ℕ) → 0 < place_behind at k n → rank (at (place_behind at k n - 1)) ≤ k
+  last_below : (k n : ℕ) → 0 < place_behind at k n → rank (at (place_behind at k n - 1)) ≤ k
   unfolding place_behind
-  last-below k zero a = absurd (omega arith)
-  last-below k (suc n) a =
+  last_below k zero a = absurd (omega arith)
+  last_below k (suc n) a =
       ⊎_elim
       (λ (h : k < rank (at n)).
       let e = lt-leb (rank (at n)) k h in
-      rw e (last-below k n (rw e at a)))
+      rw e (last_below k n (rw e at a)))
       (λ (h : rank (at n) ≤ k).
       let e : suc n - 1 ≡ n = omega arith in
       rw (le-leb (rank (at n)) k h, e) h)
@@ -101,8 +101,8 @@ module _ (at : ℕ → Rec) where
   below n h m q k j a =
       let p = place_behind at k m in
       ⊎_elim
-      (λ (l : j < p - 1). omega (arith, last-below k m (omega arith), rises n h j (p - 1) l (omega (arith, place-at-most k m))))
-      (λ l. let e : j ≡ p - 1 = omega arith in rw e (last-below k m (omega arith)))
+      (λ (l : j < p - 1). omega (arith, last_below k m (omega arith), rises n h j (p - 1) l (omega (arith, place_at_most k m))))
+      (λ l. let e : j ≡ p - 1 = omega arith in rw e (last_below k m (omega arith)))
       (lt_or_ge j (p - 1))
 
   -- ---- insertion
@@ -124,7 +124,7 @@ module _ (at : ℕ → Rec) where
       → insert r (listed at 0 m) ≡ listed at 0 (place_behind at (rank r) m) ++ r ∷ listed at (place_behind at (rank r) m) (m - place_behind at (rank r) m)
   insert-at r n h m q =
       let p = place_behind at (rank r) m in
-      let k = place-at-most (rank r) m in
+      let k = place_at_most (rank r) m in
       let e : m ≡ p + (m - p) = omega arith in
       let g : insert r (listed at 0 (p + (m - p))) ≡ listed at 0 p ++ r ∷ listed at (0 + p) (m - p) = put_in r 0 p (m - p) (λ j l b. below n h m q (rank r) j (omega arith)) (λ j l b. above (rank r) m j (omega arith) (omega arith)) in
       ap (λ (x : ℕ). insert r (listed at 0 x)) e ∙ (rw (zero-add p) at g)
@@ -139,16 +139,16 @@ place_same at to k (suc n) h = rw (h n (omega arith), place_same at to k n (λ j
 
 module _ (b : List ℕ) (k n i : ℕ) (inv : place_behind (laid_at Log b) k i ≡ place_behind (laid_at Log b) k n) where
   module _ (h : 0 < i) (q : ℕ) (e : q ≡ rank (take (80 * (i - 1) + 80 - 80 * (i - 1)) (drop (80 * (i - 1)) b))) where
-    lent-rank : rank (laid_at Log b (i - 1)) ≡ q
+    lent_rank : rank (laid_at Log b (i - 1)) ≡ q
     unfolding laid_at offset_of
-    lent-rank = sym (rw (part_is b (80 * (i - 1)) 80) at e)
+    lent_rank = sym (rw (part_is b (80 * (i - 1)) 80) at e)
 
     step : place_behind (laid_at Log b) k i ≡ cond (leb q k) i (place_behind (laid_at Log b) k (i - 1))
     unfolding place_behind
-    step = let s : i ≡ suc (i - 1) = omega arith in (rw lent-rank at (ap (λ (x : ℕ). place_behind (laid_at Log b) k x) s)) ∙ ap (λ (x : ℕ). cond (leb q k) x (place_behind (laid_at Log b) k (i - 1))) (sym s)
+    step = let s : i ≡ suc (i - 1) = omega arith in (rw lent_rank at (ap (λ (x : ℕ). place_behind (laid_at Log b) k x) s)) ∙ ap (λ (x : ℕ). cond (leb q k) x (place_behind (laid_at Log b) k (i - 1))) (sym s)
 
-    pub behind-stops : q ≤ k → i ≡ place_behind (laid_at Log b) k n
-    behind-stops l = sym (rw (le-leb q k l) at step) ∙ inv
+    pub behind_stops : q ≤ k → i ≡ place_behind (laid_at Log b) k n
+    behind_stops l = sym (rw (le-leb q k l) at step) ∙ inv
 
     pub behind-next : k < q → place_behind (laid_at Log b) k (i - 1) ≡ place_behind (laid_at Log b) k n
     behind-next l = sym (rw (lt-leb q k l) at step) ∙ inv

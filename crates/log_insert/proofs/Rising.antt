@@ -58,11 +58,11 @@ module _ (to : ℕ → Rec) where
   insertFrom l j (suc n) = insert (to j) (insertFrom l (suc j) n)
 
   module _ (k : ℕ) (h : Rising to k) where
-    rises-far : (i j : ℕ) → i < j → j < k → rank (to i) < rank (to j)
-    rises-far i zero a b = absurd (omega arith)
-    rises-far i (suc j) a b =
+    rises_far : (i j : ℕ) → i < j → j < k → rank (to i) < rank (to j)
+    rises_far i zero a b = absurd (omega arith)
+    rises_far i (suc j) a b =
         ⊎_elim
-        (λ (c : i < j). omega (arith, rises-far i j c (omega arith), h.rises j b))
+        (λ (c : i < j). omega (arith, rises_far i j c (omega arith), h.rises j b))
         (λ c. let e : i ≡ j = omega arith in rw e (h.rises j b))
         (lt_or_ge i j)
 
@@ -71,7 +71,7 @@ module _ (to : ℕ → Rec) where
     last_out l j zero a = rw (add-zero j)
     last_out l j (suc n) a =
         let e : j + suc n ≡ suc j + n = omega arith in
-        ap (insert (to j)) (last_out l (suc j) n (omega arith)) ∙ rw e (insert_swap (to j) (to (suc j + n)) (insertFrom l (suc j) n) (rises-far j (suc j + n) (omega arith) (omega arith)))
+        ap (insert (to j)) (last_out l (suc j) n (omega arith)) ∙ rw e (insert_swap (to j) (to (suc j + n)) (insertFrom l (suc j) n) (rises_far j (suc j + n) (omega arith) (omega arith)))
 
     pub either_way : (l : List Rec) (n : ℕ) → n ≤ k → insertFrom l 0 n ≡ insert_to l to n
     unfolding insertFrom insert_to

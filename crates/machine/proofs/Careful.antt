@@ -38,7 +38,7 @@ use Rattle.log_laws.proofs.Lacking.{lacking-cons, lacking-nil, has_lacking, lack
 use Rattle.encoding_laws.proofs.Logs.{sound_few}
 use Rattle.take_laws.specs.Held.{Counts}
 use Rattle.take_laws.proofs.Take.{refused_taken, taken_same, folded_within, within_folded, beyond_folded, above_base, joins_from_on, take_all-nil, take_all_goes, take_all_stops, all_from}
-use Rattle.take_laws.proofs.Held.{shed, counts-held, vector-held, insert_all, sound-all}
+use Rattle.take_laws.proofs.Held.{shed, counts-held, vector_held_lem, insert_all_lem, sound_all}
 use Rattle.take_laws.proofs.Arrival.{take_all-append}
 use Rattle.call_laws.specs.Keeps.{Good}
 use Rattle.call_laws.proofs.Calls.{guarded-passes, take_done, take_left, take_back}
@@ -46,8 +46,8 @@ use Rattle.call_laws.proofs.Given.{Holds}
 use Rattle.machine.specs.Meeting.{Store, with_log, held_by, vector_by, Whole, lacked_by, Open}
 use Rattle.machine.specs.Careful.{lowered, begun, raise, raised, Asking, brought, answer, asking, answered, Twice, Noticed, CarefulAsking, CarefulMeeting, Passes, CarefulPassing}
 use Rattle.machine.proofs.Tests.{Rising}
-use Rattle.machine.proofs.Cover.{way-all, way_end}
-use Rattle.machine.proofs.Meeting.{sound_rising, rising-lacking, rising_same, Pair, used, all-agree, in-A, W, begin, whole_sound, whole-counts, whole_vector, lacking-held, handed-holds, lacks-all, all_listed, fits, may-meet, none_left}
+use Rattle.machine.proofs.Cover.{way_all, way_end}
+use Rattle.machine.proofs.Meeting.{sound_rising, rising-lacking, rising_same, Pair, used, all_agree, in_A, W, begin, whole_sound, whole-counts, whole_vector, lacking-held, handed-holds, lacks_all, all_listed, fits, may_meet, none_left}
 
 -- ---- the counts asked with
 
@@ -125,14 +125,14 @@ module _ (A : List Rec) (s_a : Sound A) (list : ℕ) (base : List ℕ) (p : List
       rise : Rising (x ∷ l)
       rise = subst Rising e (rising-lacking v A up)
 
-      in-A : (s : Rec) → Has s (x ∷ l) → Has s A
-      in-A s i = has_lacking v A s (subst (Has s) (sym e) i)
+      in_A : (s : Rec) → Has s (x ∷ l) → Has s A
+      in_A s i = has_lacking v A s (subst (Has s) (sym e) i)
 
-      x-in : Has x A
-      x-in = in-A x (inl refl)
+      x_in : Has x A
+      x_in = in_A x (inl refl)
 
-      x-unit : unit x < length v
-      x-unit = omega (arith, unit_of_lem [] A x s_a x-in)
+      x_unit : unit x < length v
+      x_unit = omega (arith, unit_of_lem [] A x s_a x_in)
 
       ahead : Sub (lacking (raise v x) A) l
       ahead s i =
@@ -141,9 +141,9 @@ module _ (A : List Rec) (s_a : Sound A) (list : ℕ) (base : List ℕ) (p : List
           ⊎_elim
           (λ (q : unit s ≡ unit x).
           let k' : get_or (raise v x) (unit x) 0 < num s = subst (λ (u : ℕ). get_or (raise v x) u 0 < num s) q k in
-          let z : get_or v (unit x) 0 < num s = omega (arith, raise_own v x x-unit) in
+          let z : get_or v (unit x) 0 < num s = omega (arith, raise_own v x x_unit) in
           ⊎_elim
-          (λ (p : s ≡ x). absurd (omega (arith, ap num p, raise_own v x x-unit)))
+          (λ (p : s ≡ x). absurd (omega (arith, ap num p, raise_own v x x_unit)))
           (λ p. p)
           (subst (Has s) e (lacking_has v A s j (subst (λ (u : ℕ). get_or v u 0 < num s) (sym q) z))))
           (λ (q : unit s ≡ unit x → ⊥).
@@ -160,22 +160,22 @@ module _ (A : List Rec) (s_a : Sound A) (list : ℕ) (base : List ℕ) (p : List
           (λ p. p)
           (λ (p : num s ≤ num x).
           ⊎_elim
-          (λ (z : num s ≡ num x). absurd (omega (arith, ap rank (unique [] A s_a s x j x-in q z))))
+          (λ (z : num s ≡ num x). absurd (omega (arith, ap rank (unique [] A s_a s x j x_in q z))))
           (λ (z : num s ≡ num x → ⊥).
-          let w : num s ≤ seen x (unit s) = rw q (omega (arith, well_own x (formed [] A x s_a x-in))) in
-          absurd (omega (arith, seen_below [] A x s s_a x-in (inr j) (unit_of_lem [] A s s_a j) w)))
+          let w : num s ≤ seen x (unit s) = rw q (omega (arith, well_own x (formed [] A x s_a x_in))) in
+          absurd (omega (arith, seen_below [] A x s s_a x_in (inr j) (unit_of_lem [] A s s_a j) w)))
           (eq_or_ne (num s) (num x)))
           (lt_or_ge (num x) (num s))
 
       behind : Sub l (lacking (raise v x) A)
       behind s i =
-          let j = in-A s (inr i) in
+          let j = in_A s (inr i) in
           let k : get_or v (unit s) 0 < num s = lacking_beyond v A s (subst (Has s) (sym e) (inr i)) in
           lacking_has (raise v x) A s j
           (⊎_elim
           (λ (q : unit s ≡ unit x).
           let k' : get_or v (unit x) 0 < num s = subst (λ (u : ℕ). get_or v u 0 < num s) q k in
-          let z : get_or (raise v x) (unit x) 0 < num s = omega (arith, raise_own v x x-unit, later s j q (rise.0 s i)) in
+          let z : get_or (raise v x) (unit x) 0 < num s = omega (arith, raise_own v x x_unit, later s j q (rise.0 s i)) in
           subst (λ (u : ℕ). get_or (raise v x) u 0 < num s) (sym q) z)
           (λ (q : unit s ≡ unit x → ⊥). omega (arith, raise_other v x (unit s) q))
           (eq_or_ne (unit s) (unit x)))
@@ -200,8 +200,8 @@ module _ (A : List Rec) (s_a : Sound A) (list : ℕ) (base : List ℕ) (p : List
     one_in : Has x A
     one_in = has_lacking v A x (subst (Has x) (sym e) (inl refl))
 
-    one-formed : well_formed x ≡ true
-    one-formed = formed [] A x s_a one_in
+    one_formed : well_formed x ≡ true
+    one_formed = formed [] A x s_a one_in
 
     -- what it saw is counted
     have : (u : ℕ) → u < 8 → seen x u ≤ count u (p ++ m)
@@ -222,18 +222,18 @@ module _ (A : List Rec) (s_a : Sound A) (list : ℕ) (base : List ℕ) (p : List
         (lt_or_ge 0 (seen x u))
 
     -- counts raised to it are held where it is
-    asks-on : (m' : List Rec) → Sound (p ++ m') → num x ≤ count (unit x) (p ++ m') → ((u : ℕ) → u < 8 → count u (p ++ m) ≤ count u (p ++ m'))
+    asks_on : (m' : List Rec) → Sound (p ++ m') → num x ≤ count (unit x) (p ++ m') → ((u : ℕ) → u < 8 → count u (p ++ m) ≤ count u (p ++ m'))
         → ((u : ℕ) → u < 8 → count u (p ++ m') ≤ max (count u A) (count u B)) → Asks (raise v x) m'
-    asks-on m' h n more fits =
+    asks_on m' h n more fits =
         record {
           eight = raise-length v x ∙ k.eight;
           sound = h;
           counted = λ u b.
               ⊎_elim
               (λ (q : u ≡ unit x).
-              let b₁ : unit x < 8 = well_unit x one-formed in
+              let b₁ : unit x < 8 = well_unit x one_formed in
               let d : get_or v (unit x) 0 ≤ count (unit x) (p ++ m) = k.counted (unit x) b₁ in
-              let z : get_or (raise v x) (unit x) 0 ≤ count (unit x) (p ++ m') = omega (arith, more (unit x) b₁, raise_own v x (omega (arith, well_unit x one-formed, k.eight))) in
+              let z : get_or (raise v x) (unit x) 0 ≤ count (unit x) (p ++ m') = omega (arith, more (unit x) b₁, raise_own v x (omega (arith, well_unit x one_formed, k.eight))) in
               subst (λ (w : ℕ). get_or (raise v x) w 0 ≤ count w (p ++ m')) (sym q) z)
               (λ (q : u ≡ unit x → ⊥). omega (arith, raise_other v x u q, more u b, k.counted u b))
               (eq_or_ne u (unit x));
@@ -246,12 +246,12 @@ module _ (A : List Rec) (s_a : Sound A) (list : ℕ) (base : List ℕ) (p : List
 
     -- it changes nothing where it is counted
     stays : num x ≤ count (unit x) (p ++ m) → Gone (taken m)
-    stays n = inl (m, refl, asks-on m k.sound n (λ u b. omega arith) k.room, λ r h. h)
+    stays n = inl (m, refl, asks_on m k.sound n (λ u b. omega arith) k.room, λ r h. h)
 
     -- it is folded: passed over
     passed_over : is_folded base x ≡ true → Gone (taken m)
     passed_over f =
-        stays (omega (arith, folded_within base x f, counts-held base p c m (unit x) (well_unit x one-formed)))
+        stays (omega (arith, folded_within base x f, counts-held base p c m (unit x) (well_unit x one_formed)))
 
     -- it is held: compared
     compared : (s : Rec) → by_id (unit x) (num x) m ≡ some s → Gone (take_held base (some s) m x)
@@ -263,7 +263,7 @@ module _ (A : List Rec) (s_a : Sound A) (list : ℕ) (base : List ℕ) (p : List
         go (inl b) =
             let (i, a, n) = by_id_some (unit x) (num x) m s q in
             let h : num x ≤ count (unit x) (p ++ m) = rw (a, n) at (number_held (p ++ m) s k.sound (append_has p m s (inr i))) in
-            inl (m, rw b, asks-on m k.sound h (λ u d. omega arith) k.room, λ r j. j)
+            inl (m, rw b, asks_on m k.sound h (λ u d. omega arith) k.room, λ r j. j)
 
     -- it is new: next and within, and covers the base vector, so only closure and room are asked
     newly : is_folded base x ≡ false → by_id (unit x) (num x) m ≡ none → Gone (take_new base m x)
@@ -271,7 +271,7 @@ module _ (A : List Rec) (s_a : Sound A) (list : ℕ) (base : List ℕ) (p : List
     newly f q = go (bool_cases (is_closed base m x)) (bool_cases (ltb (length m) 512))
       where
         x8 : unit x < 8
-        x8 = well_unit x one-formed
+        x8 = well_unit x one_formed
 
         held : (u : ℕ) → u < 8 → count_on base u m ≡ count u (p ++ m)
         held = counts-held base p c m
@@ -281,7 +281,7 @@ module _ (A : List Rec) (s_a : Sound A) (list : ℕ) (base : List ℕ) (p : List
             ⊎_elim
             (λ y. y)
             (λ y.
-            let (s, i, a, b) = find_held (p ++ m) (unit x) (num x) k.sound (omega (arith, well_own x one-formed)) y in
+            let (s, i, a, b) = find_held (p ++ m) (unit x) (num x) k.sound (omega (arith, well_own x one_formed)) y in
             ⊎_elim
             (λ j.
             let n : num s ≤ count (unit x) p = subst (λ (u : ℕ). num s ≤ count u p) a (number_held p s (sound_front [] p m k.sound) j) in
@@ -291,7 +291,7 @@ module _ (A : List Rec) (s_a : Sound A) (list : ℕ) (base : List ℕ) (p : List
             (lt_or_ge (count (unit x) (p ++ m)) (num x))
 
         next : num x ≡ suc (count_on base (unit x) m)
-        next = omega (arith, beyond, well_own x one-formed, have (unit x) x8, held (unit x) x8)
+        next = omega (arith, beyond, well_own x one_formed, have (unit x) x8, held (unit x) x8)
 
         within : (u : ℕ) → u < 8 → seen x u ≤ count_on base u m
         within u b = omega (arith, have u b, held u b)
@@ -303,17 +303,17 @@ module _ (A : List Rec) (s_a : Sound A) (list : ℕ) (base : List ℕ) (p : List
         above u b = omega (arith, covers_at (seen_vector x) base covering u b, seen_vector_get_d x u b)
 
         joins : is_closed base m x ≡ true → Joins base [] m x
-        joins d = joins_from_on base m x (shed base p m c k.sound) one-formed (next_test_on base m x next) (within_test_on base m x within) d
+        joins d = joins_from_on base m x (shed base p m c k.sound) one_formed (next_test_on base m x next) (within_test_on base m x within) d
 
         -- with it, all that is held
         whole : is_closed base m x ≡ true → (Sound (p ++ insert x m)) × (insert x (p ++ m) ≡ p ++ insert x m)
-        whole d = (sound-all base p c m x k.sound (joins d) above, insert_all base p c m x k.sound (joins d) above)
+        whole d = (sound_all base p c m x k.sound (joins d) above, insert_all_lem base p c m x k.sound (joins d) above)
 
-        counts-one : (u : ℕ) → is_closed base m x ≡ true → count u (p ++ insert x m) ≡ count u (x ∷ (p ++ m))
-        counts-one u d = ap (count u) (sym (whole d).1) ∙ count-insert u x (p ++ m)
+        counts_one : (u : ℕ) → is_closed base m x ≡ true → count u (p ++ insert x m) ≡ count u (x ∷ (p ++ m))
+        counts_one u d = ap (count u) (sym (whole d).1) ∙ count-insert u x (p ++ m)
 
         more : is_closed base m x ≡ true → (u : ℕ) → u < 8 → count u (p ++ m) ≤ count u (p ++ insert x m)
-        more d u b = ⊎_elim (λ y. omega (arith, counts-one u d, y.1)) (λ y. omega (arith, counts-one u d, y.1)) (count-cons u x (p ++ m))
+        more d u b = ⊎_elim (λ y. omega (arith, counts_one u d, y.1)) (λ y. omega (arith, counts_one u d, y.1)) (count-cons u x (p ++ m))
 
         fits_one : is_closed base m x ≡ true → (u : ℕ) → u < 8 → count u (p ++ insert x m) ≤ max (count u A) (count u B)
         fits_one d u b =
@@ -321,8 +321,8 @@ module _ (A : List Rec) (s_a : Sound A) (list : ℕ) (base : List ℕ) (p : List
             (λ y.
             let n : num x ≤ count u A = subst (λ (w : ℕ). num x ≤ count w A) y.0 (number_held A x s_a one_in) in
             let n' : num x ≡ suc (count_on base u m) = subst (λ (w : ℕ). num x ≡ suc (count_on base w m)) y.0 next in
-            omega (arith, counts-one u d, y.1, held u b))
-            (λ y. omega (arith, counts-one u d, y.1, k.room u b))
+            omega (arith, counts_one u d, y.1, held u b))
+            (λ y. omega (arith, counts_one u d, y.1, k.room u b))
             (count-cons u x (p ++ m))
 
         go : (is_closed base m x ≡ true) ⊎ (is_closed base m x ≡ false) → (ltb (length m) 512 ≡ true) ⊎ (ltb (length m) 512 ≡ false) → Gone (take_new base m x)
@@ -342,11 +342,11 @@ module _ (A : List Rec) (s_a : Sound A) (list : ℕ) (base : List ℕ) (p : List
         go (inl d) (inl g) =
             let h = (whole d).0 in
             let own : num x ≤ count (unit x) (p ++ insert x m) = number_held (p ++ insert x m) x h (append_has p (insert x m) x (inr (insert_has x m x (inl refl)))) in
-            inl (insert x m, rw (next_test_on base m x next, within_test_on base m x within, covering, d, g), asks-on (insert x m) h own (more d) (fits_one d), λ r i. insert_has x m r (inr i))
+            inl (insert x m, rw (next_test_on base m x next, within_test_on base m x within, covering, d, g), asks_on (insert x m) h own (more d) (fits_one d), λ r i. insert_has x m r (inr i))
 
     one : Gone (take_one list base m x)
     unfolding take_one take_held
-    one = rw (one-formed, listed x one_in) (fold (bool_cases (is_folded base x)))
+    one = rw (one_formed, listed x one_in) (fold (bool_cases (is_folded base x)))
       where
         go : is_folded base x ≡ false → (o : Option Rec) → by_id (unit x) (num x) m ≡ o → Gone (take_held base o m x)
         go f (some s) q = compared s q
@@ -406,18 +406,18 @@ module _ (archive a b : ℕ) (sa sb : Store) (a8 : a < 8) (b8 : b < 8) (wa : Who
   counts : Counts base p
   counts = whole-counts sb wb
 
-  begun-getD : (u : ℕ) → u < 8
+  begun_get_d : (u : ℕ) → u < 8
       → get_or (begun sa sb) u 0 ≡ max (max (get_or (vector_by sb) u 0 - 1) (get_or base u 0)) (min (get_or (vector_by sb) u 0) (get_or (base_vector sa.base) u 0))
-  begun-getD u k =
+  begun_get_d u k =
       lowered_get_d (vector_by sb) base (base_vector sa.base) u (omega (arith, vector_on-length base (records_of sb.log)))
 
   -- no more than is held, and what a has folded is covered
   begun-below : (u : ℕ) → u < 8 → get_or (begun sa sb) u 0 ≤ get_or (vector_by sb) u 0
-  begun-below u k = omega (arith, begun-getD u k, vector_on_get_d base (records_of sb.log) u k)
+  begun-below u k = omega (arith, begun_get_d u k, vector_on_get_d base (records_of sb.log) u k)
 
-  begun-reach : covers (begun sa sb) (base_vector sa.base) ≡ true
-  begun-reach =
-      all_covers (begun sa sb) (base_vector sa.base) (λ u k. omega (arith, begun-getD u k, covers_at (vector_by sb) (base_vector sa.base) ok.above u k))
+  begun_reach : covers (begun sa sb) (base_vector sa.base) ≡ true
+  begun_reach =
+      all_covers (begun sa sb) (base_vector sa.base) (λ u k. omega (arith, begun_get_d u k, covers_at (vector_by sb) (base_vector sa.base) ok.above u k))
 
   listed : (r : Rec) → Has r A → is_listed list (unit r) ≡ true
   listed = all_listed sa sb wa wb ok.above ok.listed
@@ -425,7 +425,7 @@ module _ (archive a b : ℕ) (sa sb : Store) (a8 : a < 8) (b8 : b < 8) (wa : Who
   over : (r : Rec) → Has r A → count (unit r) B < num r → covers (seen_vector r) base ≡ true
   over r i k =
       let h = unit_of_lem [] A r s_a i in
-      ok.covering r (subst (Has r) (lacks-all sa sb wa wb ok.above) (lacking_has (vector_of B) A r i (omega (arith, vector_of_get_d B (unit r) h))))
+      ok.covering r (subst (Has r) (lacks_all sa sb wa wb ok.above) (lacking_has (vector_of B) A r i (omega (arith, vector_of_get_d B (unit r) h))))
 
   -- the counts asked with, and the log of b
   abbrev at : List ℕ → List ℕ → Asking
@@ -446,10 +446,10 @@ module _ (archive a b : ℕ) (sa sb : Store) (a8 : a < 8) (b8 : b < 8) (wa : Who
   unfolding brought
   brought-holds v log e = rw (lacking-held v sa wa e) (handed-holds archive a sa v a8 wa.good e).1
 
-  refused-number : (v log : List ℕ) (l : List Rec) (n : ℕ) → Ready v log l → takes_all list base (records_of log) (block_records (brought archive a sa (at v log))) ≡ refused n
+  refused_number : (v log : List ℕ) (l : List Rec) (n : ℕ) → Ready v log l → takes_all list base (records_of log) (block_records (brought archive a sa (at v log))) ≡ refused n
       → (answer archive a b sa (at v log)).number ≡ n
   unfolding answer take_of took_block took_all
-  refused-number v log l n k e =
+  refused_number v log l n k e =
       let f : given_fault archive (brought archive a sa (at v log)) ≡ 0 = (brought-holds v log k.reach).faultless in
       rw (guarded-passes b log sb.base [] true (took_block log sb.base (brought archive a sa (at v log)) (given_fault archive (brought archive a sa (at v log)))) refl (omega arith) k.good, f, e) refl
 
@@ -465,7 +465,7 @@ module _ (archive a b : ℕ) (sa sb : Store) (a8 : a < 8) (b8 : b < 8) (wa : Who
     after : List Rec
     took : takes_all list base (records_of log) (take 6 l) ≡ taken after
     number : (answer archive a b sa (at v log)).number ≡ 0
-    is-log : records_of (then v log) ≡ after
+    is_log : records_of (then v log) ≡ after
     ready : Ready (more v log) (then v log) (drop 6 l)
 
   record Stuck (v log : List ℕ) (l : List Rec) : Type 0 where
@@ -482,7 +482,7 @@ module _ (archive a b : ℕ) (sa sb : Store) (a8 : a < 8) (b8 : b < 8) (wa : Who
 
       stopping : (n : ℕ) × (takes_all list base (records_of log) (take 6 l) ≡ refused n) × Stops n → Taken v log l ⊎ Stuck v log l
       stopping (n, e, h) =
-          inr (record { reason = n; took = e; stopped = subst Stops (sym (refused-number v log l n k (ap (takes_all list base (records_of log)) is ∙ e))) h })
+          inr (record { reason = n; took = e; stopped = subst Stops (sym (refused_number v log l n k (ap (takes_all list base (records_of log)) is ∙ e))) h })
 
       taking : (m : List Rec) × (takes_all list base (records_of log) (take 6 l) ≡ taken m) × Asks A s_a list base p counts B listed over (raised v (take 6 l)) m × (lacking (raised v (take 6 l)) A ≡ drop 6 l) × Sub (records_of log) m
           → Taken v log l ⊎ Stuck v log l
@@ -495,7 +495,7 @@ module _ (archive a b : ℕ) (sa sb : Store) (a8 : a < 8) (b8 : b < 8) (wa : Who
             after = m;
             took = e;
             number = ap (λ (x : Outcome). x.number) o;
-            is-log = back;
+            is_log = back;
             ready =
                 record {
                   good = subst (λ (x : Outcome). Good x.log sb.base) (sym o) (take_left log sb.base (take 6 l) m k.good e);
@@ -518,28 +518,28 @@ module _ (archive a b : ℕ) (sa sb : Store) (a8 : a < 8) (b8 : b < 8) (wa : Who
   abbrev Refusal : ℕ → Type 0
   Refusal n = (n ≡ other_bytes) ⊎ (n ≡ not_closed) ⊎ ((n ≡ full_log) × (512 < length (lacked_by sa sb) + length (records_of sb.log)))
 
-  refusal-of : {n : ℕ} → Stops n → Refusal n
-  refusal-of (inl x) = inl x
-  refusal-of (inr (inl x)) = inr (inl x)
-  refusal-of (inr (inr (x, y))) =
+  refusal_of : {n : ℕ} → Stops n → Refusal n
+  refusal_of (inl x) = inl x
+  refusal_of (inr (inl x)) = inr (inl x)
+  refusal_of (inr (inr (x, y))) =
       inr (inr (
         x,
         omega (
           arith,
           y,
           union-length A B s_a (whole_sound sb wb),
-          ap (λ (l : List Rec). length l) (lacks-all sa sb wa wb ok.above),
+          ap (λ (l : List Rec). length l) (lacks_all sa sb wa wb ok.above),
           length-append p (records_of sb.log),
         ),
       ))
 
   -- block after block, until it stops: at the latest where r comes, since s is in the log of b
   module _ (r s : Rec) (t : Twice (records_of sa.log) (records_of sb.log) r s) where
-    r-held : Has r A
-    r-held = append_has sa.folded (records_of sa.log) r (inr t.first)
+    r_held : Has r A
+    r_held = append_has sa.folded (records_of sa.log) r (inr t.first)
 
-    s-above : get_or base (unit s) 0 < num s
-    s-above = above_base base [] (records_of sb.log) s (shed base p (records_of sb.log) counts (whole_sound sb wb)) t.second
+    s_above : get_or base (unit s) 0 < num s
+    s_above = above_base base [] (records_of sb.log) s (shed base p (records_of sb.log) counts (whole_sound sb wb)) t.second
 
     -- r cannot be taken
     both : (v log : List ℕ) (l : List Rec) → Ready v log l → Taken v log l → Has r (take 6 l) → ⊥
@@ -548,15 +548,15 @@ module _ (archive a b : ℕ) (sa sb : Store) (a8 : a < 8) (b8 : b < 8) (wa : Who
         let there : Has s d.after = g.kept s (k.kept s t.second) in
         ⊎_elim
         (λ h. t.other_bytes (unique_on base [] d.after g.sound r s h there t.same_unit t.same_number))
-        (λ h. not_both (is_folded base r) h (beyond_folded base r (rw (t.same_unit, t.same_number) s-above)))
+        (λ h. not_both (is_folded base r) h (beyond_folded base r (rw (t.same_unit, t.same_number) s_above)))
         (g.got r i)
 
-    ten-at : (v log : List ℕ) (l front rest m : List Rec) → Ready v log l → block_records (brought archive a sa (at v log)) ≡ front ++ (r ∷ rest)
+    ten_at : (v log : List ℕ) (l front rest m : List Rec) → Ready v log l → block_records (brought archive a sa (at v log)) ≡ front ++ (r ∷ rest)
         → takes_all list base (records_of log) front ≡ taken m → (answer archive a b sa (at v log)).number ≡ other_bytes
-    ten-at v log l front rest m k e f =
+    ten_at v log l front rest m k e f =
         let g = all_from list base front (records_of log) m (shed base p (records_of log) counts k.asks.sound) f in
-        let o = take_other list base m r s g.sound (formed [] A r s_a r-held) (listed r r-held) (g.kept s (k.kept s t.second)) t.same_unit t.same_number t.other_bytes in
-        refused-number v log l other_bytes k
+        let o = take_other list base m r s g.sound (formed [] A r s_a r_held) (listed r r_held) (g.kept s (k.kept s t.second)) t.same_unit t.same_number t.other_bytes in
+        refused_number v log l other_bytes k
         (ap (takes_all list base (records_of log)) e ∙ take_all-append list base (records_of log) front (r ∷ rest) m f ∙ take_all_stops list base m r rest other_bytes o)
 
     -- it stops at block n
@@ -568,26 +568,26 @@ module _ (archive a b : ℕ) (sa sb : Store) (a8 : a < 8) (b8 : b < 8) (wa : Who
           block = n;
           few = few;
           before = z;
-          refusal = subst (λ (x : Asking). Refusal (answer archive a b sa x).number) (sym q) (refusal-of g.stopped);
+          refusal = subst (λ (x : Asking). Refusal (answer archive a b sa x).number) (sym q) (refusal_of g.stopped);
           ten = λ front rest m.
               subst
               (λ (x : Asking).
               block_records (brought archive a sa x) ≡ front ++ (r ∷ rest) → takes_all list base (records_of x.store.log) front ≡ taken m → (answer archive a b sa x).number ≡ other_bytes)
               (sym q)
-              (ten-at v log l front rest m y);
+              (ten_at v log l front rest m y);
         }
 
-    search-from : (j n : ℕ) (v log : List ℕ) (l : List Rec) → n + j ≡ 86 → length l ≤ 6 * j → Has r l → asking archive a b sa sb n ≡ at v log → Ready v log l
+    search_from : (j n : ℕ) (v log : List ℕ) (l : List Rec) → n + j ≡ 86 → length l ≤ 6 * j → Has r l → asking archive a b sa sb n ≡ at v log → Ready v log l
         → ((i : ℕ) → i < n → answered archive a b sa sb i ≡ 0) → Noticed archive a b sa sb r
-    search-from zero n v log [] e k i q y z = absurd i
-    search-from zero n v log (x ∷ l) e k i q y z = absurd (omega arith)
-    search-from (suc j) n v log l e k i q y z =
+    search_from zero n v log [] e k i q y z = absurd i
+    search_from zero n v log (x ∷ l) e k i q y z = absurd (omega arith)
+    search_from (suc j) n v log l e k i q y z =
         ⊎_elim
         (λ g.
         ⊎_elim
         (λ h. absurd (both v log l y g h))
         (λ h.
-        search-from j (suc n) (more v log) (then v log) (drop 6 l) (omega arith) (omega (arith, length-drop 6 l)) h (asking-next n v log q) g.ready
+        search_from j (suc n) (more v log) (then v log) (drop 6 l) (omega arith) (omega (arith, length-drop 6 l)) h (asking-next n v log q) g.ready
         (λ m c. ⊎_elim (λ c'. z m c') (λ c'. let w : m ≡ n = omega arith in rw w (answered-at n v log q ∙ g.number)) (lt_or_ge m n)))
         (has_append (take 6 l) (drop 6 l) r (subst (Has r) (sym (take-append-drop 6 l)) i)))
         (λ g. found n v log l (omega arith) q y g z)
@@ -606,7 +606,7 @@ module _ (archive a b : ℕ) (sa sb : Store) (a8 : a < 8) (b8 : b < 8) (wa : Who
               grown = λ u k. omega arith;
               room = λ u k. omega arith;
             };
-        reach = begun-reach;
+        reach = begun_reach;
         left = refl;
         kept = λ r h. h;
       }
@@ -631,12 +631,12 @@ module _ (archive a b : ℕ) (sa sb : Store) (a8 : a < 8) (b8 : b < 8) (wa : Who
       way : W A list base p l₀ pair (records_of log) acc l
 
     -- what the way says is taken is what the answer says
-    fine-on : (n : ℕ) (l : List Rec) (f : Fine n l) (m acc : List Rec) → takes_all list base (records_of f.log) (take 6 l) ≡ taken m → W A list base p l₀ pair m acc (drop 6 l)
+    fine_on : (n : ℕ) (l : List Rec) (f : Fine n l) (m acc : List Rec) → takes_all list base (records_of f.log) (take 6 l) ≡ taken m → W A list base p l₀ pair m acc (drop 6 l)
         → (answered archive a b sa sb n ≡ 0) × Fine (suc n) (drop 6 l)
-    fine-on n l f m acc e w =
+    fine_on n l f m acc e w =
         ⊎_elim
         (λ t.
-        let q : m ≡ records_of (then f.v f.log) = taken_same (sym e ∙ t.took) ∙ sym t.is-log in (
+        let q : m ≡ records_of (then f.v f.log) = taken_same (sym e ∙ t.took) ∙ sym t.is_log in (
           answered-at n f.v f.log f.is ∙ t.number,
           record {
             v = more f.v f.log;
@@ -650,12 +650,12 @@ module _ (archive a b : ℕ) (sa sb : Store) (a8 : a < 8) (b8 : b < 8) (wa : Who
         (λ t. refused_taken (sym t.took ∙ e))
         (round f.v f.log l f.ready')
 
-    fine-next : (n : ℕ) (l : List Rec) → Fine n l → (answered archive a b sa sb n ≡ 0) × Fine (suc n) (drop 6 l)
-    fine-next n l f =
+    fine_next : (n : ℕ) (l : List Rec) → Fine n l → (answered archive a b sa sb n ≡ 0) × Fine (suc n) (drop 6 l)
+    fine_next n l f =
         let (m, acc, e, w) =
-        way-all A (p ++ l₀) (used A list base p l₀ pair) pair.s_a (all-agree A list base p l₀ pair) (in-A A list base p l₀ pair) list base p pair.counts pair.listed pair.over
+        way_all A (p ++ l₀) (used A list base p l₀ pair) pair.s_a (all_agree A list base p l₀ pair) (in_A A list base p l₀ pair) list base p pair.counts pair.listed pair.over
         pair.fit (take 6 l) (drop 6 l) (records_of f.log) f.acc (rw (take-append-drop 6 l) f.way) in
-        fine-on n l f m acc e w
+        fine_on n l f m acc e w
 
     fine : (n : ℕ) → Fine n (drop (6 * n) (lacking (begun sa sb) A))
     fine zero =
@@ -670,27 +670,27 @@ module _ (archive a b : ℕ) (sa sb : Store) (a8 : a < 8) (b8 : b < 8) (wa : Who
     fine (suc n) =
         let e : 6 * n + 6 ≡ 6 * suc n = omega arith in
         let l : List Rec = lacking (begun sa sb) A in
-        subst (Fine (suc n)) (drop-drop 6 (6 * n) l ∙ ap (λ (i : ℕ). drop i l) e) (fine-next n (drop (6 * n) l) (fine n)).1
+        subst (Fine (suc n)) (drop-drop 6 (6 * n) l ∙ ap (λ (i : ℕ). drop i l) e) (fine_next n (drop (6 * n) l) (fine n)).1
 
     -- in the end b covers a
-    covers-all : (n : ℕ) → Fine n [] → covers (vector_by (asking archive a b sa sb n).store) (vector_by sa) ≡ true
-    covers-all n f =
+    covers_all : (n : ℕ) → Fine n [] → covers (vector_by (asking archive a b sa sb n).store) (vector_by sa) ≡ true
+    covers_all n f =
         let m : List Rec = records_of f.log in
-        let now : vector_by (with_log sb f.log) ≡ vector_of (p ++ m) = vector-held base p counts m in
+        let now : vector_by (with_log sb f.log) ≡ vector_of (p ++ m) = vector_held_lem base p counts m in
         subst (λ (s : Asking). covers (vector_by s.store) (vector_by sa) ≡ true) (sym f.is)
         (rw (now, whole_vector sa wa)
         (counts_cover A (p ++ m) (λ u _.
-        way_end A (p ++ l₀) (used A list base p l₀ pair) pair.s_a (all-agree A list base p l₀ pair) (in-A A list base p l₀ pair) list base p pair.counts pair.listed pair.over
+        way_end A (p ++ l₀) (used A list base p l₀ pair) pair.s_a (all_agree A list base p l₀ pair) (in_A A list base p l₀ pair) list base p pair.counts pair.listed pair.over
         pair.fit m f.acc f.way u)))
 
     passes : Passes archive a b sa sb
     passes =
         record {
-          answers = λ n. (fine-next n (drop (6 * n) (lacking (begun sa sb) A)) (fine n)).0;
+          answers = λ n. (fine_next n (drop (6 * n) (lacking (begun sa sb) A)) (fine n)).0;
           covering = λ n k.
               let l : List Rec = lacking (begun sa sb) A in
-              let e : length l ≡ length (lacking (begun sa sb) (records_of sa.log)) = ap (λ (x : List Rec). length x) (lacking-held (begun sa sb) sa wa begun-reach) in
-              covers-all n (subst (Fine n) ((none_left l n).1 (rw e k)) (fine n));
+              let e : length l ≡ length (lacking (begun sa sb) (records_of sa.log)) = ap (λ (x : List Rec). length x) (lacking-held (begun sa sb) sa wa begun_reach) in
+              covers_all n (subst (Fine n) ((none_left l n).1 (rw e k)) (fine n));
         }
 
 pub careful_asking : CarefulAsking
@@ -704,14 +704,14 @@ careful_asking archive a b sa sb a8 b8 wa wb ok r s t last =
     omega (
       arith,
       n,
-      begun-getD archive a b sa sb a8 b8 wa wb ok (unit r) (well_unit r f),
+      begun_get_d archive a b sa sb a8 b8 wa wb ok (unit r) (well_unit r f),
       vector_on_get_d (base_vector sb.base) (records_of sb.log) (unit r) (well_unit r f),
-      rw (sym t.same_unit, sym t.same_number) at (s-above archive a b sa sb a8 b8 wa wb ok r s t),
+      rw (sym t.same_unit, sym t.same_number) at (s_above archive a b sa sb a8 b8 wa wb ok r s t),
       above_base (base_vector sa.base) [] l r (shed (base_vector sa.base) sa.folded l (whole-counts sa wa) (whole_sound sa wa)) t.first,
       well_own r f,
     ) in
-    let e : lacking v (held_by sa) ≡ lacking v l = lacking-held v sa wa (begun-reach archive a b sa sb a8 b8 wa wb ok) in
-    search-from archive a b sa sb a8 b8 wa wb ok r s t 86 0 v sb.log (lacking v (held_by sa)) refl
+    let e : lacking v (held_by sa) ≡ lacking v l = lacking-held v sa wa (begun_reach archive a b sa sb a8 b8 wa wb ok) in
+    search_from archive a b sa sb a8 b8 wa wb ok r s t 86 0 v sb.log (lacking v (held_by sa)) refl
     (omega (arith, ap (λ (x : List Rec). length x) e, lacking-length v l, sound_few sa.log))
     (subst (Has r) (sym e) (lacking_has v l r t.first k))
     (at_first archive a b sa sb a8 b8 wa wb ok) (ready archive a b sa sb a8 b8 wa wb ok) (λ i c. absurd (omega arith))
@@ -745,4 +745,4 @@ careful_meeting archive a b sa sb a8 b8 wa wb ok r s t c =
 pub careful_passing : CarefulPassing
 careful_passing archive a b sa sb a8 b8 wa wb ok ag fit =
     passes archive a b sa sb a8 b8 wa wb ok
-    (may-meet sa sb wa wb ok.above ag ok.listed ok.covering fit)
+    (may_meet sa sb wa wb ok.above ag ok.listed ok.covering fit)

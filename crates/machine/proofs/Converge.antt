@@ -24,7 +24,7 @@ use Rattle.log_laws.proofs.Tests.{counts_equal, equal_counts}
 use Rattle.encoding_laws.proofs.Logs.{sound_bytes_on}
 use Rattle.tree_laws.proofs.Trimming.{from_base}
 use Rattle.call_laws.specs.Keeps.{Good}
-use Rattle.call_laws.proofs.States.{good-log}
+use Rattle.call_laws.proofs.States.{good_log}
 use Rattle.call_laws.proofs.Calls.{guarded-passes}
 use Rattle.fold_laws.proofs.Stores.{kept-counts, kept_vector, kept_shown}
 use Rattle.fold_laws.proofs.Alike as Alike
@@ -45,7 +45,7 @@ unfolding held held_vector base_in
 held-counts archive s i u = kept_vector s.used (store_of s u) (i.stored.kept u)
 
 good_bytes : (log base : List ℕ) → Good log base → log_bytes (records_of log) ≡ log
-good_bytes log base g = sound_bytes_on (base_vector base) log g.long.0 (good-log log base g)
+good_bytes log base g = sound_bytes_on (base_vector base) log g.long.0 (good_log log base g)
 
 -- the tree that is shown
 shows : (log base lent : List ℕ) → Good log base → length lent ≡ 86020 → show_of log base lent ≡ outcome 0 0 log (table_bytes (tree_of log base)) 0
@@ -114,7 +114,7 @@ converge archive s i d u v =
     counts e x k = kept-counts s.used (store_of s u) (i.stored.kept u) x k ∙ counts_equal l m e x k ∙ sym (kept-counts s.used (store_of s v) (i.stored.kept v) x k)
 
     one : vector_of l ≡ vector_of m → l ≡ m
-    one e = Alike.same-held s.used (store_of s u) (store_of s v) agree (i.stored.kept u) (i.stored.kept v) (counts e)
+    one e = Alike.same_held s.used (store_of s u) (store_of s v) agree (i.stored.kept u) (i.stored.kept v) (counts e)
 
     go : vector_of l ≡ vector_of m → (lent : List ℕ) → (eqb (length lent) 86020 ≡ true) ⊎ (eqb (length lent) 86020 ≡ false)
         → ((show_of (s.logs u) (s.bases u) lent).number ≡ (show_of (s.logs v) (s.bases v) lent).number)

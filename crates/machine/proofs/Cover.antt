@@ -22,7 +22,7 @@ use Rattle.log_laws.proofs.Ids.{none-by_id, agree_by_id}
 use Rattle.log_laws.proofs.Same.{unique}
 use Rattle.take_laws.specs.Held.{Counts}
 use Rattle.take_laws.proofs.Take.{within_folded, beyond_folded, above_base, take_new_lem, take-folded, take-held, take_all-nil, take_all_goes}
-use Rattle.take_laws.proofs.Held.{shed, insert_all}
+use Rattle.take_laws.proofs.Held.{shed, insert_all_lem}
 use Rattle.machine.proofs.Ways as Ways
 
 -- A: all records of the first; B₀: all that the taker holds at the point; used: records that agree, A's among them; m, v, p: the
@@ -52,8 +52,8 @@ module _ (A B₀ used : List Rec) (s_a : Sound A) (agree : Agree used used) (in_
     -- r is new
     module _ (new : (t : Rec) → Has t B → unit t ≡ unit r → num t ≡ num r → ⊥) where
       -- it joins what is held, and covers the base
-      joins-on : Joins v [] l r
-      joins-on =
+      joins_on : Joins v [] l r
+      joins_on =
           let j = Ways.joins A B₀ used s_a agree in_a B acc r rs w.way new in
           record {
             formed = fr;
@@ -66,52 +66,52 @@ module _ (A B₀ used : List Rec) (s_a : Sound A) (agree : Agree used used) (in_
       covering = over r i (λ h. new r (w.kept r h) refl refl)
 
       turned : insert r (p ++ l) ≡ p ++ insert r l
-      turned = insert_all v p c l r w.way.sound joins-on covering
+      turned = insert_all_lem v p c l r w.way.sound joins_on covering
 
       free : length l < 512
       free =
           omega (
             arith,
-            Ways.room-one A B₀ used s_a agree in_a B acc r rs w.way new,
+            Ways.room_one A B₀ used s_a agree in_a B acc r rs w.way new,
             ap (λ (x : List Rec). length x) turned,
             length-append p (insert r l),
             length-insert r l,
           )
 
-      way-new : (take_one m v l r ≡ taken (insert r l)) × Way (insert r l) (r ∷ acc) rs
-      way-new = (
-        take_new_lem m v l r (listed r i) (none-by_id (unit r) (num r) l (λ t h. new t (append_has p l t (inr h)))) joins-on covering free,
+      way_new : (take_one m v l r ≡ taken (insert r l)) × Way (insert r l) (r ∷ acc) rs
+      way_new = (
+        take_new_lem m v l r (listed r i) (none-by_id (unit r) (num r) l (λ t h. new t (append_has p l t (inr h)))) joins_on covering free,
         record {
-          way = subst (λ (x : List Rec). W x (r ∷ acc) rs) turned (Ways.way-put A B₀ used s_a agree in_a B acc r rs w.way new);
+          way = subst (λ (x : List Rec). W x (r ∷ acc) rs) turned (Ways.way_put A B₀ used s_a agree in_a B acc r rs w.way new);
           kept = λ x h. subst (Has x) turned (insert_has r B x (inr (w.kept x h)));
         },
       )
 
     -- r is held, folded or not
-    way-held : Has r B → (take_one m v l r ≡ taken l) × Way l acc rs
-    way-held h = (
+    way_held : Has r B → (take_one m v l r ≡ taken l) × Way l acc rs
+    way_held h = (
       ⊎_elim
           (λ q. take-folded m v l r fr (listed r i) (within_folded v r (omega (arith, number_held p r (sound_front [] p l w.way.sound) q, c (unit r) (well_unit r fr)))))
           (λ q. take-held m v l r fr (listed r i) (beyond_folded v r (above_base v [] l r (shed v p l c w.way.sound) q))
           (agree_by_id l r (λ x y a b. unique [] B w.way.sound x y (append_has p l x (inr a)) (append_has p l y (inr b))) q))
           (has_append p l r h),
-      record { way = Ways.way-pass A B₀ used s_a agree in_a B acc r rs w.way h; kept = w.kept },
+      record { way = Ways.way_pass A B₀ used s_a agree in_a B acc r rs w.way h; kept = w.kept },
     )
 
     -- one record
-    pub way-one : (k : List Rec) × (acc' : List Rec) × (take_one m v l r ≡ taken k) × Way k acc' rs
-    way-one =
+    pub way_one : (k : List Rec) × (acc' : List Rec) × (take_one m v l r ≡ taken k) × Way k acc' rs
+    way_one =
         ⊎_elim
-        (λ h. let (x, q) = way-held h in (l, acc, x, q))
-        (λ d. let (x, q) = way-new d in (insert r l, r ∷ acc, x, q))
-        (Ways.way-cases A B₀ used s_a agree in_a B acc r rs w.way)
+        (λ h. let (x, q) = way_held h in (l, acc, x, q))
+        (λ d. let (x, q) = way_new d in (insert r l, r ∷ acc, x, q))
+        (Ways.way_cases A B₀ used s_a agree in_a B acc r rs w.way)
 
   -- a block
-  pub way-all : (bs rest l acc : List Rec) → Way l acc (bs ++ rest) → (k : List Rec) × (acc' : List Rec) × (takes_all m v l bs ≡ taken k) × Way k acc' rest
-  way-all [] rest l acc w = (l, acc, take_all-nil m v l, w)
-  way-all (r ∷ bs) rest l acc w =
-      let (x, acc₁, e, w₁) = way-one l acc r (bs ++ rest) w in
-      let (k, acc₂, f, w₂) = way-all bs rest x acc₁ w₁ in
+  pub way_all : (bs rest l acc : List Rec) → Way l acc (bs ++ rest) → (k : List Rec) × (acc' : List Rec) × (takes_all m v l bs ≡ taken k) × Way k acc' rest
+  way_all [] rest l acc w = (l, acc, take_all-nil m v l, w)
+  way_all (r ∷ bs) rest l acc w =
+      let (x, acc₁, e, w₁) = way_one l acc r (bs ++ rest) w in
+      let (k, acc₂, f, w₂) = way_all bs rest x acc₁ w₁ in
       (k, acc₂, take_all_goes m v l r bs x e ∙ f, w₂)
 
   -- all is taken: the taker covers

@@ -32,12 +32,12 @@ use Rattle.byte_slice.proofs.Compare.{same_eq}
 use Rattle.log_laws.specs.Members.{Agree}
 use Rattle.machine.proofs.Tests.{distinct_agree}
 use Rattle.machine.proofs.Reach.{Inv, inv_bare, inv_play}
-use Rattle.machine.proofs.Quick.{quick, quick_play, quick_outcomes, quick_passing, quick_flow, play-is, outcomes-is, passing-is, flow-is}
+use Rattle.machine.proofs.Quick.{quick, quick_play, quick_outcomes, quick_passing, quick_flow, play_is, outcomes_is, passing_is, flow_is}
 use Rattle.machine.proofs.Steady.{Told, told-bare, told-play}
 use Rattle.machine.proofs.Demand.{play-append, demand}
 use Rattle.machine.proofs.Meeting.{every_meeting}
 use Rattle.machine.proofs.Careful.{careful_passing}
-use Rattle.machine.proofs.Opened.{store_at, whole-at, may-meet}
+use Rattle.machine.proofs.Opened.{store_at, whole-at, may_meet}
 
 -- a wish of 3 March 2025: unit, operation, object, folder, label, mark
 wish : ℕ → ℕ → List ℕ → List ℕ → List ℕ → List ℕ → List ℕ
@@ -193,7 +193,7 @@ met_at s i e =
     let n : ℕ = length s.given in
     let f : List R.Rec = C.flow 7 2 s passing in
     let t : Bench = play 7 s passing in
-    let h : (C.passing 7 0 2 n s passing && every (asked s f t)) ≡ true = rw (passing-is 7 0 2 n passing s i, flow-is 7 2 passing s i, play-is 7 passing s i) at e in
+    let h : (C.passing 7 0 2 n s passing && every (asked s f t)) ≡ true = rw (passing_is 7 0 2 n passing s i, flow_is 7 2 passing s i, play_is 7 passing s i) at e in
     let (a, b) = and_true (C.passing 7 0 2 n s passing) (every (asked s f t)) h in
     let is : (k : ℕ) → get_or (asked s f t) k true ≡ true = λ k. every_at (asked s f t) k b in
     record {
@@ -215,7 +215,7 @@ both : (passed (quick_play 7 bare before) ≡ true) × (same_bytes (numbers (qui
 both = and_true (passed (quick_play 7 bare before)) (same_bytes (numbers (quick_outcomes 7 bare (before ++ passing))) expected) computed
 
 met : Met (play 7 bare before)
-met = met_at (play 7 bare before) (inv_play 7 before bare (inv_bare 7)) (rw (play-is 7 before bare (inv_bare 7)) at both.0)
+met = met_at (play 7 bare before) (inv_play 7 before bare (inv_bare 7)) (rw (play_is 7 before bare (inv_bare 7)) at both.0)
 
 -- the premises of the claim hold of the list
 pub premises : C.Passed 7 0 2 (play 7 bare before) passing
@@ -232,7 +232,7 @@ no_folder_falls = rw (play-append 7 before passing bare) met.firm
 
 -- refused calls among accepted ones
 pub answers : numbers (outcomes 7 bare (before ++ passing)) ≡ expected
-answers = same_eq (numbers (outcomes 7 bare (before ++ passing))) expected (rw (outcomes-is 7 (before ++ passing) bare (inv_bare 7)) at both.1)
+answers = same_eq (numbers (outcomes 7 bare (before ++ passing))) expected (rw (outcomes_is 7 (before ++ passing) bare (inv_bare 7)) at both.1)
 
 -- three records are folded at unit 2
 pub base_vector_lem : Q.base_vector ((play 7 bare (before ++ passing)).bases 2) ≡ vector 2 1 0
@@ -263,7 +263,7 @@ met_end m i told =
     let t : Bench = play 7 (play 7 bare before) passing in
     let agree = distinct_agree t.used m.once in
     let both : Agree (held_by (store_at t 1)) (held_by (store_at t 2)) = λ x y p q. agree x y ((i.stored.kept 1).from x p) ((i.stored.kept 2).from y q) in
-    let ways = may-meet 7 t i told agree m.names m.firm 1 2 m.above in (
+    let ways = may_meet 7 t i told agree m.names m.firm 1 2 m.above in (
       every_meeting 7 1 2 (store_at t 1) (store_at t 2) (omega arith) (omega arith) (whole-at 7 t i 1) (whole-at 7 t i 2) both ways m.fit,
       careful_passing 7 1 2 (store_at t 1) (store_at t 2) (omega arith) (omega arith) (whole-at 7 t i 1) (whole-at 7 t i 2) ways both m.fit,
     )

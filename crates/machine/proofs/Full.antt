@@ -19,7 +19,7 @@ use Rattle.log_laws.specs.Members.{Has, Agree}
 use Rattle.log_laws.proofs.Tests.{sound_means}
 use Rattle.machine.specs.Meeting.{Store, lacked_by, Meets}
 use Rattle.machine.proofs.Meeting.{every_meeting}
-use Rattle.machine.proofs.Unfolded.{unfolded, back, whole, vector_is, may-meet}
+use Rattle.machine.proofs.Unfolded.{unfolded, back, whole, vector_is, may_meet}
 
 -- record n of unit 0 or 1 makes a folder in the root on 3 March 2025; it saw its own unit's alone
 make : ℕ → ℕ → R.Rec
@@ -80,5 +80,5 @@ full_meeting =
       together = all;
       meets =
           every_meeting 7 0 1 (unfolded A) (unfolded B) (omega arith) (omega arith) (whole A s_a fa) (whole B s_b fb) (rw (a, b) apart)
-          (may-meet A s_a fa (unfolded B) refl) (omega arith);
+          (may_meet A s_a fa (unfolded B) refl) (omega arith);
     }

@@ -28,15 +28,15 @@ use Rattle.log_laws.proofs.Behind.{lacking-length}
 use Rattle.log_laws.proofs.Tests.{vector_of_get_d, seen_vector_get_d, sound_means, means_sound}
 use Rattle.encoding_laws.proofs.Logs.{sound_proper_on}
 use Rattle.call_laws.specs.Keeps.{Good}
-use Rattle.call_laws.proofs.States.{good-lists, good-records, lists_at}
+use Rattle.call_laws.proofs.States.{good_lists, good_records, lists_at}
 use Rattle.call_laws.proofs.Calls.{take_done, take_left, take_back}
-use Rattle.call_laws.proofs.Given.{Holds, hand-holds, handedOut, hand-done}
+use Rattle.call_laws.proofs.Given.{Holds, hand_holds, handedOut, hand_done}
 use Rattle.take_laws.specs.Held.{Counts}
-use Rattle.take_laws.proofs.Held.{take-adds, vector-held}
+use Rattle.take_laws.proofs.Held.{take_adds, vector_held_lem}
 use Rattle.machine.specs.Claim.{firsts}
 use Rattle.machine.specs.Meeting.{Store, with_log, held_by, vector_by, Whole, lacked_by, handed, round, meet, Open, EveryMeeting}
 use Rattle.machine.proofs.Tests.{Held, holds_cases, Rising, firsts_skip, firsts_keep}
-use Rattle.machine.proofs.Cover.{Way, way-all}
+use Rattle.machine.proofs.Cover.{Way, way_all}
 
 -- ---- rising lists
 
@@ -116,9 +116,9 @@ module _ (A : List Rec) (m : ℕ) (v : List ℕ) (p l : List Rec) (pair : Pair A
   lack : List Rec
   lack = lacking (vector_of (p ++ l)) A
 
-  pub all-agree : Agree used used
+  pub all_agree : Agree used used
   unfolding used
-  all-agree r s i j u n = go (has_append A (p ++ l) r i) (has_append A (p ++ l) s j)
+  all_agree r s i j u n = go (has_append A (p ++ l) r i) (has_append A (p ++ l) s j)
     where
       go : Has r A ⊎ Has r (p ++ l) → Has s A ⊎ Has s (p ++ l) → r ≡ s
       go (inl x) (inl y) = unique [] A pair.s_a r s x y u n
@@ -126,24 +126,24 @@ module _ (A : List Rec) (m : ℕ) (v : List ℕ) (p l : List Rec) (pair : Pair A
       go (inr x) (inl y) = sym (pair.agree s r y x (sym u) (sym n))
       go (inr x) (inr y) = unique [] (p ++ l) pair.s_b r s x y u n
 
-  pub in-A : Sub A used
+  pub in_A : Sub A used
   unfolding used
-  in-A r h = append_has A (p ++ l) r (inl h)
+  in_A r h = append_has A (p ++ l) r (inl h)
 
-  in-B : Sub (p ++ l) used
+  in_B : Sub (p ++ l) used
   unfolding used
-  in-B r h = append_has A (p ++ l) r (inr h)
+  in_B r h = append_has A (p ++ l) r (inr h)
 
-  rising-lack : Rising lack
+  rising_lack : Rising lack
   unfolding lack
-  rising-lack = rising-lacking (vector_of (p ++ l)) A (sound_rising [] A pair.s_a)
+  rising_lack = rising-lacking (vector_of (p ++ l)) A (sound_rising [] A pair.s_a)
 
   -- a record of A that k does not hold is lacked by k
   absent : (k : List Rec) → Sound k → (r : Rec) → Has r A → ((t : Rec) → Has t k → unit t ≡ unit r → num t ≡ num r → ⊥) → Has r (lacking (vector_of k) A)
   absent k h r i d = let f = formed [] A r pair.s_a i in absent_lacked A k h r (well_unit r f) (omega (arith, well_own r f)) i d
 
   abbrev pub W : List Rec → List Rec → List Rec → Type 0
-  W = Way A (p ++ l) used pair.s_a all-agree in-A m v p pair.counts pair.listed pair.over pair.fit
+  W = Way A (p ++ l) used pair.s_a all_agree in_A m v p pair.counts pair.listed pair.over pair.fit
 
   -- what counts that are held lack may be taken
   pub begin : (x : List ℕ) → ((u : ℕ) → u < 8 → get_or x u 0 ≤ count u (p ++ l)) → W l (p ++ l) (lacking x A)
@@ -152,9 +152,9 @@ module _ (A : List Rec) (m : ℕ) (v : List ℕ) (p l : List Rec) (pair : Pair A
         way =
             record {
               sound = pair.s_b;
-              in-acc = λ r h. h;
-              of-acc = λ r h. h;
-              from = in-B;
+              in_acc = λ r h. h;
+              of_acc = λ r h. h;
+              from = in_B;
               part = has_lacking x A;
               rising = rising-firsts (p ++ l) (lacking x A) (rising-lacking x A (sound_rising [] A pair.s_a));
               all = λ r i d. new r i d (holds_cases (p ++ l) r);
@@ -170,8 +170,8 @@ module _ (A : List Rec) (m : ℕ) (v : List ℕ) (p l : List Rec) (pair : Pair A
           lacking_has x A r i (omega (arith, held (unit r) k, vector_of_get_d (p ++ l) (unit r) k, lacking_beyond (vector_of (p ++ l)) A r (absent (p ++ l) pair.s_b r i f)))
 
   -- a record that is lacked is not held
-  lacked-absent : (k : List Rec) → Sound k → (r : Rec) → Has r (lacking (vector_of k) A) → Has r k → ⊥
-  lacked-absent k h r i j =
+  lacked_absent : (k : List Rec) → Sound k → (r : Rec) → Has r (lacking (vector_of k) A) → Has r k → ⊥
+  lacked_absent k h r i j =
       let b = well_unit r (formed [] k r h j) in
       omega (arith, lacking_beyond (vector_of k) A r i, vector_of_get_d k (unit r) b, number_held k r h j)
 
@@ -191,7 +191,7 @@ module _ (A : List Rec) (m : ℕ) (v : List ℕ) (p l : List Rec) (pair : Pair A
               s_a = pair.s_a;
               s_b = w.way.sound;
               counts = pair.counts;
-              agree = λ r s i j. all-agree r s (in-A r i) (w.way.from s j);
+              agree = λ r s i j. all_agree r s (in_A r i) (w.way.from s j);
               fit =
                   omega (
                     arith,
@@ -202,31 +202,31 @@ module _ (A : List Rec) (m : ℕ) (v : List ℕ) (p l : List Rec) (pair : Pair A
               over = λ r i d. pair.over r i (λ h. d (w.kept r h));
             };
         left =
-            rising_same (lacking (vector_of (p ++ k)) A) (drop 6 lack) (rising-lacking (vector_of (p ++ k)) A (sound_rising [] A pair.s_a)) (rising-drop 6 lack rising-lack)
-            (λ r i. w.way.all r (has_lacking (vector_of (p ++ k)) A r i) (lacked-absent (p ++ k) w.way.sound r i))
+            rising_same (lacking (vector_of (p ++ k)) A) (drop 6 lack) (rising-lacking (vector_of (p ++ k)) A (sound_rising [] A pair.s_a)) (rising-drop 6 lack rising_lack)
+            (λ r i. w.way.all r (has_lacking (vector_of (p ++ k)) A r i) (lacked_absent (p ++ k) w.way.sound r i))
             (λ r i.
-            absent (p ++ k) w.way.sound r (in-lack r (has_drop 6 lack r i))
-            (λ t j a b. not_yet r i (subst (λ (x : Rec). Has x (p ++ k)) (all-agree t r (w.way.from t j) (in-A r (in-lack r (has_drop 6 lack r i))) a b) j)));
+            absent (p ++ k) w.way.sound r (in_lack r (has_drop 6 lack r i))
+            (λ t j a b. not_yet r i (subst (λ (x : Rec). Has x (p ++ k)) (all_agree t r (w.way.from t j) (in_A r (in_lack r (has_drop 6 lack r i))) a b) j)));
         more = λ u b. counts-sub (p ++ l) (p ++ k) pair.s_b w.way.sound w.kept u;
       }
     where
-      in-lack : (r : Rec) → Has r lack → Has r A
-      in-lack r i = has_lacking (vector_of (p ++ l)) A r i
+      in_lack : (r : Rec) → Has r lack → Has r A
+      in_lack r i = has_lacking (vector_of (p ++ l)) A r i
 
       not_yet : (r : Rec) → Has r (drop 6 lack) → Has r (p ++ k) → ⊥
       not_yet r i j =
-          let held : Has r (p ++ l) → ⊥ = lacked-absent (p ++ l) pair.s_b r (has_drop 6 lack r i) in
+          let held : Has r (p ++ l) → ⊥ = lacked_absent (p ++ l) pair.s_b r (has_drop 6 lack r i) in
           ⊎_elim
           held
-          (λ x. omega (arith, rising_split 6 lack rising-lack r r x i))
-          ((take-adds v p pair.counts m (take 6 lack) l k pair.s_b e).from r j)
+          (λ x. omega (arith, rising_split 6 lack rising_lack r r x i))
+          ((take_adds v p pair.counts m (take 6 lack) l k pair.s_b e).from r j)
 
   goes : (k : List Rec) × Round k
   unfolding lack
   goes =
       let b = begin (vector_of (p ++ l)) (λ u x. omega (arith, vector_of_get_d (p ++ l) u x)) in
       let (k, acc, e, w) =
-      way-all A (p ++ l) used pair.s_a all-agree in-A m v p pair.counts pair.listed pair.over pair.fit (take 6 lack) (drop 6 lack) l (p ++ l)
+      way_all A (p ++ l) used pair.s_a all_agree in_A m v p pair.counts pair.listed pair.over pair.fit (take 6 lack) (drop 6 lack) l (p ++ l)
       (subst (W l (p ++ l)) (sym (take-append-drop 6 lack)) b) in
       (k, after-round k acc e w)
 
@@ -239,7 +239,7 @@ pub whole-counts : (s : Store) → Whole s → Counts (base_vector s.base) s.fol
 whole-counts s w u k = ap (λ (x : List ℕ). get_or x u 0) (sym w.counted) ∙ vector_of_get_d s.folded u k
 
 pub whole_vector : (s : Store) → Whole s → vector_by s ≡ vector_of (held_by s)
-whole_vector s w = vector-held (base_vector s.base) s.folded (whole-counts s w) (records_of s.log)
+whole_vector s w = vector_held_lem (base_vector s.base) s.folded (whole-counts s w) (records_of s.log)
 
 -- a unit of which a record is held is listed
 pub held-listed : (s : Store) → Whole s → (u : ℕ) → u < 8 → (count u (held_by s) ≡ 0 → ⊥) → is_listed (base_in s.base).list u ≡ true
@@ -247,7 +247,7 @@ held-listed s w u k d =
     ⊎_elim
     (λ z. absurd (d (sym (vector_of_get_d (held_by s) u k) ∙ ap (λ (x : List ℕ). get_or x u 0) (sym (whole_vector s w)) ∙ z)))
     (λ z. z)
-    (lists_at (base_in s.base).list (vector_by s) (good-lists s.log s.base w.good) u k)
+    (lists_at (base_in s.base).list (vector_by s) (good_lists s.log s.base w.good) u k)
 
 -- of records within the counts none is lacking
 lacking-behind : (v : List ℕ) (p l : List Rec) → ((r : Rec) → Has r p → num r ≤ get_or v (unit r) 0) → lacking v (p ++ l) ≡ lacking v l
@@ -275,10 +275,10 @@ pub handed-holds : (archive a : ℕ) (s : Store) (v : List ℕ) → a < 8 → Go
 handed-holds archive a s v a8 g c =
     let l : List Rec = records_of s.log in
     let o : Outcome = handedOut archive a s.log s.base v (replicate 512 0) in
-    let e : hand_of archive a s.log s.base v (replicate 512 0) ≡ o = hand-done archive a s.log s.base v (replicate 512 0) refl (omega arith) g c in (
+    let e : hand_of archive a s.log s.base v (replicate 512 0) ≡ o = hand_done archive a s.log s.base v (replicate 512 0) refl (omega arith) g c in (
       ap (λ (x : Outcome). x.number) e,
       subst (λ (x : Outcome). Holds archive x.lent (take 6 (lacking v l))) (sym e)
-          (hand-holds archive a l (omega arith) (sound_proper_on (base_vector s.base) l (good-records s.log s.base g)) (held_on s.log s.base) v),
+          (hand_holds archive a l (omega arith) (sound_proper_on (base_vector s.base) l (good_records s.log s.base g)) (held_on s.log s.base) v),
     )
 
 module _ (archive a b : ℕ) (sa : Store) (a8 : a < 8) (b8 : b < 8) (wa : Whole sa) where
@@ -292,14 +292,14 @@ module _ (archive a b : ℕ) (sa : Store) (a8 : a < 8) (b8 : b < 8) (wa : Whole 
   unfolding lacked_by
   lacks s k = ap (λ (v : List ℕ). lacking v (held_by sa)) (sym (whole_vector s k.whole)) ∙ lacking-held (vector_by s) sa wa k.above
 
-  handed-is : (s : Store) → Met s → ((handed archive a sa s).number ≡ 0) × Holds archive (handed archive a sa s).lent (take 6 (lacked_by sa s))
+  handed_is : (s : Store) → Met s → ((handed archive a sa s).number ≡ 0) × Holds archive (handed archive a sa s).lent (take 6 (lacked_by sa s))
   unfolding handed lacked_by
-  handed-is s k = handed-holds archive a sa (vector_by s) a8 wa.good k.above
+  handed_is s k = handed-holds archive a sa (vector_by s) a8 wa.good k.above
 
   -- a longer log of the same store
-  met-on : (s : Store) → Met s → (log : List ℕ) → Good log s.base → Pair (held_by sa) (base_in s.base).list (base_vector s.base) s.folded (records_of log)
+  met_on : (s : Store) → Met s → (log : List ℕ) → Good log s.base → Pair (held_by sa) (base_in s.base).list (base_vector s.base) s.folded (records_of log)
       → ((u : ℕ) → u < 8 → count u (held_by s) ≤ count u (s.folded ++ records_of log)) → Met (with_log s log)
-  met-on s k log g pair more =
+  met_on s k log g pair more =
       let whole : Whole (with_log s log) = record { good = g; sound = means_sound (s.folded ++ records_of log) pair.s_b; counted = k.whole.counted } in
       let at : (x : Store) → Whole x → (u : ℕ) → u < 8 → get_or (vector_by x) u 0 ≡ count u (held_by x) =
       λ x w u h. ap (λ (y : List ℕ). get_or y u 0) (whole_vector x w) ∙ vector_of_get_d (held_by x) u h in
@@ -324,14 +324,14 @@ module _ (archive a b : ℕ) (sa : Store) (a8 : a < 8) (b8 : b < 8) (wa : Whole 
       let p : List Rec = s.folded in
       let l : List Rec = records_of s.log in
       let (n, r) = goes (held_by sa) m v p l k.pair in
-      let h = (handed-is s k).1 in
+      let h = (handed_is s k).1 in
       let t : takes_all m v l (take 6 (lacked_by sa s)) ≡ taken n = rw (← lacks s k) r.takes in
       let e : take_of archive b s.log s.base (handed archive a sa s).lent ≡ outcome 0 0 (log_bytes n) [] 0 =
       take_done archive b s.log s.base (handed archive a sa s).lent n (omega arith) k.whole.good h.faultless (ap (takes_all m v l) h.records ∙ t) in
       let back : records_of (log_bytes n) ≡ n = take_back s.log s.base (take 6 (lacked_by sa s)) n k.whole.good t in
       let good : Good (log_bytes n) s.base = take_left s.log s.base (take 6 (lacked_by sa s)) n k.whole.good t in
       let met : Met (with_log s (log_bytes n)) =
-      met-on s k (log_bytes n) good (subst (Pair (held_by sa) m v p) (sym back) r.pair') (λ u x. rw back (r.more u x)) in
+      met_on s k (log_bytes n) good (subst (Pair (held_by sa) m v p) (sym back) r.pair') (λ u x. rw back (r.more u x)) in
       let left : lacked_by sa (with_log s (log_bytes n)) ≡ drop 6 (lacked_by sa s) =
       sym (lacks (with_log s (log_bytes n)) met) ∙ ap (λ (x : List Rec). lacking (vector_of (p ++ x)) (held_by sa)) back ∙ r.left ∙ ap (drop 6) (lacks s k) in
       record {
@@ -381,15 +381,15 @@ blocks_needed l n d e p q = (
 -- two stores that may meet
 module _ (sa sb : Store) (wa : Whole sa) (wb : Whole sb) (above : covers (vector_by sb) (base_vector sa.base) ≡ true) where
   -- what the vector of b lacks is lacked
-  pub lacks-all : lacking (vector_of (held_by sb)) (held_by sa) ≡ lacked_by sa sb
+  pub lacks_all : lacking (vector_of (held_by sb)) (held_by sa) ≡ lacked_by sa sb
   unfolding lacked_by
-  lacks-all = ap (λ (v : List ℕ). lacking v (held_by sa)) (sym (whole_vector sb wb)) ∙ lacking-held (vector_by sb) sa wa above
+  lacks_all = ap (λ (v : List ℕ). lacking v (held_by sa)) (sym (whole_vector sb wb)) ∙ lacking-held (vector_by sb) sa wa above
 
   -- a record of a that b does not hold is lacked
-  pub not-held : Agree (held_by sa) (held_by sb) → (r : Rec) → Has r (held_by sa) → (Has r (held_by sb) → ⊥) → Has r (lacked_by sa sb)
-  not-held ag r i d =
+  pub not_held : Agree (held_by sa) (held_by sb) → (r : Rec) → Has r (held_by sa) → (Has r (held_by sb) → ⊥) → Has r (lacked_by sa sb)
+  not_held ag r i d =
       let f = formed [] (held_by sa) r (whole_sound sa wa) i in
-      subst (Has r) lacks-all
+      subst (Has r) lacks_all
       (absent_lacked (held_by sa) (held_by sb) (whole_sound sb wb) r (well_unit r f) (omega (arith, well_own r f)) i
       (λ t j x y. d (subst (λ (z : Rec). Has z (held_by sb)) (sym (ag r t i j (sym x) (sym y))) j)))
 
@@ -400,7 +400,7 @@ module _ (sa sb : Store) (wa : Whole sa) (wb : Whole sb) (above : covers (vector
       let f = formed [] (held_by sa) r (whole_sound sa wa) i in
       let k = well_unit r f in
       ⊎_elim
-      (λ (h : get_or (vector_of (held_by sb)) (unit r) 0 < num r). ok r (subst (Has r) lacks-all (lacking_has (vector_of (held_by sb)) (held_by sa) r i h)))
+      (λ (h : get_or (vector_of (held_by sb)) (unit r) 0 < num r). ok r (subst (Has r) lacks_all (lacking_has (vector_of (held_by sb)) (held_by sa) r i h)))
       (λ (h : num r ≤ get_or (vector_of (held_by sb)) (unit r) 0).
       held-listed sb wb (unit r) k (λ z. omega (arith, vector_of_get_d (held_by sb) (unit r) k, well_own r f)))
       (lt_or_ge (get_or (vector_of (held_by sb)) (unit r) 0) (num r))
@@ -410,15 +410,15 @@ module _ (sa sb : Store) (wa : Whole sa) (wb : Whole sb) (above : covers (vector
       omega (
         arith,
         union-length (held_by sa) (held_by sb) (whole_sound sa wa) (whole_sound sb wb),
-        ap (λ (l : List Rec). length l) lacks-all,
+        ap (λ (l : List Rec). length l) lacks_all,
         length-append sb.folded (records_of sb.log),
       )
 
-  pub may-meet : Agree (held_by sa) (held_by sb) → ((r : Rec) → Has r (lacked_by sa sb) → is_listed (base_in sb.base).list (unit r) ≡ true)
+  pub may_meet : Agree (held_by sa) (held_by sb) → ((r : Rec) → Has r (lacked_by sa sb) → is_listed (base_in sb.base).list (unit r) ≡ true)
       → ((r : Rec) → Has r (lacked_by sa sb) → covers (seen_vector r) (base_vector sb.base) ≡ true)
       → length (lacked_by sa sb) + length (records_of sb.log) ≤ 512
       → Pair (held_by sa) (base_in sb.base).list (base_vector sb.base) sb.folded (records_of sb.log)
-  may-meet ag listed over fit =
+  may_meet ag listed over fit =
       record {
         s_a = whole_sound sa wa;
         s_b = whole_sound sb wb;
@@ -426,13 +426,13 @@ module _ (sa sb : Store) (wa : Whole sa) (wb : Whole sb) (above : covers (vector
         agree = ag;
         fit = fits fit;
         listed = all_listed listed;
-        over = λ r i d u k. omega (arith, covers_at (seen_vector r) (base_vector sb.base) (over r (not-held ag r i d)) u k, seen_vector_get_d r u k);
+        over = λ r i d u k. omega (arith, covers_at (seen_vector r) (base_vector sb.base) (over r (not_held ag r i d)) u k, seen_vector_get_d r u k);
       }
 
 pub first_met : (archive a b : ℕ) (sa sb : Store) (a8 : a < 8) (b8 : b < 8) (wa : Whole sa) → Whole sb → Agree (held_by sa) (held_by sb) → Open sa sb
     → length (lacked_by sa sb) + length (records_of sb.log) ≤ 512 → Met archive a b sa a8 b8 wa sb
 first_met archive a b sa sb a8 b8 wa wb ag ok fit =
-    record { whole = wb; pair = may-meet sa sb wa wb ok.above ag ok.listed ok.covering fit; above = ok.above }
+    record { whole = wb; pair = may_meet sa sb wa wb ok.above ag ok.listed ok.covering fit; above = ok.above }
 
 pub every_meeting : EveryMeeting
 unfolding comparison_of
@@ -441,7 +441,7 @@ every_meeting archive a b sa sb a8 b8 wa wb ag ok fit =
     let met : (n : ℕ) → Met archive a b sa a8 b8 wa (meet archive a b sa sb n) = λ n. (meets archive a b sa a8 b8 wa n sb start).0 in
     let left : (n : ℕ) → lacked_by sa (meet archive a b sa sb n) ≡ drop (6 * n) (lacked_by sa sb) = λ n. (meets archive a b sa a8 b8 wa n sb start).1 in
     record {
-      handing = λ n. (handed-is archive a b sa a8 b8 wa (meet archive a b sa sb n) (met n)).0;
+      handing = λ n. (handed_is archive a b sa a8 b8 wa (meet archive a b sa sb n) (met n)).0;
       taking = λ n. (rounds archive a b sa a8 b8 wa (meet archive a b sa sb n) (met n)).number;
       left = left;
       exactly = λ n. rw (left n) (none_left (lacked_by sa sb) n);

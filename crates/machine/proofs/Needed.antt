@@ -22,7 +22,7 @@ use Rattle.machine.specs.Machine.{Call, starts, acts, hands_out, takes, folds, B
 use Rattle.machine.specs.Machine as M
 use Rattle.machine.specs.Claim as C
 use Rattle.byte_slice.proofs.Numbers.{and_true}
-use Rattle.machine.proofs.Quick.{quick, quick_play, quick_outcomes, quick_passing, quick_flow, play-is, outcomes-is, passing-is, flow-is}
+use Rattle.machine.proofs.Quick.{quick, quick_play, quick_outcomes, quick_passing, quick_flow, play_is, outcomes_is, passing_is, flow_is}
 use Rattle.byte_slice.proofs.Compare.{same_eq}
 use Rattle.machine.proofs.Reach.{Inv, inv_bare, inv_play}
 
@@ -131,8 +131,8 @@ refused_from a before cs l n x y e =
     let t : Bench = play 7 s cs in
     let f : List R.Rec = C.flow 7 2 s cs in
     let (p, q) = and_true (passed a x y cs (quick_play 7 bare before)) (same_bytes (numbers (quick_outcomes 7 bare (before ++ cs))) (expected l n)) e in
-    let p₁ : passed a x y cs s ≡ true = rw (play-is 7 before bare (inv_bare 7)) at p in
-    let p₂ : (C.passing 7 a 2 (length s.given) s cs && every (asked a x y s f t)) ≡ true = rw (passing-is 7 a 2 (length s.given) cs s i, flow-is 7 2 cs s i, play-is 7 cs s i) at p₁ in
+    let p₁ : passed a x y cs s ≡ true = rw (play_is 7 before bare (inv_bare 7)) at p in
+    let p₂ : (C.passing 7 a 2 (length s.given) s cs && every (asked a x y s f t)) ≡ true = rw (passing_is 7 a 2 (length s.given) cs s i, flow_is 7 2 cs s i, play_is 7 cs s i) at p₁ in
     let (c, d) = and_true (C.passing 7 a 2 (length s.given) s cs) (every (asked a x y s f t)) p₂ in
     let is : (k : ℕ) → get_or (asked a x y s f t) k true ≡ true = λ k. every_at (asked a x y s f t) k d in
     record {
@@ -140,7 +140,7 @@ refused_from a before cs l n x y e =
       once = is 3;
       names = asked_for x (C.named t.lists t.used) (is 4);
       firm = asked_for y (C.steady t.folders t.fallen) (is 5);
-      answers = same_eq (numbers (outcomes 7 bare (before ++ cs))) (expected l n) (rw (outcomes-is 7 (before ++ cs) bare (inv_bare 7)) at q);
+      answers = same_eq (numbers (outcomes 7 bare (before ++ cs))) (expected l n) (rw (outcomes_is 7 (before ++ cs) bare (inv_bare 7)) at q);
     }
 
 -- a list that leaves out a unit that acts: 26

@@ -24,7 +24,7 @@ use Rattle.machine.specs.Machine.{Bench, held}
 use Rattle.machine.specs.Claim.{named, is_among, steady}
 use Rattle.machine.specs.Meeting.{Store, held_by, vector_by, Whole, lacked_by, Open}
 use Rattle.machine.proofs.Reach.{Inv, held_used}
-use Rattle.machine.proofs.Steady.{Told, steady-at, never-26, never-27}
+use Rattle.machine.proofs.Steady.{Told, steady-at, never_26, never_27}
 use Rattle.machine.proofs.Meeting.{whole_vector}
 
 -- what a unit of a bench has
@@ -53,27 +53,27 @@ module _ (archive : ℕ) (s : Bench) (i : Inv archive s) where
     sure = steady-at s.folders s.fallen firm b
 
     -- a record of a that b lacks is used, and b does not hold it
-    lacked-used : (r : Rec) → Has r (lacked_by (store_at s a) (store_at s b)) → Has r s.used
+    lacked_used : (r : Rec) → Has r (lacked_by (store_at s a) (store_at s b)) → Has r s.used
     unfolding lacked_by held
-    lacked-used r j =
+    lacked_used r j =
         let l : List Rec = records_of (s.logs a) in
         held_used archive s i a r (append_has (s.folded a) l r (inr (has_lacking (vector_by (store_at s b)) l r j)))
 
-    lacked-new : (r : Rec) → Has r (lacked_by (store_at s a) (store_at s b)) → Has r (held s b) → ⊥
+    lacked_new : (r : Rec) → Has r (lacked_by (store_at s a) (store_at s b)) → Has r (held s b) → ⊥
     unfolding lacked_by held
-    lacked-new r j h =
+    lacked_new r j h =
         let B : List Rec = s.folded b ++ records_of (s.logs b) in
         let k = unit_of_lem [] B r (i.stored.kept b).sound h in
         let v = subst (λ (v : List ℕ). get_or v (unit r) 0 < num r) (whole_vector (store_at s b) (whole-at b)) (lacking_beyond (vector_by (store_at s b)) (records_of (s.logs a)) r j) in
         omega (arith, vector_of_get_d B (unit r) k, number_held B r (i.stored.kept b).sound h)
 
     listed : (r : Rec) → Has r (lacked_by (store_at s a) (store_at s b)) → is_listed (base_in (s.bases b)).list (unit r) ≡ true
-    listed r j = never-26 archive s i t s.used (λ x y. y) agree low names b sure r (lacked-used r j)
+    listed r j = never_26 archive s i t s.used (λ x y. y) agree low names b sure r (lacked_used r j)
 
     covering : (r : Rec) → Has r (lacked_by (store_at s a) (store_at s b)) → covers (seen_vector r) (base_vector (s.bases b)) ≡ true
     covering r j =
         all_covers (seen_vector r) (base_vector (s.bases b)) (λ u k.
-        omega (arith, never-27 archive s i t s.used (λ x y. y) agree low names b sure r (lacked-used r j) (lacked-new r j) u k, seen_vector_get_d r u k))
+        omega (arith, never_27 archive s i t s.used (λ x y. y) agree low names b sure r (lacked_used r j) (lacked_new r j) u k, seen_vector_get_d r u k))
 
-    pub may-meet : covers (vector_by (store_at s b)) (base_vector (s.bases a)) ≡ true → Open (store_at s a) (store_at s b)
-    may-meet above = record { above = above; listed = listed; covering = covering }
+    pub may_meet : covers (vector_by (store_at s b)) (base_vector (s.bases a)) ≡ true → Open (store_at s a) (store_at s b)
+    may_meet above = record { above = above; listed = listed; covering = covering }

@@ -26,7 +26,7 @@ use Rattle.log_laws.proofs.Lacking.{absent_lacked, union-length}
 use Rattle.log_laws.proofs.Tests.{counts_cover}
 use Rattle.encoding_laws.proofs.Logs.{sound_proper_on, records_back}
 use Rattle.take_laws.specs.Held.{Counts}
-use Rattle.take_laws.proofs.Held.{shed, take-adds}
+use Rattle.take_laws.proofs.Held.{shed, take_adds}
 use Rattle.call_laws.proofs.Calls.{take_done}
 use Rattle.fold_laws.specs.Worlds as F
 use Rattle.machine.specs.Machine.{Call, starts, acts, hands_out, writes, takes, folds, unit_of, Block, Bench, held, held_vector, block_given, done, gives, base_left, folded_left, put, after, next, play}
@@ -35,8 +35,8 @@ use Rattle.machine.proofs.Tests.{Held, holds_cases, holds_some, Rising, rising_f
 use Rattle.machine.proofs.Stores.{store_of, store_other, hand_log, write_log}
 use Rattle.machine.proofs.Reach.{own, Given, Inv, inv_next, inv_play, held_used, used_play}
 use Rattle.machine.proofs.Converge.{held_sound}
-use Rattle.machine.proofs.Steady.{Told, steady-at, earlier, never-26, never-27}
-use Rattle.machine.proofs.Cover.{Way, way-all, way_end}
+use Rattle.machine.proofs.Steady.{Told, steady-at, earlier, never_26, never_27}
+use Rattle.machine.proofs.Cover.{Way, way_all, way_end}
 
 -- ---- tests
 
@@ -80,20 +80,20 @@ module _ (archive a b n₀ : ℕ) where
       let (x, y) = not_either (eqb u a) (eqb u b) e in
       elsewhere (λ p. eqb-false u a x (sym q ∙ p)) (λ p. eqb-false u b y (sym q ∙ p))
 
-  gave-hand : (s : Bench) (u : ℕ) (v lent : List ℕ) → store_of (next archive s (hands_out u v lent)) u ≡ store_of s u
+  gave_hand : (s : Bench) (u : ℕ) (v lent : List ℕ) → store_of (next archive s (hands_out u v lent)) u ≡ store_of s u
   unfolding next after done unit_of base_left folded_left put
-  gave-hand s u v lent = rw (eq-eqb u u refl, hand_log archive u (s.logs u) (s.bases u) v lent)
+  gave_hand s u v lent = rw (eq-eqb u u refl, hand_log archive u (s.logs u) (s.bases u) v lent)
 
-  gave-file : (s : Bench) (u : ℕ) (lent : List ℕ) → store_of (next archive s (writes u lent)) u ≡ store_of s u
+  gave_file : (s : Bench) (u : ℕ) (lent : List ℕ) → store_of (next archive s (writes u lent)) u ≡ store_of s u
   unfolding next after done unit_of base_left folded_left put
-  gave-file s u lent = rw (eq-eqb u u refl, write_log archive u (s.logs u) (s.bases u) lent)
+  gave_file s u lent = rw (eq-eqb u u refl, write_log archive u (s.logs u) (s.bases u) lent)
 
   does : (s : Bench) (c : Call) → passes a b n₀ s c ≡ true → Does s c
   unfolding passes unit_of
   does s (starts u) e = neither s (starts u) u refl e
   does s (acts u w work) e = neither s (acts u w work) u refl e
-  does s (hands_out u v lent) e = giving (gave-hand s u v lent) (eqb-false u b (not-true (eqb u b) e))
-  does s (writes u lent) e = giving (gave-file s u lent) (eqb-false u b (not-true (eqb u b) e))
+  does s (hands_out u v lent) e = giving (gave_hand s u v lent) (eqb-false u b (not-true (eqb u b) e))
+  does s (writes u lent) e = giving (gave_file s u lent) (eqb-false u b (not-true (eqb u b) e))
   does s (folds u m work) e = neither s (folds u m work) u refl e
   does s (takes u k) e =
       let (x, y) = and_true (not (eqb u a)) (not (eqb u b) || (leb n₀ k && (ltb k (length s.given) && eqb (block_given s k).giver a))) e in
@@ -118,22 +118,22 @@ module _ (archive a b n₀ : ℕ) where
       pub since : All Mine (drop n₀ s.given)
       pub grown : n₀ ≤ length s.given
 
-    held-a : (s : Bench) (c : Call) → Does s c → held (next archive s c) a ≡ held s a
+    held_a : (s : Bench) (c : Call) → Does s c → held (next archive s c) a ≡ held s a
     unfolding held next
-    held-a s c d = ap F.held_of (⊎_elim (λ (q : unit_of c ≡ a). same d q) (λ q. store_other s c (done archive s c) a q) (eq_or_ne (unit_of c) a))
+    held_a s c d = ap F.held_of (⊎_elim (λ (q : unit_of c ≡ a). same d q) (λ q. store_other s c (done archive s c) a q) (eq_or_ne (unit_of c) a))
       where
         same : Does s c → unit_of c ≡ a → store_of (next archive s c) a ≡ store_of s a
         same (elsewhere x y) e = absurd (x e)
         same (giving x y) e = subst (λ (u : ℕ). store_of (next archive s c) u ≡ store_of s u) e x
         same (taking k q x y z w) e = absurd (x (sym (ap unit_of q ∙ unit_takes b k) ∙ e))
 
-    source-next : (s : Bench) (c : Call) → Source s → Does s c → Source (next archive s c)
+    source_next : (s : Bench) (c : Call) → Source s → Does s c → Source (next archive s c)
     unfolding next after
-    source-next s c h d =
+    source_next s c h d =
         let u : ℕ = unit_of c in
         let gs : List Block = gives c (done archive s c) in
         record {
-          at_a = held-a s c d ∙ h.at_a;
+          at_a = held_a s c d ∙ h.at_a;
           since =
               rw (drop-append-le n₀ s.given gs h.grown)
               (all_append Mine (drop n₀ s.given) gs h.since
@@ -142,9 +142,9 @@ module _ (archive a b n₀ : ℕ) where
         }
 
     -- a block that the first gave since the point is of its records
-    source-block : (s : Bench) (k : ℕ) → Source s → n₀ ≤ k → k < length s.given → (block_given s k).giver ≡ a → Sub (block_records (block_given s k).bytes) A
+    source_block : (s : Bench) (k : ℕ) → Source s → n₀ ≤ k → k < length s.given → (block_given s k).giver ≡ a → Sub (block_records (block_given s k).bytes) A
     unfolding block_given
-    source-block s k h p q e =
+    source_block s k h p q e =
         let d : Block = record { giver = 0; bytes = [] } in
         let m : n₀ + (k - n₀) ≡ k = omega arith in
         let z : get_or (drop n₀ s.given) (k - n₀) d ≡ get_or s.given k d = get_or-drop n₀ s.given (k - n₀) d ∙ ap (λ (x : ℕ). get_or s.given x d) m in
@@ -155,16 +155,16 @@ module _ (archive a b n₀ : ℕ) where
     flow-part s c h (elsewhere x y) r i = absurd (subst (Has r) (flow_other b s c y) i)
     flow-part s c h (giving x y) r i = absurd (subst (Has r) (flow_other b s c y) i)
     flow-part s c h (taking k q x y z w) r i =
-        source-block s k h y z w r (subst (Has r) (ap (flow_of b s) q ∙ flow_takes b s k) i)
+        source_block s k h y z w r (subst (Has r) (ap (flow_of b s) q ∙ flow_takes b s k) i)
 
-    source-flow : (cs : List Call) (s : Bench) → Source s → passing archive a b n₀ s cs ≡ true → Sub (flow archive b s cs) A
+    source_flow : (cs : List Call) (s : Bench) → Source s → passing archive a b n₀ s cs ≡ true → Sub (flow archive b s cs) A
     unfolding flow passing
-    source-flow [] s h e r i = absurd i
-    source-flow (c ∷ cs) s h e r i =
+    source_flow [] s h e r i = absurd i
+    source_flow (c ∷ cs) s h e r i =
         let (p, q) = and_true (passes a b n₀ s c) (passing archive a b n₀ (next archive s c) cs) e in
         ⊎_elim
         (λ j. flow-part s c h (does s c p) r j)
-        (λ j. source-flow cs (next archive s c) (source-next s c h (does s c p)) q r j)
+        (λ j. source_flow cs (next archive s c) (source_next s c h (does s c p)) q r j)
         (has_append (flow_of b s c) (flow archive b (next archive s c) cs) r i)
 
 -- ---- over the calls
@@ -180,7 +180,7 @@ module _ (archive a b n₀ : ℕ) (b8 : b < 8) (A B₀ used : List Rec) (s_a : S
   -- b on its way: its base stays, its log takes what comes
   record On (s : Bench) (acc rest : List Rec) : Type 0 where
     same_base : s.bases b ≡ base
-    same-folded : s.folded b ≡ p
+    same_folded : s.folded b ≡ p
     way : W (records_of (s.logs b)) acc rest
 
   -- one call: a take of b answers 0, and what its log becomes
@@ -196,7 +196,7 @@ module _ (archive a b n₀ : ℕ) (b8 : b < 8) (A B₀ used : List Rec) (s_a : S
       record {
         zero' = λ k. absurd (d k);
         acc = acc;
-        on = record { same_base = rw away w.same_base; same-folded = rw away w.same-folded; way = rw away (rw (flow_other b s c d) at w.way) };
+        on = record { same_base = rw away w.same_base; same_folded = rw away w.same_folded; way = rw away (rw (flow_other b s c d) at w.way) };
       }
 
   mine : (s : Bench) (k : ℕ) (acc rest : List Rec) → Inv archive s → k < length s.given → On s acc (flow_of b s (takes b k) ++ rest) → Went s (takes b k) rest
@@ -204,19 +204,19 @@ module _ (archive a b n₀ : ℕ) (b8 : b < 8) (A B₀ used : List Rec) (s_a : S
   mine s k acc rest i n w =
       let l : List Rec = records_of (s.logs b) in
       let bs : List Rec = block_records (block_given s k).bytes in
-      let (m, acc₁, t, w₁) = way-all A B₀ used s_a agree in_a (base_in base).list (base_vector base) p counts listed over fit bs rest l acc (rw (flow_takes b s k) at w.way) in
+      let (m, acc₁, t, w₁) = way_all A B₀ used s_a agree in_a (base_in base).list (base_vector base) p counts listed over fit bs rest l acc (rw (flow_takes b s k) at w.way) in
       let f : given_fault archive (block_given s k).bytes ≡ 0 = (all_at (Given archive s.used) s.given k (record { giver = 0; bytes = [] }) n i.blocked).0 in
       let t' : takes_all (base_in (s.bases b)).list (base_vector (s.bases b)) l bs ≡ taken m = rw w.same_base t in
       let o : take_of archive b (s.logs b) (s.bases b) (block_given s k).bytes ≡ outcome 0 0 (log_bytes m) [] 0 =
       take_done archive b (s.logs b) (s.bases b) (block_given s k).bytes m (omega arith) (i.good b) f t' in
-      let g = take-adds (base_vector base) p counts (base_in base).list bs l m w.way.way.sound t in
+      let g = take_adds (base_vector base) p counts (base_in base).list bs l m w.way.way.sound t in
       let back : records_of (log_bytes m) ≡ m =
       records_back m (sound_proper_on (base_vector base) m (shed (base_vector base) p m counts g.sound)) (g.room (i.stored.kept b).few) in
       let here : eqb b b ≡ true = eq-eqb b b refl in
       record {
         zero' = λ _. ap (λ (x : Outcome). x.number) {y = outcome 0 0 (log_bytes m) [] 0} o;
         acc = acc₁;
-        on = record { same_base = rw here w.same_base; same-folded = rw here w.same-folded; way = rw (here, o, back) w₁ };
+        on = record { same_base = rw here w.same_base; same_folded = rw here w.same_folded; way = rw (here, o, back) w₁ };
       }
 
   went : (s : Bench) (c : Call) (acc rest : List Rec) → Inv archive s → Does archive a b n₀ s c → On s acc (flow_of b s c ++ rest) → Went s c rest
@@ -228,7 +228,7 @@ module _ (archive a b n₀ : ℕ) (b8 : b < 8) (A B₀ used : List Rec) (s_a : S
   covered : (s : Bench) (acc : List Rec) → held s a ≡ A → On s acc [] → (u : ℕ) → count u (held s a) ≤ count u (held s b)
   unfolding held
   covered s acc h w u =
-      rw (h, w.same-folded) (way_end A B₀ used s_a agree in_a (base_in base).list (base_vector base) p counts listed over fit (records_of (s.logs b)) acc w.way u)
+      rw (h, w.same_folded) (way_end A B₀ used s_a agree in_a (base_in base).list (base_vector base) p counts listed over fit (records_of (s.logs b)) acc w.way u)
 
   goes : (cs : List Call) (s : Bench) (acc : List Rec) → Inv archive s → Source archive a b n₀ A s → passing archive a b n₀ s cs ≡ true → On s acc (flow archive b s cs)
       → (zeros archive b s cs ≡ true) × ((u : ℕ) → count u (held (play archive s cs) a) ≤ count u (held (play archive s cs) b))
@@ -238,7 +238,7 @@ module _ (archive a b n₀ : ℕ) (b8 : b < 8) (A B₀ used : List Rec) (s_a : S
       let (x₁, q) = and_true (passes a b n₀ s c) (passing archive a b n₀ (next archive s c) cs) e in
       let d = does archive a b n₀ s c x₁ in
       let g = went s c acc (flow archive b (next archive s c) cs) i d w in
-      let (x, y) = goes cs (next archive s c) g.acc (inv_next archive s c i) (source-next archive a b n₀ A s c h d) q g.on in
+      let (x, y) = goes cs (next archive s c) g.acc (inv_next archive s c i) (source_next archive a b n₀ A s c h d) q g.on in
       (true_and (not (eqb (unit_of c) b) || eqb (done archive s c).number 0) (zeros archive b (next archive s c) cs) (zero_or g.zero') x, y)
     where
       zero_or : (unit_of c ≡ b → (done archive s c).number ≡ 0) → (not (eqb (unit_of c) b) || eqb (done archive s c).number 0) ≡ true
@@ -283,8 +283,8 @@ begin archive cs s b A used i s_a agree in_a in_b base counts listed over fit pa
       way =
           record {
             sound = (i.stored.kept b).sound;
-            in-acc = λ r h. h;
-            of-acc = λ r h. h;
+            in_acc = λ r h. h;
+            of_acc = λ r h. h;
             from = in_b;
             part = part;
             rising = up;
@@ -314,14 +314,14 @@ cover archive cs s a b b8 i told d names firm p =
     let sure : (is_among b s.folders ≡ false) ⊎ (is_among b s.fallen ≡ false) =
     ⊎_elim (λ k. inl (e₂ b k)) (λ k. inr (e₃ b k)) (steady-at (play archive s cs).folders (play archive s cs).fallen firm b) in
     let counts : Counts (base_vector base) (s.folded b) = (i.stored.kept b).counts in
-    let listed : (r : Rec) → Has r A → is_listed (base_in base).list (unit r) ≡ true = λ r h. never-26 archive s i told used more agree low (e₁ used names) b sure r (inU a r h) in
+    let listed : (r : Rec) → Has r A → is_listed (base_in base).list (unit r) ≡ true = λ r h. never_26 archive s i told used more agree low (e₁ used names) b sure r (inU a r h) in
     let over : (r : Rec) → Has r A → (Has r B → ⊥) → (u : ℕ) → u < 8 → get_or (base_vector base) u 0 ≤ seen r u =
-    λ r h. never-27 archive s i told used more agree low (e₁ used names) b sure r (held_used archive s i a r h) in
+    λ r h. never_27 archive s i told used more agree low (e₁ used names) b sure r (held_used archive s i a r h) in
     let fit : sum_to 8 (λ u. max (count u A) (count u B)) ≤ 512 + length (s.folded b) =
     start archive s b A i s_a (leb-true (length (lacking (vector_of B) A) + length (records_of (s.logs b))) 512 p.union) in
     let src : Source archive a b n A s = record { at_a = refl; since = rw drop-length tt; grown = omega arith } in
-    let part = source-flow archive a b n A cs s src p.calls in
+    let part = source_flow archive a b n A cs s src p.calls in
     let w = begin archive cs s b A used i s_a agree (inU a) (inU b) base counts listed over fit part (rising_from (firsts B (flow archive b s cs)) p.order)
     (comes A B (flow archive b s cs) used s_a s_b agree (inU a) (inU b) part p.all) in
-    let (x, y) = goes archive a b n b8 A B used s_a agree (inU a) base (s.folded b) counts listed over fit cs s B i src p.calls (record { same_base = refl; same-folded = refl; way = w }) in
+    let (x, y) = goes archive a b n b8 A B used s_a agree (inU a) base (s.folded b) counts listed over fit cs s B i src p.calls (record { same_base = refl; same_folded = refl; way = w }) in
     record { answers = x; covering = lacks_none (held_vector (play archive s cs) b) (held_vector (play archive s cs) a) (counts_cover (held (play archive s cs) a) (held (play archive s cs) b) (λ u _. y u)) }

@@ -55,27 +55,27 @@ module _ (archive : ℕ) (s : Bench) (i : Inv archive s) where
   unfolding block_given
   no_fault n b = (all_at (Given archive s.used) s.given n (record { giver = 0; bytes = [] }) (ltb-true n (length s.given) b) i.blocked).0
 
-  pub quick-is : (c : Call) → quick archive s c ≡ done archive s c
+  pub quick_is : (c : Call) → quick archive s c ≡ done archive s c
   unfolding quick done act_of hand_of write_of take_of took_block fold_of
-  quick-is (starts u) = refl
-  quick-is (acts u w work) =
+  quick_is (starts u) = refl
+  quick_is (acts u w work) =
       let log : List ℕ = s.logs u in
       let base : List ℕ = s.bases u in
       either (leb u 7) (act_lent w work) _ _
       (past u [] (act_lent w work) (acted u log (base_vector base) w (act_number (base_in base).list u (base_vector base) (base_in base).tree (records_of log) w)))
-  quick-is (hands_out u v lent) = either (leb u 7) (eqb (length lent) 512) _ _ (past u lent (eqb (length lent) 512) (handed archive u (s.logs u) (s.bases u) v lent))
-  quick-is (writes u lent) = either (leb u 7) (eqb (length lent) 44032) _ _ (past u lent (eqb (length lent) 44032) (written archive u (s.logs u) (s.bases u) lent))
-  quick-is (takes u n) =
+  quick_is (hands_out u v lent) = either (leb u 7) (eqb (length lent) 512) _ _ (past u lent (eqb (length lent) 512) (handed archive u (s.logs u) (s.bases u) v lent))
+  quick_is (writes u lent) = either (leb u 7) (eqb (length lent) 44032) _ _ (past u lent (eqb (length lent) 44032) (written archive u (s.logs u) (s.bases u) lent))
+  quick_is (takes u n) =
       let g : List ℕ = (block_given s n).bytes in
       either (leb u 7) (ltb n (length s.given)) _ _
       (λ a b.
       ap (took_block (s.logs u) (s.bases u) g) (sym (no_fault n b)) ∙ past u [] true (took_block (s.logs u) (s.bases u) g (given_fault archive g)) a refl)
-  quick-is (folds u m work) =
+  quick_is (folds u m work) =
       either (leb u 7) (eqb (length work) 86020) _ _ (past u (s.bases u) (eqb (length work) 86020) (fold_by m u (s.logs u) (s.bases u)))
 
-  next-is : (c : Call) → after s c (quick archive s c) ≡ next archive s c
+  next_is : (c : Call) → after s c (quick archive s c) ≡ next archive s c
   unfolding next
-  next-is c = ap (after s c) (quick-is c)
+  next_is c = ap (after s c) (quick_is c)
 
 -- ---- a list of calls
 
@@ -96,24 +96,24 @@ quick_flow archive b s [] = []
 quick_flow archive b s (c ∷ cs) = flow_of b s c ++ quick_flow archive b (after s c (quick archive s c)) cs
 
 module _ (archive : ℕ) where
-  pub play-is : (cs : List Call) (s : Bench) → Inv archive s → quick_play archive s cs ≡ play archive s cs
+  pub play_is : (cs : List Call) (s : Bench) → Inv archive s → quick_play archive s cs ≡ play archive s cs
   unfolding quick_play play
-  play-is [] s i = refl
-  play-is (c ∷ cs) s i = ap (λ (t : Bench). quick_play archive t cs) (next-is archive s i c) ∙ play-is cs (next archive s c) (inv_next archive s c i)
+  play_is [] s i = refl
+  play_is (c ∷ cs) s i = ap (λ (t : Bench). quick_play archive t cs) (next_is archive s i c) ∙ play_is cs (next archive s c) (inv_next archive s c i)
 
-  pub outcomes-is : (cs : List Call) (s : Bench) → Inv archive s → quick_outcomes archive s cs ≡ outcomes archive s cs
+  pub outcomes_is : (cs : List Call) (s : Bench) → Inv archive s → quick_outcomes archive s cs ≡ outcomes archive s cs
   unfolding quick_outcomes outcomes
-  outcomes-is [] s i = refl
-  outcomes-is (c ∷ cs) s i =
-      rw (next-is archive s i c, quick-is archive s i c) (ap (λ (l : List Outcome). done archive s c ∷ l) (outcomes-is cs (next archive s c) (inv_next archive s c i)))
+  outcomes_is [] s i = refl
+  outcomes_is (c ∷ cs) s i =
+      rw (next_is archive s i c, quick_is archive s i c) (ap (λ (l : List Outcome). done archive s c ∷ l) (outcomes_is cs (next archive s c) (inv_next archive s c i)))
 
-  pub passing-is : (a b n : ℕ) (cs : List Call) (s : Bench) → Inv archive s → quick_passing archive a b n s cs ≡ passing archive a b n s cs
+  pub passing_is : (a b n : ℕ) (cs : List Call) (s : Bench) → Inv archive s → quick_passing archive a b n s cs ≡ passing archive a b n s cs
   unfolding quick_passing passing
-  passing-is a b n [] s i = refl
-  passing-is a b n (c ∷ cs) s i =
-      rw (next-is archive s i c) (ap (λ (t : Bool). passes a b n s c && t) (passing-is a b n cs (next archive s c) (inv_next archive s c i)))
+  passing_is a b n [] s i = refl
+  passing_is a b n (c ∷ cs) s i =
+      rw (next_is archive s i c) (ap (λ (t : Bool). passes a b n s c && t) (passing_is a b n cs (next archive s c) (inv_next archive s c i)))
 
-  pub flow-is : (b : ℕ) (cs : List Call) (s : Bench) → Inv archive s → quick_flow archive b s cs ≡ flow archive b s cs
+  pub flow_is : (b : ℕ) (cs : List Call) (s : Bench) → Inv archive s → quick_flow archive b s cs ≡ flow archive b s cs
   unfolding quick_flow flow
-  flow-is b [] s i = refl
-  flow-is b (c ∷ cs) s i = rw (next-is archive s i c) (ap (λ (l : List Rec). flow_of b s c ++ l) (flow-is b cs (next archive s c) (inv_next archive s c i)))
+  flow_is b [] s i = refl
+  flow_is b (c ∷ cs) s i = rw (next_is archive s i c) (ap (λ (l : List Rec). flow_of b s c ++ l) (flow_is b cs (next archive s c) (inv_next archive s c i)))

@@ -23,7 +23,7 @@ use Rattle.log_laws.proofs.Members.{All, all_map, all_append, all_at, append_has
 use Rattle.log_laws.proofs.Lacking.{has_lacking}
 use Rattle.call_laws.specs.Keeps.{Good, Keeps}
 use Rattle.call_laws.proofs.Calls.{zeros_good, act-keeps, take-keeps}
-use Rattle.call_laws.proofs.Given.{Holds, hand-cases, write-cases}
+use Rattle.call_laws.proofs.Given.{Holds, hand_cases, write_cases}
 use Rattle.call_laws.proofs.Keeping.{fold_keeps}
 use Rattle.fold_laws.specs.Worlds as F
 use Rattle.fold_laws.proofs.Stores.{fresh_kept}
@@ -65,7 +65,7 @@ own archive s (hands_out u v lent) =
     let here : Own archive u h (record { giver = u; bytes = b }) =
     own_block archive u h (take 6 (lacking v l)) b k.1 (λ r i. append_has (s.folded u) l r (inr (has_lacking v l r (has_take 6 (lacking v l) r i)))) in
     rw (k.0, accepted_is {A = Block} (outcome 0 0 (s.logs u) b 0) (record { giver = u; bytes = b } ∷ []) refl) (here, tt))
-    (hand-cases archive u (s.logs u) (s.bases u) v lent)
+    (hand_cases archive u (s.logs u) (s.bases u) v lent)
 own archive s (writes u lent) =
     let l : List Rec = records_of (s.logs u) in
     let h : List Rec = s.folded u ++ l in
@@ -79,7 +79,7 @@ own archive s (writes u lent) =
     own_block archive u h (take 6 (drop (6 * n) l)) (block_at f n) (k.1 n j)
     (λ r i. append_has (s.folded u) l r (inr (has_drop (6 * n) l r (has_take 6 (drop (6 * n) l) r i))))) in
     rw (k.0, accepted_is (outcome 0 0 (s.logs u) f (block_count (length l))) (blocks_to u f (block_count (length l))) refl) here)
-    (write-cases archive u (s.logs u) (s.bases u) lent)
+    (write_cases archive u (s.logs u) (s.bases u) lent)
 own archive s (takes u n) = tt
 own archive s (folds u m work) = tt
 

@@ -169,9 +169,9 @@ module _ (archive : ℕ) (s : Bench) (i : Inv archive s) (t : Told s) (U : List 
     (low : (r : Rec) → Has r U → unit r < 8) (all_named : named s.lists U ≡ true) (b : ℕ)
     (firm : (is_among b s.folders ≡ false) ⊎ (is_among b s.fallen ≡ false)) where
   -- a record that b does not hold covers the base of b: 27 is answered to none
-  pub never-27 : (r : Rec) → Has r s.used → (Has r (held s b) → ⊥) → (u : ℕ) → u < 8 → get_or (base_vector (s.bases b)) u 0 ≤ seen r u
+  pub never_27 : (r : Rec) → Has r s.used → (Has r (held s b) → ⊥) → (u : ℕ) → u < 8 → get_or (base_vector (s.bases b)) u 0 ≤ seen r u
   unfolding held base_in
-  never-27 r j d u k = go firm
+  never_27 r j d u k = go firm
     where
       go : (is_among b s.folders ≡ false) ⊎ (is_among b s.fallen ≡ false) → get_or (base_vector (s.bases b)) u 0 ≤ seen r u
       go (inl e) = omega (arith, (i.stored.kept b).counts u k, ap (count u) (t.fresh b e), count-nil u)
@@ -180,5 +180,5 @@ module _ (archive : ℕ) (s : Bench) (i : Inv archive s) (t : Told s) (U : List 
           (λ q p y n. t.back U low all_named b q p y (more y n)) (t.own b e) r j d u k
 
   -- and its unit is listed at b: nor is 26
-  pub never-26 : (r : Rec) → Has r U → is_listed (base_in (s.bases b)).list (unit r) ≡ true
-  never-26 = t.lists U low all_named b
+  pub never_26 : (r : Rec) → Has r U → is_listed (base_in (s.bases b)).list (unit r) ≡ true
+  never_26 = t.lists U low all_named b

@@ -25,8 +25,8 @@ use Rattle.log_laws.proofs.Counts.{count-nil, count_own, unit_of_lem}
 use Rattle.log_laws.proofs.Tests.{vector_of_get_d}
 use Rattle.encoding_laws.proofs.Logs.{records_back, empty_log}
 use Rattle.call_laws.proofs.States.{empty_list, empty_vector, empty_tree_lem}
-use Rattle.call_laws.proofs.Calls.{act-cases, take_cases}
-use Rattle.call_laws.proofs.Given.{hand-cases, write-cases}
+use Rattle.call_laws.proofs.Calls.{act_cases, take_cases}
+use Rattle.call_laws.proofs.Given.{hand_cases, write_cases}
 use Rattle.fold_laws.specs.Worlds as F
 use Rattle.machine.specs.Machine.{Call, starts, acts, hands_out, writes, takes, folds, unit_of, Bench, held, block_given, done, if_accepted, uses, base_left, folded_left, list_by, put, fallen_by, after}
 use Rattle.machine.specs.Claim.{names_each, named, is_among}
@@ -95,11 +95,11 @@ refused_is n o l e = rw (ne_eqb o.number 0 (λ z. omega arith))
 -- handing out and writing a file leave the log
 pub hand_log : (archive u : ℕ) (log base v lent : List ℕ) → (hand_of archive u log base v lent).log ≡ log
 hand_log archive u log base v lent =
-    ⊎_elim (λ k. ap (λ (o : Outcome). o.log) k.1) (λ k. ap (λ (o : Outcome). o.log) k.0) (hand-cases archive u log base v lent)
+    ⊎_elim (λ k. ap (λ (o : Outcome). o.log) k.1) (λ k. ap (λ (o : Outcome). o.log) k.0) (hand_cases archive u log base v lent)
 
 pub write_log : (archive u : ℕ) (log base lent : List ℕ) → (write_of archive u log base lent).log ≡ log
 write_log archive u log base lent =
-    ⊎_elim (λ k. ap (λ (o : Outcome). o.log) k.1) (λ k. ap (λ (o : Outcome). o.log) k.0) (write-cases archive u log base lent)
+    ⊎_elim (λ k. ap (λ (o : Outcome). o.log) k.1) (λ k. ap (λ (o : Outcome). o.log) k.0) (write_cases archive u log base lent)
 
 pub folded_zero : (m : ℕ) (log base : List ℕ) (n : ℕ) → (folded m log base n).number ≡ 0
 unfolding folded
@@ -217,7 +217,7 @@ module _ (archive : ℕ) (s : Bench) (i : F.Inv (world s)) where
       (goes s (acts u w work) o (F.acts u w) refl (ap (λ (x : List Rec). F.with_log (store_of s u) x) k.1) (accepted_is o (r ∷ []) k.0))
       (λ U e. tt)
       (λ b e. tt))
-      (act-cases u (s.logs u) (s.bases u) w work)
+      (act_cases u (s.logs u) (s.bases u) w work)
 
   taking : (u n : ℕ) → Sub (block_records (block_given s n).bytes) s.used → Moves s (takes u n) (take_of archive u (s.logs u) (s.bases u) (block_given s n).bytes)
   unfolding unit_of base_left folded_left uses F.at F.changes F.uses base_in

@@ -20,7 +20,7 @@ use Rattle.log_laws.proofs.Tests.{sound_means}
 use Rattle.call_laws.proofs.States.{empty_vector}
 use Rattle.machine.specs.Careful.{lowered, Noticed}
 use Rattle.machine.proofs.Careful.{careful_asking}
-use Rattle.machine.proofs.Unfolded.{unfolded, back, whole, may-meet}
+use Rattle.machine.proofs.Unfolded.{unfolded, back, whole, may_meet}
 
 -- record 0.1 makes a folder in the root on 3 March 2025
 make : ℕ → R.Rec
@@ -61,7 +61,7 @@ noticed =
     let one : 1 ≤ 512 = omega arith in
     let ra : L.records_of (L.log_bytes A) ≡ A = back A s_a one in
     let rb : L.records_of (L.log_bytes B) ≡ B = back B s_b one in
-    careful_asking 7 0 1 (unfolded A) (unfolded B) (omega arith) (omega arith) (whole A s_a one) (whole B s_b one) (may-meet A s_a one (unfolded B) refl) again lost
+    careful_asking 7 0 1 (unfolded A) (unfolded B) (omega arith) (omega arith) (whole A s_a one) (whole B s_b one) (may_meet A s_a one (unfolded B) refl) again lost
     (record {
       first = rw ra (inl refl);
       second = rw rb (inl refl);

@@ -49,5 +49,5 @@ module _ (A : List Rec) (h : Sound A) (few : length A ≤ 512) (sb : Store) (e :
       let j : Has r A = subst (Has r) (back A h few) (has_lacking (vector_by sb) (records_of (log_bytes A)) r i) in
       rw (e, empty_list) (all_eight (unit r) (unit_of_lem [] A r h j))
 
-  pub may-meet : Open (unfolded A) sb
-  may-meet = record { above = above (vector_by sb); listed = listed; covering = λ r i. rw e (above _) }
+  pub may_meet : Open (unfolded A) sb
+  may_meet = record { above = above (vector_by sb); listed = listed; covering = λ r i. rw e (above _) }

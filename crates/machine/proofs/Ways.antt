@@ -26,8 +26,8 @@ module _ (A B₀ used : List Rec) (s_a : Sound A) (agree : Agree used used) (in_
   -- B: what the taker holds; acc: its records as `firsts` gathers them; rs: what is still to be taken
   pub record Way (B acc rs : List Rec) : Type 0 where
     pub sound : Sound B
-    pub in-acc : Sub B acc
-    pub of-acc : Sub acc B
+    pub in_acc : Sub B acc
+    pub of_acc : Sub acc B
     pub from : Sub B used
     pub part : Sub rs A
     pub rising : Rising (firsts acc rs)
@@ -39,9 +39,9 @@ module _ (A B₀ used : List Rec) (s_a : Sound A) (agree : Agree used used) (in_
   held_same B s t f i h a b = subst (λ (x : Rec). Has x B) (agree t s (f t h) (in_a s i) a b) h
 
   -- a record of A that is still to come appears among the firsts
-  firsts-has : (rs acc : List Rec) (s : Rec) → Sub rs A → Has s rs → ((t : Rec) → Has t acc → unit t ≡ unit s → num t ≡ num s → ⊥) → Has s (firsts acc rs)
-  firsts-has [] acc s p h d = absurd h
-  firsts-has (x ∷ rs) acc s p h d = go (holds_cases acc x) (λ acc' d' i. firsts-has rs acc' s (λ r j. p r (inr j)) i d')
+  firsts_has : (rs acc : List Rec) (s : Rec) → Sub rs A → Has s rs → ((t : Rec) → Has t acc → unit t ≡ unit s → num t ≡ num s → ⊥) → Has s (firsts acc rs)
+  firsts_has [] acc s p h d = absurd h
+  firsts_has (x ∷ rs) acc s p h d = go (holds_cases acc x) (λ acc' d' i. firsts_has rs acc' s (λ r j. p r (inr j)) i d')
     where
       Later : Type 0
       Later = (acc' : List Rec) → ((t : Rec) → Has t acc' → unit t ≡ unit s → num t ≡ num s → ⊥) → Has s rs → Has s (firsts acc' rs)
@@ -87,7 +87,7 @@ module _ (A B₀ used : List Rec) (s_a : Sound A) (agree : Agree used used) (in_
       fresh = go (holds_cases acc r)
         where
           go : Held acc r → holds acc r ≡ false
-          go (inl (t, e, h, a, b)) = absurd (new t (w.of-acc t h) a b)
+          go (inl (t, e, h, a, b)) = absurd (new t (w.of_acc t h) a b)
           go (inr (e, d)) = e
 
       up : Rising (r ∷ firsts (r ∷ acc) rs)
@@ -104,11 +104,11 @@ module _ (A B₀ used : List Rec) (s_a : Sound A) (agree : Agree used used) (in_
               (λ (z : s ≡ r). absurd (omega (arith, ap rank z)))
               (λ h.
               let f : Has s (firsts (r ∷ acc) rs) =
-              firsts-has rs (r ∷ acc) s (λ x q. w.part x (inr q)) h
+              firsts_has rs (r ∷ acc) s (λ x q. w.part x (inr q)) h
               (λ t q a b.
               ⊎_elim
               (λ (z : t ≡ r). let y : s ≡ r = agree s r (in_a s j) (in_a r passed) (sym a ∙ ap unit z) (sym b ∙ ap num z) in omega (arith, ap rank y))
-              (λ q'. d t (w.of-acc t q') a b)
+              (λ q'. d t (w.of_acc t q') a b)
               q) in
               absurd (omega (arith, up.0 s f)))
               (w.all s j (λ h. d s h refl refl))
@@ -148,11 +148,11 @@ module _ (A B₀ used : List Rec) (s_a : Sound A) (agree : Agree used used) (in_
             closed = λ s q n. ⊎_elim (λ x. absurd x) (λ x. shut s x n) q;
           }
 
-      sound-one : Sound (insert r B)
-      sound-one = insert_sound B r w.sound joins
+      sound_one : Sound (insert r B)
+      sound_one = insert_sound B r w.sound joins
 
-      counts-one : (u : ℕ) → u < 8 → count u (insert r B) ≤ max (count u A) (count u B₀)
-      counts-one u k =
+      counts_one : (u : ℕ) → u < 8 → count u (insert r B) ≤ max (count u A) (count u B₀)
+      counts_one u k =
           ⊎_elim
           (λ a.
           let n : num r ≤ count u A = subst (λ (x : ℕ). num r ≤ count x A) a.0 (number_held A r s_a passed) in
@@ -162,20 +162,20 @@ module _ (A B₀ used : List Rec) (s_a : Sound A) (agree : Agree used used) (in_
           (λ a. omega (arith, count-insert u r B, w.room u k))
           (count-cons u r B)
 
-      pub room-one : length (insert r B) ≤ sum_to 8 (λ u. max (count u A) (count u B₀))
-      room-one =
+      pub room_one : length (insert r B) ≤ sum_to 8 (λ u. max (count u A) (count u B₀))
+      room_one =
           omega (
             arith,
-            length-counts (insert r B) (λ s h. unit_of_lem [] (insert r B) s sound-one h),
-            sum_to-le 8 (λ u. count u (insert r B)) (λ u. max (count u A) (count u B₀)) counts-one,
+            length-counts (insert r B) (λ s h. unit_of_lem [] (insert r B) s sound_one h),
+            sum_to-le 8 (λ u. count u (insert r B)) (λ u. max (count u A) (count u B₀)) counts_one,
           )
 
-      pub way-put : Way (insert r B) (r ∷ acc) rs
-      way-put =
+      pub way_put : Way (insert r B) (r ∷ acc) rs
+      way_put =
           record {
-            sound = sound-one;
-            in-acc = λ x h. ⊎_elim (λ q. inl q) (λ q. inr (w.in-acc x q)) (has_insert r B x h);
-            of-acc = λ x h. insert_has r B x (⊎_elim (λ q. inl q) (λ q. inr (w.of-acc x q)) h);
+            sound = sound_one;
+            in_acc = λ x h. ⊎_elim (λ q. inl q) (λ q. inr (w.in_acc x q)) (has_insert r B x h);
+            of_acc = λ x h. insert_has r B x (⊎_elim (λ q. inl q) (λ q. inr (w.of_acc x q)) h);
             from = λ x h. ⊎_elim (λ (q : x ≡ r). rw q (in_a r passed)) (λ q. w.from x q) (has_insert r B x h);
             part = λ x h. w.part x (inr h);
             rising = up.1;
@@ -184,26 +184,26 @@ module _ (A B₀ used : List Rec) (s_a : Sound A) (agree : Agree used used) (in_
                 (λ (q : x ≡ r). absurd (d (insert_has r B x (inl q))))
                 (λ k. k)
                 (w.all x h (λ y. d (insert_has r B x (inr y))));
-            room = counts-one;
+            room = counts_one;
           }
 
     -- r is held
-    pub way-pass : Has r B → Way B acc rs
-    way-pass h =
+    pub way_pass : Has r B → Way B acc rs
+    way_pass h =
         record {
           sound = w.sound;
-          in-acc = w.in-acc;
-          of-acc = w.of-acc;
+          in_acc = w.in_acc;
+          of_acc = w.of_acc;
           from = w.from;
           part = λ x j. w.part x (inr j);
-          rising = subst Rising (firsts_skip acc r rs (has_holds acc r (w.in-acc r h))) w.rising;
+          rising = subst Rising (firsts_skip acc r rs (has_holds acc r (w.in_acc r h))) w.rising;
           all = λ x j d. ⊎_elim (λ (q : x ≡ r). absurd (d (rw q h))) (λ k. k) (w.all x j d);
           room = w.room;
         }
 
     -- one of the two
-    pub way-cases : Has r B ⊎ ((t : Rec) → Has t B → unit t ≡ unit r → num t ≡ num r → ⊥)
-    way-cases = go (holds_cases B r)
+    pub way_cases : Has r B ⊎ ((t : Rec) → Has t B → unit t ≡ unit r → num t ≡ num r → ⊥)
+    way_cases = go (holds_cases B r)
       where
         go : Held B r → Has r B ⊎ ((t : Rec) → Has t B → unit t ≡ unit r → num t ≡ num r → ⊥)
         go (inl (t, e, h, a, b)) = inl (held_same B r t w.from passed h a b)

@@ -17,7 +17,7 @@ use Rattle.call_laws.proofs.Calls.{guard_good, good_guard}
 use Rattle.row_laws.specs.Stopped.{Stop}
 use Rattle.row_laws.proofs.Turns.{whole_row}
 use Rattle.row_laws.proofs.Stops.{stops_never, row_good}
-use Rattle.row_laws.proofs.Handing.{hand-row-keeps}
+use Rattle.row_laws.proofs.Handing.{hand_row_keeps}
 use Rattle.machine_rows.specs.RowKeeps.{RowCallsKeep}
 
 -- ---- the guard
@@ -70,17 +70,17 @@ module _ (archive u : ℕ) (log base row : List ℕ) where
   abbrev guard : ℕ
   guard = guard_number u log base true (row_fits (length row))
 
-  open-good : guard ≡ 0 → (u ≤ 7) × Good log base
-  open-good z = let (_, b, _, g) = guard_good u log base true (row_fits (length row)) z in (b, g)
+  open_good : guard ≡ 0 → (u ≤ 7) × Good log base
+  open_good z = let (_, b, _, g) = guard_good u log base true (row_fits (length row)) z in (b, g)
 
   taking : ((take_row_of archive u log base row).number ≡ 0 → Good (take_row_of archive u log base row).log base)
       × (((take_row_of archive u log base row).number ≡ 0 → ⊥) → (take_row_of archive u log base row).log ≡ log)
   unfolding take_row_of
-  taking = took_keeps guard log base (try_all archive u log base row) (λ z. let (a, b) = open-good z in row_good archive u log base row a b)
+  taking = took_keeps guard log base (try_all archive u log base row) (λ z. let (a, b) = open_good z in row_good archive u log base row a b)
 
   stops : Stop (take_row_of archive u log base row).stopped
   unfolding take_row_of
-  stops = took_stops guard log (try_all archive u log base row) (λ z. let (a, b) = open-good z in stops_never archive u log base row a b)
+  stops = took_stops guard log (try_all archive u log base row) (λ z. let (a, b) = open_good z in stops_never archive u log base row a b)
 
   whole : (take_row_of archive u log base row).number ≡ 0 → ((take_row_of archive u log base row).stopped ≡ 0) ↔ ((take_row_of archive u log base row).taken ≡ blocks_in row)
   unfolding take_row_of
@@ -111,4 +111,4 @@ module _ (archive u : ℕ) (log base row : List ℕ) where
         z
 
 pub row_calls_keep : RowCallsKeep
-row_calls_keep = record { taking = taking; trying = trying; tried_as_taken = tried_as_taken; handing_out = hand-row-keeps; stops = stops; whole = whole }
+row_calls_keep = record { taking = taking; trying = trying; tried_as_taken = tried_as_taken; handing_out = hand_row_keeps; stops = stops; whole = whole }

@@ -19,12 +19,12 @@ use Rattle.log_laws.specs.Members.{Agree}
 use Rattle.log_laws.proofs.Lacking.{has_lacking}
 use Rattle.block_laws.proofs.Fields.{Sized}
 use Rattle.encoding_laws.proofs.Logs.{Proper, sound_proper_on, proper_sized}
-use Rattle.call_laws.proofs.States.{good-records}
-use Rattle.call_laws.proofs.Given.{handedOut, hand-done}
+use Rattle.call_laws.proofs.States.{good_records}
+use Rattle.call_laws.proofs.Given.{handedOut, hand_done}
 use Rattle.row_model.specs.Row.{Tried, tried, row_fits, try_from, try_all, RowTaken, row_taken, take_row_of, row_block, row_to, row_of}
 use Rattle.row_laws.proofs.Turns.{row-passes}
-use Rattle.row_laws.proofs.Raised.{length-rowTo, block-of-row}
-use Rattle.row_laws.proofs.Handing.{hand-row-done}
+use Rattle.row_laws.proofs.Raised.{length-row_to, block_of_row}
+use Rattle.row_laws.proofs.Handing.{hand_row_done}
 use Rattle.machine.specs.Meeting.{Store, with_log, held_by, vector_by, Whole, lacked_by, handed, round, meet, Meets, Open}
 use Rattle.machine.proofs.Meeting.{Met, meets, first_met, every_meeting}
 use Rattle.machine_rows.specs.RowMeeting.{row_handed, row_round, RowMeets, EveryRowMeeting}
@@ -56,7 +56,7 @@ module _ (archive a b : ℕ) (sa sb : Store) (ha : a < 8) (hb : b < 8) (wa : Who
   unfolding w lacked_by
   sized =
       let l : List Rec = records_of sa.log in
-      let p : Proper l = sound_proper_on (base_vector sa.base) l (good-records sa.log sa.base wa.good) in
+      let p : Proper l = sound_proper_on (base_vector sa.base) l (good_records sa.log sa.base wa.good) in
       proper_sized (lacking (vector_by sb) l) (λ r i. p r (has_lacking (vector_by sb) l r i))
 
   row : List ℕ
@@ -64,11 +64,11 @@ module _ (archive a b : ℕ) (sa sb : Store) (ha : a < 8) (hb : b < 8) (wa : Who
 
   long : length row ≡ 512 * n
   unfolding row
-  long = length-rowTo archive a held w sized n
+  long = length-row_to archive a held w sized n
 
-  handed-is : row_handed archive a sa sb ≡ outcome 0 0 sa.log (padded 44032 row) n
+  handed_is : row_handed archive a sa sb ≡ outcome 0 0 sa.log (padded 44032 row) n
   unfolding row_handed row_of row n w held lacked_by
-  handed-is = hand-row-done archive a sa.log sa.base (vector_by sb) (replicate 44032 0) (length-replicate {A = ℕ} 44032 0) (omega arith) wa.good ok.above
+  handed_is = hand_row_done archive a sa.log sa.base (vector_by sb) (replicate 44032 0) (length-replicate {A = ℕ} 44032 0) (omega arith) wa.good ok.above
 
   -- the blocks of the row alone
   cut : take (512 * n) (padded 44032 row) ≡ row
@@ -96,7 +96,7 @@ module _ (archive a b : ℕ) (sa sb : Store) (ha : a < 8) (hb : b < 8) (wa : Who
 
   at : (k : ℕ) → k < n → block_at row k ≡ row_block archive a held w k
   unfolding row
-  at k h = rw (append-nil (row_to archive a held w n)) at (block-of-row archive a held w sized n k [] h)
+  at k h = rw (append-nil (row_to archive a held w n)) at (block_of_row archive a held w sized n k [] h)
 
   -- block k is what is handed out to b after k rounds
   same_block : (k : ℕ) → k < n → block_at row k ≡ (handed archive a sa (meet archive a b sa sb k)).lent
@@ -104,12 +104,12 @@ module _ (archive a b : ℕ) (sa sb : Store) (ha : a < 8) (hb : b < 8) (wa : Who
   same_block k h =
       let v : List ℕ = vector_by (meet archive a b sa sb k) in
       let p : hand_of archive a sa.log sa.base v (replicate 512 0) ≡ handedOut archive a sa.log sa.base v (replicate 512 0) =
-      hand-done archive a sa.log sa.base v (replicate 512 0) (length-replicate {A = ℕ} 512 0) (omega arith) wa.good (after k).above in
+      hand_done archive a sa.log sa.base v (replicate 512 0) (length-replicate {A = ℕ} 512 0) (omega arith) wa.good (after k).above in
       at k h ∙ rw (p, left k)
 
-  same-take : (k : ℕ) → k < n → take_of archive b (meet archive a b sa sb k).log sb.base (block_at row k) ≡ round archive a b sa (meet archive a b sa sb k)
+  same_take : (k : ℕ) → k < n → take_of archive b (meet archive a b sa sb k).log sb.base (block_at row k) ≡ round archive a b sa (meet archive a b sa sb k)
   unfolding round
-  same-take k h =
+  same_take k h =
       ap (take_of archive b (meet archive a b sa sb k).log sb.base) (same_block k h)
       ∙ ap (λ (s : Store). take_of archive b (meet archive a b sa sb k).log s.base (handed archive a sa (meet archive a b sa sb k)).lent) (sym (meet_is archive a b sa sb k))
 
@@ -118,37 +118,37 @@ module _ (archive a b : ℕ) (sa sb : Store) (ha : a < 8) (hb : b < 8) (wa : Who
   unfolding try_from meet
   turns zero k e = let f : k ≡ n = omega arith in rw f
   turns (suc j) k e =
-      let s = same-take k (omega arith) in
+      let s = same_take k (omega arith) in
       let z : (take_of archive b (meet archive a b sa sb k).log sb.base (block_at row k)).number ≡ 0 = ap (λ (o : Outcome). o.number) s ∙ met.taking k in
       let l : (take_of archive b (meet archive a b sa sb k).log sb.base (block_at row k)).log ≡ (meet archive a b sa sb (suc k)).log = ap (λ (o : Outcome). o.log) s in
       rw (z, l) (turns j (suc k) (omega arith))
 
-  taken-all : try_all archive b sb.log sb.base row ≡ tried n 0 (meet archive a b sa sb n).log
+  taken_all : try_all archive b sb.log sb.base row ≡ tried n 0 (meet archive a b sa sb n).log
   unfolding try_all meet
-  taken-all = rw counted (turns n 0 (omega arith))
+  taken_all = rw counted (turns n 0 (omega arith))
 
   -- what is taken is the row
   taken_is : take (512 * (row_handed archive a sa sb).blocks) (row_handed archive a sa sb).lent ≡ row
-  taken_is = rw handed-is cut
+  taken_is = rw handed_is cut
 
-  taken-row : row_round archive a b sa sb ≡ row_taken 0 0 n 0 (meet archive a b sa sb n).log
+  taken_row : row_round archive a b sa sb ≡ row_taken 0 0 n 0 (meet archive a b sa sb n).log
   unfolding row_round
-  taken-row =
+  taken_row =
       ap (λ (x : List ℕ). take_row_of archive b sb.log sb.base x) taken_is
       ∙ row-passes archive b sb.log sb.base row (omega arith) wb.good right-length
-      ∙ ap (λ (t : Tried). row_taken 0 0 t.taken t.stopped t.log) taken-all
+      ∙ ap (λ (t : Tried). row_taken 0 0 t.taken t.stopped t.log) taken_all
 
-  all-passed : lacked_by sa (with_log sb (meet archive a b sa sb n).log) ≡ []
+  all_passed : lacked_by sa (with_log sb (meet archive a b sa sb n).log) ≡ []
   unfolding n blocks_for w
-  all-passed = ap (lacked_by sa) (sym (meet_is archive a b sa sb n)) ∙ (met.exactly n).1 (omega arith)
+  all_passed = ap (lacked_by sa) (sym (meet_is archive a b sa sb n)) ∙ (met.exactly n).1 (omega arith)
 
-  pub row-meets : RowMeets archive a b sa sb
-  row-meets =
+  pub row_meets : RowMeets archive a b sa sb
+  row_meets =
       record {
-        handing = ap (λ (o : Outcome). o.number) handed-is;
-        taking = taken-row ∙ ap (λ (o : Outcome). row_taken 0 0 o.blocks 0 (meet archive a b sa sb o.blocks).log) (sym handed-is);
-        nothing = ap (λ (t : RowTaken). lacked_by sa (with_log sb t.log)) taken-row ∙ all-passed;
+        handing = ap (λ (o : Outcome). o.number) handed_is;
+        taking = taken_row ∙ ap (λ (o : Outcome). row_taken 0 0 o.blocks 0 (meet archive a b sa sb o.blocks).log) (sym handed_is);
+        nothing = ap (λ (t : RowTaken). lacked_by sa (with_log sb t.log)) taken_row ∙ all_passed;
       }
 
 pub every_row_meeting : EveryRowMeeting
-every_row_meeting archive a b sa sb ha hb wa wb ag ok fits = row-meets archive a b sa sb ha hb wa wb ag ok fits
+every_row_meeting archive a b sa sb ha hb wa wb ag ok fits = row_meets archive a b sa sb ha hb wa wb ag ok fits

@@ -27,18 +27,18 @@ taken_least archive u base row log k (suc n) =
 
 module _ (archive u : ℕ) (row : List ℕ) (at : ℕ → ℕ) where
   -- a take gives no block
-  same-given : (s : Bench) (m j : ℕ) → block_given (next archive s (takes u m)) j ≡ block_given s j
+  same_given : (s : Bench) (m j : ℕ) → block_given (next archive s (takes u m)) j ≡ block_given s j
   unfolding block_given next after gives
-  same-given s m j = rw (append-nil s.given)
+  same_given s m j = rw (append-nil s.given)
 
-  next-log : (s : Bench) (k : ℕ) → block_at row k ≡ (block_given s (at k)).bytes → (next archive s (takes u (at k))).logs u ≡ (take_of archive u (s.logs u) (s.bases u) (block_at row k)).log
+  next_log : (s : Bench) (k : ℕ) → block_at row k ≡ (block_given s (at k)).bytes → (next archive s (takes u (at k))).logs u ≡ (take_of archive u (s.logs u) (s.bases u) (block_at row k)).log
   unfolding next after put unit_of done
-  next-log s k e = rw (eq-eqb u u refl, e)
+  next_log s k e = rw (eq-eqb u u refl, e)
 
   -- nor does it write the base
-  next-base : (s : Bench) (k : ℕ) → (next archive s (takes u k)).bases u ≡ s.bases u
+  next_base : (s : Bench) (k : ℕ) → (next archive s (takes u k)).bases u ≡ s.bases u
   unfolding next after put unit_of base_left
-  next-base s k = rw (eq-eqb u u refl)
+  next_base s k = rw (eq-eqb u u refl)
 
   take-answers : (s : Bench) (k : ℕ) → block_at row k ≡ (block_given s (at k)).bytes → (done archive s (takes u (at k))).number ≡ (take_of archive u (s.logs u) (s.bases u) (block_at row k)).number
   unfolding done
@@ -50,13 +50,13 @@ module _ (archive u : ℕ) (row : List ℕ) (at : ℕ → ℕ) where
     pub zeros : (j : ℕ) → k ≤ j → j < t.taken → (done archive (play archive s (takes_from u at k (j - k))) (takes u (at j))).number ≡ 0
     pub stop : (t.stopped ≡ 0 → ⊥) → (done archive (play archive s (takes_from u at k (t.taken - k))) (takes u (at t.taken))).number ≡ t.stopped
 
-  played-none : (k : ℕ) (s : Bench) (n : ℕ) → ((n ≡ 0 → ⊥) → (done archive s (takes u (at k))).number ≡ n) → Played k s (tried k n (s.logs u))
+  played_none : (k : ℕ) (s : Bench) (n : ℕ) → ((n ≡ 0 → ⊥) → (done archive s (takes u (at k))).number ≡ n) → Played k s (tried k n (s.logs u))
   unfolding takes_from play
-  played-none k s n h = record { log = rw (sub_self k); zeros = λ j a b. absurd (omega arith); stop = λ z. rw (sub_self k) (h z) }
+  played_none k s n h = record { log = rw (sub_self k); zeros = λ j a b. absurd (omega arith); stop = λ z. rw (sub_self k) (h z) }
 
-  played-more : (k : ℕ) (s : Bench) (t : Tried) → (done archive s (takes u (at k))).number ≡ 0 → suc k ≤ t.taken → Played (suc k) (next archive s (takes u (at k))) t → Played k s t
+  played_more : (k : ℕ) (s : Bench) (t : Tried) → (done archive s (takes u (at k))).number ≡ 0 → suc k ≤ t.taken → Played (suc k) (next archive s (takes u (at k))) t → Played k s t
   unfolding takes_from play
-  played-more k s t z m p =
+  played_more k s t z m p =
       let q : t.taken - k ≡ suc (t.taken - suc k) = omega arith in
       record {
         log = rw q p.log;
@@ -64,29 +64,29 @@ module _ (archive u : ℕ) (row : List ℕ) (at : ℕ → ℕ) where
             ⊎_elim
             (λ (e : j ≡ k). rw (e, sub_self k) z)
             (λ (e : j ≡ k → ⊥).
-            let g : suc k ≤ j = omega (arith, ne-le j k a e) in
+            let g : suc k ≤ j = omega (arith, ne_le j k a e) in
             let f : j - k ≡ suc (j - suc k) = omega arith in
             rw f (p.zeros j g b))
             (eq_or_ne j k);
         stop = λ y. rw q (p.stop y);
       }
     where
-      ne-le : (j k : ℕ) → k ≤ j → (j ≡ k → ⊥) → suc k ≤ j
-      ne-le j k a e = ⊎_elim (λ (x : k < j). omega arith) (λ (x : j ≤ k). absurd (e (omega arith))) (lt_or_ge k j)
+      ne_le : (j k : ℕ) → k ≤ j → (j ≡ k → ⊥) → suc k ≤ j
+      ne_le j k a e = ⊎_elim (λ (x : k < j). omega arith) (λ (x : j ≤ k). absurd (e (omega arith))) (lt_or_ge k j)
 
   plays : (n k : ℕ) (s : Bench) → ((j : ℕ) → k ≤ j → j < k + n → block_at row j ≡ (block_given s (at j)).bytes) → Played k s (try_from archive u (s.bases u) row (s.logs u) k n)
   unfolding try_from
-  plays zero k s h = played-none k s 0 (λ z. absurd (z refl))
+  plays zero k s h = played_none k s 0 (λ z. absurd (z refl))
   plays (suc n) k s h =
       let e : block_at row k ≡ (block_given s (at k)).bytes = h k (omega arith) (omega arith) in
       ⊎_elim
       (λ (z : (take_of archive u (s.logs u) (s.bases u) (block_at row k)).number ≡ 0).
       let s' = next archive s (takes u (at k)) in
-      rw (eq-eqb (take_of archive u (s.logs u) (s.bases u) (block_at row k)).number 0 z, ← next-log s k e, ← next-base s (at k))
-      (played-more k s (try_from archive u (s'.bases u) row (s'.logs u) (suc k) n) (take-answers s k e ∙ z) (taken_least archive u (s'.bases u) row (s'.logs u) (suc k) n)
-      (plays n (suc k) s' (λ j a b. h j (omega arith) (omega arith) ∙ ap (λ (x : Block). x.bytes) (sym (same-given s (at k) (at j)))))))
+      rw (eq-eqb (take_of archive u (s.logs u) (s.bases u) (block_at row k)).number 0 z, ← next_log s k e, ← next_base s (at k))
+      (played_more k s (try_from archive u (s'.bases u) row (s'.logs u) (suc k) n) (take-answers s k e ∙ z) (taken_least archive u (s'.bases u) row (s'.logs u) (suc k) n)
+      (plays n (suc k) s' (λ j a b. h j (omega arith) (omega arith) ∙ ap (λ (x : Block). x.bytes) (sym (same_given s (at k) (at j)))))))
       (λ (z : (take_of archive u (s.logs u) (s.bases u) (block_at row k)).number ≡ 0 → ⊥).
-      rw (ne_eqb (take_of archive u (s.logs u) (s.bases u) (block_at row k)).number 0 z) (played-none k s (take_of archive u (s.logs u) (s.bases u) (block_at row k)).number (λ y. take-answers s k e)))
+      rw (ne_eqb (take_of archive u (s.logs u) (s.bases u) (block_at row k)).number 0 z) (played_none k s (take_of archive u (s.logs u) (s.bases u) (block_at row k)).number (λ y. take-answers s k e)))
       (eq_or_ne (take_of archive u (s.logs u) (s.bases u) (block_at row k)).number 0)
 
   -- a row that is turned away is no take

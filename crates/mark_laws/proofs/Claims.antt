@@ -20,7 +20,7 @@ use Rattle.tree_laws.proofs.Identities.{makers-distinct}
 use Rattle.tree_laws.proofs.Seen.{sound_distinct}
 use Rattle.mark_laws.specs.Marks.{SameButMark, OneMarkApart, StaysSmall, row_of, hide_mark}
 use Rattle.mark_laws.proofs.Entries.{distinct_made, one_differs}
-use Rattle.mark_laws.proofs.Logs.{small, stays-small}
+use Rattle.mark_laws.proofs.Logs.{small, stays_small}
 use Rattle.mark_laws.proofs.Shown.{log_hidden, row_mark}
 use Rattle.mark_laws.proofs.Sound.{sound_apart}
 use Rattle.mark_laws.proofs.Places.{apart_by_records}
@@ -28,7 +28,7 @@ use Rattle.mark_laws.proofs.Places.{apart_by_records}
 -- two sound logs that differ only in the content mark of one make trace or store have the same entries, labels, places, disputes and asides, and
 -- at most one entry's mark differs, that of the trace; none where the record stands aside or a later store has fitted on the trace
 pub two_logs : (i : ℕ) (l m : List Rec) → sound_after no_counts [] l ≡ true → sound_after no_counts [] m ≡ true → OneMarkApart i l m → StaysSmall i l m
-two_logs i l m s t a = stays-small i l m a (sound_means l s)
+two_logs i l m s t a = stays_small i l m a (sound_means l s)
 
 -- rank does not read the mark: sound logs with the same records but one, and that one the same but for its mark, have it at one place
 pub at_one_place : (l m : List Rec) (r s : Rec) → sound_after no_counts [] l ≡ true → sound_after no_counts [] m ≡ true → Member r l → Member s m → SameButMark r s → (op r ≡ 2) ⊎ (op r ≡ 3)

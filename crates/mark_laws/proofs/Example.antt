@@ -135,4 +135,4 @@ none_after_a_store =
 pub none_of_an_aside : P.replay (refused right) ≡ P.replay (refused wrong)
 none_of_an_aside =
     (small 1 (refused right) (refused wrong) computed.sound_refused computed.apart_refused computed.long_refused
-    ).stands_aside 15 (0 · 1) computed.stands
+    ).stands_aside_lem 15 (0 · 1) computed.stands

@@ -17,10 +17,10 @@ use Rattle.tree_laws.proofs.Steps.{step-aside}
 use Rattle.tree_laws.proofs.Identities.{makers-distinct}
 use Rattle.tree_laws.proofs.Seen.{sound_distinct}
 use Rattle.tree_laws.proofs.Dates.{kept}
-use Rattle.tree_laws.proofs.Blind.{SameRead, front_same, front_part, read_same, judge-same, blind, Alike, alike_self, replay-alike}
+use Rattle.tree_laws.proofs.Blind.{SameRead, front_same, front_part, read_same, judge_same, blind, Alike, alike_self, replay-alike}
 use Rattle.mark_laws.specs.Marks.{mark_at, SameButMark, OneMarkApart, mark_if, mark_tree, StaysSmall}
 use Rattle.mark_laws.proofs.Pairs.{pairs_at, pairs_take, take_equal, drop_equal, replay-at, sound_take}
-use Rattle.mark_laws.proofs.Trees.{given, given_settles, same-but-mark, judged-same, stored_same, removed-same}
+use Rattle.mark_laws.proofs.Trees.{given, given_settles, same_but_mark, judged_same, stored_same, removed_same}
 
 -- ---- the record that differs
 
@@ -56,24 +56,24 @@ module _ (i : ℕ) (l m : List Rec) (a : OneMarkApart i l m) where
       (λ (q : j ≡ i → ⊥). rw (sym (a.elsewhere j h q)) (alike_self kept (given k v) (get_or l j [])))
       (eq_or_ne j i)
 
-  marks-alike : (v : List ℕ) → Pairs (Alike kept (given k v)) l m
-  marks-alike v = pairs_at (Alike kept (given k v)) l m a.as_long (alike_at v)
+  marks_alike : (v : List ℕ) → Pairs (Alike kept (given k v)) l m
+  marks_alike v = pairs_at (Alike kept (given k v)) l m a.as_long (alike_at v)
 
   -- the trees of both, up to any place and at the end
-  pub small-to : (j : ℕ) (v : List ℕ) → mark_tree k v (replay (take j l)) ≡ mark_tree k v (replay (take j m))
+  pub small_to : (j : ℕ) (v : List ℕ) → mark_tree k v (replay (take j l)) ≡ mark_tree k v (replay (take j m))
   unfolding replay mark_tree mark_if blind kept given
-  small-to j v =
+  small_to j v =
       replay-alike kept (given k v) (λ _ _. refl) (given_settles k v) (take j l) (take j m) empty_tree empty_tree
-      (pairs_take (Alike kept (given k v)) j l m (marks-alike v)) refl
+      (pairs_take (Alike kept (given k v)) j l m (marks_alike v)) refl
 
   pub small : (v : List ℕ) → mark_tree k v (replay l) ≡ mark_tree k v (replay m)
   unfolding replay mark_tree mark_if blind kept given
-  small v = replay-alike kept (given k v) (λ _ _. refl) (given_settles k v) l m empty_tree empty_tree (marks-alike v) refl
+  small v = replay-alike kept (given k v) (λ _ _. refl) (given_settles k v) l m empty_tree empty_tree (marks_alike v) refl
 
-  judged-at : (j : ℕ) → j < length l → judge (get_or l j []) (replay (take j l)) ≡ judge (get_or m j []) (replay (take j m))
-  judged-at j h =
-      judge-same (get_or l j []) (get_or m j []) (alike_at [] j h).read (replay (take j l))
-      ∙ judged-same k (replay (take j l)) (replay (take j m)) (small-to j) (get_or m j [])
+  judged_at : (j : ℕ) → j < length l → judge (get_or l j []) (replay (take j l)) ≡ judge (get_or m j []) (replay (take j m))
+  judged_at j h =
+      judge_same (get_or l j []) (get_or m j []) (alike_at [] j h).read (replay (take j l))
+      ∙ judged_same k (replay (take j l)) (replay (take j m)) (small_to j) (get_or m j [])
 
   -- equal steps at a place from i on leave equal trees
   from_step : (j : ℕ) → i ≤ j → j < length l → step (replay (take j l)) (get_or l j []) ≡ step (replay (take j m)) (get_or m j []) → replay l ≡ replay m
@@ -90,19 +90,19 @@ module _ (i : ℕ) (l m : List Rec) (a : OneMarkApart i l m) where
       from_step i (omega arith) a.there
       (step-aside t r n y h
       ∙ (λ x. record { entries = t.entries; asides = t.asides ++ (record { who = f.self_same x; reason = n; marked = y; is_open = true } ∷ []) })
-      ∙ sym (step-aside t s n y (sym (judge-same r s f t) ∙ h))
+      ∙ sym (step-aside t s n y (sym (judge_same r s f t) ∙ h))
       ∙ ap (λ (x : List Rec). step (replay x) s) e)
 
-  pub stays-small : Sound l → StaysSmall i l m
-  stays-small w =
+  pub stays_small : Sound l → StaysSmall i l m
+  stays_small w =
       record {
-        judged = judged-at;
-        one = same-but-mark k (replay l) (replay m) small;
-        stands_aside = stands_same;
+        judged = judged_at;
+        one = same_but_mark k (replay l) (replay m) small;
+        stands_aside_lem = stands_same;
         stored_later = λ j n h o p f.
             let alone : Distinct (makers (replay (take j l)).entries) = makers-distinct (take j l) (sound_distinct (take j l) (sound_take j [] l w)) in
             let q : get_or l j [] ≡ get_or m j [] = a.elsewhere j h (λ z. omega arith) in
             from_step j (omega arith) h
-            (stored_same k (replay (take j l)) (replay (take j m)) (small-to j) (get_or l j []) alone o p f ∙ ap (step (replay (take j m))) q);
-        removed = removed-same k (replay l) (replay m) small;
+            (stored_same k (replay (take j l)) (replay (take j m)) (small_to j) (get_or l j []) alone o p f ∙ ap (step (replay (take j m))) q);
+        removed = removed_same k (replay l) (replay m) small;
       }

@@ -15,28 +15,28 @@ use Rattle.log_laws.proofs.Counts.{above_all}
 use Rattle.tree_laws.specs.Replayed.{Pairs}
 use Rattle.mark_laws.specs.Marks.{mark_at, SameButMark, OneMarkApart}
 use Rattle.mark_laws.proofs.Pairs.{pairs_length, pairs_get}
-use Rattle.mark_laws.proofs.Sound.{rank-but-mark}
+use Rattle.mark_laws.proofs.Sound.{rank_but_mark}
 
 module _ (R : Rec → Rec → Type 0) (level : (x y : Rec) → R x y → rank x ≡ rank y) where
-  pairs-by-rank : (pre ere l m : List Rec) → SoundAfter no_counts pre l → SoundAfter no_counts ere m → ((x : Rec) → Has x l → (y : Rec) × Has y m × R x y)
+  pairs_by_rank : (pre ere l m : List Rec) → SoundAfter no_counts pre l → SoundAfter no_counts ere m → ((x : Rec) → Has x l → (y : Rec) × Has y m × R x y)
       → ((y : Rec) → Has y m → (x : Rec) × Has x l × R x y) → Pairs R l m
-  pairs-by-rank pre ere [] [] h k to back = tt
-  pairs-by-rank pre ere [] (y ∷ m) h k to back = let (x, i, a) = back y (inl refl) in absurd i
-  pairs-by-rank pre ere (x ∷ l) [] h k to back = let (y, i, a) = to x (inl refl) in absurd i
-  pairs-by-rank pre ere (x ∷ l) (y ∷ m) h k to back = (
+  pairs_by_rank pre ere [] [] h k to back = tt
+  pairs_by_rank pre ere [] (y ∷ m) h k to back = let (x, i, a) = back y (inl refl) in absurd i
+  pairs_by_rank pre ere (x ∷ l) [] h k to back = let (y, i, a) = to x (inl refl) in absurd i
+  pairs_by_rank pre ere (x ∷ l) (y ∷ m) h k to back = (
     first,
-    pairs-by-rank (x ∷ pre) (y ∷ ere) l m h.1 k.1
+    pairs_by_rank (x ∷ pre) (y ∷ ere) l m h.1 k.1
         (λ z i. let (p, j, a) = to z (inr i) in
         ⊎_elim (λ (e : p ≡ y). absurd (omega (arith, level z p a, ap rank e, level x y first, behind z i))) (λ b. (p, b, a)) j)
         (λ z i. let (p, j, a) = back z (inr i) in
-        ⊎_elim (λ (e : p ≡ x). absurd (omega (arith, level p z a, ap rank e, level x y first, behind-too z i))) (λ b. (p, b, a)) j),
+        ⊎_elim (λ (e : p ≡ x). absurd (omega (arith, level p z a, ap rank e, level x y first, behind_too z i))) (λ b. (p, b, a)) j),
   )
     where
       behind : (z : Rec) → Has z l → rank x < rank z
       behind z i = above_all (x ∷ pre) l x z h.1 (inl refl) i
 
-      behind-too : (z : Rec) → Has z m → rank y < rank z
-      behind-too z i = above_all (y ∷ ere) m y z k.1 (inl refl) i
+      behind_too : (z : Rec) → Has z m → rank y < rank z
+      behind_too z i = above_all (y ∷ ere) m y z k.1 (inl refl) i
 
       first : R x y
       first =
@@ -47,7 +47,7 @@ module _ (R : Rec → Rec → Type 0) (level : (x y : Rec) → R x y → rank x 
           (λ c.
           ⊎_elim
           (λ (e : q ≡ x). rw e at b)
-          (λ d. absurd (omega (arith, level x p a, level q y b, behind q d, behind-too p c)))
+          (λ d. absurd (omega (arith, level x p a, level q y b, behind q d, behind_too p c)))
           j)
           i
 
@@ -87,11 +87,11 @@ apart_by_records l m r s h k i j e o to back =
 
     level : (x y : Rec) → R x y → rank x ≡ rank y
     level x y (inl z) = ap rank z
-    level x y (inr (p, q)) = ap rank p ∙ rank-but-mark r s e ∙ ap rank (sym q)
+    level x y (inr (p, q)) = ap rank p ∙ rank_but_mark r s e ∙ ap rank (sym q)
 
     pairs : Pairs R l m
     pairs =
-        pairs-by-rank R level [] [] l m h k
+        pairs_by_rank R level [] [] l m h k
         (λ x i. ⊎_elim (λ (z : x ≡ r). (s, j, inr (z, refl))) (λ z. (x, z, inl refl)) (to x i))
         (λ y n. ⊎_elim (λ (z : y ≡ s). (r, i, inr (refl, z))) (λ z. (y, z, inl refl)) (back y n))
 

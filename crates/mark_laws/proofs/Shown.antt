@@ -22,7 +22,7 @@ use Rattle.tree_laws.proofs.Identities.{makers-distinct}
 use Rattle.tree_laws.proofs.Seen.{sound_distinct}
 use Rattle.tree_laws.proofs.Dates.{kept}
 use Rattle.tree_laws.proofs.Blind.{blind}
-use Rattle.tree_laws.proofs.Tables.{Filled, Hides, Within, hide-append, hide-keeps, hide-all, row-length, hidden-table, filled-replay, entries_few}
+use Rattle.tree_laws.proofs.Tables.{Filled, Hides, Within, hide_append, hide_keeps, hide_all, row-length, hidden_table, filled-replay, entries_few}
 use Rattle.mark_laws.specs.Marks.{mark_if, mark_tree, row_of, mark_from, mark_to, is_mark_place, hide_mark}
 use Rattle.mark_laws.proofs.Trees.{given, mark_other}
 
@@ -52,7 +52,7 @@ zeros = replicate 16 0
 
 row_other : (n y d : ℕ) (e : Entry) → (n < y) ⊎ (y < n) → Filled e → hide_from (is_mark_place y) (4 + 72 * n) (entry_row d e) ≡ entry_row d e
 row_other n y d e o f =
-    hide-keeps (is_mark_place y) (4 + 72 * n) (entry_row d e) (λ j h.
+    hide_keeps (is_mark_place y) (4 + 72 * n) (entry_row d e) (λ j h.
     elsewhere y (4 + 72 * n + j)
     (⊎_elim (λ p. inl (omega (arith, row-length d e f))) (λ p. inr (omega (arith, row-length d e f))) o))
 
@@ -60,19 +60,19 @@ module _ (k : ℕ) (s : List Aside) where
   abbrev g : Entry → Entry
   g = mark_if k zeros
 
-  row-own : (n d : ℕ) (e : Entry) → n < 512 → Filled e → e.made ≡ k → hide_from (is_mark_place n) (4 + 72 * n) (entry_row d e) ≡ entry_row d (g e)
+  row_own : (n d : ℕ) (e : Entry) → n < 512 → Filled e → e.made ≡ k → hide_from (is_mark_place n) (4 + 72 * n) (entry_row d e) ≡ entry_row d (g e)
   unfolding entry_row identity_bytes mark_if
-  row-own n d e b (p, q, m) z =
+  row_own n d e b (p, q, m) z =
       let i : ℕ = 4 + 72 * n in
       let f : List ℕ = (e.kind ∷ d ∷ 0 ∷ 0 ∷ []) ++ (identity_bytes e.made ++ (identity_bytes e.inside ++ (identity_bytes e.contents ++ identity_bytes e.placing))) in
       let t : List ℕ = f ++ (e.date ++ e.label) in
       let w : length t ≡ 56 = omega (arith, length-append e.date e.label) in
       let a : hide_from (is_mark_place n) (i + length t) e.mark ≡ zeros =
-      hide-all (is_mark_place n) (i + length t) e.mark (λ j h. there n (i + length t + j) b (omega arith) (omega arith)) ∙ rw m in
+      hide_all (is_mark_place n) (i + length t) e.mark (λ j h. there n (i + length t + j) b (omega arith) (omega arith)) ∙ rw m in
       rw (eq-eqb e.made k z)
       (ap (λ (x : List ℕ). hide_from (is_mark_place n) i (f ++ x)) (sym (append_assoc e.date e.label e.mark))
-      ∙ hide-append (is_mark_place n) i t e.mark
-      ∙ (λ x. hide-keeps (is_mark_place n) i t (λ j h. elsewhere n (i + j) (inl (omega arith))) x ++ a x)
+      ∙ hide_append (is_mark_place n) i t e.mark
+      ∙ (λ x. hide_keeps (is_mark_place n) i t (λ j h. elsewhere n (i + j) (inl (omega arith))) x ++ a x)
       ∙ ap (λ (x : List ℕ). f ++ x) (append_assoc e.date e.label zeros))
 
   -- rows behind that of the entry k
@@ -90,10 +90,10 @@ module _ (k : ℕ) (s : List Aside) where
       (λ (c : is_present e ≡ false). rw c (rows_behind y n h es a.1 (λ i. d (inr i))))
       (bool_cases (is_present e))
 
-  rows-marked : (n : ℕ) (es : List Entry) → n + length (present_ones es) ≤ 512 → All Filled es → Distinct (makers es) → Hides (is_mark_place (n + row_of k es)) g s n (present_ones es)
+  rows_marked : (n : ℕ) (es : List Entry) → n + length (present_ones es) ≤ 512 → All Filled es → Distinct (makers es) → Hides (is_mark_place (n + row_of k es)) g s n (present_ones es)
   unfolding present_ones makers row_of
-  rows-marked n [] b a d = tt
-  rows-marked n (e ∷ es) b a d =
+  rows_marked n [] b a d = tt
+  rows_marked n (e ∷ es) b a d =
       ⊎_elim
       (λ (c : is_present e ≡ true).
       let x : ℕ = cond (is_disputed e.made s) 1 0 in
@@ -102,17 +102,17 @@ module _ (k : ℕ) (s : List Aside) where
       (λ (z : e.made ≡ k).
       let y : n + 0 ≡ n = omega arith in
       rw (c, eq-eqb e.made k z, y) (
-        row-own n x e (omega arith) a.0 z,
+        row_own n x e (omega arith) a.0 z,
         rows_behind n (suc n) (omega arith) es a.1 (λ i. d.0 (subst (λ (v : ℕ). Has v (makers es)) (sym z) i)),
       ))
       (λ (z : e.made ≡ k → ⊥).
       let y : n + suc (row_of k es) ≡ suc n + row_of k es = omega arith in
       rw (c, ne_eqb e.made k z, y) (
         row_other n (suc n + row_of k es) x e (inl (omega arith)) a.0 ∙ ap (entry_row x) (sym (mark_other k zeros e z)),
-        rows-marked (suc n) es (omega arith) a.1 d.1,
+        rows_marked (suc n) es (omega arith) a.1 d.1,
       ))
       (eq_or_ne e.made k))
-      (λ (c : is_present e ≡ false). rw c (rows-marked n es (rw c at b) a.1 d.1))
+      (λ (c : is_present e ≡ false). rw c (rows_marked n es (rw c at b) a.1 d.1))
       (bool_cases (is_present e))
 
 -- ---- tables
@@ -123,8 +123,8 @@ unfolding hide_mark mark_tree mark_if blind kept given
 mark_hidden k t a h d =
     let y : 0 + row_of k t.entries ≡ row_of k t.entries = omega arith in
     let r : Hides (is_mark_place (row_of k t.entries)) (mark_if k zeros) t.asides 0 (present_ones t.entries) =
-    rw y at (rows-marked k t.asides 0 t.entries (omega arith) a d) in
-    hidden-table (is_mark_place (row_of k t.entries)) kept (given k zeros) (λ e f. (f.0, f.1, long (eqb e.made k) e.mark f.2))
+    rw y at (rows_marked k t.asides 0 t.entries (omega arith) a d) in
+    hidden_table (is_mark_place (row_of k t.entries)) kept (given k zeros) (λ e f. (f.0, f.1, long (eqb e.made k) e.mark f.2))
     (mark_places (row_of k t.entries)) t a h r
   where
     long : (b : Bool) (m : List ℕ) → length m ≡ 16 → length (cond b zeros m) ≡ 16

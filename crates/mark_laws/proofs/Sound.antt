@@ -78,18 +78,18 @@ module _ (r s : Rec) (e : SameButMark r s) where
       (leb 1 (op r) && (leb (op r) 7 && (leb 1 (num r) && eqb (seen s (unit r)) (num r - 1))))
       (λ z. rw (seen_at (unit r) (omega (arith, leb-true (unit r) 7 z)))))
 
-  mark-at : (op r ≡ 2) ⊎ (op r ≡ 3) → mark_fits r ≡ mark_fits s
+  mark_at_lem : (op r ≡ 2) ⊎ (op r ≡ 3) → mark_fits r ≡ mark_fits s
   unfolding mark_fits uses_mark
-  mark-at (inl o) = let o₁ : op s ≡ 2 = sym op-at ∙ o in rw (o, o₁)
-  mark-at (inr o) = let o₁ : op s ≡ 3 = sym op-at ∙ o in rw (o, o₁)
+  mark_at_lem (inl o) = let o₁ : op s ≡ 2 = sym op-at ∙ o in rw (o, o₁)
+  mark_at_lem (inr o) = let o₁ : op s ≡ 3 = sym op-at ∙ o in rw (o, o₁)
 
-  formed-at : length r ≡ length s → (op r ≡ 2) ⊎ (op r ≡ 3) → well_formed r ≡ well_formed s
+  formed_at : length r ≡ length s → (op r ≡ 2) ⊎ (op r ≡ 3) → well_formed r ≡ well_formed s
   unfolding well_formed object_fits folder_fits date_fits label_fits label_of
-  formed-at n o =
+  formed_at n o =
       rw (
         n,
         head_at,
-        mark-at o,
+        mark_at_lem o,
         op-at,
         names_at 20 (omega arith),
         unused-at 20 4 (omega arith),
@@ -103,8 +103,8 @@ module _ (r s : Rec) (e : SameButMark r s) where
       )
 
   -- rank does not read the mark
-  pub rank-but-mark : rank r ≡ rank s
-  rank-but-mark = rank-alike r s unit-at seen_at
+  pub rank_but_mark : rank r ≡ rank s
+  rank_but_mark = rank-alike r s unit-at seen_at
 
 -- ---- records that stand alike in a log
 
@@ -161,23 +161,23 @@ sound_twins pre ere (r ∷ l) (s ∷ m) f p h = (
 pub sound_apart : (i : ℕ) (l m : List Rec) → OneMarkApart i l m → length (get_or m i []) ≡ 80 → Sound l → Sound m
 sound_apart i l m a n h =
     sound_twins [] [] l m (record { counts = λ u. refl; twins = λ y i. absurd i })
-    (pairs_at Twin l m a.as_long twin-at) h
+    (pairs_at Twin l m a.as_long twin_at) h
   where
-    mark-twin : Twin (get_or l i []) (get_or m i [])
-    mark-twin =
+    mark_twin : Twin (get_or l i []) (get_or m i [])
+    mark_twin =
         let r : Rec = get_or l i [] in
         let s : Rec = get_or m i [] in
         let e = a.but_mark in
         record {
-          formed = λ f. sym (formed-at r s e (well_length r f ∙ sym n) a.gives_mark) ∙ f;
+          formed = λ f. sym (formed_at r s e (well_length r f ∙ sym n) a.gives_mark) ∙ f;
           of_unit = unit-at r s e;
           of_num = num-at r s e;
           of_seen = seen_at r s e;
         }
 
-    twin-at : (j : ℕ) → j < length l → Twin (get_or l j []) (get_or m j [])
-    twin-at j b =
+    twin_at : (j : ℕ) → j < length l → Twin (get_or l j []) (get_or m j [])
+    twin_at j b =
         ⊎_elim
-        (λ (q : j ≡ i). rw q mark-twin)
+        (λ (q : j ≡ i). rw q mark_twin)
         (λ (q : j ≡ i → ⊥). rw (sym (a.elsewhere j b q)) (twin_self (get_or l j [])))
         (eq_or_ne j i)

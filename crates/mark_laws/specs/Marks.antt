@@ -65,7 +65,7 @@ pub record StaysSmall (i : ℕ) (l m : List Rec) : Type 0 where
   -- the trees are the same but for the mark of the trace that the record makes or stores on
   pub one : SameButMarkOf (trace_of (get_or l i [])) (replay l) (replay m)
   -- where that record stands aside, they are the same
-  pub stands_aside : (n k : ℕ) → judge (get_or l i []) (replay (take i l)) ≡ aside n k → replay l ≡ replay m
+  pub stands_aside_lem : (n k : ℕ) → judge (get_or l i []) (replay (take i l)) ≡ aside n k → replay l ≡ replay m
   -- and where a later store has fitted on the same trace
   pub stored_later : (j : ℕ) → i < j → j < length l → op (get_or l j []) ≡ 3 → object_of (get_or l j []) ≡ trace_of (get_or l i [])
       → judge (get_or l j []) (replay (take j l)) ≡ fits → replay l ≡ replay m

@@ -8,7 +8,7 @@ use mathlib.Core.Logic.{inl, inr}
 use mathlib.Core.Bool.{Bool, true, false, not}
 use mathlib.Core.List.{List, []}
 use lib.ListN.{length, take, drop}
-use borrow.Author.Tests.{eq-eqb, ne_eqb, not-true, not-false}
+use borrow.Author.Tests.{eq-eqb, ne_eqb, not-true, not_false}
 use Rattle.model.specs.Bytes.{part}
 use Rattle.model.specs.Record.{Rec}
 use Rattle.model.specs.Log.{vector_of, no_counts}
@@ -20,14 +20,14 @@ use Rattle.log_laws.proofs.Counts.{no_counts_lem, formed}
 use Rattle.log_laws.proofs.Tests.{vector_on-none}
 use Rattle.call_laws.proofs.Merging.{checked_both, file_sound, file_few}
 use Rattle.run_laws.proofs.Records.{length-file_records}
-use Rattle.file_laws.proofs.Rewritten.{vector-right}
+use Rattle.file_laws.proofs.Rewritten.{vector_right}
 use Rattle.log_closure.specs.Tables.{Indexed}
 use Rattle.log_check.specs.declared.Layout.TheVariants.{File}
 use Rattle.log_check.specs.Places.{offset_of, laid_at, Laid}
 use Rattle.log_check.specs.InOrder.{listed}
 use Rattle.read_file_check.proofs.Checks.{whole, some_block, few_blocks}
 use Rattle.read_file_check.proofs.Records.{file_listed}
-use Rattle.read_file.proofs.Copied.{few-in-file}
+use Rattle.read_file.proofs.Copied.{few_in_file}
 use Rattle.merge_check.specs.Tables.{Positioned, AllFormed, Fine}
 
 -- ---- the first file
@@ -60,22 +60,22 @@ module _ (f : List ℕ) (z : (checked_fault f).number ≡ 0) where
   pub checked-whole : length f ≡ 512 * (length f / 512)
   checked-whole = whole f (sym (checked_both f z).0) refl
 
-  pub checked-some : 1 ≤ length f / 512
-  checked-some = some_block f (sym (checked_both f z).0) refl
+  pub checked_some : 1 ≤ length f / 512
+  checked_some = some_block f (sym (checked_both f z).0) refl
 
-  pub checked-few : length f / 512 ≤ 186
-  checked-few = omega (arith, few_blocks f (sym (checked_both f z).0) refl)
+  pub checked_few : length f / 512 ≤ 186
+  checked_few = omega (arith, few_blocks f (sym (checked_both f z).0) refl)
 
-  pub checked-512 : 512 ≤ length f
-  checked-512 = omega (arith, checked-some)
+  pub checked_512 : 512 ≤ length f
+  checked_512 = omega (arith, checked_some)
 
-  pub header-counts : (v : List ℕ) → v ≡ vector_in (take (512 - 0) (drop 0 f)) → v ≡ vector_of (file_records f)
+  pub header_counts : (v : List ℕ) → v ≡ vector_in (take (512 - 0) (drop 0 f)) → v ≡ vector_of (file_records f)
   unfolding block_at part
-  header-counts v e = e ∙ vector-right f (checked_both f z).0 (checked_both f z).1
+  header_counts v e = e ∙ vector_right f (checked_both f z).0 (checked_both f z).1
 
   module _ (t : ℕ) (e : t ≡ records_counted f) where
-    pub checked-places : t ≤ 6 * (length f / 512)
-    checked-places = few-in-file f (length f / 512) checked-whole e (checked_both f z).1 checked-some
+    pub checked_places : t ≤ 6 * (length f / 512)
+    checked_places = few_in_file f (length f / 512) checked-whole e (checked_both f z).1 checked_some
 
     listed_is : file_records f ≡ listed (laid_at File f) 0 t
     unfolding file_records
@@ -87,30 +87,30 @@ module _ (f : List ℕ) (z : (checked_fault f).number ≡ 0) where
 
     lies : Laid File f t
     unfolding offset_of
-    lies = let k = checked-places in let w = checked-whole in record { inside = λ i j. omega arith }
+    lies = let k = checked_places in let w = checked-whole in record { inside = λ i j. omega arith }
 
-    all-formed : AllFormed (laid_at File f) t
-    all-formed =
+    all_formed : AllFormed (laid_at File f) t
+    all_formed =
         record {
           each = λ i h.
               formed [] (file_records f) (laid_at File f i) (file_sound f z)
               (rw listed_is (let q : 0 + i ≡ i = omega arith in rw q at (has_listed (laid_at File f) 0 t i h)));
         }
 
-    pub checked-fine : Fine f t
-    checked-fine =
+    pub checked_fine : Fine f t
+    checked_fine =
         record {
           right = z;
           few = omega (arith, counted_is, file_few f z);
           laid = lies;
-          formed = all-formed;
+          formed = all_formed;
           records = listed_is;
           counted = counted_is;
         }
 
-    pub checked-positions : (v places : List ℕ) → v ≡ vector_of (file_records f)
+    pub checked_positions : (v places : List ℕ) → v ≡ vector_of (file_records f)
         → Positioned (laid_at File f) (records_counted f) (file_records f) (vector_of (file_records f)) places → Positioned (laid_at File f) t (file_records f) v places
-    checked-positions v places ev p = rw (e, ev) p
+    checked_positions v places ev p = rw (e, ev) p
 
 -- ---- each way out
 
@@ -123,34 +123,34 @@ unfolding fault
 union_right f g n p e z = sym (ap (λ (x : Fault). x.number) e) ∙ z
 
 module _ (f g log lent : List ℕ) where
-  pub log-wrong : (length log ≡ 40960 → ⊥) → merged 1 0 0 0 log lent ≡ merge_of f g log lent
+  pub log_wrong : (length log ≡ 40960 → ⊥) → merged 1 0 0 0 log lent ≡ merge_of f g log lent
   unfolding merge_of
-  log-wrong h = rw (ne_eqb (length log) 40960 h)
+  log_wrong h = rw (ne_eqb (length log) 40960 h)
 
   module _ (l : length log ≡ 40960) where
-    pub lent-wrong : (length lent ≡ 44032 → ⊥) → merged 1 0 0 0 log lent ≡ merge_of f g log lent
+    pub lent_wrong : (length lent ≡ 44032 → ⊥) → merged 1 0 0 0 log lent ≡ merge_of f g log lent
     unfolding merge_of
-    lent-wrong h = rw (eq-eqb (length log) 40960 l, ne_eqb (length lent) 44032 h)
+    lent_wrong h = rw (eq-eqb (length log) 40960 l, ne_eqb (length lent) 44032 h)
 
     module _ (m : length lent ≡ 44032) (n p : ℕ) (e : fault n p ≡ checked_fault f) where
-      pub first-refused : (n ≡ 0 → ⊥) → merged n p 1 0 log lent ≡ merge_of f g log lent
+      pub first_refused : (n ≡ 0 → ⊥) → merged n p 1 0 log lent ≡ merge_of f g log lent
       unfolding merge_of unless_any unless fault
-      first-refused h = rw (eq-eqb (length log) 40960 l, eq-eqb (length lent) 44032 m, ← e, ne_eqb n 0 h)
+      first_refused h = rw (eq-eqb (length log) 40960 l, eq-eqb (length lent) 44032 m, ← e, ne_eqb n 0 h)
 
       module _ (z : n ≡ 0) (n₂ p₂ : ℕ) (e₂ : fault n₂ p₂ ≡ checked_fault g) where
         pub second_refused_lem : (n₂ ≡ 0 → ⊥) → merged n₂ p₂ 2 0 log lent ≡ merge_of f g log lent
         unfolding merge_of unless_any unless fault
         second_refused_lem h = rw (eq-eqb (length log) 40960 l, eq-eqb (length lent) 44032 m, ← e, z, ← e₂, ne_eqb n₂ 0 h)
 
-        pub both-joined : n₂ ≡ 0 → (x y w k : ℕ) (o q : List ℕ) → merged x y w k o q ≡ unless (union_fault f g) 2 log lent (joined_file f (union (file_records f) (file_records g)))
+        pub both_joined : n₂ ≡ 0 → (x y w k : ℕ) (o q : List ℕ) → merged x y w k o q ≡ unless (union_fault f g) 2 log lent (joined_file f (union (file_records f) (file_records g)))
             → merged x y w k o q ≡ merge_of f g log lent
         unfolding merge_of unless_any fault unless
-        both-joined z₂ x y w k o q r = r ∙ rw (eq-eqb (length log) 40960 l, eq-eqb (length lent) 44032 m, ← e, z, ← e₂, z₂)
+        both_joined z₂ x y w k o q r = r ∙ rw (eq-eqb (length log) 40960 l, eq-eqb (length lent) 44032 m, ← e, z, ← e₂, z₂)
 
   module _ (n p : ℕ) (e : fault n p ≡ union_fault f g) where
-    pub union-refused : (n ≡ 0 → ⊥) → merged n p 2 0 log lent ≡ unless (union_fault f g) 2 log lent (joined_file f (union (file_records f) (file_records g)))
+    pub union_refused : (n ≡ 0 → ⊥) → merged n p 2 0 log lent ≡ unless (union_fault f g) 2 log lent (joined_file f (union (file_records f) (file_records g)))
     unfolding unless fault
-    union-refused h = rw (← e, ne_eqb n 0 h)
+    union_refused h = rw (← e, ne_eqb n 0 h)
 
     pub union-joined : n ≡ 0 → (k : ℕ) (o q : List ℕ) → merged 0 0 0 k o q ≡ joined_file f (union (file_records f) (file_records g))
         → merged 0 0 0 k o q ≡ unless (union_fault f g) 2 log lent (joined_file f (union (file_records f) (file_records g)))

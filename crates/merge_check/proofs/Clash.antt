@@ -14,34 +14,34 @@ use Rattle.log_check.specs.InOrder.{listed}
 use Rattle.merge_check.specs.Tables.{Positioned, AllFormed, Fine}
 
 module _ (f : List ℕ) (total : ℕ) (fine : Fine f total) where
-  pub fine-few : total ≤ 512
-  fine-few = fine.few
+  pub fine_few : total ≤ 512
+  fine_few = fine.few
 
-  pub fine-laid : Laid File f total
-  fine-laid = fine.laid
+  pub fine_laid : Laid File f total
+  fine_laid = fine.laid
 
-  pub fine-formed : AllFormed (laid_at File f) total
-  fine-formed = fine.formed
+  pub fine_formed : AllFormed (laid_at File f) total
+  fine_formed = fine.formed
 
 -- ---- 10, then 11
 
 module _ (f g : List ℕ) (used total : ℕ) (a : Fine f used) (b : Fine g total) (bn bp : ℕ) (eb : fault bn bp ≡ bytes_fault (file_records f) 0 (listed (laid_at File g) 0 total)) where
-  pub bytes-differ : (bn ≡ 0 → ⊥) → fault bn bp ≡ records_clash (file_records f) (length (file_records f)) (file_records g)
+  pub bytes_differ : (bn ≡ 0 → ⊥) → fault bn bp ≡ records_clash (file_records f) (length (file_records f)) (file_records g)
   unfolding records_clash or_else fault
-  bytes-differ k = sym (rw (b.records, ← eb, ne_eqb bn 0 k))
+  bytes_differ k = sym (rw (b.records, ← eb, ne_eqb bn 0 k))
 
-  pub room-told : (held places : List ℕ) → Positioned (laid_at File f) used (file_records f) held places → bn ≡ 0 → (rn rp : ℕ)
+  pub room_told : (held places : List ℕ) → Positioned (laid_at File f) used (file_records f) held places → bn ≡ 0 → (rn rp : ℕ)
       → fault rn rp ≡ room_fault held used 0 (listed (laid_at File g) 0 total) → fault rn rp ≡ records_clash (file_records f) (length (file_records f)) (file_records g)
   unfolding records_clash or_else fault
-  room-told held places p k rn rp er = er ∙ sym (rw (b.records, ← eb, k, ← p.counts, ← a.counted))
+  room_told held places p k rn rp er = er ∙ sym (rw (b.records, ← eb, k, ← p.counts, ← a.counted))
 
 -- ---- 6 before them
 
 module _ (f g : List ℕ) (x y : ℕ) (ex : x ≡ archive_in (block_at g 0)) (ey : y ≡ archive_in (block_at f 0)) where
-  pub archives-differ : (x ≡ y → ⊥) → fault 6 0 ≡ union_fault f g
+  pub archives_differ : (x ≡ y → ⊥) → fault 6 0 ≡ union_fault f g
   unfolding union_fault archive_fault or_else fault
-  archives-differ h = rw (← ex, ← ey, ne_eqb x y h)
+  archives_differ h = rw (← ex, ← ey, ne_eqb x y h)
 
-  pub archives-same : x ≡ y → (n p : ℕ) → fault n p ≡ records_clash (file_records f) (length (file_records f)) (file_records g) → fault n p ≡ union_fault f g
+  pub archives_same : x ≡ y → (n p : ℕ) → fault n p ≡ records_clash (file_records f) (length (file_records f)) (file_records g) → fault n p ≡ union_fault f g
   unfolding union_fault archive_fault or_else fault
-  archives-same h n p e = e ∙ rw (← ex, ← ey, eq-eqb x y h)
+  archives_same h n p e = e ∙ rw (← ex, ← ey, eq-eqb x y h)

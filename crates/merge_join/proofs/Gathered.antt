@@ -7,7 +7,7 @@ use mathlib.Core.Bool.{Bool, true, false, cond, not}
 use mathlib.Core.List.{List, [], ◌∷◌, ◌++◌, append-nil}
 use lib.Dec.{ltb}
 use lib.ListN.{get_or, length, take, drop, length-append}
-use borrow.Author.Tests.{not-true, not-false}
+use borrow.Author.Tests.{not-true, not_false}
 use Rattle.model.specs.Bytes.{joined, put_at}
 use Rattle.model.specs.Record.{Rec, unit, num}
 use Rattle.model.specs.Log.{lacking}
@@ -52,45 +52,45 @@ module _ (v g : List ℕ) (total i : ℕ) (h : i < total) (at : ℕ) (ea : at �
   skipped z = more ∙ rw (not-true t z, append-nil)
 
   added : not t ≡ false → lacking v (listed (laid_at File g) 0 (i + 1)) ≡ lacking v (listed (laid_at File g) 0 i) ++ (laid_at File g i ∷ [])
-  added z = more ∙ rw (not-false t z)
+  added z = more ∙ rw (not_false t z)
 
   module _ (k : ℕ) where
-    pub skips-count : not t ≡ true → k ≡ length (lacking v (listed (laid_at File g) 0 i)) → k ≡ length (lacking v (listed (laid_at File g) 0 (i + 1)))
-    skips-count z c = rw (skipped z) c
+    pub skips_count : not t ≡ true → k ≡ length (lacking v (listed (laid_at File g) 0 i)) → k ≡ length (lacking v (listed (laid_at File g) 0 (i + 1)))
+    skips_count z c = rw (skipped z) c
 
-    pub skips-long : not t ≡ true → length (joined (lacking v (listed (laid_at File g) 0 i))) ≡ 80 * k → length (joined (lacking v (listed (laid_at File g) 0 (i + 1)))) ≡ 80 * k
-    skips-long z c = rw (skipped z) c
+    pub skips_long : not t ≡ true → length (joined (lacking v (listed (laid_at File g) 0 i))) ≡ 80 * k → length (joined (lacking v (listed (laid_at File g) 0 (i + 1)))) ≡ 80 * k
+    skips_long z c = rw (skipped z) c
 
-    pub skips-laid : (o b : List ℕ) → not t ≡ true → o ≡ put_at b 0 (joined (lacking v (listed (laid_at File g) 0 i))) → o ≡ put_at b 0 (joined (lacking v (listed (laid_at File g) 0 (i + 1))))
-    skips-laid o b z c = rw (skipped z) c
+    pub skips_laid : (o b : List ℕ) → not t ≡ true → o ≡ put_at b 0 (joined (lacking v (listed (laid_at File g) 0 i))) → o ≡ put_at b 0 (joined (lacking v (listed (laid_at File g) 0 (i + 1))))
+    skips_laid o b z c = rw (skipped z) c
 
-    pub adds-count : not t ≡ false → k ≡ length (lacking v (listed (laid_at File g) 0 i)) → k + 1 ≡ length (lacking v (listed (laid_at File g) 0 (i + 1)))
-    adds-count z c = omega (arith, ap (λ (l : List Rec). length l) (added z), length-append (lacking v (listed (laid_at File g) 0 i)) (laid_at File g i ∷ []))
+    pub adds_count : not t ≡ false → k ≡ length (lacking v (listed (laid_at File g) 0 i)) → k + 1 ≡ length (lacking v (listed (laid_at File g) 0 (i + 1)))
+    adds_count z c = omega (arith, ap (λ (l : List Rec). length l) (added z), length-append (lacking v (listed (laid_at File g) 0 i)) (laid_at File g i ∷ []))
 
     module _ (z : not t ≡ false) (l : Laid File g total) (c : length (joined (lacking v (listed (laid_at File g) 0 i))) ≡ 80 * k) where
       long : length (laid_at File g i) ≡ 80
       long = rw (← lent_is g i at ea) (lent_length g at 80 (rw ea (l.inside i h)))
 
-      added-bytes : joined (lacking v (listed (laid_at File g) 0 (i + 1))) ≡ joined (lacking v (listed (laid_at File g) 0 i)) ++ laid_at File g i
-      added-bytes = rw (added z) (joined-append (lacking v (listed (laid_at File g) 0 i)) (laid_at File g i ∷ []) ∙ rw (joined_one (laid_at File g i)))
+      added_bytes : joined (lacking v (listed (laid_at File g) 0 (i + 1))) ≡ joined (lacking v (listed (laid_at File g) 0 i)) ++ laid_at File g i
+      added_bytes = rw (added z) (joined-append (lacking v (listed (laid_at File g) 0 i)) (laid_at File g i ∷ []) ∙ rw (joined_one (laid_at File g i)))
 
-      pub adds-long : length (joined (lacking v (listed (laid_at File g) 0 (i + 1)))) ≡ 80 * (k + 1)
-      adds-long = rw added-bytes (omega (arith, length-append (joined (lacking v (listed (laid_at File g) 0 i))) (laid_at File g i), long))
+      pub adds_long : length (joined (lacking v (listed (laid_at File g) 0 (i + 1)))) ≡ 80 * (k + 1)
+      adds_long = rw added_bytes (omega (arith, length-append (joined (lacking v (listed (laid_at File g) 0 i))) (laid_at File g i), long))
 
-      pub adds-laid : (o m b : List ℕ) → total ≤ 512 → k ≤ i → length b ≡ 44032 → m ≡ put_at b 0 (joined (lacking v (listed (laid_at File g) 0 i)))
+      pub adds_laid : (o m b : List ℕ) → total ≤ 512 → k ≤ i → length b ≡ 44032 → m ≡ put_at b 0 (joined (lacking v (listed (laid_at File g) 0 i)))
           → o ≡ put_at m (80 * k) (take (at + 80 - at) (drop at g)) → o ≡ put_at b 0 (joined (lacking v (listed (laid_at File g) 0 (i + 1))))
-      adds-laid o m b few w n q e =
+      adds_laid o m b few w n q e =
           let j : List ℕ = joined (lacking v (listed (laid_at File g) 0 i)) in
           let y : 80 * k ≡ 0 + length j = omega arith in
-          rw (e, q, lent_is g i at ea, y, added-bytes) (put_more b 0 j (laid_at File g i) (omega arith))
+          rw (e, q, lent_is g i at ea, y, added_bytes) (put_more b 0 j (laid_at File g i) (omega arith))
 
 pub gathers_none : (v g o : List ℕ) → o ≡ put_at o 0 (joined (lacking v (listed (laid_at File g) 0 0)))
 unfolding lacking listed joined
 gathers_none v g o = sym (put-nil o 0)
 
 module _ (v g : List ℕ) (total i k : ℕ) (h : i ≤ total) (m : total ≤ i) where
-  pub gathered-count : k ≡ length (lacking v (listed (laid_at File g) 0 i)) → k ≡ length (lacking v (listed (laid_at File g) 0 total))
-  gathered-count c = let e : i ≡ total = omega arith in rw e at c
+  pub gathered_count : k ≡ length (lacking v (listed (laid_at File g) 0 i)) → k ≡ length (lacking v (listed (laid_at File g) 0 total))
+  gathered_count c = let e : i ≡ total = omega arith in rw e at c
 
-  pub gathered-laid : (o b : List ℕ) → o ≡ put_at b 0 (joined (lacking v (listed (laid_at File g) 0 i))) → o ≡ put_at b 0 (joined (lacking v (listed (laid_at File g) 0 total)))
-  gathered-laid o b c = let e : i ≡ total = omega arith in rw e at c
+  pub gathered_laid : (o b : List ℕ) → o ≡ put_at b 0 (joined (lacking v (listed (laid_at File g) 0 i))) → o ≡ put_at b 0 (joined (lacking v (listed (laid_at File g) 0 total)))
+  gathered_laid o b c = let e : i ≡ total = omega arith in rw e at c

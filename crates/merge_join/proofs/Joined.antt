@@ -21,10 +21,10 @@ use Rattle.log_laws.specs.Sound.{Sound}
 use Rattle.log_laws.proofs.Counts.{formed}
 use Rattle.log_laws.proofs.Lacking.{has_lacking}
 use Rattle.log_laws.proofs.Tests.{vector_of_get_d, vector_of-length}
-use Rattle.merge_laws.proofs.Union.{union-both}
+use Rattle.merge_laws.proofs.Union.{union_both}
 use Rattle.merge_laws.proofs.Counts.{union-longer, union-counts, lacking-rises}
 use Rattle.encoding_laws.proofs.Logs.{sound_proper, proper_sized, length-log_bytes, records_back, log_sound}
-use Rattle.call_laws.proofs.Merging.{file_sound, file_few, files-agree, files-room}
+use Rattle.call_laws.proofs.Merging.{file_sound, file_few, files_agree, files_room}
 use Rattle.log_check.specs.declared.Layout.TheVariants.{File, Log}
 use Rattle.log_check.specs.Places.{offset_of, laid_at}
 use Rattle.log_check.specs.InOrder.{listed}
@@ -37,15 +37,15 @@ use Rattle.merge_join.specs.Highest.{highest}
 -- ---- the records of both
 
 module _ (f g : List ℕ) (used total : ℕ) (a : Fine f used) (b : Fine g total) (z : (union_fault f g).number ≡ 0) where
-  union-sound : Sound (union (file_records f) (file_records g))
-  union-sound =
-      (union-both (file_records f) (file_records g) (file_sound f a.right) (file_sound g b.right) (files-agree f g z a.right)).sound
+  union_sound : Sound (union (file_records f) (file_records g))
+  union_sound =
+      (union_both (file_records f) (file_records g) (file_sound f a.right) (file_sound g b.right) (files_agree f g z a.right)).sound
 
-  union-room : length (file_records f) + length (lacking (vector_of (file_records f)) (file_records g)) ≤ 512
-  union-room = files-room f g z a.right
+  union_room : length (file_records f) + length (lacking (vector_of (file_records f)) (file_records g)) ≤ 512
+  union_room = files_room f g z a.right
 
-  union-few : length (union (file_records f) (file_records g)) ≤ 512
-  union-few = omega (arith, union-room, union-longer (file_records f) (file_records g))
+  union_few : length (union (file_records f) (file_records g)) ≤ 512
+  union_few = omega (arith, union_room, union-longer (file_records f) (file_records g))
 
 union_vector : (a b : List Rec) → Sound b → highest (vector_of a) (vector_of b) ≡ vector_of (union a b)
 unfolding highest
@@ -91,93 +91,93 @@ module _ (f g : List ℕ) (used total : ℕ) (a : Fine f used) (b : Fine g total
   unfolding file_records
   copied = rw (← ec) el
 
-  pub copied-long : length log ≡ 40960
-  copied-long = rw copied (length-log_bytes (file_records f) (proper_sized (file_records f) (sound_proper (file_records f) (file_sound f a.right))) (file_few f a.right))
+  pub copied_long : length log ≡ 40960
+  copied_long = rw copied (length-log_bytes (file_records f) (proper_sized (file_records f) (sound_proper (file_records f) (file_sound f a.right))) (file_few f a.right))
 
-  copied-sound : sound_log log ≡ true
-  copied-sound = rw copied (log_sound (file_records f) (file_sound f a.right) (file_few f a.right))
+  copied_sound : sound_log log ≡ true
+  copied_sound = rw copied (log_sound (file_records f) (file_sound f a.right) (file_few f a.right))
 
-  copied-back : records_of log ≡ file_records f
-  copied-back = rw copied (records_back (file_records f) (sound_proper (file_records f) (file_sound f a.right)) (file_few f a.right))
+  copied_back : records_of log ≡ file_records f
+  copied_back = rw copied (records_back (file_records f) (sound_proper (file_records f) (file_sound f a.right)) (file_few f a.right))
 
-  pub copied-used : used ≡ length (records_of log)
-  copied-used = rw copied-back a.counted
+  pub copied_used : used ≡ length (records_of log)
+  copied_used = rw copied_back a.counted
 
-  pub copied-ordered : Ordered log used
+  pub copied_ordered : Ordered log used
   unfolding sound_log
-  copied-ordered = sound_ordered no_counts log used copied-sound copied-used
+  copied_ordered = sound_ordered no_counts log used copied_sound copied_used
 
   module _ (held : List ℕ) (eh : held ≡ vector_of (file_records f)) (k : ℕ) (ek : k ≡ length (lacking held (listed (laid_at File g) 0 total))) where
-    new-count : k ≡ length (lacking (vector_of (file_records f)) (file_records g))
-    new-count = rw (b.records, ← eh) ek
+    new_count : k ≡ length (lacking (vector_of (file_records f)) (file_records g))
+    new_count = rw (b.records, ← eh) ek
 
-    pub new-room : used + k ≤ 512
-    new-room = omega (arith, new-count, union-room f g used total a b z, a.counted)
+    pub new_room : used + k ≤ 512
+    new_room = omega (arith, new_count, union_room f g used total a b z, a.counted)
 
-    pub new-total : used + k ≡ length (union (file_records f) (file_records g))
-    new-total = omega (arith, new-count, a.counted, union-longer (file_records f) (file_records g))
+    pub new_total : used + k ≡ length (union (file_records f) (file_records g))
+    new_total = omega (arith, new_count, a.counted, union-longer (file_records f) (file_records g))
 
     module _ (file lent : List ℕ) (ef : file ≡ put_at lent 0 (joined (lacking held (listed (laid_at File g) 0 total)))) where
-      news-sized : Sized (lacking (vector_of (file_records f)) (file_records g))
-      news-sized = sized_lacking (vector_of (file_records f)) (file_records g) (file_sound g b.right)
+      news_sized : Sized (lacking (vector_of (file_records f)) (file_records g))
+      news_sized = sized_lacking (vector_of (file_records f)) (file_records g) (file_sound g b.right)
 
-      news-long : length (joined (lacking (vector_of (file_records f)) (file_records g))) ≡ 80 * k
-      news-long = omega (arith, length-joined (lacking (vector_of (file_records f)) (file_records g)) news-sized, new-count)
+      news_long : length (joined (lacking (vector_of (file_records f)) (file_records g))) ≡ 80 * k
+      news_long = omega (arith, length-joined (lacking (vector_of (file_records f)) (file_records g)) news_sized, new_count)
 
-      laid-news : take (80 * k) file ≡ joined (lacking (vector_of (file_records f)) (file_records g))
+      laid_news : take (80 * k) file ≡ joined (lacking (vector_of (file_records f)) (file_records g))
       unfolding put_at
-      laid-news =
+      laid_news =
           let s : List ℕ = joined (lacking (vector_of (file_records f)) (file_records g)) in
           let q : file ≡ put_at lent 0 s = rw (b.records, ← eh) ef in
-          rw q (take_at s (drop (0 + length s) lent) (80 * k) news-long)
+          rw q (take_at s (drop (0 + length s) lent) (80 * k) news_long)
 
-      lent-news : take (80 * k - 0) (drop 0 file) ≡ joined (lacking (vector_of (file_records f)) (file_records g))
-      lent-news = rw (sub-zero (80 * k)) laid-news
+      lent_news : take (80 * k - 0) (drop 0 file) ≡ joined (lacking (vector_of (file_records f)) (file_records g))
+      lent_news = rw (sub-zero (80 * k)) laid_news
 
-      pub new-length : length (take (80 * k - 0) (drop 0 file)) ≡ 80 * k
-      new-length = rw lent-news news-long
+      pub new_length : length (take (80 * k - 0) (drop 0 file)) ≡ 80 * k
+      new_length = rw lent_news news_long
 
-      new-at : (j : ℕ) → j < k → laid_at Log (take (80 * k - 0) (drop 0 file)) j ≡ get_or (lacking (vector_of (file_records f)) (file_records g)) j []
+      new_at_lem : (j : ℕ) → j < k → laid_at Log (take (80 * k - 0) (drop 0 file)) j ≡ get_or (lacking (vector_of (file_records f)) (file_records g)) j []
       unfolding laid_at offset_of
-      new-at j h = rw (lent-news, ← append-nil (joined (lacking (vector_of (file_records f)) (file_records g)))) (joined_at (lacking (vector_of (file_records f)) (file_records g)) j [] news-sized (omega (arith, new-count)))
+      new_at_lem j h = rw (lent_news, ← append-nil (joined (lacking (vector_of (file_records f)) (file_records g)))) (joined_at (lacking (vector_of (file_records f)) (file_records g)) j [] news_sized (omega (arith, new_count)))
 
-      pub new-rising : Rising (laid_at Log (take (80 * k - 0) (drop 0 file))) k
-      new-rising =
+      pub new_rising : Rising (laid_at Log (take (80 * k - 0) (drop 0 file))) k
+      new_rising =
           record {
-            rises = λ j h. rw (new-at j (omega arith), new-at (suc j) h) (lacking-rises (vector_of (file_records f)) [] (file_records g) (file_sound g b.right) j (omega (arith, new-count)));
+            rises = λ j h. rw (new_at_lem j (omega arith), new_at_lem (suc j) h) (lacking-rises (vector_of (file_records f)) [] (file_records g) (file_sound g b.right) j (omega (arith, new_count)));
           }
 
-      pub log-joined : (o : List ℕ) → o ≡ log_bytes (insert_to (records_of log) (laid_at Log (take (80 * k - 0) (drop 0 file))) k) → o ≡ log_bytes (union (file_records f) (file_records g))
+      pub log_joined : (o : List ℕ) → o ≡ log_bytes (insert_to (records_of log) (laid_at Log (take (80 * k - 0) (drop 0 file))) k) → o ≡ log_bytes (union (file_records f) (file_records g))
       unfolding union
-      log-joined o eo =
+      log_joined o eo =
           let q : listed (laid_at Log (take (80 * k - 0) (drop 0 file))) 0 k ≡ (lacking (vector_of (file_records f)) (file_records g)) =
-          subst (λ (x : ℕ). listed (laid_at Log (take (80 * k - 0) (drop 0 file))) 0 x ≡ lacking (vector_of (file_records f)) (file_records g)) (sym new-count) at-news in
-          eo ∙ rw (copied-back, inserted (file_records f) (laid_at Log (take (80 * k - 0) (drop 0 file))) k, q)
+          subst (λ (x : ℕ). listed (laid_at Log (take (80 * k - 0) (drop 0 file))) 0 x ≡ lacking (vector_of (file_records f)) (file_records g)) (sym new_count) at_news in
+          eo ∙ rw (copied_back, inserted (file_records f) (laid_at Log (take (80 * k - 0) (drop 0 file))) k, q)
         where
-          at-news : listed (laid_at Log (take (80 * k - 0) (drop 0 file))) 0 (length (lacking (vector_of (file_records f)) (file_records g))) ≡ (lacking (vector_of (file_records f)) (file_records g))
-          at-news = listed_of (laid_at Log (take (80 * k - 0) (drop 0 file))) (lacking (vector_of (file_records f)) (file_records g)) 0 (λ j h. (let y : 0 + j ≡ j = omega arith in rw y (new-at j (omega (arith, new-count)))))
+          at_news : listed (laid_at Log (take (80 * k - 0) (drop 0 file))) 0 (length (lacking (vector_of (file_records f)) (file_records g))) ≡ (lacking (vector_of (file_records f)) (file_records g))
+          at_news = listed_of (laid_at Log (take (80 * k - 0) (drop 0 file))) (lacking (vector_of (file_records f)) (file_records g)) 0 (λ j h. (let y : 0 + j ≡ j = omega arith in rw y (new_at_lem j (omega (arith, new_count)))))
 
 -- ---- the file of both
 
 module _ (f g : List ℕ) (used total : ℕ) (a : Fine f used) (b : Fine g total) where
   module _ (z : (union_fault f g).number ≡ 0) (log : List ℕ) (el : log ≡ log_bytes (union (file_records f) (file_records g))) where
     pub both_long : length log ≡ 40960
-    both_long = rw el (length-log_bytes (union (file_records f) (file_records g)) (proper_sized (union (file_records f) (file_records g)) (sound_proper (union (file_records f) (file_records g)) (union-sound f g used total a b z))) (union-few f g used total a b z))
+    both_long = rw el (length-log_bytes (union (file_records f) (file_records g)) (proper_sized (union (file_records f) (file_records g)) (sound_proper (union (file_records f) (file_records g)) (union_sound f g used total a b z))) (union_few f g used total a b z))
 
-    pub both-sound : sound_log log ≡ true
-    both-sound = rw el (log_sound (union (file_records f) (file_records g)) (union-sound f g used total a b z) (union-few f g used total a b z))
+    pub both_sound : sound_log log ≡ true
+    both_sound = rw el (log_sound (union (file_records f) (file_records g)) (union_sound f g used total a b z) (union_few f g used total a b z))
 
-    both-back : records_of log ≡ union (file_records f) (file_records g)
-    both-back = rw el (records_back (union (file_records f) (file_records g)) (sound_proper (union (file_records f) (file_records g)) (union-sound f g used total a b z)) (union-few f g used total a b z))
+    both_back : records_of log ≡ union (file_records f) (file_records g)
+    both_back = rw el (records_back (union (file_records f) (file_records g)) (sound_proper (union (file_records f) (file_records g)) (union_sound f g used total a b z)) (union_few f g used total a b z))
 
     pub both_used : (k : ℕ) → used + k ≡ length (union (file_records f) (file_records g)) → used + k ≡ length (records_of log)
-    both_used k e = rw both-back e
+    both_used k e = rw both_back e
 
-    pub both-held : (v w m : List ℕ) → v ≡ vector_of (file_records f) → w ≡ vector_of (file_records g) → m ≡ highest v w → m ≡ vector_of (records_of log)
-    both-held v w m ev ew em =
-        em ∙ rw (ev, ew, both-back) (union_vector (file_records f) (file_records g) (file_sound g b.right))
+    pub both_held : (v w m : List ℕ) → v ≡ vector_of (file_records f) → w ≡ vector_of (file_records g) → m ≡ highest v w → m ≡ vector_of (records_of log)
+    both_held v w m ev ew em =
+        em ∙ rw (ev, ew, both_back) (union_vector (file_records f) (file_records g) (file_sound g b.right))
 
-    pub both-written : (x y k : ℕ) (o : List ℕ) → x ≡ archive_in (block_at f 0) → y ≡ sender_in (block_at f 0) → k ≡ block_count (length (records_of log)) → o ≡ padded 44032 (file_of x y (records_of log))
+    pub both_written : (x y k : ℕ) (o : List ℕ) → x ≡ archive_in (block_at f 0) → y ≡ sender_in (block_at f 0) → k ≡ block_count (length (records_of log)) → o ≡ padded 44032 (file_of x y (records_of log))
         → merged 0 0 0 k log o ≡ joined_file f (union (file_records f) (file_records g))
     unfolding joined_file
-    both-written x y k o ex ey ek eo = rw (ek, eo, ex, ey, both-back, el)
+    both_written x y k o ex ey ek eo = rw (ek, eo, ex, ey, both_back, el)

@@ -16,7 +16,7 @@ use Rattle.log_laws.proofs.Claims.{order_fixed}
 use Rattle.log_laws.proofs.Same.{unique}
 use Rattle.log_laws.proofs.Tests.{means_sound}
 use Rattle.merge_laws.specs.Both.{Both}
-use Rattle.merge_laws.proofs.Union.{union-both}
+use Rattle.merge_laws.proofs.Union.{union_both}
 use Rattle.merge_laws.proofs.Counts.{union-longer}
 use Rattle.merge_laws.proofs.Faults.{room_left, left_room}
 
@@ -34,14 +34,14 @@ same_records_lem a b u v x y =
 -- whichever is the first, the records of both are the same
 pub union_exchanged : (a b : List Rec) → Sound a → Sound b → Agree a b → union a b ≡ union b a
 union_exchanged a b sa sb g =
-    let w = union-both b a sb sa (agree_exchanged a b g) in
-    same_records_lem a b (union a b) (union b a) (union-both a b sa sb g)
+    let w = union_both b a sb sa (agree_exchanged a b g) in
+    same_records_lem a b (union a b) (union b a) (union_both a b sa sb g)
     (record { sound = w.sound; first = w.second; second = w.first; from = λ r i. ⊎_elim (λ j. inr j) (λ j. inl j) (w.from r i) })
 
 -- with itself a log is itself
 pub union_itself : (a : List Rec) → Sound a → union a a ≡ a
 union_itself a sa =
-    same_records_lem a a (union a a) a (union-both a a sa sa (unique [] a sa))
+    same_records_lem a a (union a a) a (union_both a a sa sa (unique [] a sa))
     (record { sound = sa; first = λ r i. i; second = λ r i. i; from = λ r i. inl i })
 
 -- 11 is answered exactly if the union has more than 512 records

@@ -106,8 +106,8 @@ module _ (a b : List Rec) (sa : Sound a) (sb : Sound b) (agree : Agree a b) wher
             closed = λ s i. ⊎_elim (λ x. absurd x) (λ x. closed s x) i;
           }
 
-      pub goes-new : Going a b (r ∷ pre) rs (insert r acc)
-      goes-new =
+      pub goes_new : Going a b (r ∷ pre) rs (insert r acc)
+      goes_new =
           record {
             sound = insert_sound acc r g.sound joins;
             rest = g.rest.1;
@@ -130,8 +130,8 @@ module _ (a b : List Rec) (sa : Sound a) (sb : Sound b) (agree : Agree a b) wher
           let q : x ≡ r = agree x r i mine u n in
           g.kept r (rw (← q) i)
 
-      pub goes-held : Going a b (r ∷ pre) rs acc
-      goes-held =
+      pub goes_held : Going a b (r ∷ pre) rs acc
+      goes_held =
           record {
             sound = g.sound;
             rest = g.rest.1;
@@ -154,14 +154,14 @@ module _ (a b : List Rec) (sa : Sound a) (sb : Sound b) (agree : Agree a b) wher
       })
   whole pre (r ∷ rs) acc g =
       ⊎_elim
-      (λ k. subst (λ (m : List Rec). Both a b (insert_all acc m)) (sym k.1) (whole (r ∷ pre) rs (insert r acc) (goes-new pre r rs acc g k.0)))
-      (λ k. subst (λ (m : List Rec). Both a b (insert_all acc m)) (sym k.1) (whole (r ∷ pre) rs acc (goes-held pre r rs acc g k.0)))
+      (λ k. subst (λ (m : List Rec). Both a b (insert_all acc m)) (sym k.1) (whole (r ∷ pre) rs (insert r acc) (goes_new pre r rs acc g k.0)))
+      (λ k. subst (λ (m : List Rec). Both a b (insert_all acc m)) (sym k.1) (whole (r ∷ pre) rs acc (goes_held pre r rs acc g k.0)))
       (lacking-cons (vector_of a) r rs)
 
   pub begins : Going a b [] b a
   begins = record { sound = sa; rest = sb; inside = λ s i. i; past = λ s i. absurd i; done = λ s i. inl i; from = λ s i. inl i; kept = λ s i. i }
 
   -- the union of two sound logs that agree is sound, and has the records of both and no others
-  pub union-both : Both a b (union a b)
+  pub union_both : Both a b (union a b)
   unfolding union
-  union-both = whole [] b a begins
+  union_both = whole [] b a begins

@@ -34,35 +34,35 @@ Saw c s = num s ≤ seen c (unit s)
 -- ---- what was seen by what was seen
 
 module _ (l : List Rec) (sound : Sound l) where
-  same-record : (r s : Rec) → Member r l → Member s l → unit r ≡ unit s → num r ≡ num s → r ≡ s
-  same-record r s i j u n =
+  same_record : (r s : Rec) → Member r l → Member s l → unit r ≡ unit s → num r ≡ num s → r ≡ s
+  same_record r s i j u n =
       let q : some r ≡ some s = sym (held-by_id l r sound i) ∙ ap (λ (v : ℕ). by_id v (num r) l) u ∙ ap (λ (v : ℕ). by_id (unit s) v l) n ∙ held-by_id l s sound j in
       cc
 
-  within-seen : (n : ℕ) (r c : Rec) → Member r l → Member c l → seen r (unit c) ≤ n → Saw r c → (v : ℕ) → v < 8 → seen c v ≤ seen r v
-  within-seen zero r c i j b e v k = absurd (omega (arith, own_of [] l c sound j))
-  within-seen (suc n) r c i j b e v k =
+  within_seen : (n : ℕ) (r c : Rec) → Member r l → Member c l → seen r (unit c) ≤ n → Saw r c → (v : ℕ) → v < 8 → seen c v ≤ seen r v
+  within_seen zero r c i j b e v k = absurd (omega (arith, own_of [] l c sound j))
+  within_seen (suc n) r c i j b e v k =
       let w = saw l r sound i (unit c) (unit_of_lem [] l c sound j) (omega (arith, own_of [] l c sound j)) in
       let a = w.numbered in
       let p : num w.it ≡ suc (seen w.it (unit c)) = subst (λ (x : ℕ). num w.it ≡ suc (seen w.it x)) w.of_unit (own_of [] l w.it sound w.in_log) in
       ⊎_elim
       (λ (q : num c ≡ num w.it).
-      subst (λ (x : Rec). seen x v ≤ seen r v) (sym (same-record c w.it j w.in_log (sym w.of_unit) q)) (w.inside v k))
+      subst (λ (x : Rec). seen x v ≤ seen r v) (sym (same_record c w.it j w.in_log (sym w.of_unit) q)) (w.inside v k))
       (λ (q : num c ≡ num w.it → ⊥).
-      let m : seen c v ≤ seen w.it v = within-seen n w.it c w.in_log j (omega arith) (omega arith) v k in
+      let m : seen c v ≤ seen w.it v = within_seen n w.it c w.in_log j (omega arith) (omega arith) v k in
       omega (arith, w.inside v k))
       (eq_or_ne (num c) (num w.it))
 
   through : (r c s : Rec) → Member r l → Member c l → Member s l → Saw r c → Saw c s → Saw r s
-  through r c s i j k a b = omega (arith, within-seen (seen r (unit c)) r c i j (omega arith) a (unit s) (unit_of_lem [] l s sound k))
+  through r c s i j k a b = omega (arith, within_seen (seen r (unit c)) r c i j (omega arith) a (unit s) (unit_of_lem [] l s sound k))
 
-  no-circle : (c d : Rec) → Member c l → Member d l → Saw c d → Saw d c → ⊥
-  no-circle c d i j a b =
+  no_circle : (c d : Rec) → Member c l → Member d l → Saw c d → Saw d c → ⊥
+  no_circle c d i j a b =
       omega (arith, seen_below [] l c d sound i (inr j) (unit_of_lem [] l d sound j) a, seen_below [] l d c sound j (inr i) (unit_of_lem [] l c sound i) b)
 
-  saw-of : (r c : Rec) → Member c l → unseen r (self_of c) ≡ false → Saw r c
+  saw_of : (r c : Rec) → Member c l → unseen r (self_of c) ≡ false → Saw r c
   unfolding unseen
-  saw-of r c j e =
+  saw_of r c j e =
       let b = unit_of_lem [] l c sound j in
       let a : number_of (self_of c) ≤ seen r (unit_of (self_of c)) = ltb-false (seen r (unit_of (self_of c))) (number_of (self_of c)) e in
       rw (self_unit c b, self_num c b) at a
@@ -105,8 +105,8 @@ module _ (t : Tree) (r : Rec) where
       ∙ firsts-append (standings t.asides) (standing (judge r t) r)
       ∙ ap (λ (x : List ℕ). x ++ firsts (standing (judge r t) r)) (sym (whos-firsts t.asides))
 
-  asides-keep : (k : ℕ) → Has k (whos t.asides) → Has k (whos (step t r).asides)
-  asides-keep k i = rw whos-step (has_front (whos t.asides) (firsts (standing (judge r t) r)) k i)
+  asides_keep : (k : ℕ) → Has k (whos t.asides) → Has k (whos (step t r).asides)
+  asides_keep k i = rw whos-step (has_front (whos t.asides) (firsts (standing (judge r t) r)) k i)
 
   -- a record that is not aside afterwards has fitted
   fitted : (Has (self_of r) (whos (step t r).asides) → ⊥) → judge r t ≡ fits
@@ -118,12 +118,12 @@ module _ (t : Tree) (r : Rec) where
       go (aside n k) e =
           absurd (f (rw (whos-step, e) (has_back (whos t.asides) (self_of r ∷ []) (self_of r) (inl refl))))
 
-  makers-keep : (k : ℕ) → Has k (makers t.entries) → Has k (makers (step t r).entries)
-  makers-keep k i = rw (makers-step t r) (has_front (makers t.entries) (making (judge r t) r) k i)
+  makers_keep : (k : ℕ) → Has k (makers t.entries) → Has k (makers (step t r).entries)
+  makers_keep k i = rw (makers-step t r) (has_front (makers t.entries) (making (judge r t) r) k i)
 
-  made-now : judge r t ≡ fits → op r ≤ 2 → Has (self_of r) (makers (step t r).entries)
+  made_now : judge r t ≡ fits → op r ≤ 2 → Has (self_of r) (makers (step t r).entries)
   unfolding making
-  made-now f o = rw (makers-step t r, f, le-leb (op r) 2 o) (has_back (makers t.entries) (self_of r ∷ []) (self_of r) (inl refl))
+  made_now f o = rw (makers-step t r, f, le-leb (op r) 2 o) (has_back (makers t.entries) (self_of r ∷ []) (self_of r) (inl refl))
 
 -- ---- the chain of an entry
 
@@ -171,11 +171,11 @@ module _ (h : Entry → ℕ) (Sets : ℕ → Rec → Type 0)
     (saws : (t : Tree) (r : Rec) (k : ℕ) → judge r t ≡ fits → Sets k r → 2 < op r → SeenLast h t r k)
     (l : List Rec) (sound : Sound l) where
   module _ (pre : List Rec) (t : Tree) (r : Rec) (here : Member r l) (from : Sub pre l) (fresh : Has (self_of r) (selves pre) → ⊥) (w : Played h Sets pre t) where
-    new-made : Has (self_of r) (makers t.entries) → ⊥
-    new-made i = fresh (w.makers_by (self_of r) i)
+    new_made : Has (self_of r) (makers t.entries) → ⊥
+    new_made i = fresh (w.makers_by (self_of r) i)
 
-    new-aside : Has (self_of r) (whos t.asides) → ⊥
-    new-aside i = fresh (w.asides_by (self_of r) i)
+    new_aside_lem : Has (self_of r) (whos t.asides) → ⊥
+    new_aside_lem i = fresh (w.asides_by (self_of r) i)
 
     -- what has fitted before has fitted still, and the other way round
     fit_on : (s : Rec) → Fitted pre t s → Fitted (r ∷ pre) (step t r) s
@@ -184,25 +184,25 @@ module _ (h : Entry → ℕ) (Sets : ℕ → Rec → Type 0)
       λ j. ⊎_elim (λ i. f.1 i) (λ (q : self_of s ≡ self_of r). fresh (subst (λ (k : ℕ). Has k (selves pre)) q (member_selves pre s f.0))) (asides_step t r (self_of s) j),
     )
 
-    fit-back : (s : Rec) → Fitted (r ∷ pre) (step t r) s → ((s ≡ r) × (judge r t ≡ fits)) ⊎ Fitted pre t s
-    fit-back s (inl q, f) = inl (q, fitted t r (subst (λ (x : Rec). Has (self_of x) (whos (step t r).asides) → ⊥) q f))
-    fit-back s (inr i, f) = inr (i, λ j. f (asides-keep t r (self_of s) j))
+    fit_back : (s : Rec) → Fitted (r ∷ pre) (step t r) s → ((s ≡ r) × (judge r t ≡ fits)) ⊎ Fitted pre t s
+    fit_back s (inl q, f) = inl (q, fitted t r (subst (λ (x : Rec). Has (self_of x) (whos (step t r).asides) → ⊥) q f))
+    fit_back s (inr i, f) = inr (i, λ j. f (asides_keep t r (self_of s) j))
 
-    fit-now : judge r t ≡ fits → Fitted (r ∷ pre) (step t r) r
+    fit_now : judge r t ≡ fits → Fitted (r ∷ pre) (step t r) r
     unfolding standing firsts
-    fit-now f = (inl refl, λ j. new-aside (has_nil (whos t.asides) (self_of r) (rw (whos-step t r, f) at j)))
+    fit_now f = (inl refl, λ j. new_aside_lem (has_nil (whos t.asides) (self_of r) (rw (whos-step t r, f) at j)))
 
     -- a record before r that sets what r sets
     behind : (k : ℕ) → judge r t ≡ fits → Sets k r → (s : Rec) → Fitted pre t s → Sets k s → Saw r s
     behind k f p s g q =
         ⊎_elim
-        (λ a. absurd (new-made (subst (λ (j : ℕ). Has j (makers t.entries)) (sym a.1) (w.known s g k q))))
+        (λ a. absurd (new_made (subst (λ (j : ℕ). Has j (makers t.entries)) (sym a.1) (w.known s g k q))))
         (λ (o : 2 < op r).
         let (e, z, u) = saws t r k f p o in
         let c = w.chained k e z in
-        let b : Saw r c.last = saw-of l sound r c.last (from c.last c.fit.0) (rw c.named u) in
+        let b : Saw r c.last = saw_of l sound r c.last (from c.last c.fit.0) (rw c.named u) in
         ⊎_elim
-        (λ (y : self_of s ≡ h e). saw-of l sound r s (from s g.0) (rw y u))
+        (λ (y : self_of s ≡ h e). saw_of l sound r s (from s g.0) (rw y u))
         (λ (y : Saw c.last s). through l sound r c.last s here (from c.last c.fit.0) (from s g.0) b y)
         (c.others s g q))
         (makes k r p)
@@ -214,8 +214,8 @@ module _ (h : Entry → ℕ) (Sets : ℕ → Rec → Type 0)
           last = r;
           named = sym o.2;
           sets = o.1;
-          fit = fit-now o.0;
-          others = λ s g q. ⊎_elim (λ y. inl (ap self_of y.0 ∙ sym o.2)) (λ y. inr (behind k o.0 o.1 s y q)) (fit-back s g);
+          fit = fit_now o.0;
+          others = λ s g q. ⊎_elim (λ y. inl (ap self_of y.0 ∙ sym o.2)) (λ y. inr (behind k o.0 o.1 s y q)) (fit_back s g);
         })
         (λ o.
         let (e, y, n, d) = o in
@@ -229,15 +229,15 @@ module _ (h : Entry → ℕ) (Sets : ℕ → Rec → Type 0)
               ⊎_elim
               (λ v. absurd (d v.1 (subst (Sets k) v.0 q)))
               (λ v. ⊎_elim (λ a. inl (a ∙ sym n)) (λ a. inr a) (c.others s v q))
-              (fit-back s g);
+              (fit_back s g);
         })
-        (origin t r w.lone.entries_once new-made k x z)
+        (origin t r w.lone.entries_once new_made k x z)
 
     one_more : Played h Sets (r ∷ pre) (step t r)
     unfolding selves
     one_more =
         record {
-          lone = lone_step t r new-made new-aside w.lone;
+          lone = lone_step t r new_made new_aside_lem w.lone;
           makers_by = λ k i. ⊎_elim (λ j. inr (w.makers_by k j)) (λ q. inl q) (names-step t r k i);
           asides_by = λ k i. ⊎_elim (λ j. inr (w.asides_by k j)) (λ q. inl q) (asides_step t r k i);
           known = λ s g k q.
@@ -245,20 +245,20 @@ module _ (h : Entry → ℕ) (Sets : ℕ → Rec → Type 0)
               (λ y.
               let p : Sets k r = subst (Sets k) y.0 q in
               ⊎_elim
-              (λ a. subst (λ (j : ℕ). Has j (makers (step t r).entries)) a.1 (made-now t r y.1 a.0))
-              (λ o. let (e, z, u) = saws t r k y.1 p o in makers-keep t r k (entry_in_lem k t.entries e z))
+              (λ a. subst (λ (j : ℕ). Has j (makers (step t r).entries)) a.1 (made_now t r y.1 a.0))
+              (λ o. let (e, z, u) = saws t r k y.1 p o in makers_keep t r k (entry_in_lem k t.entries e z))
               (makes k r p))
-              (λ y. makers-keep t r k (w.known s y k q))
-              (fit-back s g);
+              (λ y. makers_keep t r k (w.known s y k q))
+              (fit_back s g);
           chained = link;
         }
 
-  all-played : (pre m : List Rec) (t : Tree) → Sub pre l → Sub m l → Distinct (selves m) → ((k : ℕ) → Has k (selves m) → Has k (selves pre) → ⊥) → Played h Sets pre t
+  all_played : (pre m : List Rec) (t : Tree) → Sub pre l → Sub m l → Distinct (selves m) → ((k : ℕ) → Has k (selves m) → Has k (selves pre) → ⊥) → Played h Sets pre t
       → Played h Sets (after pre m) (replay_from t m)
   unfolding after replay_from selves
-  all-played pre [] t a b d n w = w
-  all-played pre (r ∷ m) t a b d n w =
-      all-played (r ∷ pre) m (step t r)
+  all_played pre [] t a b d n w = w
+  all_played pre (r ∷ m) t a b d n w =
+      all_played (r ∷ pre) m (step t r)
       (λ s i. ⊎_elim (λ q. b s (inl q)) (λ j. a s j) i)
       (λ s i. b s (inr i))
       d.1
@@ -278,13 +278,13 @@ module _ (h : Entry → ℕ) (Sets : ℕ → Rec → Type 0)
 
   played : (m : List Rec) → Sub m l → Distinct (selves m) → Played h Sets (after [] m) (replay m)
   unfolding replay selves
-  played m b d = all-played [] m empty_tree (λ s i. absurd i) b d (λ k i j. absurd j) start
+  played m b d = all_played [] m empty_tree (λ s i. absurd i) b d (λ k i j. absurd j) start
 
   -- two orders of the same records that leave the same of them aside name the same record
-  pub same-last : (m n : List Rec) → Sub m l → Sub n l → Sub m n → Sub n m → Distinct (selves m) → Distinct (selves n)
+  pub same_last : (m n : List Rec) → Sub m l → Sub n l → Sub m n → Sub n m → Distinct (selves m) → Distinct (selves n)
       → ((k : ℕ) → Has k (whos (replay m).asides) → Has k (whos (replay n).asides)) → ((k : ℕ) → Has k (whos (replay n).asides) → Has k (whos (replay m).asides))
       → (k : ℕ) (e f : Entry) → entry_of k (replay m).entries ≡ some e → entry_of k (replay n).entries ≡ some f → h e ≡ h f
-  same-last m n a b ab ba d g up down k e f p q =
+  same_last m n a b ab ba d g up down k e f p q =
       let c = (played m a d).chained k e p in
       let x = (played n b g).chained k f q in
       let i : Member c.last m = ⊎_elim (λ y. absurd y) (λ y. y) (has_after [] m c.last c.fit.0) in
@@ -294,6 +294,6 @@ module _ (h : Entry → ℕ) (Sets : ℕ → Rec → Type 0)
       (λ (y : Saw c.last x.last).
       ⊎_elim
       (λ (z : self_of c.last ≡ h f). sym c.named ∙ z)
-      (λ (z : Saw x.last c.last). absurd (no-circle l sound c.last x.last (a c.last i) (b x.last j) y z))
+      (λ (z : Saw x.last c.last). absurd (no_circle l sound c.last x.last (a c.last i) (b x.last j) y z))
       (x.others c.last (after_has [] n c.last (inr (ab c.last i)), λ o. c.fit.1 (down (self_of c.last) o)) c.sets))
       (c.others x.last (after_has [] m x.last (inr (ba x.last j)), λ o. x.fit.1 (up (self_of x.last) o)) x.sets)

@@ -26,8 +26,8 @@ use Rattle.order_laws.proofs.Running.{in_order_named, named_in_order, in_order_d
 use Rattle.order_laws.proofs.Rank.{all_once}
 use Rattle.order_laws.proofs.Claims.{accepted_exactly}
 use Rattle.order_hidden.specs.Hidden.{Storing, HiddenToo}
-use Rattle.order_hidden.proofs.Origins.{contents-step, placing-step, store-saw, place-saw, storing_makes, placing_makes}
-use Rattle.order_hidden.proofs.Chains.{same-last}
+use Rattle.order_hidden.proofs.Origins.{contents_step, placing_step, store_saw, place_saw, storing_makes, placing_makes}
+use Rattle.order_hidden.proofs.Chains.{same_last}
 
 -- ---- entries and asides
 
@@ -84,8 +84,8 @@ hidden_too ks l s ok e f i j q =
     subst (λ (k : ℕ). entry_of k (replay (in_order_of ks l)).entries ≡ some f) (sym q) (found (replay (in_order_of ks l)).entries (makers-distinct (in_order_of ks l) d) f b o) in
     let up = same_whos (replay l).asides (replay (in_order_of ks l)).asides shown.0.asides in
     let down = same_whos (replay (in_order_of ks l)).asides (replay l).asides shown.1.asides in (
-      same-last (λ (z : Entry). z.contents) Storing contents-step storing_makes store-saw l s
+      same_last (λ (z : Entry). z.contents) Storing contents_step storing_makes store_saw l s
           l (in_order_of ks l) (λ r k. k) onto into onto own d up down e.made e f x y,
-      same-last (λ (z : Entry). z.placing) Placing placing-step placing_makes place-saw l s
+      same_last (λ (z : Entry). z.placing) Placing placing_step placing_makes place_saw l s
           l (in_order_of ks l) (λ r k. k) onto into onto own d up down e.made e f x y,
     )

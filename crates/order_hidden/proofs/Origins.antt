@@ -17,7 +17,7 @@ use Rattle.tree_laws.specs.Places.{Placing}
 use Rattle.tree_laws.proofs.Steps.{effect_elim, step_elim}
 use Rattle.tree_laws.proofs.Verdicts.{judge_store_lem, judge_rename_lem, judge_move_lem}
 use Rattle.tree_laws.proofs.Roots.{none_some, some_same, entry_made, entry_in_lem, Same, unchanged, entry_other, entry_same, entry_gone, entry_last}
-use Rattle.tree_laws.proofs.Places.{place-step}
+use Rattle.tree_laws.proofs.Places.{place_step}
 use Rattle.order_hidden.specs.Hidden.{Storing}
 
 -- the record r fits and is what the field h of the entry k, which is then x, names; or the field is as it was
@@ -69,25 +69,25 @@ module _ (t : Tree) (r : Rec) (alone : Distinct (makers t.entries)) (fresh : Has
       (λ y. inl (h, inl (o, y.1), ap (λ (e : Entry). e.contents) y.0))
       (entry_last k t.entries (new_entry r) x q)
 
-  store-there : (e : Entry) → is_present e ≡ true → is_present (stored r e) ≡ true
+  store_there : (e : Entry) → is_present e ≡ true → is_present (stored r e) ≡ true
   unfolding is_present stored
-  store-there e p = p
+  store_there e p = p
 
-  was-stored : op r ≡ 3 → judge r t ≡ fits → entry_of k (changed (stored r) (object_of r) t.entries) ≡ some x → Left
+  was_stored : op r ≡ 3 → judge r t ≡ fits → entry_of k (changed (stored r) (object_of r) t.entries) ≡ some x → Left
   unfolding stored
-  was-stored o h q =
+  was_stored o h q =
       ⊎_elim
       (λ y. let (e, z, a) = y.1 in inl (h, inr (o, sym y.0), ap (λ (v : Entry). v.contents) a))
       (λ y. same y.1 (λ _ p. ⊎_elim (λ a. omega (arith, a.0)) (λ a. y.0 (sym a.1)) p))
-      (changed_back (stored r) (λ e. refl) store-there (object_of r) k t.entries x q)
+      (changed_back (stored r) (λ e. refl) store_there (object_of r) k t.entries x q)
 
   gone : (e : Entry) → is_present (removed e) ≡ false
   unfolding is_present removed
   gone e = refl
 
-  was-removed : op r ≡ 4 → entry_of k (changed removed (object_of r) t.entries) ≡ some x → Left
+  was_removed : op r ≡ 4 → entry_of k (changed removed (object_of r) t.entries) ≡ some x → Left
   unfolding removed
-  was-removed o q =
+  was_removed o q =
       ⊎_elim
       (λ (y : k ≡ object_of r).
       none_some (sym (entry_gone removed (λ e. refl) gone (object_of r) t.entries alone) ∙ ap (λ (v : ℕ). entry_of v (changed removed (object_of r) t.entries)) (sym y) ∙ q))
@@ -103,38 +103,38 @@ module _ (t : Tree) (r : Rec) (alone : Distinct (makers t.entries)) (fresh : Has
       (λ y. same y.1 (λ _ p. no_storing k r o p))
       (changed_back g s there (object_of r) k t.entries x q)
 
-  rename-there : (e : Entry) → is_present e ≡ true → is_present (renamed r e) ≡ true
+  rename_there : (e : Entry) → is_present e ≡ true → is_present (renamed r e) ≡ true
   unfolding is_present renamed
-  rename-there e p = p
+  rename_there e p = p
 
-  was-renamed : op r ≡ 5 → entry_of k (changed (renamed r) (object_of r) t.entries) ≡ some x → Left
+  was_renamed : op r ≡ 5 → entry_of k (changed (renamed r) (object_of r) t.entries) ≡ some x → Left
   unfolding renamed
-  was-renamed o q = elsewhere (renamed r) (λ e. refl) (λ e. refl) rename-there (omega arith) q
+  was_renamed o q = elsewhere (renamed r) (λ e. refl) (λ e. refl) rename_there (omega arith) q
 
-  move-there : (e : Entry) → is_present e ≡ true → is_present (moved r e) ≡ true
+  move_there : (e : Entry) → is_present e ≡ true → is_present (moved r e) ≡ true
   unfolding is_present moved
-  move-there e p = p
+  move_there e p = p
 
-  was-moved : 6 < op r → entry_of k (changed (moved r) (object_of r) t.entries) ≡ some x → Left
+  was_moved : 6 < op r → entry_of k (changed (moved r) (object_of r) t.entries) ≡ some x → Left
   unfolding moved
-  was-moved o q = elsewhere (moved r) (λ e. refl) (λ e. refl) move-there (omega arith) q
+  was_moved o q = elsewhere (moved r) (λ e. refl) (λ e. refl) move_there (omega arith) q
 
   -- what one record leaves of the contents of an entry
-  pub contents-step : entry_of k (step t r).entries ≡ some x → Origin (λ (e : Entry). e.contents) Storing t r k x
-  contents-step =
+  pub contents_step : entry_of k (step t r).entries ≡ some x → Origin (λ (e : Entry). e.contents) Storing t r k x
+  contents_step =
       let P : Tree → Type 0 = λ (y : Tree). entry_of k y.entries ≡ some x → Origin (λ (e : Entry). e.contents) Storing t r k x in
       step_elim P t r
       (λ h. effect_elim P r t
       (λ o q. made o h q)
-      (λ o q. was-stored o h q)
-      (λ o q. was-removed o q)
-      (λ o q. was-renamed o q)
+      (λ o q. was_stored o h q)
+      (λ o q. was_removed o q)
+      (λ o q. was_renamed o q)
       (λ o q. same q (λ _ p. no_storing k r (omega arith) p))
-      (λ o q. was-moved o q))
+      (λ o q. was_moved o q))
       (λ n m h q. same q (λ f _. absurd (let z : ◌≡◌ {A = ℕ} 0 1 = cc in omega arith)))
 
-  pub placing-step : entry_of k (step t r).entries ≡ some x → Origin (λ (e : Entry). e.placing) Placing t r k x
-  placing-step q = ⊎_elim (λ p. inl (p.fit, p.places, p.last)) (λ p. inr (p.was, p.there, p.last, p.unplaced)) (place-step t r alone fresh k x q)
+  pub placing_step : entry_of k (step t r).entries ≡ some x → Origin (λ (e : Entry). e.placing) Placing t r k x
+  placing_step q = ⊎_elim (λ p. inl (p.fit, p.places, p.last)) (λ p. inr (p.was, p.there, p.last, p.unplaced)) (place_step t r alone fresh k x q)
 
 -- ---- what a record that fits has seen
 
@@ -155,29 +155,29 @@ module _ (t : Tree) (r : Rec) (k : ℕ) where
       let g = (passed (eqb e.kind 1) 14 e.made (cond (unseen r e.contents) (aside 17 e.made) fits) f).1 in
       (e, q, (passed (unseen r e.contents) 17 e.made fits g).0)
 
-  renamed-on : (o : Option Entry) → entry_of k t.entries ≡ o → judge_rename r t.entries o ≡ fits → SeenLast (λ (e : Entry). e.placing) t r k
+  renamed_on_lem : (o : Option Entry) → entry_of k t.entries ≡ o → judge_rename r t.entries o ≡ fits → SeenLast (λ (e : Entry). e.placing) t r k
   unfolding judge_rename
-  renamed-on none q f = absurd (let z : ◌≡◌ {A = ℕ} 0 1 = cc in omega arith)
-  renamed-on (some e) q f =
+  renamed_on_lem none q f = absurd (let z : ◌≡◌ {A = ℕ} 0 1 = cc in omega arith)
+  renamed_on_lem (some e) q f =
       (e, q, (passed (unseen r e.placing) 17 e.made (free_label (holder_of e.made e.inside (label_of r) t.entries)) f).0)
 
-  moved_on : (o : Option Entry) → entry_of k t.entries ≡ o → judge_move r t.entries o ≡ fits → SeenLast (λ (e : Entry). e.placing) t r k
+  moved_on_lem : (o : Option Entry) → entry_of k t.entries ≡ o → judge_move r t.entries o ≡ fits → SeenLast (λ (e : Entry). e.placing) t r k
   unfolding judge_move
-  moved_on none q f = absurd (let z : ◌≡◌ {A = ℕ} 0 1 = cc in omega arith)
-  moved_on (some e) q f =
+  moved_on_lem none q f = absurd (let z : ◌≡◌ {A = ℕ} 0 1 = cc in omega arith)
+  moved_on_lem (some e) q f =
       (e, q, (passed (unseen r e.placing) 17 e.made (and_then (folder_stands (folder_of r) t.entries) (judge_place r t.entries e)) f).0)
 
-  pub store-saw : judge r t ≡ fits → Storing k r → 2 < op r → SeenLast (λ (e : Entry). e.contents) t r k
-  store-saw f (inl a) o = absurd (omega (arith, a.0))
-  store-saw f (inr a) o =
+  pub store_saw : judge r t ≡ fits → Storing k r → 2 < op r → SeenLast (λ (e : Entry). e.contents) t r k
+  store_saw f (inl a) o = absurd (omega (arith, a.0))
+  store_saw f (inr a) o =
       stored_on (entry_of k t.entries) refl (ap (λ (j : ℕ). judge_store r (entry_of j t.entries)) (sym a.1) ∙ sym (judge_store_lem r t a.0) ∙ f)
 
-  pub place-saw : judge r t ≡ fits → Placing k r → 2 < op r → SeenLast (λ (e : Entry). e.placing) t r k
-  place-saw f (inl a) o = absurd (omega (arith, a.0))
-  place-saw f (inr (inl p, q)) o =
-      renamed-on (entry_of k t.entries) refl (ap (λ (j : ℕ). judge_rename r t.entries (entry_of j t.entries)) (sym q) ∙ sym (judge_rename_lem r t p) ∙ f)
-  place-saw f (inr (inr p, q)) o =
-      moved_on (entry_of k t.entries) refl (ap (λ (j : ℕ). judge_move r t.entries (entry_of j t.entries)) (sym q) ∙ sym (judge_move_lem r t p) ∙ f)
+  pub place_saw : judge r t ≡ fits → Placing k r → 2 < op r → SeenLast (λ (e : Entry). e.placing) t r k
+  place_saw f (inl a) o = absurd (omega (arith, a.0))
+  place_saw f (inr (inl p, q)) o =
+      renamed_on_lem (entry_of k t.entries) refl (ap (λ (j : ℕ). judge_rename r t.entries (entry_of j t.entries)) (sym q) ∙ sym (judge_rename_lem r t p) ∙ f)
+  place_saw f (inr (inr p, q)) o =
+      moved_on_lem (entry_of k t.entries) refl (ap (λ (j : ℕ). judge_move r t.entries (entry_of j t.entries)) (sym q) ∙ sym (judge_move_lem r t p) ∙ f)
 
 -- a make of its own entry, or a change of another
 pub storing_makes : (k : ℕ) (r : Rec) → Storing k r → ((op r ≤ 2) × (self_of r ≡ k)) ⊎ (2 < op r)

@@ -106,8 +106,8 @@ module _ (ks : List ℕ) (l : List Rec) where
   )
 
   -- what is answered is the condition that failed first
-  pub first-failed : FirstFailed ks l
-  first-failed =
+  pub first_failed : FirstFailed ks l
+  first_failed =
       record {
         known = by_tests.known;
         first = λ e n. not_both (names_all ks l) (mean_names ks l n) (by_tests.first e);
@@ -165,11 +165,11 @@ module _ (log base ours theirs : List ℕ) where
       )
 
   -- rank order itself is accepted of every sound state of which nothing is folded
-  pub rank-order-accepted : RankAccepted log base ours theirs
+  pub rank_order_accepted : RankAccepted log base ours theirs
   unfolding order_of judged_order
-  rank-order-accepted w =
+  rank_order_accepted w =
       let l : List Rec = records_of log in
-      let s : Sound l = sound_records log (Folded.plain-log log base w.base_long w.sound w.unfolded) in
+      let s : Sound l = sound_records log (Folded.plain_log log base w.base_long w.sound w.unfolded) in
       rw (
         passes w,
         names_given_lem (records_of log),
@@ -177,7 +177,7 @@ module _ (log base ours theirs : List ℕ) where
         Rank.rank_accepted (records_of log) s,
         Rank.rank_in_order (records_of log) s,
         Rank.rank_seen_first [] (records_of log) s,
-        Folded.plain-tree log base w.base_long w.sound w.unfolded,
+        Folded.plain_tree log base w.base_long w.sound w.unfolded,
       )
 
 -- ---- where nothing is folded
@@ -188,4 +188,4 @@ unfolded_base = Folded.no_base
 
 -- and what a sound state then shows is the replay of its log
 pub unfolded_tree : (log base : List ℕ) → length base ≡ 43032 → sound_state log base ≡ true → blank (base_vector base) ≡ true → tree_of log base ≡ replay (records_of log)
-unfolded_tree = Folded.plain-tree
+unfolded_tree = Folded.plain_tree

@@ -15,7 +15,7 @@ use Rattle.byte_slice.proofs.Compare.{blank-eq, blank_get_d}
 use Rattle.vector.proofs.InBytes.{vector_at-length}
 use Rattle.log_laws.proofs.Members.{All}
 use Rattle.tree_laws.specs.Trees.{EntryFits, AsideFits, SoundTree}
-use Rattle.base_laws.proofs.Folds.{state-base, state-log}
+use Rattle.base_laws.proofs.Folds.{state_base, state_log}
 use Rattle.base_laws.proofs.Claims.{sound_tree}
 
 -- an identity that is named has a number of at least 1, and a vector of zeros has none
@@ -48,10 +48,10 @@ unfolding base_vector
 no_vector base z = rw (vector_at-length base 8) at (blank-eq (base_vector base) z)
 
 module _ (log base : List ℕ) (n : length base ≡ 43032) (s : sound_state log base ≡ true) (z : blank (base_vector base) ≡ true) where
-  pub plain-tree : tree_of log base ≡ replay (records_of log)
+  pub plain_tree : tree_of log base ≡ replay (records_of log)
   unfolding tree_of replay
-  plain-tree = rw (no_base base n (state-base log base s) z)
+  plain_tree = rw (no_base base n (state_base log base s) z)
 
-  pub plain-log : sound_log log ≡ true
+  pub plain_log : sound_log log ≡ true
   unfolding sound_log
-  plain-log = rw (no_vector base z) at (state-log log base s)
+  plain_log = rw (no_vector base z) at (state_log log base s)

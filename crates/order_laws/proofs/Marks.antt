@@ -211,15 +211,15 @@ module _ (l : List Rec) (h : Sound l) (f : length l ≤ 512) where
     apart : Apart ks
     free : (j : ℕ) → (get_or marks (mark_slot j) 0 ≡ 0 → ⊥) → times j ks ≡ 0
 
-  marks-mean : (ks marks : List ℕ) → length marks ≡ 4096 → marks_all (vector_of l) marks ks ≡ true → Marked ks marks
+  marks_mean : (ks marks : List ℕ) → length marks ≡ 4096 → marks_all (vector_of l) marks ks ≡ true → Marked ks marks
   unfolding marks_all is_new all_held
-  marks-mean [] marks n e = record { held = refl; apart = tt; free = λ j d. times-nil j }
-  marks-mean (k ∷ ks) marks n e =
+  marks_mean [] marks n e = record { held = refl; apart = tt; free = λ j d. times-nil j }
+  marks_mean (k ∷ ks) marks n e =
       let (a, b) = and_true (is_new (vector_of l) marks k) (marks_all (vector_of l) (set marks (mark_slot k) 1) ks) e in
       let (o, z) = and_true (is_ours (vector_of l) k) (eqb (get_or marks (mark_slot k) 0) 0) a in
       let q = ours_held l k h o in
       let w = eqb-true (get_or marks (mark_slot k) 0) 0 z in
-      let v = marks-mean ks (set marks (mark_slot k) 1) (length-set marks (mark_slot k) 1 ∙ n) b in
+      let v = marks_mean ks (set marks (mark_slot k) 1) (length-set marks (mark_slot k) 1 ∙ n) b in
       let g = get_or-set_same marks (mark_slot k) 1 0 (omega (arith, mark_below l k h f q)) in
       record {
         held = true_and (is_held k l) (all_held ks l) q v.held;
@@ -230,29 +230,29 @@ module _ (l : List Rec) (h : Sound l) (f : length l ≤ 512) where
             (λ s. d (ap (λ (x : ℕ). get_or marks x 0) s ∙ w))) ∙ y));
       }
 
-  mean-marks : (ks marks : List ℕ) → length marks ≡ 4096 → all_held ks l ≡ true → Apart ks → ((j : ℕ) → is_held j l ≡ true → 1 ≤ times j ks → get_or marks (mark_slot j) 0 ≡ 0) → marks_all (vector_of l) marks ks ≡ true
+  mean_marks : (ks marks : List ℕ) → length marks ≡ 4096 → all_held ks l ≡ true → Apart ks → ((j : ℕ) → is_held j l ≡ true → 1 ≤ times j ks → get_or marks (mark_slot j) 0 ≡ 0) → marks_all (vector_of l) marks ks ≡ true
   unfolding marks_all is_new
-  mean-marks [] marks n e a z = refl
-  mean-marks (k ∷ ks) marks n e a z =
+  mean_marks [] marks n e a z = refl
+  mean_marks (k ∷ ks) marks n e a z =
       let (q, b) = held_head k ks l e in
       true_and (is_new (vector_of l) marks k) (marks_all (vector_of l) (set marks (mark_slot k) 1) ks)
       (true_and (is_ours (vector_of l) k) (eqb (get_or marks (mark_slot k) 0) 0) (held_ours l k h q) (eq-eqb (get_or marks (mark_slot k) 0) 0 (z k q (omega (arith, times_own k ks)))))
-      (mean-marks ks (set marks (mark_slot k) 1) (length-set marks (mark_slot k) 1 ∙ n) b a.1 (λ j i t.
+      (mean_marks ks (set marks (mark_slot k) 1) (length-set marks (mark_slot k) 1 ∙ n) b a.1 (λ j i t.
       get_or-set_other marks (mark_slot k) (mark_slot j) 1 0
       (mark_apart l j k h f i q (λ y. let x : 1 ≤ times k ks = subst (λ (m : ℕ). 1 ≤ times m ks) y t in omega (arith, a.0)))
       ∙ z j i (omega (arith, times_more j k ks))))
 
   -- the first condition, as the code finds it
-  pub names-by-marks : (ks marks : List ℕ) → length marks ≡ 4096 → ((i : ℕ) → get_or marks i 0 ≡ 0) → names_all ks l ≡ (eqb (length ks) (length l) && marks_all (vector_of l) marks ks)
+  pub names_by_marks : (ks marks : List ℕ) → length marks ≡ 4096 → ((i : ℕ) → get_or marks i 0 ≡ 0) → names_all ks l ≡ (eqb (length ks) (length l) && marks_all (vector_of l) marks ks)
   unfolding names_all
-  names-by-marks ks marks n z =
+  names_by_marks ks marks n z =
       both_ways (each_once ks l && all_held ks l) (eqb (length ks) (length l) && marks_all (vector_of l) marks ks)
       (λ e.
       let (a, b) = and_true (each_once ks l) (all_held ks l) e in
-      true_and (eqb (length ks) (length l)) (marks_all (vector_of l) marks ks) (eq-eqb (length ks) (length l) (once_length ks l h a b)) (mean-marks ks marks n b (names_apart ks l a b) (λ j i t. z (mark_slot j))))
+      true_and (eqb (length ks) (length l)) (marks_all (vector_of l) marks ks) (eq-eqb (length ks) (length l) (once_length ks l h a b)) (mean_marks ks marks n b (names_apart ks l a b) (λ j i t. z (mark_slot j))))
       (λ e.
       let (a, b) = and_true (eqb (length ks) (length l)) (marks_all (vector_of l) marks ks) e in
-      let v = marks-mean ks marks n b in
+      let v = marks_mean ks marks n b in
       true_and (each_once ks l) (all_held ks l)
       (all_once ks l (total_each ks l (apart_most ks v.apart) (total_length ks l h v.held ∙ eqb-true (length ks) (length l) a)))
       v.held)

@@ -115,8 +115,8 @@ vector_more : (r : Rec) (l : List Rec) → unit r < 8 → vector_of (r ∷ l) �
 vector_more r l b = sym (vector_on-none (r ∷ l)) ∙ vector_cons no_counts r l b ∙ rw (vector_on-none l)
 
 module _ (l : List Rec) (h : Sound l) where
-  sees-covers : (pre m : List Rec) (r : Rec) → Placing l pre (r ∷ m) → sees_none r m ≡ covers (vector_of pre) (seen_vector r)
-  sees-covers pre m r p =
+  sees_covers : (pre m : List Rec) (r : Rec) → Placing l pre (r ∷ m) → sees_none r m ≡ covers (vector_of pre) (seen_vector r)
+  sees_covers pre m r p =
       both_ways (sees_none r m) (covers (vector_of pre) (seen_vector r))
       (λ e. all_covers (vector_of pre) (seen_vector r) (λ u b.
       ⊎_elim
@@ -167,24 +167,24 @@ module _ (l : List Rec) (h : Sound l) where
           (λ n. omega (arith, p.high s (inr i)))
           (eq_or_ne (num s) (num r))
 
-  placing-covers : (pre m : List Rec) → Placing l pre m → seen_first m ≡ covers_each (vector_of pre) m
+  placing_covers : (pre m : List Rec) → Placing l pre m → seen_first m ≡ covers_each (vector_of pre) m
   unfolding seen_first covers_each
-  placing-covers pre [] p = refl
-  placing-covers pre (r ∷ m) p =
-      let q = sees-covers pre m r p in
+  placing_covers pre [] p = refl
+  placing_covers pre (r ∷ m) p =
+      let q = sees_covers pre m r p in
       and_same (sees_none r m) (seen_first m) (covers (vector_of pre) (seen_vector r)) (covers_each (set (vector_of pre) (unit r) (get_or (vector_of pre) (unit r) 0 + 1)) m) q
-      (λ e. placing-covers (r ∷ pre) m (placed pre m r p (sym q ∙ e)) ∙ ap (λ (v : List ℕ). covers_each v m) (vector_more r pre (unit_of_lem [] l r h (p.from r (inl refl)))))
+      (λ e. placing_covers (r ∷ pre) m (placed pre m r p (sym q ∙ e)) ∙ ap (λ (v : List ℕ). covers_each v m) (vector_more r pre (unit_of_lem [] l r h (p.from r (inl refl)))))
 
   none_counted : vector_of [] ≡ replicate 8 0
   unfolding vector_of counts_to count
   none_counted = refl
 
   -- the second condition, as the code finds it
-  pub seen-by-counts : (ks : List ℕ) → names_all ks l ≡ true → seen_first (in_order_of ks l) ≡ covers_each (replicate 8 0) (in_order_of ks l)
+  pub seen_by_counts : (ks : List ℕ) → names_all ks l ≡ true → seen_first (in_order_of ks l) ≡ covers_each (replicate 8 0) (in_order_of ks l)
   unfolding names_all
-  seen-by-counts ks e =
+  seen_by_counts ks e =
       let (a, b) = and_true (each_once ks l) (all_held ks l) e in
-      placing-covers [] (in_order_of ks l)
+      placing_covers [] (in_order_of ks l)
       (record {
         either = λ s i. inr (named_in_order ks l s h i (omega (arith, once_at ks l s a i)));
         from = λ s i. (in_order_named ks l s i).0;

@@ -72,10 +72,10 @@ alike-aside a b h =
     let (q, h2) = and_true (eqb a.reason b.reason) (eqb a.marked b.marked && equal_flags a.is_open b.is_open) h1 in
     let (r, s) = and_true (eqb a.marked b.marked) (equal_flags a.is_open b.is_open) h2 in
     let who_is = eqb-true a.who b.who p in
-    let reason-is = eqb-true a.reason b.reason q in
+    let reason_is = eqb-true a.reason b.reason q in
     let marked_is = eqb-true a.marked b.marked r in
     let open_is = flags_same a.is_open b.is_open s in
-    λ i. record { who = who_is i; reason = reason-is i; marked = marked_is i; is_open = open_is i }
+    λ i. record { who = who_is i; reason = reason_is i; marked = marked_is i; is_open = open_is i }
 
 pub aside-alike : (a b : Aside) → a ≡ b → aside_alike a b ≡ true
 unfolding aside_alike

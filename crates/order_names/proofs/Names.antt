@@ -143,8 +143,8 @@ unfolding named_at laid_at offset_of
 named_lent log list places i p e = part_is log (80 * p) 80 ∙ rw e
 
 module _ (list places : List ℕ) (n i : ℕ) (w : Named list places n) (h : i < n) where
-  pub named-bytes : 4 * i < length list
-  named-bytes = w.bytes i h
+  pub named_bytes : 4 * i < length list
+  named_bytes = w.bytes i h
 
   pub named_table : length places ≡ 4096
   named_table = w.table

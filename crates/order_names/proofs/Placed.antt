@@ -49,21 +49,21 @@ indexed_positions log v held places seens n z ix =
     }
 
 module _ (log list places : List ℕ) (n : ℕ) (s : sound_log log ≡ true) (m : n ≡ length (records_of log)) (p : Positions log places n) (a : names_all (names_given list) (records_of log) ≡ true) where
-  all-parts : (each_once (names_given list) (records_of log) ≡ true) × (all_held (names_given list) (records_of log) ≡ true)
+  all_parts : (each_once (names_given list) (records_of log) ≡ true) × (all_held (names_given list) (records_of log) ≡ true)
   unfolding names_all
-  all-parts = and_true (each_once (names_given list) (records_of log)) (all_held (names_given list) (records_of log)) a
+  all_parts = and_true (each_once (names_given list) (records_of log)) (all_held (names_given list) (records_of log)) a
 
   names-count : n ≡ name_count list
   unfolding names_given
-  names-count = m ∙ sym (once_length (names_given list) (records_of log) (sound_records log s) all-parts.0 all-parts.1) ∙ names-length list 0 (name_count list)
+  names-count = m ∙ sym (once_length (names_given list) (records_of log) (sound_records log s) all_parts.0 all_parts.1) ∙ names-length list 0 (name_count list)
 
-  names-inside : (i : ℕ) → i < n → 4 * i < length list
+  names_inside : (i : ℕ) → i < n → 4 * i < length list
   unfolding name_count
-  names-inside i h = omega (arith, names-count)
+  names_inside i h = omega (arith, names-count)
 
   held_at : (i : ℕ) → i < n → is_held (name_at list i) (records_of log) ≡ true
   unfolding names_given
-  held_at i h = name-held list (records_of log) 0 (name_count list) i all-parts.1 (omega arith) (omega (arith, names-count))
+  held_at i h = name-held list (records_of log) 0 (name_count list) i all_parts.1 (omega arith) (omega (arith, names-count))
 
   number_at : (i : ℕ) → i < n → (1 ≤ number_of (name_at list i)) × (number_of (name_at list i) ≤ count (unit_of (name_at list i)) (records_of log))
   number_at i h = held_number (records_of log) (name_at list i) (sound_records log s) (held_at i h)
@@ -72,30 +72,30 @@ module _ (log list places : List ℕ) (n : ℕ) (s : sound_log log ≡ true) (m 
   unfolding named_at place_named
   found_at i h = p.found (unit_of (name_at list i)) (number_of (name_at list i)) (omega arith) (number_at i h).0 (number_at i h).1
 
-  pub is-named : Named list places n
+  pub is_named : Named list places n
   unfolding place_named
-  is-named =
+  is_named =
       record {
         table = p.long;
-        bytes = names-inside;
+        bytes = names_inside;
         first = λ i h. (number_at i h).0;
         few = λ i h. omega (arith, (number_at i h).1, count_few (unit_of (name_at list i)) (records_of log), sound_few log);
         inside = λ i h. omega (arith, p.below (unit_of (name_at list i)) (number_of (name_at list i)) (omega arith) (number_at i h).0 (number_at i h).1, sound_few log);
       }
 
-  pub named-member : (i : ℕ) → i < n → Member (named_at log list places i) (records_of log)
-  named-member i h = (by_id_some (unit_of (name_at list i)) (number_of (name_at list i)) (records_of log) (named_at log list places i) (found_at i h)).0
+  pub named_member : (i : ℕ) → i < n → Member (named_at log list places i) (records_of log)
+  named_member i h = (by_id_some (unit_of (name_at list i)) (number_of (name_at list i)) (records_of log) (named_at log list places i) (found_at i h)).0
 
   pub named-unit : (i : ℕ) → i < n → unit (named_at log list places i) < 8
-  named-unit i h = unit_of_lem [] (records_of log) (named_at log list places i) (sound_records log s) (named-member i h)
+  named-unit i h = unit_of_lem [] (records_of log) (named_at log list places i) (sound_records log s) (named_member i h)
 
-  named-from : (i k : ℕ) → i + k ≤ n → listed (named_at log list places) i k ≡ in_order_of (names_from list i k) (records_of log)
+  named_from : (i k : ℕ) → i + k ≤ n → listed (named_at log list places) i k ≡ in_order_of (names_from list i k) (records_of log)
   unfolding listed names_from in_order_of found_first
-  named-from i zero h = refl
-  named-from i (suc k) h =
-      ap (λ (x : List Rec). named_at log list places i ∷ x) (named-from (suc i) k (omega arith))
+  named_from i zero h = refl
+  named_from i (suc k) h =
+      ap (λ (x : List Rec). named_at log list places i ∷ x) (named_from (suc i) k (omega arith))
       ∙ ap (λ (o : Option Rec). found_first o (in_order_of (names_from list (suc i) k) (records_of log))) (sym (found_at i (omega arith)))
 
   pub named_in_order : listed (named_at log list places) 0 n ≡ in_order_of (names_given list) (records_of log)
   unfolding names_given
-  named_in_order = named-from 0 n (omega arith) ∙ ap (λ (x : ℕ). in_order_of (names_from list 0 x) (records_of log)) names-count
+  named_in_order = named_from 0 n (omega arith) ∙ ap (λ (x : ℕ). in_order_of (names_from list 0 x) (records_of log)) names-count

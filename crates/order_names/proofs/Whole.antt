@@ -16,7 +16,7 @@ use Rattle.encoding_laws.proofs.Logs.{sound_records, sound_few}
 use Rattle.log_admit.proofs.Counts.{count_few}
 use Rattle.order_model.specs.Order.{names_from, name_count, names_given, names_all}
 use Rattle.order_laws.specs.Marking.{marks_all}
-use Rattle.order_laws.proofs.Marks.{names-by-marks}
+use Rattle.order_laws.proofs.Marks.{names_by_marks}
 use Rattle.order_names.specs.Named.{Few}
 
 pub names-length : (b : List ℕ) (i n : ℕ) → length (names_from b i n) ≡ n
@@ -30,7 +30,7 @@ few_held log held e =
 
 whole : (log list : List ℕ) → sound_log log ≡ true → names_all (names_given list) (records_of log) ≡ (eqb (length (names_given list)) (length (records_of log)) && marks_all (vector_of (records_of log)) (replicate 4096 0) (names_given list))
 whole log list s =
-    names-by-marks (records_of log) (sound_records log s) (sound_few log) (names_given list) (replicate 4096 0) (length-replicate {A = ℕ} 4096 0) (λ i. blank_get_d (replicate 4096 0) i (blank-zeros 4096))
+    names_by_marks (records_of log) (sound_records log s) (sound_few log) (names_given list) (replicate 4096 0) (length-replicate {A = ℕ} 4096 0) (λ i. blank_get_d (replicate 4096 0) i (blank-zeros 4096))
 
 pub names_differ : (log list : List ℕ) (n k : ℕ) → sound_log log ≡ true → n ≡ length (records_of log) → k ≡ name_count list → (k ≡ n → ⊥) → false ≡ names_all (names_given list) (records_of log)
 unfolding names_given

@@ -49,9 +49,9 @@ same_flag_lem false true e = absurd (omega arith)
 same_flag_lem false false e = refl
 
 module _ (s t : List Aside) (e f : Entry) (pe : Proper e) (pf : Proper f) where
-  heads-mean : head_of (flag_of s e) e ≡ head_of (flag_of t f) f → (e.kind ≡ f.kind) × (flag_of s e ≡ flag_of t f) × (e.made ≡ f.made) × (e.inside ≡ f.inside)
+  heads_mean : head_of (flag_of s e) e ≡ head_of (flag_of t f) f → (e.kind ≡ f.kind) × (flag_of s e ≡ flag_of t f) × (e.made ≡ f.made) × (e.inside ≡ f.inside)
   unfolding identity_bytes
-  heads-mean h = (
+  heads_mean h = (
     ap (λ (l : List ℕ). get_or l 0 0) h,
     ap (λ (l : List ℕ). get_or l 1 0) h,
     same_identity e.made f.made (ap (λ (l : List ℕ). get_or l 4 0) h) (ap (λ (l : List ℕ). get_or l 6 0) h) (ap (λ (l : List ℕ). get_or l 7 0) h),
@@ -64,20 +64,20 @@ module _ (s t : List Aside) (e f : Entry) (pe : Proper e) (pf : Proper f) where
   rest : (x : Entry) → Proper x → drop 4 (tail_of x) ≡ x.label ++ x.mark
   rest x p = drop_at x.date (x.label ++ x.mark) 4 p.date_long
 
-  tails-mean : tail_of e ≡ tail_of f → (e.date ≡ f.date) × (e.label ≡ f.label) × (e.mark ≡ f.mark)
-  tails-mean h =
+  tails_mean : tail_of e ≡ tail_of f → (e.date ≡ f.date) × (e.label ≡ f.label) × (e.mark ≡ f.mark)
+  tails_mean h =
       let r : e.label ++ e.mark ≡ f.label ++ f.mark = sym (rest e pe) ∙ ap (λ (l : List ℕ). drop 4 l) h ∙ rest f pf in (
         sym (first e pe) ∙ ap (λ (l : List ℕ). take 4 l) h ∙ first f pf,
         sym (take_at e.label e.mark 32 pe.label_long) ∙ ap (λ (l : List ℕ). take 32 l) r ∙ take_at f.label f.mark 32 pf.label_long,
         sym (drop_at e.label e.mark 32 pe.label_long) ∙ ap (λ (l : List ℕ). drop 32 l) r ∙ drop_at f.label f.mark 32 pf.label_long,
       )
 
-  means-heads : SameEntry s t e f → head_of (flag_of s e) e ≡ head_of (flag_of t f) f
-  means-heads h =
+  means_heads : SameEntry s t e f → head_of (flag_of s e) e ≡ head_of (flag_of t f) f
+  means_heads h =
       rw (h.same_kind, h.same_dispute, h.same_made, h.same_folder)
 
-  means-tails : SameEntry s t e f → tail_of e ≡ tail_of f
-  means-tails h = rw (h.same_date, h.same_label, h.same_mark)
+  means_tails : SameEntry s t e f → tail_of e ≡ tail_of f
+  means_tails h = rw (h.same_date, h.same_label, h.same_mark)
 
   -- two rows compared by their bytes
   pub rows_alike : (same_bytes (part (entry_row (flag_of s e) e) 0 12) (part (entry_row (flag_of t f) f) 0 12) && same_bytes (part (entry_row (flag_of s e) e) 20 52) (part (entry_row (flag_of t f) f) 20 52)) ≡ entry_alike s t e f
@@ -86,8 +86,8 @@ module _ (s t : List Aside) (e f : Entry) (pe : Proper e) (pf : Proper f) where
       (both_ways (same_bytes (head_of (flag_of s e) e) (head_of (flag_of t f) f) && same_bytes (tail_of e) (tail_of f)) (entry_alike s t e f)
       (λ h.
       let (a, b) = and_true (same_bytes (head_of (flag_of s e) e) (head_of (flag_of t f) f)) (same_bytes (tail_of e) (tail_of f)) h in
-      let (k, d, m, i) = heads-mean (same_eq (head_of (flag_of s e) e) (head_of (flag_of t f) f) a) in
-      let (x, y, z) = tails-mean (same_eq (tail_of e) (tail_of f) b) in
+      let (k, d, m, i) = heads_mean (same_eq (head_of (flag_of s e) e) (head_of (flag_of t f) f) a) in
+      let (x, y, z) = tails_mean (same_eq (tail_of e) (tail_of f) b) in
       entry-alike s t e f
       (record {
         same_made = m;
@@ -101,8 +101,8 @@ module _ (s t : List Aside) (e f : Entry) (pe : Proper e) (pf : Proper f) where
       (λ h.
       let w = alike-entry s t e f h in
       true_and (same_bytes (head_of (flag_of s e) e) (head_of (flag_of t f) f)) (same_bytes (tail_of e) (tail_of f))
-      (eq_same (head_of (flag_of s e) e) (head_of (flag_of t f) f) (means-heads w))
-      (eq_same (tail_of e) (tail_of f) (means-tails w))))
+      (eq_same (head_of (flag_of s e) e) (head_of (flag_of t f) f) (means_heads w))
+      (eq_same (tail_of e) (tail_of f) (means_tails w))))
 
 pub asides_alike : (a b : Aside) → same_bytes (aside_row a) (aside_row b) ≡ aside_alike a b
 asides_alike a b =

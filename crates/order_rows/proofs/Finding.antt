@@ -13,7 +13,7 @@ use Rattle.model.specs.Log.{all_to}
 use Rattle.base_model.specs.Base.{last_to}
 use Rattle.byte_slice.proofs.Numbers.{lt_or_ge, bool_cases, not_both, and_true, true_and}
 use Rattle.log_laws.proofs.Tests.{all_to-at, all_to_all}
-use Rattle.base_links.proofs.Links.{last-le, last-passes}
+use Rattle.base_links.proofs.Links.{last_le, last_passes}
 use Rattle.tree_laws.specs.Replayed.{Has}
 
 -- ---- members by their places
@@ -57,11 +57,11 @@ module _ {A : Type 0} (xs ys : List A) (d : A) (key : A → ℕ) (alike : A → 
   abbrev shown : ℕ → Bool
   shown i = not (eqb (place i) 0) && row i (place i - 1)
 
-  one-to : (i : ℕ) → i < length xs → shown i ≡ true → (y : A) × Has y ys × (alike (get_or xs i d) y ≡ true)
-  one-to i h e =
+  one_to : (i : ℕ) → i < length xs → shown i ≡ true → (y : A) × Has y ys × (alike (get_or xs i d) y ≡ true)
+  one_to i h e =
       let (a, b) = and_true (not (eqb (place i) 0)) (row i (place i - 1)) e in
       let z : place i ≡ 0 → ⊥ = λ q. not_both (eqb (place i) 0) (eq-eqb (place i) 0 q) (not-true (eqb (place i) 0) a) in
-      let l : place i - 1 < length ys = omega (arith, last-le (test i) (length ys), z) in
+      let l : place i - 1 < length ys = omega (arith, last_le (test i) (length ys), z) in
       (get_or ys (place i - 1) d, has_at ys d (place i - 1) l, sym (rows i (place i - 1) h l) ∙ b)
 
   one_from : (i : ℕ) → i < length xs → (y : A) → Has y ys → alike (get_or xs i d) y ≡ true → shown i ≡ true
@@ -70,9 +70,9 @@ module _ {A : Type 0} (xs ys : List A) (d : A) (key : A → ℕ) (alike : A → 
       let w : key (get_or xs i d) ≡ key (get_or ys j d) = keys (get_or xs i d) y e ∙ ap key (sym q) in
       let t : test i j ≡ true = tests i j h l ∙ eq-eqb (key (get_or ys j d)) (key (get_or xs i d)) (sym w) in
       let z : 0 < place i = ⊎_elim (λ (v : 0 < place i). v) (λ (v : place i ≤ 0). absurd (none-at (test i) (length ys) (omega arith) j l t)) (lt_or_ge 0 (place i)) in
-      let m : place i - 1 < length ys = omega (arith, last-le (test i) (length ys)) in
+      let m : place i - 1 < length ys = omega (arith, last_le (test i) (length ys)) in
       let p : key (get_or ys (place i - 1) d) ≡ key (get_or xs i d) =
-      eqb-true (key (get_or ys (place i - 1) d)) (key (get_or xs i d)) (sym (tests i (place i - 1) h m) ∙ last-passes (test i) (length ys) z) in
+      eqb-true (key (get_or ys (place i - 1) d)) (key (get_or xs i d)) (sym (tests i (place i - 1) h m) ∙ last_passes (test i) (length ys) z) in
       let s : place i - 1 ≡ j = lone (place i - 1) j m l (p ∙ w) in
       let r : row i (place i - 1) ≡ true = rw s (rows i j h l ∙ ap (alike (get_or xs i d)) q ∙ e) in
       true_and (not (eqb (place i) 0)) (row i (place i - 1)) (ap not (ne_eqb (place i) 0 (λ v. omega arith))) r
@@ -81,12 +81,12 @@ module _ {A : Type 0} (xs ys : List A) (d : A) (key : A → ℕ) (alike : A → 
       → (x : A) → Has x xs → (y : A) × Has y ys × (alike x y ≡ true)
   found_in e x k =
       let (i, l, q) = at_has xs d x k in
-      let (y, m, r) = one-to i l (all_to-at (length xs) shown e i l) in
+      let (y, m, r) = one_to i l (all_to-at (length xs) shown e i l) in
       (y, m, ap (λ (z : A). alike z y) (sym q) ∙ r)
 
-  pub in-found : ((x : A) → Has x xs → (y : A) × Has y ys × (alike x y ≡ true))
+  pub in_found : ((x : A) → Has x xs → (y : A) × Has y ys × (alike x y ≡ true))
       → all_to (length xs) (λ i. not (eqb (last_to (test i) (length ys)) 0) && row i (last_to (test i) (length ys) - 1)) ≡ true
-  in-found f =
+  in_found f =
       all_to_all (length xs) shown (λ i h.
       let (y, m, r) = f (get_or xs i d) (has_at xs d i h) in
       one_from i h y m r)

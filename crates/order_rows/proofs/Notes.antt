@@ -17,7 +17,7 @@ use Rattle.byte_slice.proofs.Numbers.{eq_or_ne}
 use Rattle.byte_slice.proofs.Compare.{blank-zeros, blank_get_d}
 use Rattle.log_closure.specs.Tables.{slot_of}
 use Rattle.log_admit.proofs.Tables.{slot_below, slot_apart}
-use Rattle.base_links.proofs.Links.{last-le}
+use Rattle.base_links.proofs.Links.{last_le}
 use Rattle.order_laws.specs.Marking.{mark_slot}
 use Rattle.order_rows.specs.declared.Rows.{Rows}
 use Rattle.order_rows.specs.Compared.{Slotted, key_in, row_count, row_alike, is_key, row_by, row_shown, Rowed, Noted}
@@ -97,14 +97,14 @@ module _ (p : Rows) (a b notes : List ℕ) (i k s j : ℕ) (wa : Rowed p a) (wb 
   unfolding row_by
   found = f ∙ rw (q, e) (v.at (key_in p a i) (wa.slots i h))
 
-  pub shown-none : j ≡ 0 → false ≡ row_shown p a b i
+  pub shown_none : j ≡ 0 → false ≡ row_shown p a b i
   unfolding row_shown
-  shown-none z = rw (eq-eqb (row_by p a b i) 0 (sym found ∙ z))
+  shown_none z = rw (eq-eqb (row_by p a b i) 0 (sym found ∙ z))
 
-  pub shown-low : (j ≡ 0 → ⊥) → j - 1 < 1024
+  pub shown_low : (j ≡ 0 → ⊥) → j - 1 < 1024
   unfolding row_by
-  shown-low z = omega (arith, found, last-le (is_key p b (key_in p a i)) (row_count p b), wb.few)
+  shown_low z = omega (arith, found, last_le (is_key p b (key_in p a i)) (row_count p b), wb.few)
 
-  pub shown-some : (j ≡ 0 → ⊥) → (r : Bool) → r ≡ row_alike p a i b (j - 1) → r ≡ row_shown p a b i
+  pub shown_some : (j ≡ 0 → ⊥) → (r : Bool) → r ≡ row_alike p a i b (j - 1) → r ≡ row_shown p a b i
   unfolding row_shown
-  shown-some z r c = c ∙ rw (← found, ne_eqb j 0 z)
+  shown_some z r c = c ∙ rw (← found, ne_eqb j 0 z)

@@ -43,7 +43,7 @@ use Rattle.order_rows.specs.declared.Rows.{Rows}
 use Rattle.order_rows.specs.declared.Rows.TheVariants.{Entries, Asides}
 use Rattle.order_rows.specs.Compared.{Slotted, key_in, row_count, row_alike, is_key, row_by, row_shown, rows_within, table_within, tables_alike, Rowed, Table}
 use Rattle.order_rows.proofs.Alike.{rows_alike, asides_alike}
-use Rattle.order_rows.proofs.Finding.{has_at, found_in, in-found}
+use Rattle.order_rows.proofs.Finding.{has_at, found_in, in_found}
 
 -- a tree whose table has rows that are found by slots
 pub record Showing (t : Tree) : Type 0 where
@@ -109,13 +109,13 @@ module _ (t : Tree) (w : Showing t) where
         ∙ ap (λ (b : List ℕ). identity_at b 4) entry_row_is
         ∙ row_made (flag_of ss (get_or es i blank_entry)) (get_or es i blank_entry)
 
-    entry-head : part (table_bytes t) (4 + 72 * i) 12 ≡ part (entry_row (flag_of t.asides (get_or (present_ones t.entries) i blank_entry)) (get_or (present_ones t.entries) i blank_entry)) 0 12
-    entry-head =
+    entry_head : part (table_bytes t) (4 + 72 * i) 12 ≡ part (entry_row (flag_of t.asides (get_or (present_ones t.entries) i blank_entry)) (get_or (present_ones t.entries) i blank_entry)) 0 12
+    entry_head =
         let e : 4 + 72 * i + 0 ≡ 4 + 72 * i = omega arith in
         sym (rw e at (part-part (table_bytes t) (4 + 72 * i) 72 0 12 (omega arith))) ∙ ap (λ (b : List ℕ). part b 0 12) entry_row_is
 
-    entry-tail : part (table_bytes t) (24 + 72 * i) 52 ≡ part (entry_row (flag_of t.asides (get_or (present_ones t.entries) i blank_entry)) (get_or (present_ones t.entries) i blank_entry)) 20 52
-    entry-tail =
+    entry_tail : part (table_bytes t) (24 + 72 * i) 52 ≡ part (entry_row (flag_of t.asides (get_or (present_ones t.entries) i blank_entry)) (get_or (present_ones t.entries) i blank_entry)) 20 52
+    entry_tail =
         let e : 4 + 72 * i + 20 ≡ 24 + 72 * i = omega arith in
         sym (rw e at (part-part (table_bytes t) (4 + 72 * i) 72 20 52 (omega arith))) ∙ ap (λ (b : List ℕ). part b 20 52) entry_row_is
 
@@ -125,9 +125,9 @@ module _ (t : Tree) (w : Showing t) where
         let e : 4 + (73728 + 12 * i) ≡ 73732 + 12 * i = omega arith in
         (rw e at (same_part (73728 + 12 * i) 12)) ∙ part-aside ss es ss w.proper w.entries_room i blank_aside h
 
-    aside-key : key_in Asides (table_bytes t) i ≡ (get_or t.asides i blank_aside).who
+    aside_key : key_in Asides (table_bytes t) i ≡ (get_or t.asides i blank_aside).who
     unfolding key_in aside_in
-    aside-key =
+    aside_key =
         let e : 73732 + 12 * i + 0 ≡ 73732 + 12 * i = omega arith in
         sym (rw e at (identity-part (table_bytes t) (73732 + 12 * i) 12 0 (omega arith)))
         ∙ ap (λ (b : List ℕ). identity_at b 0) aside-row
@@ -148,7 +148,7 @@ module _ (t : Tree) (w : Showing t) where
           few = omega (arith, count_asides, w.asides_room);
           slots = λ i h.
               let l : i < length ss = omega (arith, count_asides) in
-              rw (aside-key i l) (w.asides_slotted (get_or ss i blank_aside) (has_at ss blank_aside i l));
+              rw (aside_key i l) (w.asides_slotted (get_or ss i blank_aside) (has_at ss blank_aside i l));
         };
       }
 
@@ -209,20 +209,20 @@ module _ (t u : Tree) (w : Showing t) (v : Showing u) where
   unfolding row_shown row_by
   shown_by p i n e = rw e
 
-  entry-test : (i j : ℕ) → i < length (present_ones t.entries) → j < length (present_ones u.entries)
+  entry_test : (i j : ℕ) → i < length (present_ones t.entries) → j < length (present_ones u.entries)
       → is_key Entries (table_bytes u) (key_in Entries (table_bytes t) i) j ≡ eqb (get_or (present_ones u.entries) j blank_entry).made (get_or (present_ones t.entries) i blank_entry).made
   unfolding is_key
-  entry-test i j h k = rw (entry_key t w i h, entry_key u v j k)
+  entry_test i j h k = rw (entry_key t w i h, entry_key u v j k)
 
   entry_same : (i j : ℕ) → i < length (present_ones t.entries) → j < length (present_ones u.entries)
       → row_alike Entries (table_bytes t) i (table_bytes u) j ≡ entry_alike t.asides u.asides (get_or (present_ones t.entries) i blank_entry) (get_or (present_ones u.entries) j blank_entry)
   unfolding row_alike
   entry_same i j h k =
-      rw (entry-head t w i h, entry-head u v j k, entry-tail t w i h, entry-tail u v j k)
+      rw (entry_head t w i h, entry_head u v j k, entry_tail t w i h, entry_tail u v j k)
       (rows_alike t.asides u.asides (get_or xs i blank_entry) (get_or ys j blank_entry) (proper_at xs i blank_entry h w.proper) (proper_at ys j blank_entry k v.proper))
 
-  entries-keys : (e f : Entry) → entry_alike t.asides u.asides e f ≡ true → e.made ≡ f.made
-  entries-keys e f h = (alike-entry t.asides u.asides e f h).same_made
+  entries_keys : (e f : Entry) → entry_alike t.asides u.asides e f ≡ true → e.made ≡ f.made
+  entries_keys e f h = (alike-entry t.asides u.asides e f h).same_made
 
   -- where row i of t stands in u, and whether it shows the same
   abbrev entry_place : ℕ → ℕ
@@ -240,16 +240,16 @@ module _ (t u : Tree) (w : Showing t) (v : Showing u) where
       entries_by
       ∙ both_ways (all_to (length xs) entry-shown) (entries_among t.asides u.asides xs ys)
       (λ h. in_among t.asides u.asides xs ys (λ e i.
-      let (f, j, q) = found_in xs ys blank_entry (λ x. x.made) alike entries-keys (makers_lone ys v.entries_once) (λ i. is_key Entries b (key_in Entries a i)) (λ i j. row_alike Entries a i b j) entry-test entry_same h e i in
+      let (f, j, q) = found_in xs ys blank_entry (λ x. x.made) alike entries_keys (makers_lone ys v.entries_once) (λ i. is_key Entries b (key_in Entries a i)) (λ i j. row_alike Entries a i b j) entry_test entry_same h e i in
       (f, j, alike-entry t.asides u.asides e f q)))
-      (λ h. in-found xs ys blank_entry (λ x. x.made) alike entries-keys (makers_lone ys v.entries_once) (λ i. is_key Entries b (key_in Entries a i)) (λ i j. row_alike Entries a i b j) entry-test entry_same (λ e i.
+      (λ h. in_found xs ys blank_entry (λ x. x.made) alike entries_keys (makers_lone ys v.entries_once) (λ i. is_key Entries b (key_in Entries a i)) (λ i j. row_alike Entries a i b j) entry_test entry_same (λ e i.
       let (f, j, q) = among_in t.asides u.asides xs ys h e i in
       (f, j, entry-alike t.asides u.asides e f q)))
 
-  aside-test : (i j : ℕ) → i < length t.asides → j < length u.asides
+  aside_test : (i j : ℕ) → i < length t.asides → j < length u.asides
       → is_key Asides (table_bytes u) (key_in Asides (table_bytes t) i) j ≡ eqb (get_or u.asides j blank_aside).who (get_or t.asides i blank_aside).who
   unfolding is_key
-  aside-test i j h k = rw (aside-key t w i h, aside-key u v j k)
+  aside_test i j h k = rw (aside_key t w i h, aside_key u v j k)
 
   aside_same : (i j : ℕ) → i < length t.asides → j < length u.asides
       → row_alike Asides (table_bytes t) i (table_bytes u) j ≡ aside_alike (get_or t.asides i blank_aside) (get_or u.asides j blank_aside)
@@ -257,8 +257,8 @@ module _ (t u : Tree) (w : Showing t) (v : Showing u) where
   aside_same i j h k =
       rw (aside-row t w i h, aside-row u v j k) (asides_alike (get_or t.asides i blank_aside) (get_or u.asides j blank_aside))
 
-  asides-keys : (x y : Aside) → aside_alike x y ≡ true → x.who ≡ y.who
-  asides-keys x y h = ap (λ (z : Aside). z.who) (alike-aside x y h)
+  asides_keys : (x y : Aside) → aside_alike x y ≡ true → x.who ≡ y.who
+  asides_keys x y h = ap (λ (z : Aside). z.who) (alike-aside x y h)
 
   abbrev aside-place : ℕ → ℕ
   aside-place i = last_to (is_key Asides (table_bytes u) (key_in Asides (table_bytes t) i)) (length u.asides)
@@ -275,18 +275,18 @@ module _ (t u : Tree) (w : Showing t) (v : Showing u) where
       asides_by
       ∙ both_ways (all_to (length t.asides) aside-shown) (asides_among t.asides u.asides)
       (λ h. in_asides t.asides u.asides (λ x i.
-      let (y, j, q) = found_in t.asides u.asides blank_aside (λ z. z.who) aside_alike asides-keys (whos_lone u.asides v.asides_once) (λ i. is_key Asides b (key_in Asides a i)) (λ i j. row_alike Asides a i b j) aside-test aside_same h x i in
+      let (y, j, q) = found_in t.asides u.asides blank_aside (λ z. z.who) aside_alike asides_keys (whos_lone u.asides v.asides_once) (λ i. is_key Asides b (key_in Asides a i)) (λ i j. row_alike Asides a i b j) aside_test aside_same h x i in
       subst (λ (z : Aside). Has z u.asides) (sym (alike-aside x y q)) j))
-      (λ h. in-found t.asides u.asides blank_aside (λ z. z.who) aside_alike asides-keys (whos_lone u.asides v.asides_once) (λ i. is_key Asides b (key_in Asides a i)) (λ i j. row_alike Asides a i b j) aside-test aside_same (λ x i.
+      (λ h. in_found t.asides u.asides blank_aside (λ z. z.who) aside_alike asides_keys (whos_lone u.asides v.asides_once) (λ i. is_key Asides b (key_in Asides a i)) (λ i j. row_alike Asides a i b j) aside_test aside_same (λ x i.
       (x, asides_in t.asides u.asides h x i, aside-alike x x refl)))
 
-  within-is : table_within (table_bytes t) (table_bytes u) ≡ shown_within t u
+  within_is : table_within (table_bytes t) (table_bytes u) ≡ shown_within t u
   unfolding table_within shown_within
-  within-is = rw (entries_are, asides_are)
+  within_is = rw (entries_are, asides_are)
 
 pub alike_is : (t u : Tree) → Showing t → Showing u → tables_alike (table_bytes t) (table_bytes u) ≡ shown_alike t u
 unfolding tables_alike shown_alike
-alike_is t u w v = rw (within-is t u w v, within-is u t v w)
+alike_is t u w v = rw (within_is t u w v, within_is u t v w)
 
 -- ---- the trees of records of a sound log
 
@@ -333,28 +333,28 @@ proper_of (e ∷ l) f s =
     )
 
 module _ (l m : List Rec) (s : Sound l) (few : length l ≤ 512) (sub : (r : Rec) → Member r m → Member r l) (d : Distinct (selves m)) (n : length m ≤ 512) where
-  self-slotted : (k : ℕ) → Has k (selves m) → Slotted k
-  self-slotted k i =
+  self_slotted : (k : ℕ) → Has k (selves m) → Slotted k
+  self_slotted k i =
       let (r, j, q) = selves_member m k i in
       let g = sub r j in
       let c : number_of k ≡ num r = ap (λ (x : ℕ). number_of x) q ∙ self_num r (unit_of_lem [] l r s g) in
       record { some = omega (arith, own_of [] l r s g); few = omega (arith, number_held l r s g, count_few (unit r) l) }
 
-  entry-slotted : (e : Entry) → Has e (present_ones (replay m).entries) → Slotted e.made
-  entry-slotted e i = self-slotted e.made (makers_of_lem m e.made (made_in_lem (replay m).entries e (present_has (replay m).entries e i).0))
+  entry_slotted : (e : Entry) → Has e (present_ones (replay m).entries) → Slotted e.made
+  entry_slotted e i = self_slotted e.made (makers_of_lem m e.made (made_in_lem (replay m).entries e (present_has (replay m).entries e i).0))
 
-  all-filled : All Filled (replay m).entries
+  all_filled : All Filled (replay m).entries
   unfolding replay empty_tree
-  all-filled = filled-replay empty_tree m (λ r i. well_length r (formed [] l r s (sub r i))) tt
+  all_filled = filled-replay empty_tree m (λ r i. well_length r (formed [] l r s (sub r i))) tt
 
-  pub replay-showing : Showing (replay m)
-  replay-showing =
+  pub replay_showing : Showing (replay m)
+  replay_showing =
       record {
-        proper = proper_of (present_ones (replay m).entries) (all_present Filled (replay m).entries all-filled) entry-slotted;
+        proper = proper_of (present_ones (replay m).entries) (all_present Filled (replay m).entries all_filled) entry_slotted;
         entries_room = omega (arith, entries_few m);
         asides_room = omega (arith, asides_few m);
-        entries_slotted = entry-slotted;
-        asides_slotted = λ x i. self-slotted x.who (asides_of m x.who (who_in (replay m).asides x i));
+        entries_slotted = entry_slotted;
+        asides_slotted = λ x i. self_slotted x.who (asides_of m x.who (who_in (replay m).asides x i));
         entries_once = present_distinct (replay m).entries (makers-distinct m d);
         asides_once = asides_distinct m d;
       }

@@ -7,7 +7,7 @@ use mathlib.Core.Path.{◌≡◌, refl, sym, ap, ◌∙◌}
 use mathlib.Core.Bool.{Bool, true, false, not, ◌&&◌, true≢false}
 use mathlib.Core.List.{List}
 use lib.ListN.{length, take, drop}
-use borrow.Author.Tests.{not-true, not-false}
+use borrow.Author.Tests.{not-true, not_false}
 use Rattle.model.specs.Bytes.{word, same_bytes, part}
 use Rattle.model.specs.Record.{identity_at}
 use Rattle.model.specs.Log.{all_to}
@@ -46,10 +46,10 @@ alike_asides p a b i j r e q = q ∙ rw e
 -- ---- two rows
 
 module _ (a b : List ℕ) (i j : ℕ) where
-  pub heads-differ : (t : Bool) → t ≡ same_bytes (take (4 + 72 * i + 12 - (4 + 72 * i)) (drop (4 + 72 * i) a)) (take (4 + 72 * j + 12 - (4 + 72 * j)) (drop (4 + 72 * j) b)) → not t ≡ true
+  pub heads_differ : (t : Bool) → t ≡ same_bytes (take (4 + 72 * i + 12 - (4 + 72 * i)) (drop (4 + 72 * i) a)) (take (4 + 72 * j + 12 - (4 + 72 * j)) (drop (4 + 72 * j) b)) → not t ≡ true
       → false ≡ row_alike Entries a i b j
   unfolding row_alike
-  heads-differ t e z =
+  heads_differ t e z =
       let f : same_bytes (part a (4 + 72 * i) 12) (part b (4 + 72 * j) 12) ≡ false = sym (rw (part_is a (4 + 72 * i) 12, part_is b (4 + 72 * j) 12) at e) ∙ not-true t z in
       rw f
 
@@ -58,13 +58,13 @@ module _ (a b : List ℕ) (i j : ℕ) where
       → r ≡ row_alike Entries a i b j
   unfolding row_alike
   rows_same t r e z q =
-      let f : same_bytes (part a (4 + 72 * i) 12) (part b (4 + 72 * j) 12) ≡ true = sym (rw (part_is a (4 + 72 * i) 12, part_is b (4 + 72 * j) 12) at e) ∙ not-false t z in
+      let f : same_bytes (part a (4 + 72 * i) 12) (part b (4 + 72 * j) 12) ≡ true = sym (rw (part_is a (4 + 72 * i) 12, part_is b (4 + 72 * j) 12) at e) ∙ not_false t z in
       rw f (rw (part_is a (24 + 72 * i) 52, part_is b (24 + 72 * j) 52) at q)
 
-  pub asides-same : (r : Bool) → r ≡ same_bytes (take (73732 + 12 * i + 12 - (73732 + 12 * i)) (drop (73732 + 12 * i) a)) (take (73732 + 12 * j + 12 - (73732 + 12 * j)) (drop (73732 + 12 * j) b))
+  pub asides_same : (r : Bool) → r ≡ same_bytes (take (73732 + 12 * i + 12 - (73732 + 12 * i)) (drop (73732 + 12 * i) a)) (take (73732 + 12 * j + 12 - (73732 + 12 * j)) (drop (73732 + 12 * j) b))
       → r ≡ row_alike Asides a i b j
   unfolding row_alike
-  asides-same r q = rw (part_is a (73732 + 12 * i) 12, part_is b (73732 + 12 * j) 12) at q
+  asides_same r q = rw (part_is a (73732 + 12 * i) 12, part_is b (73732 + 12 * j) 12) at q
 
 -- ---- all rows
 
@@ -73,15 +73,15 @@ unfolding all_to
 all_none p a b = refl
 
 module _ (p : Rows) (a b : List ℕ) (i n : ℕ) (t : Bool) (c : n ≡ row_count p a) (h : i < n) (e : t ≡ row_shown p a b i) where
-  pub all-stop : not t ≡ true → false ≡ rows_within p a b
+  pub all_stop : not t ≡ true → false ≡ rows_within p a b
   unfolding rows_within
-  all-stop z =
+  all_stop z =
       sym (test_false (all_to (row_count p a) (row_shown p a b))
       (λ y. true≢false (sym (all_to-at (row_count p a) (row_shown p a b) y i (omega arith)) ∙ (sym e ∙ not-true t z))))
 
   pub all_more : not t ≡ false → all_to i (row_shown p a b) ≡ true → all_to (i + 1) (row_shown p a b) ≡ true
   unfolding all_to
-  all_more z y = rw (add-one i, y, ← e) (not-false t z)
+  all_more z y = rw (add-one i, y, ← e) (not_false t z)
 
 pub all_done : (p : Rows) (a b : List ℕ) (i n : ℕ) → n ≡ row_count p a → i ≤ n → n ≤ i → all_to i (row_shown p a b) ≡ true → true ≡ rows_within p a b
 unfolding rows_within
@@ -90,21 +90,21 @@ all_done p a b i n c h g y = let e : i ≡ row_count p a = omega arith in sym (r
 -- ---- whole tables
 
 module _ (a b : List ℕ) (t : Bool) where
-  pub entries-differ : t ≡ rows_within Entries a b → not t ≡ true → false ≡ table_within a b
+  pub entries_differ : t ≡ rows_within Entries a b → not t ≡ true → false ≡ table_within a b
   unfolding table_within
-  entries-differ e z = let f : rows_within Entries a b ≡ false = sym e ∙ not-true t z in rw f
+  entries_differ e z = let f : rows_within Entries a b ≡ false = sym e ∙ not-true t z in rw f
 
-  pub asides-decide : t ≡ rows_within Entries a b → not t ≡ false → (r : Bool) → r ≡ rows_within Asides a b → r ≡ table_within a b
+  pub asides_decide : t ≡ rows_within Entries a b → not t ≡ false → (r : Bool) → r ≡ rows_within Asides a b → r ≡ table_within a b
   unfolding table_within
-  asides-decide e z r q = let f : rows_within Entries a b ≡ true = sym e ∙ not-false t z in rw f q
+  asides_decide e z r q = let f : rows_within Entries a b ≡ true = sym e ∙ not_false t z in rw f q
 
   pub one_differs : t ≡ table_within a b → not t ≡ true → false ≡ tables_alike a b
   unfolding tables_alike
   one_differs e z = let f : table_within a b ≡ false = sym e ∙ not-true t z in rw f
 
-  pub other-decides : t ≡ table_within a b → not t ≡ false → (r : Bool) → r ≡ table_within b a → r ≡ tables_alike a b
+  pub other_decides : t ≡ table_within a b → not t ≡ false → (r : Bool) → r ≡ table_within b a → r ≡ tables_alike a b
   unfolding tables_alike
-  other-decides e z r q = let f : table_within a b ≡ true = sym e ∙ not-false t z in rw f q
+  other_decides e z r q = let f : table_within a b ≡ true = sym e ∙ not_false t z in rw f q
 
 pub table_entries : (b : List ℕ) → Table b → Rowed Entries b
 table_entries b w = w.entries

@@ -9,7 +9,7 @@ use mathlib.Core.Bool.{Bool, true, false, not, ◌&&◌}
 use mathlib.Core.List.{List, [], ◌∷◌}
 use lib.ListN.{get_or, length, take, drop, set, replicate}
 use lib.Seq.{get_or-set_same, get_or-set_other, set_out}
-use borrow.Author.Tests.{not-true, not-false}
+use borrow.Author.Tests.{not-true, not_false}
 use Rattle.model.specs.Vector.{covers}
 use Rattle.model.specs.Record.{Rec, unit, seen_vector}
 use Rattle.byte_slice.proofs.Numbers.{lt_or_ge, eq_or_ne}
@@ -61,14 +61,14 @@ module _ (log list places : List ℕ) (i n p : ℕ) (h : i < n) (e : p ≡ place
   test : covers had (seen_vector (named_at log list places i)) ≡ r
   test = sym (f ∙ ap (covers had) (q ∙ ap seen_vector (named_lent log list places i p e)))
 
-  pub covers-stop : not r ≡ true → false ≡ t
-  covers-stop z = rw (covers-next had (named_at log list places) i n h, test, not-true r z) at inv
+  pub covers_stop : not r ≡ true → false ≡ t
+  covers_stop z = rw (covers-next had (named_at log list places) i n h, test, not-true r z) at inv
 
-  pub covers-go : not r ≡ false → (u : ℕ) (had' : List ℕ) → u ≡ unit (take (80 * p + 80 - 80 * p) (drop (80 * p) log)) → had' ≡ set had u (get_or had u 0 + 1)
+  pub covers_go : not r ≡ false → (u : ℕ) (had' : List ℕ) → u ≡ unit (take (80 * p + 80 - 80 * p) (drop (80 * p) log)) → had' ≡ set had u (get_or had u 0 + 1)
       → covers_each had' (listed (named_at log list places) (i + 1) (n - (i + 1))) ≡ t
-  covers-go z u had' w v =
+  covers_go z u had' w v =
       let c : u ≡ unit (named_at log list places i) = w ∙ ap unit (named_lent log list places i p e) in
-      rw (v, c) (rw (covers-next had (named_at log list places) i n h, test, not-false r z) at inv)
+      rw (v, c) (rw (covers-next had (named_at log list places) i n h, test, not_false r z) at inv)
 
 pub covers_end : (had : List ℕ) (at : ℕ → Rec) (i n : ℕ) (t : Bool) → i ≤ n → n ≤ i → covers_each had (listed at i (n - i)) ≡ t → true ≡ t
 unfolding covers_each listed

@@ -21,7 +21,7 @@ use Rattle.tree_table.specs.Rows.{tree_in, InRange}
 use Rattle.hash_chains.specs.Chains.{nodes_in}
 use Rattle.tree_maps.specs.Keys.{register_size}
 use Rattle.tree_lookup.specs.Roles.{row_from, note_from, row_of, note_of, behind_rows, role_of, Works}
-use Rattle.tree_lookup.proofs.Working.{works-tree}
+use Rattle.tree_lookup.proofs.Working.{works_tree}
 use Rattle.tree_amend.specs.Effects.{Takes}
 use Rattle.log_check.specs.InOrder.{listed}
 use Rattle.tree_replay.specs.Playable.{Playable}
@@ -98,14 +98,14 @@ pub order_nodes : (register₀ register : List ℕ) (i n : ℕ) → register₀ 
 order_nodes register₀ register i n e g h f = omega (arith, start_nodes register₀ n e f)
 
 module _ (at : ℕ → Rec) (b register : List ℕ) (x y i n : ℕ) (w : Works b register x y (replay_from empty_tree (listed at 0 i))) (h : i < n) (f : n ≤ 512) where
-  pub order-entries : x < 1024
-  order-entries = let c = w.rows in omega (arith, replay_entries empty_tree at i, no_rows.0)
+  pub order_entries : x < 1024
+  order_entries = let c = w.rows in omega (arith, replay_entries empty_tree at i, no_rows.0)
 
-  pub order-asides : y < 1024
-  order-asides = let c = w.notes in omega (arith, replay_asides empty_tree at i, no_rows.1)
+  pub order_asides : y < 1024
+  order_asides = let c = w.notes in omega (arith, replay_asides empty_tree at i, no_rows.1)
 
-  pub order-both : x + y < 1536
-  order-both =
+  pub order_both : x + y < 1536
+  order_both =
       let c = w.rows in
       let d = w.notes in
       omega (arith, replay_both at i)
@@ -114,15 +114,15 @@ module _ (log list places b register : List ℕ) (x y i n p : ℕ) (w : Works b 
   abbrev t : Tree
   t = replay_from empty_tree (listed (named_at log list places) 0 i)
 
-  pub order-takes : Playable empty_tree (named_at log list places) n → i < n → Takes (tree_in b x y) (take (80 * p + 80 - 80 * p) (drop (80 * p) log))
-  order-takes k h =
-      rw (named_lent log list places i p e, works-tree b register x y t w)
+  pub order_takes : Playable empty_tree (named_at log list places) n → i < n → Takes (tree_in b x y) (take (80 * p + 80 - 80 * p) (drop (80 * p) log))
+  order_takes k h =
+      rw (named_lent log list places i p e, works_tree b register x y t w)
       (record { asks = k.asks i h; own = k.own i h; fresh = replay-fresh empty_tree (named_at log list places) n k i i (omega arith) h })
 
-  pub order-goes : (b' register' : List ℕ) (x' y' : ℕ) → Works b' register' x' y' (step (tree_in b x y) (take (80 * p + 80 - 80 * p) (drop (80 * p) log)))
+  pub order_goes : (b' register' : List ℕ) (x' y' : ℕ) → Works b' register' x' y' (step (tree_in b x y) (take (80 * p + 80 - 80 * p) (drop (80 * p) log)))
       → Works b' register' x' y' (replay_from empty_tree (listed (named_at log list places) 0 (i + 1)))
-  order-goes b' register' x' y' v =
-      let u = rw (named_lent log list places i p e, works-tree b register x y t w) at v in
+  order_goes b' register' x' y' v =
+      let u = rw (named_lent log list places i p e, works_tree b register x y t w) at v in
       rw (replay-next empty_tree (named_at log list places) i) u
 
 pub order_ends : (at : ℕ → Rec) (b register : List ℕ) (x y i n : ℕ) → i ≤ n → n ≤ i → Works b register x y (replay_from empty_tree (listed at 0 i)) → Works b register x y (replay (listed at 0 n))
@@ -132,7 +132,7 @@ order_ends at b register x y i n h g w = let e : i ≡ n = omega arith in rw e a
 -- ---- the table shown
 
 pub order_shown : (l : List Rec) (b register f : List ℕ) (x y : ℕ) → Works b register x y (replay l) → f ≡ table_bytes (tree_in b x y) → f ≡ table_bytes (replay l)
-order_shown l b register f x y w e = e ∙ ap table_bytes (works-tree b register x y (replay l) w)
+order_shown l b register f x y w e = e ∙ ap table_bytes (works_tree b register x y (replay l) w)
 
 pub zeroed : (b₀ b : List ℕ) → length b₀ ≡ 86020 → b ≡ replicate (length b₀) 0 → b ≡ replicate 86020 0
 zeroed b₀ b h e = rw h at e

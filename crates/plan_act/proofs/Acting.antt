@@ -20,7 +20,7 @@ use Rattle.act.specs.Acted.{acted_on}
 use Rattle.plan_model.specs.Plan.{round, log_at, with_log, act_answer, act_tried, act_done}
 use Rattle.plan_units.specs.Units.{Units}
 use Rattle.plan_units.proofs.Logs.{lent, put_back, unchanged}
-use Rattle.plan_units.proofs.Events.{act-good, accepted_act}
+use Rattle.plan_units.proofs.Events.{act_good, accepted_act}
 
 -- ---- what acting is asked
 
@@ -91,12 +91,12 @@ module _ (s w l : List ℕ) (m k u n : ℕ) (g : Units s) (h : u < 8) (few : m <
   log_is = ap (λ (o : Outcome). o.log) done
 
   left_is : put_mid (40960 * u) (40960 * u + 40960 - 40960 * u) s l ≡ with_log s u (act_tried s u w).log
-  left_is = put_back s l u (ap (λ (x : List ℕ). length x) log_is ∙ (act-good s u g h w).long.0) ∙ ap (with_log s u) log_is
+  left_is = put_back s l u (ap (λ (x : List ℕ). length x) log_is ∙ (act_good s u g h w).long.0) ∙ ap (with_log s u) log_is
 
-  pub refused-skips : {a b : ℕ} → (n ≡ 0 → ⊥) → a ≡ m → b ≡ k + 1
+  pub refused_skips : {a b : ℕ} → (n ≡ 0 → ⊥) → a ≡ m → b ≡ k + 1
       → round (put_mid (40960 * u) (40960 * u + 40960 - 40960 * u) s l) a b ≡ act_done (round s m k) u (act_tried s u w)
   unfolding act_done act_tried
-  refused-skips d p q =
+  refused_skips d p q =
       let o : Outcome = act_of u (log_at s u) empty_base w (replicate 86020 0) in
       let z : o.number ≡ 0 → ⊥ = λ x. d (sym number_is ∙ x) in
       let y : act_answer m o ≡ 0 → ⊥ = λ x. z (accepted_act m o x).0 in
@@ -104,9 +104,9 @@ module _ (s w l : List ℕ) (m k u n : ℕ) (g : Units s) (h : u < 8) (few : m <
       let i : k + 1 ≡ suc k = omega arith in
       rw (left_is, same, p, q, i, ne_eqb (act_answer m o) 0 y)
 
-  pub accepted-makes : n ≡ 0 → round (put_mid (40960 * u) (40960 * u + 40960 - 40960 * u) s l) (m + 1) k ≡ act_done (round s m k) u (act_tried s u w)
+  pub accepted_makes : n ≡ 0 → round (put_mid (40960 * u) (40960 * u + 40960 - 40960 * u) s l) (m + 1) k ≡ act_done (round s m k) u (act_tried s u w)
   unfolding act_done
-  accepted-makes d =
+  accepted_makes d =
       let i : m + 1 ≡ suc m = omega arith in
       let y : act_answer m (act_tried s u w) ≡ 0 = room_answers m (act_tried s u w) few (number_is ∙ d) in
       rw (left_is, i, eq-eqb (act_answer m (act_tried s u w)) 0 y)

@@ -32,9 +32,9 @@ first_archive f h e = e ∙ rw (le-leb 512 (length f) h)
 -- ---- a block
 
 module _ (f : List ℕ) (archive k : ℕ) {x : ℕ} where
-  pub last-part : length f - 512 * k < 512 → x ≡ piece_fault archive k (take (length f - 512 * k) (drop (512 * k) f)) → x ≡ piece_fault archive k (block_at f k)
+  pub last_part : length f - 512 * k < 512 → x ≡ piece_fault archive k (take (length f - 512 * k) (drop (512 * k) f)) → x ≡ piece_fault archive k (block_at f k)
   unfolding block_at part
-  last-part h e =
+  last_part h e =
       let n = length-drop (512 * k) f in
       e ∙ ap (piece_fault archive k) (take_all (length f - 512 * k) (drop (512 * k) f) (omega arith) ∙ sym (take_all 512 (drop (512 * k) f) (omega arith)))
 
@@ -73,8 +73,8 @@ module _ (f : List ℕ) (archive n k : ℕ) (own : archive ≡ plan_archive f) (
     unfolding plan_fault pieces
     stops m p z e = e ∙ (rw (ne_eqb x 0 z, all) at step)
 
-    pub goes_on : x ≡ 0 → plan_fault_from f (k + 1) (n - (k + 1)) ≡ plan_fault_from f 0 n
-    goes_on z = rw (eq-eqb x 0 z) at step
+    pub goes_on_lem : x ≡ 0 → plan_fault_from f (k + 1) (n - (k + 1)) ≡ plan_fault_from f 0 n
+    goes_on_lem z = rw (eq-eqb x 0 z) at step
 
   pub ends : k ≤ n → n ≤ k → fault 0 0 ≡ plan_fault f
   unfolding plan_fault plan_fault_from pieces

@@ -28,14 +28,14 @@ first_archive k a b h = rw (ne_eqb k 0 h)
 -- ---- what is asked of a plan on its way
 
 module _ (n p k a m s : ℕ) (logs : List ℕ) (g : Going (fed n p k a (round logs m s))) where
-  pub units-are : Units logs
-  units-are = g.units
+  pub units_are : Units logs
+  units_are = g.units
 
   pub place_low : k < 65536
   place_low = omega (arith, g.few)
 
-  pub few-skipped : s + 5 < 65536
-  few-skipped = omega (arith, g.few, g.skipped)
+  pub few_skipped : s + 5 < 65536
+  few_skipped = omega (arith, g.few, g.skipped)
 
 pub block_long : (archive k : ℕ) (b : List ℕ) {x : ℕ} → x ≡ piece_fault archive k b → x ≡ 0 → length b ≡ 512
 block_long archive k b e z = (accepted_piece archive k b (sym e ∙ z)).1
@@ -46,9 +46,9 @@ block_passes archive k b e z = (accepted_piece archive k b (sym e ∙ z)).2
 -- ---- the ways out
 
 module _ (n p k a : ℕ) (st : Round) (b : List ℕ) where
-  pub refused-before : (n ≡ 0 → ⊥) → fed n p k a st ≡ feed_of (fed n p k a st) b
+  pub refused_before : (n ≡ 0 → ⊥) → fed n p k a st ≡ feed_of (fed n p k a st) b
   unfolding feed_of fault
-  refused-before z = rw (ne_eqb n 0 z)
+  refused_before z = rw (ne_eqb n 0 z)
 
   module _ {x archive : ℕ} (z : n ≡ 0) (by : archive ≡ cond (eqb k 0) (plan_archive b) a) (ex : x ≡ piece_fault archive k b) where
     judged : feed_of (fed n p k a st) b ≡ judged_fed (fed n p k a st) b x
@@ -59,19 +59,19 @@ module _ (n p k a : ℕ) (st : Round) (b : List ℕ) where
     unfolding judged_fed stops_at
     stops q r h e = ap (λ (y : Fault). record { refusal = y; blocks = k; archive = a; state = st }) e ∙ sym (judged ∙ rw (ne_eqb x 0 h))
 
-    pub goes_on : (t : Round) → x ≡ 0 → t ≡ block_done archive st b → fed 0 0 (k + 1) archive t ≡ feed_of (fed n p k a st) b
+    pub goes_on_lem : (t : Round) → x ≡ 0 → t ≡ block_done archive st b → fed 0 0 (k + 1) archive t ≡ feed_of (fed n p k a st) b
     unfolding judged_fed passes archive_of
-    goes_on t h e =
+    goes_on_lem t h e =
         let i : k + 1 ≡ suc k = omega arith in
         rw (e, i) (sym (judged ∙ rw (eq-eqb x 0 h, ← by)))
 
 -- ---- the end
 
 module _ (n p k a : ℕ) {text after : List ℕ} {r : ℕ} where
-  pub prints-refusal : (st : Round) → (n ≡ 0 → ⊥) → Wrote text after 0 r (refused_line n p) → Wrote text after 0 r (fed_text (fed n p k a st))
+  pub prints_refusal : (st : Round) → (n ≡ 0 → ⊥) → Wrote text after 0 r (refused_line n p) → Wrote text after 0 r (fed_text (fed n p k a st))
   unfolding fed_text fault
-  prints-refusal st z w = rw (ne_eqb n 0 z) w
+  prints_refusal st z w = rw (ne_eqb n 0 z) w
 
-  pub prints-round : (logs : List ℕ) (m s : ℕ) → n ≡ 0 → Wrote text after 0 r (round_text (round logs 0 s)) → Wrote text after 0 r (fed_text (fed n p k a (round logs m s)))
+  pub prints_round : (logs : List ℕ) (m s : ℕ) → n ≡ 0 → Wrote text after 0 r (round_text (round logs 0 s)) → Wrote text after 0 r (fed_text (fed n p k a (round logs m s)))
   unfolding fed_text fault round_text
-  prints-round logs m s z w = rw (eq-eqb n 0 z) w
+  prints_round logs m s z w = rw (eq-eqb n 0 z) w

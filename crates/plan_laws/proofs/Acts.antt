@@ -17,7 +17,7 @@ use Rattle.log_laws.proofs.Counts.{count-cons, count-nil, count_own, count_other
 use Rattle.act_laws.proofs.Act.{stamped-unit, stamped-num, wish_fits_lem, act_zero}
 use Rattle.call_laws.specs.Keeps.{Good}
 use Rattle.call_laws.proofs.States.{empty_vector}
-use Rattle.call_laws.proofs.Calls.{withAct, wishAnswer, act-cases}
+use Rattle.call_laws.proofs.Calls.{withAct, wishAnswer, act_cases}
 use Rattle.machine.specs.Machine.{Call, acts, unit_of, Block, Bench, done, if_accepted, gives, uses, base_left, folded_left, put, after, next}
 use Rattle.machine.specs.Claim.{holds, distinct}
 use Rattle.machine.proofs.Tests.{Held, holds_cases}
@@ -25,8 +25,8 @@ use Rattle.machine.proofs.Stores.{accepted_is}
 use Rattle.machine.proofs.Reach.{Inv, inv_next, put_cases}
 use Rattle.plan_model.specs.Plan.{Round, round, log_at, with_log, act_tried}
 use Rattle.plan_units.specs.Units.{Units}
-use Rattle.plan_units.proofs.Logs.{units_put, log-put, log-other}
-use Rattle.plan_units.proofs.Events.{act-good}
+use Rattle.plan_units.proofs.Logs.{units_put, log_put, log_other}
+use Rattle.plan_units.proofs.Events.{act_good}
 use Rattle.plan_laws.proofs.Sim.{Sim, most}
 
 -- ---- the record of an act
@@ -56,7 +56,7 @@ adds u log w work e =
       unit_is = stamped-unit u v l w n ∙ (wish_fits_lem u v l w f.well).0;
       number = let q = stamped-num u v l w n in omega arith;
     })
-    (act-cases u log empty_base w work)
+    (act_cases u log empty_base w work)
 
 -- ---- the bench then
 
@@ -69,16 +69,16 @@ module _ (archive : ℕ) (s : Round) (n : ℕ) (t : Bench) (sim : Sim archive s 
   o = act_tried s.logs u w
 
   -- the machine's outcome is that of the round
-  outcome-is : done archive t call ≡ o
+  outcome_is : done archive t call ≡ o
   unfolding done act_tried
-  outcome-is = rw (sim.logs u h, sim.bases u)
+  outcome_is = rw (sim.logs u h, sim.bases u)
 
-  log-adds : Adds u (log_at s.logs u) w o
+  log_adds : Adds u (log_at s.logs u) w o
   unfolding act_tried
-  log-adds = adds u (log_at s.logs u) w (replicate 86020 0) accepted
+  log_adds = adds u (log_at s.logs u) w (replicate 86020 0) accepted
 
   r : Rec
-  r = log-adds.made
+  r = log_adds.made
 
   abbrev l : List Rec
   l = records_of (t.logs u)
@@ -88,28 +88,28 @@ module _ (archive : ℕ) (s : Round) (n : ℕ) (t : Bench) (sim : Sim archive s 
 
   number_is : num r ≡ suc (count u l)
   unfolding r
-  number_is = log-adds.number ∙ ap (λ (x : List Rec). suc (count u x)) log_is
+  number_is = log_adds.number ∙ ap (λ (x : List Rec). suc (count u x)) log_is
 
   unit_of_lem : unit r ≡ u
   unfolding r
-  unit_of_lem = log-adds.unit_is
+  unit_of_lem = log_adds.unit_is
 
   t' : Bench
   t' = after t call o
 
-  next-is : next archive t call ≡ t'
+  next_is : next archive t call ≡ t'
   unfolding next t'
-  next-is = ap (after t call) outcome-is
+  next_is = ap (after t call) outcome_is
 
   used_is : t'.used ≡ r ∷ t.used
-  unfolding t' after uses r log-adds
+  unfolding t' after uses r log_adds
   used_is =
       let k : if_accepted o (stamped u (base_vector (t.bases u)) (records_of (t.logs u)) w ∷ []) ≡ stamped u (base_vector (t.bases u)) (records_of (t.logs u)) w ∷ [] =
       accepted_is o (stamped u (base_vector (t.bases u)) (records_of (t.logs u)) w ∷ []) accepted in
       let q : stamped u (base_vector (t.bases u)) (records_of (t.logs u)) w ≡ r =
       ap (λ (b : List ℕ). stamped u (base_vector b) (records_of (t.logs u)) w) (sim.bases u)
       ∙ ap (λ (x : List ℕ). stamped u (base_vector empty_base) (records_of x) w) (sim.logs u h)
-      ∙ sym log-adds.stamp in
+      ∙ sym log_adds.stamp in
       ap (λ (x : List Rec). x ++ t.used) (k ∙ ap (λ (x : Rec). x ∷ []) q)
 
   -- no record used has its identity
@@ -136,11 +136,11 @@ module _ (archive : ℕ) (s : Round) (n : ℕ) (t : Bench) (sim : Sim archive s 
 
   records_are : records_of o.log ≡ l ++ (r ∷ [])
   unfolding r
-  records_are = log-adds.records ∙ ap (λ (x : List Rec). x ++ (log-adds.made ∷ [])) log_is
+  records_are = log_adds.records ∙ ap (λ (x : List Rec). x ++ (log_adds.made ∷ [])) log_is
 
-  log-at : (v : ℕ) → ((v ≡ u) × (t'.logs v ≡ o.log)) ⊎ ((v ≡ u → ⊥) × (t'.logs v ≡ t.logs v))
+  log_at_lem : (v : ℕ) → ((v ≡ u) × (t'.logs v ≡ o.log)) ⊎ ((v ≡ u → ⊥) × (t'.logs v ≡ t.logs v))
   unfolding t' after unit_of
-  log-at v = put_cases t.logs u o.log v
+  log_at_lem v = put_cases t.logs u o.log v
 
   mine' : (v : ℕ) → v < 8 → count v (r ∷ t.used) ≤ count v (records_of (t'.logs v))
   mine' v k =
@@ -158,11 +158,11 @@ module _ (archive : ℕ) (s : Round) (n : ℕ) (t : Bench) (sim : Sim archive s 
       let a : count v (records_of (t'.logs v)) ≡ count v (records_of (t.logs v)) = ap (λ (x : List ℕ). count v (records_of x)) c.1 in
       let b = count_other v r t.used (λ e. c.0 (sym e ∙ unit_of_lem)) in
       omega (arith, sim.mine v k))
-      (log-at v)
+      (log_at_lem v)
 
-  base-at : (v : ℕ) → t'.bases v ≡ empty_base
+  base_at : (v : ℕ) → t'.bases v ≡ empty_base
   unfolding t' after unit_of base_left
-  base-at v = ⊎_elim (λ c. c.1 ∙ sim.bases u) (λ c. c.1 ∙ sim.bases v) (put_cases t.bases u (t.bases u) v)
+  base_at v = ⊎_elim (λ c. c.1 ∙ sim.bases u) (λ c. c.1 ∙ sim.bases v) (put_cases t.bases u (t.bases u) v)
 
   folded-at : (v : ℕ) → t'.folded v ≡ []
   unfolding t' after unit_of folded_left
@@ -172,19 +172,19 @@ module _ (archive : ℕ) (s : Round) (n : ℕ) (t : Bench) (sim : Sim archive s 
   unfolding t' after gives
   given_is = append-nil t.given
 
-  pub act-sim : Sim archive (round (with_log s.logs u o.log) (suc s.made) s.skipped) n (next archive t call)
-  act-sim =
-      let g : Good o.log empty_base = act-good s.logs u sim.units h w in
-      subst (Sim archive (round (with_log s.logs u o.log) (suc s.made) s.skipped) n) (sym next-is)
+  pub act_sim : Sim archive (round (with_log s.logs u o.log) (suc s.made) s.skipped) n (next archive t call)
+  act_sim =
+      let g : Good o.log empty_base = act_good s.logs u sim.units h w in
+      subst (Sim archive (round (with_log s.logs u o.log) (suc s.made) s.skipped) n) (sym next_is)
       (record {
         units = units_put s.logs u o.log sim.units h g;
-        inv = subst (λ (x : Bench). Inv archive x) next-is (inv_next archive t call sim.inv);
+        inv = subst (λ (x : Bench). Inv archive x) next_is (inv_next archive t call sim.inv);
         logs = λ v k.
             ⊎_elim
-            (λ c. c.1 ∙ sym (subst (λ (x : ℕ). log_at (with_log s.logs u o.log) x ≡ o.log) (sym c.0) (log-put s.logs sim.units.long u h o.log g.long.0)))
-            (λ c. c.1 ∙ sim.logs v k ∙ sym (log-other s.logs sim.units.long u h o.log g.long.0 v c.0))
-            (log-at v);
-        bases = base-at;
+            (λ c. c.1 ∙ sym (subst (λ (x : ℕ). log_at (with_log s.logs u o.log) x ≡ o.log) (sym c.0) (log_put s.logs sim.units.long u h o.log g.long.0)))
+            (λ c. c.1 ∙ sim.logs v k ∙ sym (log_other s.logs sim.units.long u h o.log g.long.0 v c.0))
+            (log_at_lem v);
+        bases = base_at;
         folded = folded-at;
         given = ap (λ (x : List Block). length x) given_is ∙ sim.given;
         once = ap distinct used_is ∙ once';
@@ -195,4 +195,4 @@ module _ (archive : ℕ) (s : Round) (n : ℕ) (t : Bench) (sim : Sim archive s 
       })
 
   pub act-answers : (done archive t call).number ≡ 0
-  act-answers = ap (λ (x : Outcome). x.number) outcome-is ∙ accepted
+  act-answers = ap (λ (x : Outcome). x.number) outcome_is ∙ accepted

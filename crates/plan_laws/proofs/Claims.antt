@@ -31,8 +31,8 @@ use Rattle.plan_laws.specs.Calls.{plan_events, after_events, act_calls, pass_cal
 use Rattle.plan_laws.specs.Claim.{ActClaim, PlanClaim, EveryPlan}
 use Rattle.plan_laws.proofs.Steps.{Event, round_events, events_hold_lem}
 use Rattle.plan_laws.proofs.Sim.{Sim, sim_bare}
-use Rattle.plan_laws.proofs.Acts.{act-sim, act-answers}
-use Rattle.plan_laws.proofs.Passes.{pass-sim, hand-zero, take-zero}
+use Rattle.plan_laws.proofs.Acts.{act_sim, act-answers}
+use Rattle.plan_laws.proofs.Passes.{pass_sim, hand_zero, take_zero}
 use Rattle.plan_laws.proofs.Fed.{fed_as_whole}
 use Rattle.plan_laws.proofs.Skipped.{acts_told}
 
@@ -94,7 +94,7 @@ act_leads archive s n t u w sim h =
     let (a, b) = accepted_act s.made o e in
     rw (eq-eqb (act_answer s.made o) 0 e)
     (record {
-      sim = act-sim archive s n t sim u w h a b;
+      sim = act_sim archive s n t sim u w h a b;
       answers = true_and _ true (eq-eqb _ 0 (act-answers archive s n t sim u w h a b)) refl;
     }))
     (λ (z : act_answer s.made o ≡ 0 → ⊥). rw (ne_eqb (act_answer s.made o) 0 z) (record { sim = skips archive s n t sim; answers = refl }))
@@ -105,8 +105,8 @@ pass_leads : (archive : ℕ) (s : Round) (n : ℕ) (t : Bench) (a b : ℕ) → S
 unfolding pass_calls pass_done play answers_zero
 pass_leads archive s n t a b sim ha hb =
     record {
-      sim = pass-sim archive s n t sim a b ha hb;
-      answers = true_and _ _ (eq-eqb _ 0 (hand-zero archive s n t sim a b ha hb)) (true_and _ true (eq-eqb _ 0 (take-zero archive s n t sim a b ha hb)) refl);
+      sim = pass_sim archive s n t sim a b ha hb;
+      answers = true_and _ _ (eq-eqb _ 0 (hand_zero archive s n t sim a b ha hb)) (true_and _ true (eq-eqb _ 0 (take_zero archive s n t sim a b ha hb)) refl);
     }
 
 event_leads : (archive : ℕ) (s : Round) (n : ℕ) (t : Bench) (e : List ℕ) → Sim archive s n t → Event e

@@ -33,22 +33,22 @@ first_archive f =
 -- ---- one block more at the end
 
 module _ (f : List ℕ) where
-  faultAt : ℕ → ℕ
-  faultAt k = piece_fault (plan_archive f) k (block_at f k)
+  fault_at : ℕ → ℕ
+  fault_at k = piece_fault (plan_archive f) k (block_at f k)
 
   -- a fault among the first blocks is that of one block more
-  fault-stays : (n k : ℕ) → ((plan_fault_from f k n).number ≡ 0 → ⊥) → plan_fault_from f k (suc n) ≡ plan_fault_from f k n
+  fault_stays : (n k : ℕ) → ((plan_fault_from f k n).number ≡ 0 → ⊥) → plan_fault_from f k (suc n) ≡ plan_fault_from f k n
   unfolding plan_fault_from fault
-  fault-stays zero k h = absurd (h refl)
-  fault-stays (suc n) k h =
+  fault_stays zero k h = absurd (h refl)
+  fault_stays (suc n) k h =
       ⊎_elim
-      (λ c. rw c.0 (fault-stays n (suc k) (λ z. h (ap (λ (x : Fault). x.number) c.1 ∙ z))))
+      (λ c. rw c.0 (fault_stays n (suc k) (λ z. h (ap (λ (x : Fault). x.number) c.1 ∙ z))))
       (λ c. rw c.0)
       (cond_cases (eqb (piece_fault (plan_archive f) k (block_at f k)) 0) (plan_fault_from f (suc k) n) (piece_fault_at (piece_fault (plan_archive f) k (block_at f k)) k))
 
   -- behind blocks without a fault the next decides
-  fault-next : (n k : ℕ) → (plan_fault_from f k n).number ≡ 0 → plan_fault_from f k (suc n) ≡ cond (eqb (faultAt (k + n)) 0) (fault 0 0) (piece_fault_at (faultAt (k + n)) (k + n))
-  unfolding plan_fault_from faultAt fault
+  fault-next : (n k : ℕ) → (plan_fault_from f k n).number ≡ 0 → plan_fault_from f k (suc n) ≡ cond (eqb (fault_at (k + n)) 0) (fault 0 0) (piece_fault_at (fault_at (k + n)) (k + n))
+  unfolding plan_fault_from fault_at fault
   fault-next zero k h = let e : k + 0 ≡ k = omega arith in rw e
   fault-next (suc n) k h =
       let e : k + suc n ≡ suc k + n = omega arith in
@@ -57,21 +57,21 @@ module _ (f : List ℕ) where
       (λ c. absurd (eqb-false (piece_fault (plan_archive f) k (block_at f k)) 0 c.0 (ap (λ (x : Fault). x.number) (sym c.1) ∙ h)))
       (cond_cases (eqb (piece_fault (plan_archive f) k (block_at f k)) 0) (plan_fault_from f (suc k) n) (piece_fault_at (piece_fault (plan_archive f) k (block_at f k)) k))
 
-  blocks-next : (n k : ℕ) (s : Round) → blocks_done (plan_archive f) s f k (suc n) ≡ block_done (plan_archive f) (blocks_done (plan_archive f) s f k n) (block_at f (k + n))
+  blocks_next : (n k : ℕ) (s : Round) → blocks_done (plan_archive f) s f k (suc n) ≡ block_done (plan_archive f) (blocks_done (plan_archive f) s f k n) (block_at f (k + n))
   unfolding blocks_done
-  blocks-next zero k s = let e : k + 0 ≡ k = omega arith in rw e
-  blocks-next (suc n) k s = let e : k + suc n ≡ suc k + n = omega arith in rw e (blocks-next n (suc k) (block_done (plan_archive f) s (block_at f k)))
+  blocks_next zero k s = let e : k + 0 ≡ k = omega arith in rw e
+  blocks_next (suc n) k s = let e : k + suc n ≡ suc k + n = omega arith in rw e (blocks_next n (suc k) (block_done (plan_archive f) s (block_at f k)))
 
-  fault-last : (n : ℕ) → (plan_fault_from f 0 n).number ≡ 0 → plan_fault_from f 0 (suc n) ≡ cond (eqb (faultAt n) 0) (fault 0 0) (piece_fault_at (faultAt n) n)
-  fault-last n h =
+  fault_last : (n : ℕ) → (plan_fault_from f 0 n).number ≡ 0 → plan_fault_from f 0 (suc n) ≡ cond (eqb (fault_at n) 0) (fault 0 0) (piece_fault_at (fault_at n) n)
+  fault_last n h =
       let e : 0 + n ≡ n = omega arith in
-      subst (λ (j : ℕ). plan_fault_from f 0 (suc n) ≡ cond (eqb (faultAt j) 0) (fault 0 0) (piece_fault_at (faultAt j) j)) e (fault-next n 0 h)
+      subst (λ (j : ℕ). plan_fault_from f 0 (suc n) ≡ cond (eqb (fault_at j) 0) (fault 0 0) (piece_fault_at (fault_at j) j)) e (fault-next n 0 h)
 
   blocks_last : (n : ℕ) → blocks_done (plan_archive f) new_round f 0 (suc n) ≡ block_done (plan_archive f) (blocks_done (plan_archive f) new_round f 0 n) (block_at f n)
   blocks_last n =
       let e : 0 + n ≡ n = omega arith in
       subst (λ (j : ℕ). blocks_done (plan_archive f) new_round f 0 (suc n) ≡ block_done (plan_archive f) (blocks_done (plan_archive f) new_round f 0 n) (block_at f j)) e
-      (blocks-next n 0 new_round)
+      (blocks_next n 0 new_round)
 
   -- ---- the first n blocks
 
@@ -88,50 +88,50 @@ module _ (f : List ℕ) where
     some : (plan_fault_from f 0 n).number ≡ 0 → ⊥
     refusal : x.refusal ≡ plan_fault_from f 0 n
 
-  judged-by : (n : ℕ) (x : Fed) → Passed n x → archive_of x (block_at f n) ≡ plan_archive f
+  judged_by : (n : ℕ) (x : Fed) → Passed n x → archive_of x (block_at f n) ≡ plan_archive f
   unfolding archive_of
-  judged-by zero x p = rw (eq-eqb x.blocks 0 p.blocks) (first_archive f)
-  judged-by (suc n) x p = let z : x.blocks ≡ 0 → ⊥ = λ e. omega (arith, p.blocks) in rw (ne_eqb x.blocks 0 z) (p.archive (λ e. omega arith))
+  judged_by zero x p = rw (eq-eqb x.blocks 0 p.blocks) (first_archive f)
+  judged_by (suc n) x p = let z : x.blocks ≡ 0 → ⊥ = λ e. omega (arith, p.blocks) in rw (ne_eqb x.blocks 0 z) (p.archive (λ e. omega arith))
 
-  feed-stopped : (n : ℕ) (x : Fed) → Stopped n x → Stopped (suc n) (feed_of x (block_at f n))
+  feed_stopped : (n : ℕ) (x : Fed) → Stopped n x → Stopped (suc n) (feed_of x (block_at f n))
   unfolding feed_of
-  feed-stopped n x p =
-      let e = fault-stays n 0 p.some in
+  feed_stopped n x p =
+      let e = fault_stays n 0 p.some in
       let z : x.refusal.number ≡ 0 → ⊥ = λ q. p.some (ap (λ (y : Fault). y.number) (sym p.refusal) ∙ q) in
       record {
         some = λ q. p.some (ap (λ (y : Fault). y.number) (sym e) ∙ q);
         refusal = rw (ne_eqb x.refusal.number 0 z) (p.refusal ∙ sym e);
       }
 
-  judged : (n : ℕ) (x : Fed) → Passed n x → feed_of x (block_at f n) ≡ judged_fed x (block_at f n) (faultAt n)
-  unfolding feed_of faultAt fault
+  judged : (n : ℕ) (x : Fed) → Passed n x → feed_of x (block_at f n) ≡ judged_fed x (block_at f n) (fault_at n)
+  unfolding feed_of fault_at fault
   judged n x p =
       let b : List ℕ = block_at f n in
       let z : x.refusal.number ≡ 0 = ap (λ (w : Fault). w.number) p.number in
       let y : piece_fault (archive_of x b) x.blocks b ≡ piece_fault (plan_archive f) n b =
-      ap (λ (a : ℕ). piece_fault a x.blocks b) (judged-by n x p) ∙ ap (λ (k : ℕ). piece_fault (plan_archive f) k b) p.blocks in
+      ap (λ (a : ℕ). piece_fault a x.blocks b) (judged_by n x p) ∙ ap (λ (k : ℕ). piece_fault (plan_archive f) k b) p.blocks in
       rw (eq-eqb x.refusal.number 0 z) (ap (judged_fed x b) y)
 
-  fed-on : (n : ℕ) (x : Fed) → Passed n x → faultAt n ≡ 0 → feed_of x (block_at f n) ≡ passes x (archive_of x (block_at f n)) (block_at f n)
+  fed_on : (n : ℕ) (x : Fed) → Passed n x → fault_at n ≡ 0 → feed_of x (block_at f n) ≡ passes x (archive_of x (block_at f n)) (block_at f n)
   unfolding judged_fed
-  fed-on n x p z = judged n x p ∙ rw (eq-eqb (faultAt n) 0 z)
+  fed_on n x p z = judged n x p ∙ rw (eq-eqb (fault_at n) 0 z)
 
-  fed-stops : (n : ℕ) (x : Fed) → Passed n x → (faultAt n ≡ 0 → ⊥) → feed_of x (block_at f n) ≡ stops_at x (faultAt n)
+  fed_stops : (n : ℕ) (x : Fed) → Passed n x → (fault_at n ≡ 0 → ⊥) → feed_of x (block_at f n) ≡ stops_at x (fault_at n)
   unfolding judged_fed
-  fed-stops n x p z = judged n x p ∙ rw (ne_eqb (faultAt n) 0 z)
+  fed_stops n x p z = judged n x p ∙ rw (ne_eqb (fault_at n) 0 z)
 
-  feed-passed : (n : ℕ) (x : Fed) → Passed n x → Passed (suc n) (feed_of x (block_at f n)) ⊎ Stopped (suc n) (feed_of x (block_at f n))
+  feed_passed : (n : ℕ) (x : Fed) → Passed n x → Passed (suc n) (feed_of x (block_at f n)) ⊎ Stopped (suc n) (feed_of x (block_at f n))
   unfolding passes stops_at fault
-  feed-passed n x p =
+  feed_passed n x p =
       let b : List ℕ = block_at f n in
-      let a : archive_of x b ≡ plan_archive f = judged-by n x p in
-      let next = fault-last n (ap (λ (w : Fault). w.number) p.none) in
+      let a : archive_of x b ≡ plan_archive f = judged_by n x p in
+      let next = fault_last n (ap (λ (w : Fault). w.number) p.none) in
       ⊎_elim
-      (λ (z : faultAt n ≡ 0).
+      (λ (z : fault_at n ≡ 0).
       inl
-      (subst (Passed (suc n)) (sym (fed-on n x p z))
+      (subst (Passed (suc n)) (sym (fed_on n x p z))
       (record {
-        none = rw (eq-eqb (faultAt n) 0 z) at next;
+        none = rw (eq-eqb (fault_at n) 0 z) at next;
         number = refl;
         blocks = ap suc p.blocks;
         archive = λ _. a;
@@ -140,20 +140,20 @@ module _ (f : List ℕ) where
             ∙ ap (λ (y : Round). block_done (plan_archive f) y b) p.state
             ∙ sym (blocks_last n);
       })))
-      (λ (z : faultAt n ≡ 0 → ⊥).
-      let found : plan_fault_from f 0 (suc n) ≡ piece_fault_at (faultAt n) n = rw (ne_eqb (faultAt n) 0 z) at next in
+      (λ (z : fault_at n ≡ 0 → ⊥).
+      let found : plan_fault_from f 0 (suc n) ≡ piece_fault_at (fault_at n) n = rw (ne_eqb (fault_at n) 0 z) at next in
       inr
-      (subst (Stopped (suc n)) (sym (fed-stops n x p z))
+      (subst (Stopped (suc n)) (sym (fed_stops n x p z))
       (record {
         some = λ q. z (sym (ap (λ (w : Fault). w.number) found) ∙ q);
-        refusal = ap (piece_fault_at (faultAt n)) p.blocks ∙ sym found;
+        refusal = ap (piece_fault_at (fault_at n)) p.blocks ∙ sym found;
       })))
-      (eq_or_ne (faultAt n) 0)
+      (eq_or_ne (fault_at n) 0)
 
-  fed-cases : (n : ℕ) → Passed n (fed_to f n) ⊎ Stopped n (fed_to f n)
+  fed_cases : (n : ℕ) → Passed n (fed_to f n) ⊎ Stopped n (fed_to f n)
   unfolding fed_to plan_fault_from blocks_done fault
-  fed-cases zero = inl (record { none = refl; number = refl; blocks = refl; archive = λ z. absurd (z refl); state = refl })
-  fed-cases (suc n) = ⊎_elim (λ p. feed-passed n (fed_to f n) p) (λ p. inr (feed-stopped n (fed_to f n) p)) (fed-cases n)
+  fed_cases zero = inl (record { none = refl; number = refl; blocks = refl; archive = λ z. absurd (z refl); state = refl })
+  fed_cases (suc n) = ⊎_elim (λ p. feed_passed n (fed_to f n) p) (λ p. inr (feed_stopped n (fed_to f n) p)) (fed_cases n)
 
 -- ---- the whole plan
 
@@ -176,4 +176,4 @@ fed_as_whole f =
       refused = p.refusal;
       units = λ q. absurd (p.some q);
     })
-    (fed-cases f n)
+    (fed_cases f n)

@@ -17,20 +17,20 @@ use Rattle.call_model.specs.Outcome.{Outcome, hand_of, take_of}
 use Rattle.log_laws.specs.Members.{Has, Agree}
 use Rattle.log_laws.proofs.Same.{counts_sub_on}
 use Rattle.call_laws.specs.Keeps.{Good}
-use Rattle.call_laws.proofs.States.{good-records}
-use Rattle.call_laws.proofs.Calls.{take-grown, take_cases}
+use Rattle.call_laws.proofs.States.{good_records}
+use Rattle.call_laws.proofs.Calls.{take_grown, take_cases}
 use Rattle.machine.specs.Machine.{Call, hands_out, takes, unit_of, Block, Bench, block_given, done, gives, uses, base_left, folded_left, put, after, next}
 use Rattle.machine.specs.Meeting as M
 use Rattle.machine.specs.Claim.{distinct}
 use Rattle.machine.proofs.Meeting.{every_meeting}
-use Rattle.machine.proofs.Unfolded.{unfolded, back, whole, vector_is, may-meet}
+use Rattle.machine.proofs.Unfolded.{unfolded, back, whole, vector_is, may_meet}
 use Rattle.machine.proofs.Stores.{accepted_is, hand_log}
 use Rattle.machine.proofs.Reach.{Inv, inv_next, put_cases}
 use Rattle.plan_model.specs.Plan.{Round, round, log_at, with_log, true_vector, pass_handed, pass_taken}
 use Rattle.plan_units.specs.Units.{Units}
-use Rattle.plan_units.proofs.Logs.{units_put, log-put, log-other}
-use Rattle.plan_units.proofs.Events.{pass-good}
-use Rattle.plan_laws.proofs.Sim.{Sim, log_sound, log-few, log_back, logs-agree, together}
+use Rattle.plan_units.proofs.Logs.{units_put, log_put, log_other}
+use Rattle.plan_units.proofs.Events.{pass_good}
+use Rattle.plan_laws.proofs.Sim.{Sim, log_sound, log_few, log_back, logs_agree, together}
 
 -- ---- taking leaves no count lower
 
@@ -40,8 +40,8 @@ take-counts archive u log b v g =
     (λ e. rw e (omega arith))
     (λ c.
     let (m, e, k, _) = c in
-    let w = take-grown log empty_base (block_records b) m g e in
-    rw k (counts_sub_on (base_vector empty_base) (records_of log) m (good-records log empty_base g) w.sound w.kept v))
+    let w = take_grown log empty_base (block_records b) m g e in
+    rw k (counts_sub_on (base_vector empty_base) (records_of log) m (good_records log empty_base g) w.sound w.kept v))
     (take_cases archive u log empty_base b)
 
 module _ (archive : ℕ) (s : Round) (n : ℕ) (t : Bench) (sim : Sim archive s n t) (a b : ℕ) (ha : a < 8) (hb : b < 8) where
@@ -53,32 +53,32 @@ module _ (archive : ℕ) (s : Round) (n : ℕ) (t : Bench) (sim : Sim archive s 
   abbrev B : List Rec
   B = records_of (t.logs b)
 
-  a-is : log_bytes A ≡ log_at s.logs a
-  a-is = log_back archive s n t sim a ∙ sim.logs a ha
+  a_is : log_bytes A ≡ log_at s.logs a
+  a_is = log_back archive s n t sim a ∙ sim.logs a ha
 
-  b-is : log_bytes B ≡ log_at s.logs b
-  b-is = log_back archive s n t sim b ∙ sim.logs b hb
+  b_is : log_bytes B ≡ log_at s.logs b
+  b_is = log_back archive s n t sim b ∙ sim.logs b hb
 
   meets : M.Meets archive a b (unfolded A) (unfolded B)
   unfolding M.lacked_by
   meets =
       let s_a = log_sound archive s n t sim a in
       let s_b = log_sound archive s n t sim b in
-      let fA = log-few archive s n t sim a in
-      let fB = log-few archive s n t sim b in
+      let fA = log_few archive s n t sim a in
+      let fB = log_few archive s n t sim b in
       let kA : records_of (log_bytes A) ≡ A = back A s_a fA in
       let kB : records_of (log_bytes B) ≡ B = back B s_b fB in
-      let apart : Agree A B = logs-agree archive s n t sim a b in
+      let apart : Agree A B = logs_agree archive s n t sim a b in
       let fit : length (M.lacked_by (unfolded A) (unfolded B)) + length (records_of (log_bytes B)) ≤ 512 = rw (vector_is B s_b fB, kA, kB) (together archive s n t sim a b) in
-      every_meeting archive a b (unfolded A) (unfolded B) ha hb (whole A s_a fA) (whole B s_b fB) (rw (kA, kB) apart) (may-meet A s_a fA (unfolded B) refl) fit
+      every_meeting archive a b (unfolded A) (unfolded B) ha hb (whole A s_a fA) (whole B s_b fB) (rw (kA, kB) apart) (may_meet A s_a fA (unfolded B) refl) fit
 
-  pub hand-answers : (pass_handed archive s.logs a b).number ≡ 0
+  pub hand_answers : (pass_handed archive s.logs a b).number ≡ 0
   unfolding pass_handed true_vector M.handed M.meet
-  hand-answers = rw (a-is, b-is) at (meets.handing 0)
+  hand_answers = rw (a_is, b_is) at (meets.handing 0)
 
   pub take-answers : (pass_taken archive s.logs a b).number ≡ 0
   unfolding pass_taken pass_handed true_vector M.round M.handed M.meet
-  take-answers = rw (a-is, b-is) at (meets.taking 0)
+  take-answers = rw (a_is, b_is) at (meets.taking 0)
 
   -- ---- the bench behind the hand_out
 
@@ -88,9 +88,9 @@ module _ (archive : ℕ) (s : Round) (n : ℕ) (t : Bench) (sim : Sim archive s 
   abbrev h : Outcome
   h = pass_handed archive s.logs a b
 
-  handed-is : done archive t handing ≡ h
+  handed_is : done archive t handing ≡ h
   unfolding done pass_handed
-  handed-is = rw (sim.logs a ha, sim.bases a)
+  handed_is = rw (sim.logs a ha, sim.bases a)
 
   abbrev block : Block
   block = record { giver = a; bytes = h.lent }
@@ -100,15 +100,15 @@ module _ (archive : ℕ) (s : Round) (n : ℕ) (t : Bench) (sim : Sim archive s 
 
   next₁ : next archive t handing ≡ t₁
   unfolding next t₁
-  next₁ = ap (after t handing) handed-is
+  next₁ = ap (after t handing) handed_is
 
-  hand-left : h.log ≡ t.logs a
+  hand_left : h.log ≡ t.logs a
   unfolding pass_handed
-  hand-left = hand_log archive a (log_at s.logs a) empty_base (true_vector s.logs b) (replicate 512 0) ∙ sym (sim.logs a ha)
+  hand_left = hand_log archive a (log_at s.logs a) empty_base (true_vector s.logs b) (replicate 512 0) ∙ sym (sim.logs a ha)
 
   log₁ : (v : ℕ) → t₁.logs v ≡ t.logs v
   unfolding t₁ after unit_of
-  log₁ v = ⊎_elim (λ c. c.1 ∙ hand-left ∙ ap t.logs (sym c.0)) (λ c. c.1) (put_cases t.logs a h.log v)
+  log₁ v = ⊎_elim (λ c. c.1 ∙ hand_left ∙ ap t.logs (sym c.0)) (λ c. c.1) (put_cases t.logs a h.log v)
 
   base₁ : (v : ℕ) → t₁.bases v ≡ empty_base
   unfolding t₁ after unit_of base_left
@@ -120,7 +120,7 @@ module _ (archive : ℕ) (s : Round) (n : ℕ) (t : Bench) (sim : Sim archive s 
 
   given₁ : t₁.given ≡ t.given ++ (block ∷ [])
   unfolding t₁ after gives
-  given₁ = ap (λ (x : List Block). t.given ++ x) (accepted_is {A = Block} h (record { giver = a; bytes = h.lent } ∷ []) hand-answers)
+  given₁ = ap (λ (x : List Block). t.given ++ x) (accepted_is {A = Block} h (record { giver = a; bytes = h.lent } ∷ []) hand_answers)
 
   used₁ : t₁.used ≡ t.used
   unfolding t₁ after uses
@@ -137,9 +137,9 @@ module _ (archive : ℕ) (s : Round) (n : ℕ) (t : Bench) (sim : Sim archive s 
   abbrev o : Outcome
   o = pass_taken archive s.logs a b
 
-  given-at : block_given t₁ n ≡ block
+  given_at : block_given t₁ n ≡ block
   unfolding block_given
-  given-at =
+  given_at =
       let d : Block = record { giver = 0; bytes = [] } in
       let k : length t.given + 0 ≡ n = add-zero (length t.given) ∙ sim.given in
       ap (λ (x : List Block). get_or x n d) given₁
@@ -148,7 +148,7 @@ module _ (archive : ℕ) (s : Round) (n : ℕ) (t : Bench) (sim : Sim archive s 
 
   taken_is : done archive t₁ taking ≡ o
   unfolding done pass_taken
-  taken_is = rw (log₁ b, sim.logs b hb, base₁ b, given-at)
+  taken_is = rw (log₁ b, sim.logs b hb, base₁ b, given_at)
 
   t₂ : Bench
   t₂ = after t₁ taking o
@@ -195,17 +195,17 @@ module _ (archive : ℕ) (s : Round) (n : ℕ) (t : Bench) (sim : Sim archive s 
   after_both : next archive (next archive t handing) taking ≡ t₂
   after_both = ap (λ (x : Bench). next archive x taking) next₁ ∙ next₂
 
-  pub pass-sim : Sim archive (round (with_log s.logs b o.log) s.made s.skipped) (suc n) (next archive (next archive t handing) taking)
-  pass-sim =
-      let g : Good o.log empty_base = pass-good s.logs b sim.units hb archive a in
+  pub pass_sim : Sim archive (round (with_log s.logs b o.log) s.made s.skipped) (suc n) (next archive (next archive t handing) taking)
+  pass_sim =
+      let g : Good o.log empty_base = pass_good s.logs b sim.units hb archive a in
       subst (Sim archive (round (with_log s.logs b o.log) s.made s.skipped) (suc n)) (sym after_both)
       (record {
         units = units_put s.logs b o.log sim.units hb g;
         inv = subst (Inv archive) next₂ (inv_next archive t₁ taking inv₁);
         logs = λ v k.
             ⊎_elim
-            (λ c. c.1 ∙ sym (subst (λ (x : ℕ). log_at (with_log s.logs b o.log) x ≡ o.log) (sym c.0) (log-put s.logs sim.units.long b hb o.log g.long.0)))
-            (λ c. c.1 ∙ sim.logs v k ∙ sym (log-other s.logs sim.units.long b hb o.log g.long.0 v c.0))
+            (λ c. c.1 ∙ sym (subst (λ (x : ℕ). log_at (with_log s.logs b o.log) x ≡ o.log) (sym c.0) (log_put s.logs sim.units.long b hb o.log g.long.0)))
+            (λ c. c.1 ∙ sim.logs v k ∙ sym (log_other s.logs sim.units.long b hb o.log g.long.0 v c.0))
             (log₂ v);
         bases = base₂;
         folded = folded₂;
@@ -217,8 +217,8 @@ module _ (archive : ℕ) (s : Round) (n : ℕ) (t : Bench) (sim : Sim archive s 
         mine = λ v k. subst (λ (y : List Rec). count v y ≤ count v (records_of (t₂.logs v))) (sym used₂) (mine₂ v k);
       })
 
-  pub hand-zero : (done archive t handing).number ≡ 0
-  hand-zero = ap (λ (x : Outcome). x.number) handed-is ∙ hand-answers
+  pub hand_zero : (done archive t handing).number ≡ 0
+  hand_zero = ap (λ (x : Outcome). x.number) handed_is ∙ hand_answers
 
-  pub take-zero : (done archive (next archive t handing) taking).number ≡ 0
-  take-zero = ap (λ (x : Bench). (done archive x taking).number) next₁ ∙ ap (λ (x : Outcome). x.number) taken_is ∙ take-answers
+  pub take_zero : (done archive (next archive t handing) taking).number ≡ 0
+  take_zero = ap (λ (x : Bench). (done archive x taking).number) next₁ ∙ ap (λ (x : Outcome). x.number) taken_is ∙ take-answers

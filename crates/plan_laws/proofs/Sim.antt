@@ -18,7 +18,7 @@ use Rattle.log_laws.proofs.Sums.{sum_to-le}
 use Rattle.log_laws.proofs.Counts.{count-nil, find_held, length-counts}
 use Rattle.log_laws.proofs.Lacking.{union-length}
 use Rattle.encoding_laws.proofs.Logs.{sound_few, sound_bytes_on}
-use Rattle.call_laws.proofs.States.{good-log}
+use Rattle.call_laws.proofs.States.{good_log}
 use Rattle.machine.specs.Machine.{Bench, bare, held}
 use Rattle.machine.specs.Claim.{distinct}
 use Rattle.machine.proofs.Reach.{Inv, inv_bare, held_used, used_agree}
@@ -68,19 +68,19 @@ module _ (archive : ℕ) (s : Round) (n : ℕ) (t : Bench) (sim : Sim archive s 
   pub log_sound : (u : ℕ) → Sound (records_of (t.logs u))
   log_sound u = subst Sound (held_is u) (held_sound archive t sim.inv u)
 
-  pub log-used : (u : ℕ) → Sub (records_of (t.logs u)) t.used
-  log-used u r h = held_used archive t sim.inv u r (subst (Has r) (sym (held_is u)) h)
+  pub log_used : (u : ℕ) → Sub (records_of (t.logs u)) t.used
+  log_used u r h = held_used archive t sim.inv u r (subst (Has r) (sym (held_is u)) h)
 
-  pub logs-agree : (u v : ℕ) → Agree (records_of (t.logs u)) (records_of (t.logs v))
-  logs-agree u v = used_agree t.used sim.once (records_of (t.logs u)) (records_of (t.logs v)) (log-used u) (log-used v)
+  pub logs_agree : (u v : ℕ) → Agree (records_of (t.logs u)) (records_of (t.logs v))
+  logs_agree u v = used_agree t.used sim.once (records_of (t.logs u)) (records_of (t.logs v)) (log_used u) (log_used v)
 
-  pub log-few : (u : ℕ) → length (records_of (t.logs u)) ≤ 512
-  log-few u = sound_few (t.logs u)
+  pub log_few : (u : ℕ) → length (records_of (t.logs u)) ≤ 512
+  log_few u = sound_few (t.logs u)
 
   pub log_back : (u : ℕ) → log_bytes (records_of (t.logs u)) ≡ t.logs u
   log_back u =
       let g = sim.inv.good u in
-      sound_bytes_on (base_vector (t.bases u)) (t.logs u) g.long.0 (good-log (t.logs u) (t.bases u) g)
+      sound_bytes_on (base_vector (t.bases u)) (t.logs u) g.long.0 (good_log (t.logs u) (t.bases u) g)
 
   -- no unit holds more records of another than that has made
   pub most : (u v : ℕ) → count v (records_of (t.logs u)) ≤ count v t.used
@@ -89,7 +89,7 @@ module _ (archive : ℕ) (s : Round) (n : ℕ) (t : Bench) (sim : Sim archive s 
       ⊎_elim
       (λ (z : 0 < count v l).
       let (r, i, a, b) = find_held l v (count v l) (log_sound u) z (omega arith) in
-      let k : num r ≤ count v t.used = subst (λ (x : ℕ). num r ≤ count x t.used) a (sim.own r (log-used u r i)) in
+      let k : num r ≤ count v t.used = subst (λ (x : ℕ). num r ≤ count x t.used) a (sim.own r (log_used u r i)) in
       omega (arith, b))
       (λ (z : count v l ≤ 0). omega arith)
       (lt_or_ge 0 (count v l))

@@ -18,14 +18,14 @@ use Rattle.vector.proofs.Distances.{covers_exactly}
 use Rattle.log_laws.proofs.Counts.{no_counts_lem}
 use Rattle.encoding_laws.proofs.Logs.{sound_proper_on, sound_bytes_on}
 use Rattle.call_laws.specs.Keeps.{Good}
-use Rattle.call_laws.proofs.States.{empty_vector, good-log, good-records}
+use Rattle.call_laws.proofs.States.{empty_vector, good_log, good_records}
 use Rattle.call_laws.proofs.Calls.{take_done}
 use Rattle.call_laws.proofs.Behind.{lacking_length_on}
-use Rattle.call_laws.proofs.Given.{Holds, hand-holds, handedOut, hand-done}
+use Rattle.call_laws.proofs.Given.{Holds, hand_holds, handedOut, hand_done}
 use Rattle.plan_model.specs.Plan.{log_at, with_log, true_vector, pass_handed, pass_taken}
 use Rattle.plan_units.specs.Units.{Units}
 use Rattle.plan_units.proofs.Logs.{lent, put_back, unchanged}
-use Rattle.plan_units.proofs.Events.{pass-good}
+use Rattle.plan_units.proofs.Events.{pass_good}
 
 -- ---- a block is handed out and taken
 
@@ -41,7 +41,7 @@ passes archive a b n p i j s base v block l g hb eb ev eh et =
     let l-is : l ≡ (take_of archive b (log_at s b) empty_base block).log = ap (λ (o : Outcome). o.log) (rw (lent s b, eb) at et) in
     let r-is : l ≡ (take_of archive b (log_at s b) empty_base (hand_of archive a (log_at s a) empty_base (true_vector s b) (replicate 512 0)).lent).log =
     l-is ∙ ap (λ (x : List ℕ). (take_of archive b (log_at s b) empty_base x).log) h-is in
-    put_back s l b (ap (λ (x : List ℕ). length x) r-is ∙ (pass-good s b g hb archive a).long.0) ∙ ap (with_log s b) r-is
+    put_back s l b (ap (λ (x : List ℕ). length x) r-is ∙ (pass_good s b g hb archive a).long.0) ∙ ap (with_log s b) r-is
 
 -- ---- nothing to pass
 
@@ -58,7 +58,7 @@ above v = all_covers v (base_vector empty_base) (λ u k. rw empty_vector (omega 
 none-lacking : (log v : List ℕ) → Good log empty_base → covers v (held_on log empty_base) ≡ true → lacking v (records_of log) ≡ []
 none-lacking log v g c =
     none_of (lacking v (records_of log))
-    (lacking_length_on (base_vector empty_base) v (records_of log) (good-records log empty_base g) (above v) ∙ (covers_exactly v (held_on log empty_base)).0 c)
+    (lacking_length_on (base_vector empty_base) v (records_of log) (good_records log empty_base g) (above v) ∙ (covers_exactly v (held_on log empty_base)).0 c)
 
 -- so the block has no record
 module _ (archive a : ℕ) (log v : List ℕ) (h : a < 8) (g : Good log empty_base) (c : covers v (held_on log empty_base) ≡ true) where
@@ -66,9 +66,9 @@ module _ (archive a : ℕ) (log v : List ℕ) (h : a < 8) (g : Good log empty_ba
   handed-none =
       let z : List ℕ = replicate 512 0 in
       let e : hand_of archive a log empty_base v z ≡ handedOut archive a log empty_base v z =
-      hand-done archive a log empty_base v z (length-replicate {A = ℕ} 512 0) (omega arith) g (above v) in
+      hand_done archive a log empty_base v z (length-replicate {A = ℕ} 512 0) (omega arith) g (above v) in
       let k : Holds archive (handedOut archive a log empty_base v z).lent (take 6 (lacking v (records_of log))) =
-      hand-holds archive a (records_of log) (omega arith) (sound_proper_on (base_vector empty_base) (records_of log) (good-records log empty_base g)) (held_on log empty_base) v in
+      hand_holds archive a (records_of log) (omega arith) (sound_proper_on (base_vector empty_base) (records_of log) (good_records log empty_base g)) (held_on log empty_base) v in
       subst (λ (o : Outcome). Holds archive o.lent []) (sym e) (rw (none-lacking log v g c) at k)
 
 -- and a block without records leaves a log as it is
@@ -78,7 +78,7 @@ takes_none archive b log block h g k =
     let t : takes_all (base_in empty_base).list (base_vector empty_base) (records_of log) (block_records block) ≡ taken (records_of log) =
     ap (takes_all (base_in empty_base).list (base_vector empty_base) (records_of log)) k.records in
     ap (λ (o : Outcome). o.log) (take_done archive b log empty_base block (records_of log) (omega arith) g k.faultless t)
-    ∙ sound_bytes_on (base_vector empty_base) log g.long.0 (good-log log empty_base g)
+    ∙ sound_bytes_on (base_vector empty_base) log g.long.0 (good_log log empty_base g)
 
 pub nothing_passes : (archive a b : ℕ) (s : List ℕ) {t : Bool} → Units s → a < 8 → b < 8 → t ≡ covers (true_vector s b) (true_vector s a) → t ≡ true
     → s ≡ with_log s b (pass_taken archive s a b).log

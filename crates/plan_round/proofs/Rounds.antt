@@ -15,7 +15,7 @@ use Rattle.byte_slice.proofs.Parts.{part_is}
 use Rattle.plan_model.specs.Plan.{Round, round, with_log, act_done, act_tried, pass_taken, pass_done, event_at, event_wish, event_holds, event_done, events_hold, events_done, plan_block_fault, block_done}
 use Rattle.plan_units.specs.Units.{Units}
 use Rattle.plan_units.proofs.Holding.{IsAct, IsPass, event_cases, event_holds_lem, accepted_block}
-use Rattle.plan_units.proofs.Events.{Goes, act-done, pass-done, event-goes}
+use Rattle.plan_units.proofs.Events.{Goes, act-done, pass-done, event_goes}
 
 -- ---- an event
 
@@ -59,18 +59,18 @@ module _ (archive : ℕ) (b : List ℕ) (n i : ℕ) (s l l' : List ℕ) (m k m' 
     (holds : event_holds (take (28 + 84 * i + 84 - (28 + 84 * i)) (drop (28 + 84 * i) b)) ≡ true)
     (happened : round l' m'' k'' ≡ event_done archive (round l m' k') (take (28 + 84 * i + 84 - (28 + 84 * i)) (drop (28 + 84 * i) b))) where
   goes : Goes (round l m' k') (round l' m'' k'')
-  goes = subst (Goes (round l m' k')) (sym happened) (event-goes archive (round l m' k') _ units holds)
+  goes = subst (Goes (round l m' k')) (sym happened) (event_goes archive (round l m' k') _ units holds)
 
-  pub units-on : Units l'
-  units-on = goes.units
+  pub units_on : Units l'
+  units_on = goes.units
 
-  pub skipped-on : k' ≤ k + i → k'' ≤ k + (i + 1)
-  skipped-on h = omega (arith, goes.skipped)
+  pub skipped_on : k' ≤ k + i → k'' ≤ k + (i + 1)
+  skipped_on h = omega (arith, goes.skipped)
 
-  pub goes_on : events_done archive (round l m' k') b i (n - i) ≡ events_done archive (round s m k) b 0 n
+  pub goes_on_lem : events_done archive (round l m' k') b i (n - i) ≡ events_done archive (round s m k) b 0 n
       → events_done archive (round l' m'' k'') b (i + 1) (n - (i + 1)) ≡ events_done archive (round s m k) b 0 n
   unfolding event_at
-  goes_on inv =
+  goes_on_lem inv =
       let t : Round = event_done archive (round l m' k') (event_at b i) in
       let e : n - i ≡ suc (n - (i + 1)) = omega arith in
       let h : round l' m'' k'' ≡ t = rw (part_is b (28 + 84 * i) 84) at happened in
@@ -93,7 +93,7 @@ unfolding events_done events_hold
 events_go archive b zero i s h w = (w, omega arith)
 events_go archive b (suc n) i s h w =
     let (a, r) = and_true (event_holds (event_at b i)) (events_hold b (suc i) n) h in
-    let g = event-goes archive s (event_at b i) w a in
+    let g = event_goes archive s (event_at b i) w a in
     let (x, y) = events_go archive b n (suc i) (event_done archive s (event_at b i)) r g.units in
     (x, omega (arith, g.skipped))
 

@@ -50,8 +50,8 @@ module _ (f : List ℕ) (archive n k : ℕ) (accepted : (plan_fault f).number �
       let p = piece_passes f ((length f + 511) / 512) 0 k accepted (omega arith) in
       rw own (subst (λ (j : ℕ). piece_fault (plan_archive f) j (block_at f j) ≡ 0) e p)
 
-  pub few-skipped : (j : ℕ) → j ≤ 5 * k → j + 5 < 65536
-  few-skipped j h = omega (arith, (accepted_piece archive k (block_at f k) passes).0)
+  pub few_skipped : (j : ℕ) → j ≤ 5 * k → j + 5 < 65536
+  few_skipped j h = omega (arith, (accepted_piece archive k (block_at f k) passes).0)
 
   pub block_inside : 512 * k + 512 ≤ length f
   unfolding block_at part
@@ -76,15 +76,15 @@ module _ (f : List ℕ) (archive n k : ℕ) (accepted : (plan_fault f).number �
         subst (λ (x : Round). Units x.logs × (x.skipped ≤ j + 5)) (sym done)
         (block_goes archive (round s m j) (take (512 * k + 512 - 512 * k) (drop (512 * k) f)) units block_passes)
 
-    pub units-on : Units s'
-    units-on = goes.0
+    pub units_on : Units s'
+    units_on = goes.0
 
-    pub skipped-on : j ≤ 5 * k → j' ≤ 5 * (k + 1)
-    skipped-on h = omega (arith, goes.1)
+    pub skipped_on : j ≤ 5 * k → j' ≤ 5 * (k + 1)
+    skipped_on h = omega (arith, goes.1)
 
-    pub goes_on : blocks_done archive (round s m j) f k (n - k) ≡ round_of f → blocks_done archive (round s' m' j') f (k + 1) (n - (k + 1)) ≡ round_of f
+    pub goes_on_lem : blocks_done archive (round s m j) f k (n - k) ≡ round_of f → blocks_done archive (round s' m' j') f (k + 1) (n - (k + 1)) ≡ round_of f
     unfolding block_at
-    goes_on inv =
+    goes_on_lem inv =
         let t : Round = block_done archive (round s m j) (block_at f k) in
         let e : n - k ≡ suc (n - (k + 1)) = omega arith in
         let h : round s' m' j' ≡ t = rw (part_is f (512 * k) 512) at done in

@@ -17,23 +17,23 @@ use Rattle.plan_model.specs.Plan.{plan_fault, Round, round, round_of, round_text
 -- ---- what is lent
 
 module _ (f logs base work text : List ℕ) {n p k : ℕ} (en : n ≡ 1) (ep : p ≡ 0) (ek : k ≡ 0) where
-  pub text-wrong : (length text ≡ 1024 → ⊥) → planned n p k logs base work text ≡ planned_of f logs base work text
+  pub text_wrong : (length text ≡ 1024 → ⊥) → planned n p k logs base work text ≡ planned_of f logs base work text
   unfolding planned_of
-  text-wrong d = rw (en, ep, ek, ne_eqb (length text) 1024 d)
+  text_wrong d = rw (en, ep, ek, ne_eqb (length text) 1024 d)
 
   module _ (t : length text ≡ 1024) where
-    pub base-wrong : (length base ≡ 43032 → ⊥) → planned n p k logs base work text ≡ planned_of f logs base work text
+    pub base_wrong : (length base ≡ 43032 → ⊥) → planned n p k logs base work text ≡ planned_of f logs base work text
     unfolding planned_of
-    base-wrong d = rw (en, ep, ek, eq-eqb (length text) 1024 t, ne_eqb (length base) 43032 d)
+    base_wrong d = rw (en, ep, ek, eq-eqb (length text) 1024 t, ne_eqb (length base) 43032 d)
 
     module _ (b : length base ≡ 43032) where
-      pub work-wrong : (length work ≡ 86020 → ⊥) → planned n p k logs base work text ≡ planned_of f logs base work text
+      pub work_wrong : (length work ≡ 86020 → ⊥) → planned n p k logs base work text ≡ planned_of f logs base work text
       unfolding planned_of
-      work-wrong d = rw (en, ep, ek, eq-eqb (length text) 1024 t, eq-eqb (length base) 43032 b, ne_eqb (length work) 86020 d)
+      work_wrong d = rw (en, ep, ek, eq-eqb (length text) 1024 t, eq-eqb (length base) 43032 b, ne_eqb (length work) 86020 d)
 
-      pub logs-wrong : length work ≡ 86020 → (length logs ≡ 327680 → ⊥) → planned n p k logs base work text ≡ planned_of f logs base work text
+      pub logs_wrong : length work ≡ 86020 → (length logs ≡ 327680 → ⊥) → planned n p k logs base work text ≡ planned_of f logs base work text
       unfolding planned_of
-      logs-wrong w d =
+      logs_wrong w d =
           rw (en, ep, ek, eq-eqb (length text) 1024 t, eq-eqb (length base) 43032 b, eq-eqb (length work) 86020 w, ne_eqb (length logs) 327680 d)
 
 -- ---- a refusal, and a round
@@ -58,10 +58,10 @@ module _ (f logs base work text : List ℕ) (t : length text ≡ 1024) (b : leng
       let k : r ≡ length (refused_line n p) = omega (arith, x.next) in
       rw (lent, ← ef, ne_eqb n 0 z, x.bytes, k)
 
-  pub comes-to : {r s : ℕ} {logs' base' work' after : List ℕ} → n ≡ 0 → logs' ≡ (round_of f).logs → s ≡ (round_of f).skipped → base' ≡ empty_base → work' ≡ replicate 86020 0
+  pub comes_to_lem : {r s : ℕ} {logs' base' work' after : List ℕ} → n ≡ 0 → logs' ≡ (round_of f).logs → s ≡ (round_of f).skipped → base' ≡ empty_base → work' ≡ replicate 86020 0
       → Wrote text after 0 r (round_text (round logs' 0 s)) → planned 0 0 r logs' base' work' after ≡ planned_of f logs base work text
   unfolding planned_round
-  comes-to {r} {s} {logs'} z el es eb ew x =
+  comes_to_lem {r} {s} {logs'} z el es eb ew x =
       let q = same_text f n p ef z el es in
       let k : r ≡ length (round_text (round logs' 0 s)) = omega (arith, x.next) in
       rw (lent, eq-eqb (plan_fault f).number 0 (accepted f n p ef z), x.bytes, k, q, el, eb, ew)

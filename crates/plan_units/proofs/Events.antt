@@ -35,13 +35,13 @@ kept log lent o g k =
     (eq_or_ne o.number 0)
 
 module _ (s : List ℕ) (u : ℕ) (w : Units s) (h : u < 8) where
-  pub act-good : (wish : List ℕ) → Good (act_tried s u wish).log empty_base
+  pub act_good : (wish : List ℕ) → Good (act_tried s u wish).log empty_base
   unfolding act_tried
-  act-good wish = kept (log_at s u) [] (act_of u (log_at s u) empty_base wish (replicate 86020 0)) (w.good u h) (act-keeps u (log_at s u) empty_base wish (replicate 86020 0))
+  act_good wish = kept (log_at s u) [] (act_of u (log_at s u) empty_base wish (replicate 86020 0)) (w.good u h) (act-keeps u (log_at s u) empty_base wish (replicate 86020 0))
 
-  pub pass-good : (archive a : ℕ) → Good (pass_taken archive s a u).log empty_base
+  pub pass_good : (archive a : ℕ) → Good (pass_taken archive s a u).log empty_base
   unfolding pass_taken
-  pass-good archive a =
+  pass_good archive a =
       let b : List ℕ = (pass_handed archive s a u).lent in
       kept (log_at s u) [] (take_of archive u (log_at s u) empty_base b) (w.good u h) (take-keeps archive u (log_at s u) empty_base b)
 
@@ -80,17 +80,17 @@ module _ (archive : ℕ) (s : Round) (e : List ℕ) where
   unfolding event_done event_kind event_unit event_other
   pass-done h = rw (ne_eqb (get_or e 0 0) 1 h)
 
-  pub event-goes : Units s.logs → event_holds e ≡ true → Goes s (event_done archive s e)
+  pub event_goes : Units s.logs → event_holds e ≡ true → Goes s (event_done archive s e)
   unfolding pass_done
-  event-goes w h =
+  event_goes w h =
       ⊎_elim
       (λ (a : IsAct e).
       subst (Goes s) (sym (act-done a.kind))
-      (act_goes s (get_or e 1 0) (act_tried s.logs (get_or e 1 0) (event_wish e)) w a.unit (act-good s.logs (get_or e 1 0) w a.unit (event_wish e))))
+      (act_goes s (get_or e 1 0) (act_tried s.logs (get_or e 1 0) (event_wish e)) w a.unit (act_good s.logs (get_or e 1 0) w a.unit (event_wish e))))
       (λ (p : IsPass e).
       subst (Goes s) (sym (pass-done p.kind))
       (record {
-        units = units_put s.logs (get_or e 2 0) (pass_taken archive s.logs (get_or e 1 0) (get_or e 2 0)).log w p.other (pass-good s.logs (get_or e 2 0) w p.other archive (get_or e 1 0));
+        units = units_put s.logs (get_or e 2 0) (pass_taken archive s.logs (get_or e 1 0) (get_or e 2 0)).log w p.other (pass_good s.logs (get_or e 2 0) w p.other archive (get_or e 1 0));
         made = λ k. k;
         skipped = omega arith;
       }))

@@ -17,7 +17,7 @@ use Rattle.byte_slice.proofs.Numbers.{lt_or_ge, eq_or_ne}
 use Rattle.byte_slice.proofs.Parts.{part_is, part_length, part-replicate}
 use Rattle.byte_slice.proofs.PutAt.{mid_put, put_same, length-put, part-put, part_put_before, part_put_after}
 use Rattle.call_laws.specs.Keeps.{Good}
-use Rattle.call_laws.proofs.States.{empty_vector, good-log, zeros_good}
+use Rattle.call_laws.proofs.States.{empty_vector, good_log, zeros_good}
 use Rattle.plan_model.specs.Plan.{log_at, with_log, true_vector}
 use Rattle.plan_units.specs.Units.{Units}
 
@@ -39,17 +39,17 @@ module _ (s : List ℕ) (long : length s ≡ 327680) (u : ℕ) (h : u < 8) where
   unchanged = put_same s (40960 * u) 40960 (omega arith)
 
   module _ (l : List ℕ) (n : length l ≡ 40960) where
-    pub with-long : length (with_log s u l) ≡ 327680
+    pub with_long : length (with_log s u l) ≡ 327680
     unfolding with_log
-    with-long = length-put s (40960 * u) l (omega arith) ∙ long
+    with_long = length-put s (40960 * u) l (omega arith) ∙ long
 
-    pub log-put : log_at (with_log s u l) u ≡ l
+    pub log_put : log_at (with_log s u l) u ≡ l
     unfolding with_log log_at
-    log-put = rw n at (part-put s (40960 * u) l (omega arith))
+    log_put = rw n at (part-put s (40960 * u) l (omega arith))
 
-    pub log-other : (v : ℕ) → (v ≡ u → ⊥) → log_at (with_log s u l) v ≡ log_at s v
+    pub log_other : (v : ℕ) → (v ≡ u → ⊥) → log_at (with_log s u l) v ≡ log_at s v
     unfolding with_log log_at
-    log-other v d =
+    log_other v d =
         ⊎_elim
         (λ (k : v < u). part_put_before s (40960 * u) l (40960 * v) 40960 (omega arith) (omega arith))
         (λ (k : u ≤ v). part_put_after s (40960 * u) l (40960 * v) 40960 (omega arith) (omega arith))
@@ -61,11 +61,11 @@ pub units_put : (s : List ℕ) (u : ℕ) (l : List ℕ) → Units s → u < 8 �
 units_put s u l w h g =
     let n : length l ≡ 40960 = g.long.0 in
     record {
-      long = with-long s w.long u h l n;
+      long = with_long s w.long u h l n;
       good = λ v k.
           ⊎_elim
-          (λ (e : v ≡ u). rw (e, log-put s w.long u h l n) g)
-          (λ (d : v ≡ u → ⊥). rw (log-other s w.long u h l n v d) (w.good v k))
+          (λ (e : v ≡ u). rw (e, log_put s w.long u h l n) g)
+          (λ (d : v ≡ u → ⊥). rw (log_other s w.long u h l n v d) (w.good v k))
           (eq_or_ne v u);
     }
 
@@ -80,7 +80,7 @@ units_new = record { long = length-replicate {A = ℕ} 327680 0; good = λ u h. 
 -- ---- the true vector
 
 pub sound_none : (log v : List ℕ) → Good log empty_base → v ≡ replicate 8 0 → sound_log_on v log ≡ true
-sound_none log v g e = rw (e, ← empty_vector) (good-log log empty_base g)
+sound_none log v g e = rw (e, ← empty_vector) (good_log log empty_base g)
 
 pub long_log : (log : List ℕ) → Good log empty_base → length log ≡ 40960
 long_log log g = g.long.0

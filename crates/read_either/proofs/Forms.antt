@@ -50,28 +50,28 @@ module _ (log base f : List ℕ) (two : is_sab2 f ≡ true) where
   refused_is ea eu ek ev = rw (ea, eu, ek, ev)
 
   module _ {n p a u k : ℕ} {v : List ℕ} (ea : a ≡ 0) (eu : u ≡ 0) (ek : k ≡ 0) (ev : v ≡ replicate 8 0) where
-    pub wrong-log : n ≡ 1 → p ≡ 0 → (length log ≡ 40960 → ⊥) → read_back_of n p a u k v log base ≡ read_either_of log base f
+    pub wrong_log : n ≡ 1 → p ≡ 0 → (length log ≡ 40960 → ⊥) → read_back_of n p a u k v log base ≡ read_either_of log base f
     unfolding read_either_of
-    wrong-log en ep h = refused_is ea eu ek ev ∙ rw (en, ep, ne_eqb (length log) 40960 h)
+    wrong_log en ep h = refused_is ea eu ek ev ∙ rw (en, ep, ne_eqb (length log) 40960 h)
 
-    pub wrong-base : n ≡ 1 → p ≡ 0 → length log ≡ 40960 → (length base ≡ 43032 → ⊥) → read_back_of n p a u k v log base ≡ read_either_of log base f
+    pub wrong_base : n ≡ 1 → p ≡ 0 → length log ≡ 40960 → (length base ≡ 43032 → ⊥) → read_back_of n p a u k v log base ≡ read_either_of log base f
     unfolding read_either_of
-    wrong-base en ep l h = refused_is ea eu ek ev ∙ rw (en, ep, eq-eqb (length log) 40960 l, ne_eqb (length base) 43032 h)
+    wrong_base en ep l h = refused_is ea eu ek ev ∙ rw (en, ep, eq-eqb (length log) 40960 l, ne_eqb (length base) 43032 h)
 
-    pub file-refused : (m q : ℕ) → n ≡ m → p ≡ q → length log ≡ 40960 → length base ≡ 43032 → fault m q ≡ checked_sab2 f → (m ≡ 0 → ⊥) → read_back_of n p a u k v log base ≡ read_either_of log base f
+    pub file_refused : (m q : ℕ) → n ≡ m → p ≡ q → length log ≡ 40960 → length base ≡ 43032 → fault m q ≡ checked_sab2 f → (m ≡ 0 → ⊥) → read_back_of n p a u k v log base ≡ read_either_of log base f
     unfolding read_either_of fault
-    file-refused m q en ep l b e z =
+    file_refused m q en ep l b e z =
         refused_is ea eu ek ev ∙ rw (en, ep, eq-eqb (length log) 40960 l, eq-eqb (length base) 43032 b, sab2_fault_lem f two, ← e, ne_eqb m 0 z)
 
   pub no_fault : (m q : ℕ) → fault m q ≡ checked_sab2 f → m ≡ 0 → (checked_sab2 f).number ≡ 0
   unfolding fault
   no_fault m q e z = sym (ap (λ (x : Fault). x.number) e) ∙ z
 
-  pub file-read : {n p a u k : ℕ} {v o b s : List ℕ} (m q : ℕ) → length log ≡ 40960 → length base ≡ 43032 → fault m q ≡ checked_sab2 f → m ≡ 0
+  pub file_read : {n p a u k : ℕ} {v o b s : List ℕ} (m q : ℕ) → length log ≡ 40960 → length base ≡ 43032 → fault m q ≡ checked_sab2 f → m ≡ 0
       → (m ≡ 0 → s ≡ sab2_base f) → b ≡ put_at base 0 s → read_back_of n p a u k v o empty_base ≡ read_from (block_at f 0) (record_part f) empty_base
       → read_back_of n p a u k v o b ≡ read_either_of log base f
   unfolding read_either_of read_either read_sab2 read_from fault sab2_counted sab2_records
-  file-read {n} {p} {a} {u} {k} {v} {o} {b} {s} m q l h e z es eb r =
+  file_read {n} {p} {a} {u} {k} {v} {o} {b} {s} m q l h e z es eb r =
       let sb : s ≡ sab2_base f = es z in
       let long : length s ≡ length base = ap (λ (x : List ℕ). length x) sb ∙ (base_long f (no_fault m q e z) ∙ sym h) in
       let bb : b ≡ sab2_base f = eb ∙ (put_whole base s long ∙ sb) in

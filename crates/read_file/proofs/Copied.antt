@@ -26,21 +26,21 @@ use Rattle.log_check.proofs.Lists.{listed_more}
 use Rattle.read_file_blocks.proofs.Agreement.{blocks_counted}
 use Rattle.read_file_check.specs.Outcome.{read_back_of}
 use Rattle.read_file_check.proofs.Records.{file_listed}
-use Rattle.read_file_check.proofs.Checks.{few-in-blocks, file-read, right-whole, right-some, right-few, faultless}
+use Rattle.read_file_check.proofs.Checks.{few_in_blocks, file_read, right-whole, right_some, right_few, faultless}
 use Rattle.read_file.specs.From.{read_from}
 
 -- ---- how many
 
 module _ (f : List ℕ) (n : ℕ) {total : ℕ} (whole : length f ≡ 512 * n) (e : total ≡ records_counted f) (z : (file_fault f).number ≡ 0) where
-  pub few-in-file : 1 ≤ n → total ≤ 6 * n
+  pub few_in_file : 1 ≤ n → total ≤ 6 * n
   unfolding file_fault
-  few-in-file some =
+  few_in_file some =
       let b : (blocks_fault f 0 (blocks_in f)).number ≡ 0 = (no_fault (blocks_fault f 0 (blocks_in f)) (or_else (records_fault [] 0 (file_records f)) (counts_fault f)) z).0 in
-      rw e (few-in-blocks f n whole some (rw (blocks_counted f n whole) at b))
+      rw e (few_in_blocks f n whole some (rw (blocks_counted f n whole) at b))
 
-  pub few-in-log : total ≤ 512
+  pub few_in_log : total ≤ 512
   unfolding file_records
-  few-in-log = omega (arith, length-file_records f 0 (records_counted f), (file_records_lem f z).1)
+  few_in_log = omega (arith, length-file_records f 0 (records_counted f), (file_records_lem f z).1)
 
 -- ---- one record more
 
@@ -62,8 +62,8 @@ module _ (f : List ℕ) (n : ℕ) (whole : length f ≡ 512 * n) where
   unfolding file_records_from
   copied_none em e = e ∙ rw em (sym empty_log)
 
-  pub walk-fits : (total : ℕ) (d : List ℕ) → total ≤ 512 → length d ≡ 40960 → 80 * total ≤ length d
-  walk-fits total d h e = omega arith
+  pub walk_fits : (total : ℕ) (d : List ℕ) → total ≤ 512 → length d ≡ 40960 → 80 * total ≤ length d
+  walk_fits total d h e = omega arith
 
   copied_more : (i : ℕ) → i < 6 * n → i < 512 → put_at (log_bytes (file_records_from f 0 i)) (80 * i) (record_or_zeros f i) ≡ log_bytes (file_records_from f 0 (suc i))
   unfolding log_bytes joined
@@ -75,13 +75,13 @@ module _ (f : List ℕ) (n : ℕ) (whole : length f ≡ 512 * n) where
       rw (record_is i g k, records_more i, j) (rw n₀ at (put-padded 40960 (joined l) r))
 
   -- a walk over a log of zeros
-  walked-is : (i : ℕ) → i ≤ 6 * n → i ≤ 512 → walked_to (log_bytes []) f i ≡ log_bytes (file_records_from f 0 i)
+  walked_is : (i : ℕ) → i ≤ 6 * n → i ≤ 512 → walked_to (log_bytes []) f i ≡ log_bytes (file_records_from f 0 i)
   unfolding walked_to file_records_from
-  walked-is zero h k = refl
-  walked-is (suc i) h k = ap (λ (d : List ℕ). put_at d (80 * i) (record_or_zeros f i)) (walked-is i (omega arith) (omega arith)) ∙ copied_more i (omega arith) (omega arith)
+  walked_is zero h k = refl
+  walked_is (suc i) h k = ap (λ (d : List ℕ). put_at d (80 * i) (record_or_zeros f i)) (walked_is i (omega arith) (omega arith)) ∙ copied_more i (omega arith) (omega arith)
 
   pub copied_all : {total m : ℕ} {d o : List ℕ} → m ≡ 40960 → d ≡ replicate m 0 → o ≡ walked_to d f total → total ≤ 6 * n → total ≤ 512 → o ≡ log_bytes (file_records_from f 0 total)
-  copied_all {total} em ed eo h k = eo ∙ ap (λ (z : List ℕ). walked_to z f total) (ed ∙ rw em (sym empty_log)) ∙ walked-is total h k
+  copied_all {total} em ed eo h k = eo ∙ ap (λ (z : List ℕ). walked_to z f total) (ed ∙ rw em (sym empty_log)) ∙ walked_is total h k
 
 -- ---- what `load` answers
 
@@ -97,21 +97,21 @@ unfolding read_from read_back block_at part
 from_whole f = refl
 
 module _ (f : List ℕ) (m q : ℕ) (e : fault m q ≡ checked_fault f) (z : m ≡ 0) where
-  pub few-of-file : records_counted f ≤ 6 * (length f / 512)
-  few-of-file = few-in-file f (length f / 512) (right-whole f m q e z) refl (faultless f m q e z) (right-some f m q e z)
+  pub few_of_file : records_counted f ≤ 6 * (length f / 512)
+  few_of_file = few_in_file f (length f / 512) (right-whole f m q e z) refl (faultless f m q e z) (right_some f m q e z)
 
-  pub few-of-log : records_counted f ≤ 512
-  few-of-log = few-in-log f (length f / 512) (right-whole f m q e z) refl (faultless f m q e z)
+  pub few_of_log : records_counted f ≤ 512
+  few_of_log = few_in_log f (length f / 512) (right-whole f m q e z) refl (faultless f m q e z)
 
   pub few_blocks : length f / 512 ≤ 186
-  few_blocks = omega (arith, right-few f m q e z)
+  few_blocks = omega (arith, right_few f m q e z)
 
   pub first_block : 512 ≤ length f
-  first_block = omega (arith, right-whole f m q e z, right-some f m q e z)
+  first_block = omega (arith, right-whole f m q e z, right_some f m q e z)
 
   pub first_lent : length (take (512 - 0) (drop 0 f)) ≡ 512
   first_lent = omega (arith, first_block, length-take 512 f)
 
-  pub file-loaded : (log : List ℕ) {n p a u k : ℕ} {v o : List ℕ} → length log ≡ 40960 → read_back_of n p a u k v o empty_base ≡ read_from (take (512 - 0) (drop 0 f)) f empty_base
+  pub file_loaded : (log : List ℕ) {n p a u k : ℕ} {v o : List ℕ} → length log ≡ 40960 → read_back_of n p a u k v o empty_base ≡ read_from (take (512 - 0) (drop 0 f)) f empty_base
       → read_back_of n p a u k v o empty_base ≡ read_of log empty_base f
-  file-loaded log l r = file-read log f m q l e z (r ∙ from_whole f)
+  file_loaded log l r = file_read log f m q l e z (r ∙ from_whole f)

@@ -10,7 +10,7 @@ use mathlib.Core.Bool.{Bool, true, false, cond, not, ◌&&◌, ◌||◌}
 use mathlib.Core.List.{List}
 use lib.Dec.{leb, ltb, eqb}
 use lib.ListN.{length, take, drop}
-use borrow.Author.Tests.{eq-eqb, ne_eqb, le-leb, lt-leb, lt-ltb, le-ltb, not-true, not-false}
+use borrow.Author.Tests.{eq-eqb, ne_eqb, le-leb, lt-leb, lt-ltb, le-ltb, not-true, not_false}
 use Rattle.model.specs.Bytes.{same_bytes, part}
 use Rattle.model.specs.Vector.{blocks_for, covers}
 use Rattle.model.specs.Block.{letters, archive_in, sender_in, place_in, count_in, vector_in}
@@ -60,25 +60,25 @@ module _ (n k c : ℕ) where
   unfolding count_fits
   before_last h = rw (lt-ltb (suc k) n (omega arith))
 
-  pub only-block : n ≤ k + 1 → n ≡ 1 → true ≡ count_fits n k c
+  pub only_block : n ≤ k + 1 → n ≡ 1 → true ≡ count_fits n k c
   unfolding count_fits
-  only-block h e = rw (le-ltb (suc k) n (omega arith), eq-eqb n 1 e)
+  only_block h e = rw (le-ltb (suc k) n (omega arith), eq-eqb n 1 e)
 
-  pub last-of-more : n ≤ k + 1 → (n ≡ 1 → ⊥) → leb 1 c ≡ count_fits n k c
+  pub last_of_more : n ≤ k + 1 → (n ≡ 1 → ⊥) → leb 1 c ≡ count_fits n k c
   unfolding count_fits
-  last-of-more h e = rw (le-ltb (suc k) n (omega arith), ne_eqb n 1 e)
+  last_of_more h e = rw (le-ltb (suc k) n (omega arith), ne_eqb n 1 e)
 
 -- ---- the count of a block of rows
 
 module _ (r n k c : ℕ) where
-  pub behind-rows : {t : Bool} → (r + 5) / 6 ≤ k → t ≡ count_fits n k c → t ≡ count_fits_as r n k c
+  pub behind_rows_lem : {t : Bool} → (r + 5) / 6 ≤ k → t ≡ count_fits n k c → t ≡ count_fits_as r n k c
   unfolding count_fits_as blocks_for
-  behind-rows h e = e ∙ rw (le-ltb k ((r + 5) / 6) h)
+  behind_rows_lem h e = e ∙ rw (le-ltb k ((r + 5) / 6) h)
 
   module _ {m : ℕ} (h : k < (r + 5) / 6) (e : m ≡ min 6 (r - 6 * k)) where
-    pub not-filled : (c ≡ m → ⊥) → false ≡ count_fits_as r n k c
+    pub not_filled : (c ≡ m → ⊥) → false ≡ count_fits_as r n k c
     unfolding count_fits_as blocks_for
-    not-filled d = rw (lt-ltb k ((r + 5) / 6) h, ← e, ne_eqb c m d)
+    not_filled d = rw (lt-ltb k ((r + 5) / 6) h, ← e, ne_eqb c m d)
 
     pub filled : c ≡ m → (ltb (k + 1) n || eqb (k + 1) ((r + 5) / 6)) ≡ count_fits_as r n k c
     unfolding count_fits_as blocks_for
@@ -92,23 +92,23 @@ module _ (w n k : ℕ) (first b : List ℕ) {p : ℕ} (ep : p ≡ place_in b) wh
   other_place h = rw (← ep, ne_eqb p k h)
 
   module _ {s s₀ : ℕ} (hp : p ≡ k) (es : s ≡ sender_in b) (es₀ : s₀ ≡ sender_in first) where
-    pub other-unit : (s ≡ s₀ → ⊥) → false ≡ agrees_as w n k first b
+    pub other_unit : (s ≡ s₀ → ⊥) → false ≡ agrees_as w n k first b
     unfolding agrees_as
-    other-unit h = rw (← ep, eq-eqb p k hp, ← es, ← es₀, ne_eqb s s₀ h)
+    other_unit h = rw (← ep, eq-eqb p k hp, ← es, ← es₀, ne_eqb s s₀ h)
 
     module _ {a a₀ : ℕ} (hs : s ≡ s₀) (ea : a ≡ archive_in b) (ea₀ : a₀ ≡ archive_in first) where
-      pub other-archive : (a ≡ a₀ → ⊥) → false ≡ agrees_as w n k first b
+      pub other_archive_lem : (a ≡ a₀ → ⊥) → false ≡ agrees_as w n k first b
       unfolding agrees_as
-      other-archive h = rw (← ep, eq-eqb p k hp, ← es, ← es₀, eq-eqb s s₀ hs, ← ea, ← ea₀, ne_eqb a a₀ h)
+      other_archive_lem h = rw (← ep, eq-eqb p k hp, ← es, ← es₀, eq-eqb s s₀ hs, ← ea, ← ea₀, ne_eqb a a₀ h)
 
       module _ {v v₀ : List ℕ} {t : Bool} (ha : a ≡ a₀) (ev : v ≡ vector_in b) (ev₀ : v₀ ≡ vector_in first) (et : t ≡ same_bytes v v₀) where
-        pub other-vector : not t ≡ true → false ≡ agrees_as w n k first b
+        pub other_vector : not t ≡ true → false ≡ agrees_as w n k first b
         unfolding agrees_as
-        other-vector h = rw (← ep, eq-eqb p k hp, ← es, ← es₀, eq-eqb s s₀ hs, ← ea, ← ea₀, eq-eqb a a₀ ha, ← ev, ← ev₀, ← et, not-true t h)
+        other_vector h = rw (← ep, eq-eqb p k hp, ← es, ← es₀, eq-eqb s s₀ hs, ← ea, ← ea₀, eq-eqb a a₀ ha, ← ev, ← ev₀, ← et, not-true t h)
 
-        pub fullness-decides : {c : ℕ} {r : Bool} → not t ≡ false → c ≡ count_in b → r ≡ count_fits_as w n k c → r ≡ agrees_as w n k first b
+        pub fullness_decides : {c : ℕ} {r : Bool} → not t ≡ false → c ≡ count_in b → r ≡ count_fits_as w n k c → r ≡ agrees_as w n k first b
         unfolding agrees_as
-        fullness-decides h ec er = er ∙ rw (← ep, eq-eqb p k hp, ← es, ← es₀, eq-eqb s s₀ hs, ← ea, ← ea₀, eq-eqb a a₀ ha, ← ev, ← ev₀, ← et, not-false t h, ← ec)
+        fullness_decides h ec er = er ∙ rw (← ep, eq-eqb p k hp, ← es, ← es₀, eq-eqb s s₀ hs, ← ea, ← ea₀, eq-eqb a a₀ ha, ← ev, ← ev₀, ← et, not_false t h, ← ec)
 
 -- ---- a block of a file
 
@@ -121,21 +121,21 @@ module _ (a : List ℕ) (w : ℕ) (f : List ℕ) (n k : ℕ) (whole : length f �
   unfolding block_at
   lent = part_is f (512 * k) 512
 
-  lent-first : take (512 - 0) (drop 0 f) ≡ block_at f 0
+  lent_first : take (512 - 0) (drop 0 f) ≡ block_at f 0
   unfolding block_at part
-  lent-first = refl
+  lent_first = refl
 
   module _ {x : ℕ} (ex : x ≡ block_fault_as a (take (512 * k + 512 - 512 * k) (drop (512 * k) f))) where
     alone : x ≡ block_fault_as a (block_at f k)
     alone = rw lent at ex
 
-    pub faulty-alone : (x ≡ 0 → ⊥) → x ≡ file_block_fault_as a w f k
+    pub faulty_alone : (x ≡ 0 → ⊥) → x ≡ file_block_fault_as a w f k
     unfolding file_block_fault_as
-    faulty-alone h = rw (← alone, ne_eqb x 0 h)
+    faulty_alone h = rw (← alone, ne_eqb x 0 h)
 
     module _ {t : Bool} (z : x ≡ 0) (et : t ≡ agrees_as w n k (take (512 - 0) (drop 0 f)) (take (512 * k + 512 - 512 * k) (drop (512 * k) f))) where
       beside : t ≡ agrees_as w (blocks_in f) k (block_at f 0) (block_at f k)
-      beside = rw (blocks_counted f n whole, ← lent, ← lent-first) et
+      beside = rw (blocks_counted f n whole, ← lent, ← lent_first) et
 
       pub disagrees : not t ≡ true → 20 ≡ file_block_fault_as a w f k
       unfolding file_block_fault_as
@@ -143,7 +143,7 @@ module _ (a : List ℕ) (w : ℕ) (f : List ℕ) (n k : ℕ) (whole : length f �
 
       pub passes : not t ≡ false → 0 ≡ file_block_fault_as a w f k
       unfolding file_block_fault_as
-      passes h = rw (← alone, eq-eqb x 0 z, ← beside, not-false t h)
+      passes h = rw (← alone, eq-eqb x 0 z, ← beside, not_false t h)
 
 -- ---- block after block
 
@@ -156,8 +156,8 @@ module _ (a : List ℕ) (w : ℕ) (f : List ℕ) (n k : ℕ) (inv : blocks_fault
     pub stops : (x ≡ 0 → ⊥) → fault x k ≡ blocks_fault_as a w f 0 n
     stops z = rw (ne_eqb x 0 z) at step
 
-    pub goes_on : x ≡ 0 → blocks_fault_as a w f (k + 1) (n - (k + 1)) ≡ blocks_fault_as a w f 0 n
-    goes_on z = rw (eq-eqb x 0 z) at step
+    pub goes_on_lem : x ≡ 0 → blocks_fault_as a w f (k + 1) (n - (k + 1)) ≡ blocks_fault_as a w f 0 n
+    goes_on_lem z = rw (eq-eqb x 0 z) at step
 
   pub ends : k ≤ n → n ≤ k → fault 0 0 ≡ blocks_fault_as a w f 0 n
   unfolding blocks_fault_as

@@ -8,7 +8,7 @@ use mathlib.Core.Bool.{Bool, true, false, not, ◌&&◌}
 use mathlib.Core.List.{List, []}
 use lib.Dec.{leb, eqb}
 use lib.ListN.{length, take, drop, replicate}
-use borrow.Author.Tests.{eq-eqb, ne_eqb, eqb-true, eqb-false, leb-true, not-true, not-false}
+use borrow.Author.Tests.{eq-eqb, ne_eqb, eqb-true, eqb-false, leb-true, not-true, not_false}
 use Rattle.model.specs.Bytes.{same_bytes, part}
 use Rattle.model.specs.Log.{vector_of, vector_on, no_counts}
 use Rattle.model.specs.Block.{letters, vector_in}
@@ -17,7 +17,7 @@ use Rattle.sab2_model.specs.Sab2.{records_fault_on, counts_fault_on}
 use Rattle.call_model.specs.Read.{ReadBack, not_read, read_back, read_of}
 use Rattle.byte_slice.proofs.Numbers.{bool_cases, and_true, and_wrong}
 use Rattle.block_laws.proofs.Faults.{three_passed, stored_header}
-use Rattle.run_laws.proofs.Passed.{blocks-passed, block_passed}
+use Rattle.run_laws.proofs.Passed.{blocks_passed, block_passed}
 use Rattle.run_laws.proofs.Sab1.{blocks_fault_sab1}
 use Rattle.held_laws.proofs.Records.{records_sab1}
 use Rattle.read_file_blocks.proofs.Agreement.{blocks_counted}
@@ -36,7 +36,7 @@ module _ (f : List ℕ) {t : Bool} (e : t ≡ file_length f) (h : not t ≡ fals
   tests : (length f % 512 ≡ 0) × (1 ≤ length f / 512) × (length f / 512 ≤ 86)
   unfolding file_length
   tests =
-      let (p, q) = and_true (eqb (length f % 512) 0) (leb 1 (length f / 512) && leb (length f / 512) 86) (sym e ∙ not-false t h) in
+      let (p, q) = and_true (eqb (length f % 512) 0) (leb 1 (length f / 512) && leb (length f / 512) 86) (sym e ∙ not_false t h) in
       let (r, s) = and_true (leb 1 (length f / 512)) (leb (length f / 512) 86) q in
       (eqb-true (length f % 512) 0 p, leb-true 1 (length f / 512) r, leb-true (length f / 512) 86 s)
 
@@ -52,25 +52,25 @@ module _ (f : List ℕ) {t : Bool} (e : t ≡ file_length f) (h : not t ≡ fals
 -- ---- records, then the vector
 
 module _ (m : ℕ) (v : List ℕ) (p : ℕ) (f : List ℕ) (rn rp : ℕ) (held places seens : List ℕ) (j : Judges m v p f rn rp held places seens) (n : ℕ) (b : List ℕ) where
-  pub record-refused : (rn ≡ 0 → ⊥) → fault rn rp ≡ or_else (records_fault_on m v p [] 0 (file_records f)) (counts_fault_on v n (vector_in b) (file_records f))
+  pub record_refused : (rn ≡ 0 → ⊥) → fault rn rp ≡ or_else (records_fault_on m v p [] 0 (file_records f)) (counts_fault_on v n (vector_in b) (file_records f))
   unfolding or_else fault
-  record-refused h = sym (rw (← j.first, ne_eqb rn 0 h))
+  record_refused h = sym (rw (← j.first, ne_eqb rn 0 h))
 
   module _ {w : List ℕ} {t : Bool} (y : rn ≡ 0) (ew : w ≡ vector_in b) (et : t ≡ same_bytes w held) where
     compared : t ≡ same_bytes (vector_in b) (vector_on v (file_records f))
     compared = rw (← (j.holds y).counts, ← ew) et
 
-    pub vector-differs : not t ≡ true → fault 20 (n - 1) ≡ or_else (records_fault_on m v p [] 0 (file_records f)) (counts_fault_on v n (vector_in b) (file_records f))
+    pub vector_differs : not t ≡ true → fault 20 (n - 1) ≡ or_else (records_fault_on m v p [] 0 (file_records f)) (counts_fault_on v n (vector_in b) (file_records f))
     unfolding or_else fault counts_fault_on
-    vector-differs h = sym (rw (← j.first, y, ← compared, not-true t h))
+    vector_differs h = sym (rw (← j.first, y, ← compared, not-true t h))
 
-    pub nothing-refused : not t ≡ false → fault 0 0 ≡ or_else (records_fault_on m v p [] 0 (file_records f)) (counts_fault_on v n (vector_in b) (file_records f))
+    pub nothing_refused : not t ≡ false → fault 0 0 ≡ or_else (records_fault_on m v p [] 0 (file_records f)) (counts_fault_on v n (vector_in b) (file_records f))
     unfolding or_else fault counts_fault_on
-    nothing-refused h = sym (rw (← j.first, y, ← compared, not-false t h))
+    nothing_refused h = sym (rw (← j.first, y, ← compared, not_false t h))
 
 module _ (m : ℕ) (v : List ℕ) (p : ℕ) (f : List ℕ) (rn rp : ℕ) (held places seens : List ℕ) (j : Judges m v p f rn rp held places seens) where
-  pub held-indexed : rn ≡ 0 → Indexed v (laid_at File f) (records_counted f) (file_records f) (vector_on v (file_records f)) places seens
-  held-indexed y = rw (← (j.holds y).counts) (j.holds y)
+  pub held_indexed : rn ≡ 0 → Indexed v (laid_at File f) (records_counted f) (file_records f) (vector_on v (file_records f)) places seens
+  held_indexed y = rw (← (j.holds y).counts) (j.holds y)
 
 pub tables-left : (v f held places seens places₀ seens₀ : List ℕ) → left held places seens ≡ records_left v f places₀ seens₀ → tables places seens ≡ tables_left v f places₀ seens₀
 unfolding tables_left
@@ -84,33 +84,33 @@ file_held f = rw (records_sab1 (file_records f) [] 0, vector_on-none (file_recor
 
 module _ (f : List ℕ) (n : ℕ) (whole : length f ≡ 512 * n) where
   -- blocks without a fault count no more records than they have places
-  pub few-in-blocks : 1 ≤ n → (blocks_fault f 0 n).number ≡ 0 → records_counted f ≤ 6 * n
+  pub few_in_blocks : 1 ≤ n → (blocks_fault f 0 n).number ≡ 0 → records_counted f ≤ 6 * n
   unfolding records_counted
-  few-in-blocks some z =
+  few_in_blocks some z =
       let b = block_at f (n - 1) in
-      let a = block_passed letters 0 f (n - 1) (blocks-passed letters 0 f n 0 (rw (blocks_fault_sab1 f n 0) at z) (n - 1) (omega arith) (omega arith)) in
+      let a = block_passed letters 0 f (n - 1) (blocks_passed letters 0 f n 0 (rw (blocks_fault_sab1 f n 0) at z) (n - 1) (omega arith) (omega arith)) in
       rw (blocks_counted f n whole) (omega (arith, (stored_header b (three_passed letters b a.good).2).1))
 
   module _ (bn bp : ℕ) (eb : fault bn bp ≡ blocks_fault f 0 n) where
-    pub few-counted : 1 ≤ n → bn ≡ 0 → records_counted f ≤ 6 * (n - 0)
+    pub few_counted : 1 ≤ n → bn ≡ 0 → records_counted f ≤ 6 * (n - 0)
     unfolding fault
-    few-counted some z = let e : n - 0 ≡ n = omega arith in rw e (few-in-blocks some (sym (ap (λ (x : Fault). x.number) eb) ∙ z))
+    few_counted some z = let e : n - 0 ≡ n = omega arith in rw e (few_in_blocks some (sym (ap (λ (x : Fault). x.number) eb) ∙ z))
 
-    blocks-first : file_fault f ≡ or_else (fault bn bp) (or_else (records_fault_on 255 no_counts 0 [] 0 (file_records f)) (counts_fault_on no_counts n (vector_in (block_at f 0)) (file_records f)))
-    blocks-first = file_held f ∙ rw (blocks_counted f n whole, ← eb)
+    blocks_first : file_fault f ≡ or_else (fault bn bp) (or_else (records_fault_on 255 no_counts 0 [] 0 (file_records f)) (counts_fault_on no_counts n (vector_in (block_at f 0)) (file_records f)))
+    blocks_first = file_held f ∙ rw (blocks_counted f n whole, ← eb)
 
     pub block_refused : (bn ≡ 0 → ⊥) → fault bn bp ≡ file_fault f
     unfolding or_else fault
-    block_refused h = sym (blocks-first ∙ rw (ne_eqb bn 0 h))
+    block_refused h = sym (blocks_first ∙ rw (ne_eqb bn 0 h))
 
-    pub unread-left : (places₀ seens₀ : List ℕ) → (bn ≡ 0 → ⊥) → tables places₀ seens₀ ≡ file_tables f places₀ seens₀
+    pub unread_left : (places₀ seens₀ : List ℕ) → (bn ≡ 0 → ⊥) → tables places₀ seens₀ ≡ file_tables f places₀ seens₀
     unfolding file_tables fault
-    unread-left places₀ seens₀ h = rw (blocks_counted f n whole, ← eb, ne_eqb bn 0 h)
+    unread_left places₀ seens₀ h = rw (blocks_counted f n whole, ← eb, ne_eqb bn 0 h)
 
     module _ (z : bn ≡ 0) {v : List ℕ} (none : v ≡ no_counts) where
       pub held-told : (x y : ℕ) → fault x y ≡ or_else (records_fault_on 255 v 0 [] 0 (file_records f)) (counts_fault_on v n (vector_in (take (512 - 0) (drop 0 f))) (file_records f)) → fault x y ≡ file_fault f
       unfolding or_else fault block_at part
-      held-told x y e = (rw none at e) ∙ sym (blocks-first ∙ rw z)
+      held-told x y e = (rw none at e) ∙ sym (blocks_first ∙ rw z)
 
       pub read_left : (places₀ seens₀ places seens : List ℕ) → tables places seens ≡ tables_left v f places₀ seens₀ → tables places seens ≡ file_tables f places₀ seens₀
       unfolding file_tables fault
@@ -123,11 +123,11 @@ file_indexed f x places seens none h z = rw (← vector_on-none (file_records f)
 -- ---- the ways out of `checked_fault`
 
 module _ (f : List ℕ) {t : Bool} (e : t ≡ file_length f) where
-  pub not-whole : not t ≡ true → fault 2 0 ≡ checked_fault f
-  not-whole h = rw (← e, not-true t h)
+  pub not_whole : not t ≡ true → fault 2 0 ≡ checked_fault f
+  not_whole h = rw (← e, not-true t h)
 
   pub whole-checked : not t ≡ false → (n p : ℕ) → fault n p ≡ file_fault f → fault n p ≡ checked_fault f
-  whole-checked h n p q = q ∙ rw (← e, not-false t h)
+  whole-checked h n p q = q ∙ rw (← e, not_false t h)
 
 -- ---- what reading answers, where no base is lent
 
@@ -137,25 +137,25 @@ module _ (log f : List ℕ) where
   refused_is ea eu ek ev base = rw (ea, eu, ek, ev)
 
   module _ {n p a u k : ℕ} {v : List ℕ} (ea : a ≡ 0) (eu : u ≡ 0) (ek : k ≡ 0) (ev : v ≡ replicate 8 0) where
-    pub log-length : n ≡ 1 → p ≡ 0 → (length log ≡ 40960 → ⊥) → read_back_of n p a u k v log empty_base ≡ read_of log empty_base f
+    pub log_length : n ≡ 1 → p ≡ 0 → (length log ≡ 40960 → ⊥) → read_back_of n p a u k v log empty_base ≡ read_of log empty_base f
     unfolding read_of
-    log-length en ep h = refused_is ea eu ek ev empty_base ∙ rw (en, ep, ne_eqb (length log) 40960 h)
+    log_length en ep h = refused_is ea eu ek ev empty_base ∙ rw (en, ep, ne_eqb (length log) 40960 h)
 
-    pub file-refused : (m q : ℕ) → n ≡ m → p ≡ q → length log ≡ 40960 → fault m q ≡ checked_fault f → (m ≡ 0 → ⊥) → read_back_of n p a u k v log empty_base ≡ read_of log empty_base f
+    pub file_refused : (m q : ℕ) → n ≡ m → p ≡ q → length log ≡ 40960 → fault m q ≡ checked_fault f → (m ≡ 0 → ⊥) → read_back_of n p a u k v log empty_base ≡ read_of log empty_base f
     unfolding read_of fault
-    file-refused m q en ep l e z =
+    file_refused m q en ep l e z =
         refused_is ea eu ek ev empty_base ∙ rw (en, ep, eq-eqb (length log) 40960 l, eq-eqb (length empty_base) 43032 empty_length, ← e, ne_eqb m 0 z)
 
     -- a base of another length
-    pub base-length : (base : List ℕ) → n ≡ 1 → p ≡ 0 → (length base ≡ 43032 → ⊥) → read_back_of n p a u k v log base ≡ read_of log base f
+    pub base_length : (base : List ℕ) → n ≡ 1 → p ≡ 0 → (length base ≡ 43032 → ⊥) → read_back_of n p a u k v log base ≡ read_of log base f
     unfolding read_of
-    base-length base en ep h =
+    base_length base en ep h =
         refused_is ea eu ek ev base ∙ rw (en, ep, ne_eqb (length base) 43032 h, and_wrong (eqb (length log) 40960))
 
-  pub file-read : {n p a u k : ℕ} {v o : List ℕ} (m q : ℕ) → length log ≡ 40960 → fault m q ≡ checked_fault f → m ≡ 0 → read_back_of n p a u k v o empty_base ≡ read_back f
+  pub file_read : {n p a u k : ℕ} {v o : List ℕ} (m q : ℕ) → length log ≡ 40960 → fault m q ≡ checked_fault f → m ≡ 0 → read_back_of n p a u k v o empty_base ≡ read_back f
       → read_back_of n p a u k v o empty_base ≡ read_of log empty_base f
   unfolding read_of fault
-  file-read m q l e z r = r ∙ rw (eq-eqb (length log) 40960 l, eq-eqb (length empty_base) 43032 empty_length, ← e, z)
+  file_read m q l e z r = r ∙ rw (eq-eqb (length log) 40960 l, eq-eqb (length empty_base) 43032 empty_length, ← e, z)
 
 -- ---- what reading answers, where a base is lent
 
@@ -181,9 +181,9 @@ module _ (log base f : List ℕ) {n p a u k : ℕ} {v o : List ℕ} (r : read_ba
           let s : read_back_of n p a u k v o empty_base ≡ not_read log empty_base 1 0 = rw x at r in
           rw x (moved (not_read log empty_base 1 0) s)
 
-  pub base-emptied : n ≡ 0 → (left : List ℕ) → left ≡ empty_base → read_back_of n p a u k v o left ≡ read_of log base f
+  pub base_emptied : n ≡ 0 → (left : List ℕ) → left ≡ empty_base → read_back_of n p a u k v o left ≡ read_of log base f
   unfolding read_of read_back not_read
-  base-emptied z left e = go (bool_cases (eqb (length log) 40960)) (bool_cases (eqb (checked_fault f).number 0))
+  base_emptied z left e = go (bool_cases (eqb (length log) 40960)) (bool_cases (eqb (checked_fault f).number 0))
     where
       go : (eqb (length log) 40960 ≡ true) ⊎ (eqb (length log) 40960 ≡ false) → (eqb (checked_fault f).number 0 ≡ true) ⊎ (eqb (checked_fault f).number 0 ≡ false)
           → read_back_of n p a u k v o left ≡ read_of log base f
@@ -206,11 +206,11 @@ module _ (f : List ℕ) (m q : ℕ) (e : fault m q ≡ checked_fault f) (z : m �
   pub right-whole : length f ≡ 512 * (length f / 512)
   right-whole = whole f (sym right.0) refl
 
-  pub right-some : 1 ≤ length f / 512
-  right-some = some_block f (sym right.0) refl
+  pub right_some : 1 ≤ length f / 512
+  right_some = some_block f (sym right.0) refl
 
-  pub right-few : length f / 512 ≤ 86
-  right-few = few_blocks f (sym right.0) refl
+  pub right_few : length f / 512 ≤ 86
+  right_few = few_blocks f (sym right.0) refl
 
   pub faultless : (file_fault f).number ≡ 0
   faultless = right.1

@@ -11,7 +11,7 @@ use mathlib.Core.Bool.{Bool, true, false, cond, not, ◌&&◌}
 use mathlib.Core.List.{List, [], ◌∷◌}
 use lib.Dec.{ltb, eqb}
 use lib.ListN.{get_or, length, take, drop, get_or-eq_default}
-use borrow.Author.Tests.{eq-eqb, ne_eqb, lt-ltb, le-ltb, not-true, not-false}
+use borrow.Author.Tests.{eq-eqb, ne_eqb, lt-ltb, le-ltb, not-true, not_false}
 use Rattle.model.specs.Bytes.{part}
 use Rattle.model.specs.Record.{Rec, unit, well_formed}
 use Rattle.model.specs.Log.{record_fault, rises, is_next, is_within, is_closed}
@@ -71,11 +71,11 @@ module _ (m : ℕ) (f : List ℕ) (n i : ℕ) (inv : unlisted_from m (laid_at Fi
     unfolding unlisted_from
     step = let d : n - i ≡ suc (n - (i + 1)) = omega arith in rw (d, unit-at f i at q, ← e, ← add-one i) at inv
 
-    pub list-stops : not t ≡ true → i ≡ unlisted_from m (laid_at File f) 0 n
-    list-stops z = rw (not-true t z) at step
+    pub list_stops : not t ≡ true → i ≡ unlisted_from m (laid_at File f) 0 n
+    list_stops z = rw (not-true t z) at step
 
-    pub list-goes-on : not t ≡ false → unlisted_from m (laid_at File f) (i + 1) (n - (i + 1)) ≡ unlisted_from m (laid_at File f) 0 n
-    list-goes-on z = rw (not-false t z) at step
+    pub list_goes_on : not t ≡ false → unlisted_from m (laid_at File f) (i + 1) (n - (i + 1)) ≡ unlisted_from m (laid_at File f) 0 n
+    list_goes_on z = rw (not_false t z) at step
 
   pub list_ends : i ≤ n → n ≤ i → i ≡ unlisted_from m (laid_at File f) 0 n
   unfolding unlisted_from
@@ -84,17 +84,17 @@ module _ (m : ℕ) (f : List ℕ) (n i : ℕ) (inv : unlisted_from m (laid_at Fi
 -- ---- of how many it is asked
 
 module _ (x a n : ℕ) where
-  pub asked-all : x ≡ 0 → n ≡ asked_to (found x a) n
+  pub asked_all : x ≡ 0 → n ≡ asked_to (found x a) n
   unfolding asked_to
-  asked-all h = rw (eq-eqb x 0 h)
+  asked_all h = rw (eq-eqb x 0 h)
 
-  pub asked-before : (x ≡ 0 → ⊥) → x ≡ 7 → a ≡ asked_to (found x a) n
+  pub asked_before : (x ≡ 0 → ⊥) → x ≡ 7 → a ≡ asked_to (found x a) n
   unfolding asked_to
-  asked-before h g = rw (ne_eqb x 0 h, eq-eqb x 7 g)
+  asked_before h g = rw (ne_eqb x 0 h, eq-eqb x 7 g)
 
-  pub asked-too : (x ≡ 0 → ⊥) → (x ≡ 7 → ⊥) → a + 1 ≡ asked_to (found x a) n
+  pub asked_too : (x ≡ 0 → ⊥) → (x ≡ 7 → ⊥) → a + 1 ≡ asked_to (found x a) n
   unfolding asked_to
-  asked-too h g = rw (ne_eqb x 0 h, ne_eqb x 7 g, add-one a)
+  asked_too h g = rw (ne_eqb x 0 h, ne_eqb x 7 g, add-one a)
 
 -- ---- in order
 
@@ -133,9 +133,9 @@ module _ (v : List ℕ) (at : ℕ → Rec) where
       (λ (e : record_fault v (before at i) (at i) ≡ 0 → ⊥). rw (ne_eqb (record_fault v (before at i) (at i)) 0 e) (omega arith))
       (eq_or_ne (record_fault v (before at i) (at i)) 0)
 
-  first-here : (i n x : ℕ) → record_fault v (before at i) (at i) ≡ x → (x ≡ 0 → ⊥) → first_fault v at i (suc n) ≡ found x i
+  first_here : (i n x : ℕ) → record_fault v (before at i) (at i) ≡ x → (x ≡ 0 → ⊥) → first_fault v at i (suc n) ≡ found x i
   unfolding first_fault
-  first-here i n x e z = rw (e, ne_eqb x 0 z)
+  first_here i n x e z = rw (e, ne_eqb x 0 z)
 
   first_on : (i n : ℕ) → record_fault v (before at i) (at i) ≡ 0 → first_fault v at i (suc n) ≡ first_fault v at (suc i) n
   unfolding first_fault
@@ -143,9 +143,9 @@ module _ (v : List ℕ) (at : ℕ → Rec) where
 
 -- the list is asked of no more than there are, and from the first on
 module _ (x : Found) (i n : ℕ) (h : (x.number ≡ 0) ⊎ ((i ≤ x.at) × (x.at < i + n))) where
-  asked-range : (i ≤ asked_to x (i + n)) × (asked_to x (i + n) ≤ i + n)
+  asked_range : (i ≤ asked_to x (i + n)) × (asked_to x (i + n) ≤ i + n)
   unfolding asked_to
-  asked-range =
+  asked_range =
       ⊎_elim
       (λ (z : x.number ≡ 0). rw (eq-eqb x.number 0 z) (omega arith, omega arith))
       (λ (p : (i ≤ x.at) × (x.at < i + n)). go (eqb x.number 0) (eqb x.number 7) p.0 p.1)
@@ -161,17 +161,17 @@ module _ (m : ℕ) (at : ℕ → Rec) where
   sooner : Found → ℕ → ℕ → Found
   sooner x i n = cond (ltb (unlisted_from m at i (asked_to x (i + n) - i)) (asked_to x (i + n))) (found 26 (unlisted_from m at i (asked_to x (i + n) - i))) x
 
-  not-asked : (x : Found) (i n : ℕ) → asked_to x (i + n) ≡ i → sooner x i n ≡ x
+  not_asked : (x : Found) (i n : ℕ) → asked_to x (i + n) ≡ i → sooner x i n ≡ x
   unfolding sooner unlisted_from
-  not-asked x i n e = rw (e, sub_self, le-ltb i i (omega arith))
+  not_asked x i n e = rw (e, sub_self, le-ltb i i (omega arith))
 
-  asked-last : (x : Found) (i n : ℕ) → asked_to x (i + n) ≡ suc i → is_listed m (unit (at i)) ≡ true → sooner x i n ≡ x
+  asked_last : (x : Found) (i n : ℕ) → asked_to x (i + n) ≡ suc i → is_listed m (unit (at i)) ≡ true → sooner x i n ≡ x
   unfolding sooner unlisted_from
-  asked-last x i n e l = let d : suc i - i ≡ 1 = omega arith in rw (e, d, l, le-ltb (suc i) (suc i) (omega arith))
+  asked_last x i n e l = let d : suc i - i ≡ 1 = omega arith in rw (e, d, l, le-ltb (suc i) (suc i) (omega arith))
 
-  stops-here : (x : Found) (i n : ℕ) → i < asked_to x (i + n) → is_listed m (unit (at i)) ≡ false → sooner x i n ≡ found 26 i
+  stops_here : (x : Found) (i n : ℕ) → i < asked_to x (i + n) → is_listed m (unit (at i)) ≡ false → sooner x i n ≡ found 26 i
   unfolding sooner unlisted_from
-  stops-here x i n h l =
+  stops_here x i n h l =
       let d : asked_to x (i + n) - i ≡ suc (asked_to x (i + n) - suc i) = omega arith in
       rw (d, l, lt-ltb i (asked_to x (i + n)) h)
 
@@ -183,54 +183,54 @@ module _ (m : ℕ) (at : ℕ → Rec) where
       rw (e, d, l)
 
 module _ (m : ℕ) (v : List ℕ) (at : ℕ → Rec) where
-  list-here : (i n x : ℕ) → read_fault m v (before at i) (at i) ≡ x → (x ≡ 0 → ⊥) → listed_fault m v at i (suc n) ≡ found x i
+  list_here : (i n x : ℕ) → read_fault m v (before at i) (at i) ≡ x → (x ≡ 0 → ⊥) → listed_fault m v at i (suc n) ≡ found x i
   unfolding listed_fault
-  list-here i n x e z = rw (e, ne_eqb x 0 z)
+  list_here i n x e z = rw (e, ne_eqb x 0 z)
 
   list_on : (i n : ℕ) → read_fault m v (before at i) (at i) ≡ 0 → listed_fault m v at i (suc n) ≡ listed_fault m v at (suc i) n
   unfolding listed_fault
   list_on i n e = rw e
 
   -- a well-formed record is asked for
-  well-asked : (i n : ℕ) → well_formed (at i) ≡ true → i < asked_to (first_fault v at i (suc n)) (i + suc n)
-  well-asked i n w =
+  well_asked : (i n : ℕ) → well_formed (at i) ≡ true → i < asked_to (first_fault v at i (suc n)) (i + suc n)
+  well_asked i n w =
       let q : i + suc n ≡ suc i + n = omega arith in
       ⊎_elim
       (λ (e : record_fault v (before at i) (at i) ≡ 0).
-      rw (first_on v at i n e, q) (omega (arith, (asked-range (first_fault v at (suc i) n) (suc i) n (found_among v at n (suc i))).0)))
+      rw (first_on v at i n e, q) (omega (arith, (asked_range (first_fault v at (suc i) n) (suc i) n (found_among v at n (suc i))).0)))
       (λ (e : record_fault v (before at i) (at i) ≡ 0 → ⊥).
-      rw (first-here v at i n (record_fault v (before at i) (at i)) refl e, ← asked-too (record_fault v (before at i) (at i)) i (i + suc n) e (not_seven v (before at i) (at i) w)) (omega arith))
+      rw (first_here v at i n (record_fault v (before at i) (at i)) refl e, ← asked_too (record_fault v (before at i) (at i)) i (i + suc n) e (not_seven v (before at i) (at i) w)) (omega arith))
       (eq_or_ne (record_fault v (before at i) (at i)) 0)
 
-  ill-both : (i n : ℕ) → well_formed (at i) ≡ false → listed_fault m v at i (suc n) ≡ sooner m at (first_fault v at i (suc n)) i (suc n)
+  ill_both : (i n : ℕ) → well_formed (at i) ≡ false → listed_fault m v at i (suc n) ≡ sooner m at (first_fault v at i (suc n)) i (suc n)
   unfolding record_fault read_fault
-  ill-both i n w =
+  ill_both i n w =
       let f : record_fault v (before at i) (at i) ≡ 7 = rw w in
       let g : read_fault m v (before at i) (at i) ≡ 7 = rw w in
       let z : ◌≡◌ {A = ℕ} 7 0 → ⊥ = λ x. omega arith in
-      rw (list-here i n 7 g z, first-here v at i n 7 f z, not-asked m at (found 7 i) i (suc n) (sym (asked-before 7 i (i + suc n) z refl)))
+      rw (list_here i n 7 g z, first_here v at i n 7 f z, not_asked m at (found 7 i) i (suc n) (sym (asked_before 7 i (i + suc n) z refl)))
 
-  unnamed-both : (i n : ℕ) → well_formed (at i) ≡ true → is_listed m (unit (at i)) ≡ false → listed_fault m v at i (suc n) ≡ sooner m at (first_fault v at i (suc n)) i (suc n)
+  unnamed_both : (i n : ℕ) → well_formed (at i) ≡ true → is_listed m (unit (at i)) ≡ false → listed_fault m v at i (suc n) ≡ sooner m at (first_fault v at i (suc n)) i (suc n)
   unfolding read_fault
-  unnamed-both i n w l =
+  unnamed_both i n w l =
       let g : read_fault m v (before at i) (at i) ≡ 26 = rw (w, l) in
       let z : ◌≡◌ {A = ℕ} 26 0 → ⊥ = λ x. omega arith in
-      rw (list-here i n 26 g z, stops-here m at (first_fault v at i (suc n)) i (suc n) (well-asked i n w) l)
+      rw (list_here i n 26 g z, stops_here m at (first_fault v at i (suc n)) i (suc n) (well_asked i n w) l)
 
-  faulty-both : (i n : ℕ) → well_formed (at i) ≡ true → is_listed m (unit (at i)) ≡ true → (record_fault v (before at i) (at i) ≡ 0 → ⊥)
+  faulty_both : (i n : ℕ) → well_formed (at i) ≡ true → is_listed m (unit (at i)) ≡ true → (record_fault v (before at i) (at i) ≡ 0 → ⊥)
       → listed_fault m v at i (suc n) ≡ sooner m at (first_fault v at i (suc n)) i (suc n)
   unfolding read_fault
-  faulty-both i n w l z =
+  faulty_both i n w l z =
       let x = record_fault v (before at i) (at i) in
       let g : read_fault m v (before at i) (at i) ≡ x = rw (w, l) in
       let s : i + 1 ≡ suc i = omega arith in
-      let a : asked_to (found x i) (i + suc n) ≡ suc i = sym (asked-too x i (i + suc n) z (not_seven v (before at i) (at i) w)) ∙ s in
-      rw (list-here i n x g z, first-here v at i n x refl z, asked-last m at (found x i) i (suc n) a l)
+      let a : asked_to (found x i) (i + suc n) ≡ suc i = sym (asked_too x i (i + suc n) z (not_seven v (before at i) (at i) w)) ∙ s in
+      rw (list_here i n x g z, first_here v at i n x refl z, asked_last m at (found x i) i (suc n) a l)
 
-  with-list : (n i : ℕ) → listed_fault m v at i n ≡ sooner m at (first_fault v at i n) i n
+  with_list : (n i : ℕ) → listed_fault m v at i n ≡ sooner m at (first_fault v at i n) i n
   unfolding listed_fault first_fault
-  with-list zero i = sym (not-asked m at (found 0 0) i 0 (sym (asked-all 0 0 (i + 0) refl) ∙ add-zero i))
-  with-list (suc n) i =
+  with_list zero i = sym (not_asked m at (found 0 0) i 0 (sym (asked_all 0 0 (i + 0) refl) ∙ add-zero i))
+  with_list (suc n) i =
       ⊎_elim
       (λ (w : well_formed (at i) ≡ true).
       ⊎_elim
@@ -238,13 +238,13 @@ module _ (m : ℕ) (v : List ℕ) (at : ℕ → Rec) where
       ⊎_elim
       (λ (e : record_fault v (before at i) (at i) ≡ 0).
       list_on i n (fine_read m v (before at i) (at i) w l e)
-      ∙ (with-list n (suc i)
-      ∙ sym (ap (λ (x : Found). sooner m at x i (suc n)) (first_on v at i n e) ∙ goes_by m at (first_fault v at (suc i) n) i n (rw (first_on v at i n e) at (well-asked i n w)) l)))
-      (λ (e : record_fault v (before at i) (at i) ≡ 0 → ⊥). faulty-both i n w l e)
+      ∙ (with_list n (suc i)
+      ∙ sym (ap (λ (x : Found). sooner m at x i (suc n)) (first_on v at i n e) ∙ goes_by m at (first_fault v at (suc i) n) i n (rw (first_on v at i n e) at (well_asked i n w)) l)))
+      (λ (e : record_fault v (before at i) (at i) ≡ 0 → ⊥). faulty_both i n w l e)
       (eq_or_ne (record_fault v (before at i) (at i)) 0))
-      (λ (l : is_listed m (unit (at i)) ≡ false). unnamed-both i n w l)
+      (λ (l : is_listed m (unit (at i)) ≡ false). unnamed_both i n w l)
       (bool_cases (is_listed m (unit (at i)))))
-      (λ (w : well_formed (at i) ≡ false). ill-both i n w)
+      (λ (w : well_formed (at i) ≡ false). ill_both i n w)
       (bool_cases (well_formed (at i)))
 
   -- a pass over the first k of n records decides, or leaves it to those behind
@@ -279,22 +279,22 @@ module _ (v f : List ℕ) (total n number place : ℕ) (held places seens : List
   small_at = omega (arith, ap (λ (y : Found). y.at) g.first, found_below v (laid_at File f) n 0)
 
   module _ (k : ℕ) (ek : k ≡ asked_to (found number place) n) where
-    pub asked-below : k ≤ n
-    asked-below =
+    pub asked_below : k ≤ n
+    asked_below =
         let z : 0 + n ≡ n = omega arith in
-        omega (arith, ap (asked_to (found number place)) z, (asked-range (found number place) 0 n among).1)
+        omega (arith, ap (asked_to (found number place)) z, (asked_range (found number place) 0 n among).1)
 
     pub asked_few : k ≤ 512
-    asked_few = omega (arith, asked-below)
+    asked_few = omega (arith, asked_below)
 
-    pub asked-laid : (b : ℕ) → length f ≡ 512 * b → records_counted f ≤ 6 * b → total ≡ records_counted f → Laid File f k
-    asked-laid b whole few et = record { inside = λ i h. (file_laid f b total n whole few et em).inside i (omega (arith, asked-below)) }
+    pub asked_laid : (b : ℕ) → length f ≡ 512 * b → records_counted f ≤ 6 * b → total ≡ records_counted f → Laid File f k
+    asked_laid b whole few et = record { inside = λ i h. (file_laid f b total n whole few et em).inside i (omega (arith, asked_below)) }
 
-    pub place-faulty : (p : ℕ) → p ≤ 100 → p + place / 6 < 256
-    place-faulty p h = omega (arith, small_at)
+    pub place_faulty : (p : ℕ) → p ≤ 100 → p + place / 6 < 256
+    place_faulty p h = omega (arith, small_at)
 
-    pub place-unlisted : (p u : ℕ) → p ≤ 100 → u < k → p + u / 6 < 256
-    place-unlisted p u h q = omega (arith, asked_few)
+    pub place_unlisted : (p u : ℕ) → p ≤ 100 → u < k → p + u / 6 < 256
+    place_unlisted p u h q = omega (arith, asked_few)
 
     module _ (m u p : ℕ) (eu : u ≡ unlisted_from m (laid_at File f) 0 k) (et : total ≡ records_counted f) where
       decided : listed_fault m v (laid_at File f) 0 n ≡ cond (ltb u k) (found 26 u) (found number place)
@@ -302,7 +302,7 @@ module _ (v f : List ℕ) (total n number place : ℕ) (held places seens : List
       decided =
           let z : 0 + n ≡ n = omega arith in
           let y : k - 0 ≡ k = omega arith in
-          with-list m v (laid_at File f) n 0 ∙ rw (z, ← g.first, ← ek, y, ← eu)
+          with_list m v (laid_at File f) n 0 ∙ rw (z, ← g.first, ← ek, y, ← eu)
 
       all : records_fault_on m v p [] 0 (file_records f)
           ≡ cond (eqb (cond (ltb u k) (found 26 u) (found number place)).number 0) (records_fault_on m v p (before (laid_at File f) n) n (listed (laid_at File f) n (total - n)))
@@ -312,24 +312,24 @@ module _ (v f : List ℕ) (total n number place : ℕ) (held places seens : List
           let z : 0 + n ≡ n = omega arith in
           rw (← et, file_listed f 0 total) (rw (decided, z) at (in_order m v (laid_at File f) p n 0 total (omega arith) (omega arith)))
 
-      pub record-unlisted : u < k → Judges m v p f 26 (p + u / 6) held places seens
-      record-unlisted h = record { first = sym (all ∙ rw (lt-ltb u k h)); holds = λ (x : ◌≡◌ {A = ℕ} 26 0). absurd (omega arith) }
+      pub record_unlisted : u < k → Judges m v p f 26 (p + u / 6) held places seens
+      record_unlisted h = record { first = sym (all ∙ rw (lt-ltb u k h)); holds = λ (x : ◌≡◌ {A = ℕ} 26 0). absurd (omega arith) }
 
       module _ (h : k ≤ u) where
-        pub record-faulty : (number ≡ 0 → ⊥) → Judges m v p f number (p + place / 6) held places seens
-        record-faulty z = record { first = sym (all ∙ rw (le-ltb u k h, ne_eqb number 0 z)); holds = λ e. absurd (z e) }
+        pub record_faulty : (number ≡ 0 → ⊥) → Judges m v p f number (p + place / 6) held places seens
+        record_faulty z = record { first = sym (all ∙ rw (le-ltb u k h, ne_eqb number 0 z)); holds = λ e. absurd (z e) }
 
         module _ (z : number ≡ 0) where
-          pub one-too-many : 512 < total → Judges m v p f 11 (p + 85) held places seens
+          pub one_too_many : 512 < total → Judges m v p f 11 (p + 85) held places seens
           unfolding records_fault_on listed
-          one-too-many q =
+          one_too_many q =
               let e : n ≡ 512 = omega arith in
               let s : total - 512 ≡ suc (total - 513) = omega arith in
               record { first = sym (all ∙ rw (le-ltb u k h, z, e, s)); holds = λ (x : ◌≡◌ {A = ℕ} 11 0). absurd (omega arith) }
 
-          pub none-refused : total ≤ 512 → Judges m v p f 0 0 held places seens
+          pub none_refused : total ≤ 512 → Judges m v p f 0 0 held places seens
           unfolding records_fault_on listed file_records
-          none-refused q =
+          none_refused q =
               let e : n ≡ total = omega arith in
               record { first = sym (all ∙ rw (le-ltb u k h, z, e, sub_self)); holds = λ x. rw (← et, file_listed f 0 total, ← e) (g.holds z) }
 

@@ -99,33 +99,33 @@ names_is r at n =
 -- ---- the fields by whether the operation uses them
 
 module _ (r : Rec) (e : well_formed r ≡ true) where
-  pub well-object : uses_object (op r) ≡ true → Named r 20
+  pub well_object : uses_object (op r) ≡ true → Named r 20
   unfolding object_fits
-  well-object u = names_means r 20 (rw u at (judged r e).object)
+  well_object u = names_means r 20 (rw u at (judged r e).object)
 
-  pub well-no-object : uses_object (op r) ≡ false → Zero r 20 4
+  pub well_no_object : uses_object (op r) ≡ false → Zero r 20 4
   unfolding object_fits
-  well-no-object u = zero_means r 20 4 (rw u at (judged r e).object)
+  well_no_object u = zero_means r 20 4 (rw u at (judged r e).object)
 
-  pub well-folder : uses_folder (op r) ≡ true → Zero r 24 4 ⊎ Named r 24
+  pub well_folder : uses_folder (op r) ≡ true → Zero r 24 4 ⊎ Named r 24
   unfolding folder_fits
-  well-folder u = ⊎_elim (λ z. inl (zero_means r 24 4 z)) (λ n. inr (names_means r 24 n)) (or_true (unused r 24 4) (names r 24) (rw u at (judged r e).folder))
+  well_folder u = ⊎_elim (λ z. inl (zero_means r 24 4 z)) (λ n. inr (names_means r 24 n)) (or_true (unused r 24 4) (names r 24) (rw u at (judged r e).folder))
 
-  pub well-no-folder : uses_folder (op r) ≡ false → Zero r 24 4
+  pub well_no_folder : uses_folder (op r) ≡ false → Zero r 24 4
   unfolding folder_fits
-  well-no-folder u = zero_means r 24 4 (rw u at (judged r e).folder)
+  well_no_folder u = zero_means r 24 4 (rw u at (judged r e).folder)
 
   pub well_label : uses_label (op r) ≡ true → is_label (label_of r) ≡ true
   unfolding label_fits
   well_label u = rw u at (judged r e).label
 
-  pub well-no-label : uses_label (op r) ≡ false → Zero r 32 32
+  pub well_no_label : uses_label (op r) ≡ false → Zero r 32 32
   unfolding label_fits
-  well-no-label u = zero_means r 32 32 (rw u at (judged r e).label)
+  well_no_label u = zero_means r 32 32 (rw u at (judged r e).label)
 
-  pub well-no-mark : uses_mark (op r) ≡ false → Zero r 64 16
+  pub well_no_mark : uses_mark (op r) ≡ false → Zero r 64 16
   unfolding mark_fits
-  well-no-mark u = zero_means r 64 16 (rw u at (judged r e).mark)
+  well_no_mark u = zero_means r 64 16 (rw u at (judged r e).mark)
 
-  pub well-date : date_fits r ≡ true
-  well-date = (judged r e).date
+  pub well_date : date_fits r ≡ true
+  well_date = (judged r e).date

@@ -21,22 +21,22 @@ rank-sum r u h g e f = let n : u ≡ 8 = omega arith in rw (e, n, f)
 -- ---- bounds, where every byte is below 256
 
 module _ (r : Rec) (b : (i : ℕ) → get_or r i 0 < 256) where
-  pub unit-bound : unit r < 256
+  pub unit_bound : unit r < 256
   unfolding unit
-  unit-bound = b 0
+  unit_bound = b 0
 
-  pub num-bound : num r < 65536
+  pub num_bound : num r < 65536
   unfolding num
-  num-bound = word_bound r 2 b
+  num_bound = word_bound r 2 b
 
-  pub seen-bound : (u : ℕ) → seen r u < 65536
+  pub seen_bound : (u : ℕ) → seen r u < 65536
   unfolding seen
-  seen-bound u = word_bound r (4 + 2 * u) b
+  seen_bound u = word_bound r (4 + 2 * u) b
 
   sum_bound : (n : ℕ) → sum_to n (seen r) ≤ 65535 * n
   sum_bound zero = omega arith
-  sum_bound (suc n) = omega (arith, sum_bound n, seen-bound n)
+  sum_bound (suc n) = omega (arith, sum_bound n, seen_bound n)
 
-  pub rank-bound : rank r < 4194560
+  pub rank_bound : rank r < 4194560
   unfolding rank
-  rank-bound = omega (arith, sum_bound 8, unit-bound)
+  rank_bound = omega (arith, sum_bound 8, unit_bound)

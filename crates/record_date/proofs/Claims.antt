@@ -9,7 +9,7 @@ use lib.Dec.{leb, eqb}
 use borrow.Author.Tests.{leb-true, eqb-true, eqb-false, le-leb, eq-eqb, ne_eqb, not-true}
 use Rattle.model.specs.Date.{is_leap, days_of, is_date}
 use Rattle.byte_slice.proofs.Numbers.{eq_or_ne, and_true, or_true, bool_cases}
-use Rattle.record_date.proofs.Date.{short_or_not, february-leap, february, short-month, other-month, long-month}
+use Rattle.record_date.proofs.Date.{short_or_not, february_leap, february, short_month, other_month, long_month}
 use Rattle.record_date.specs.RealDate.{Leap, Short, HasDay, RealDate}
 use Rattle.record_date.specs.RealDate.HasDay.{of_28, of_29, of_30, of_31}
 
@@ -42,33 +42,33 @@ short_range m = ⊎_elim (λ e. (omega arith, omega arith)) (⊎_elim (λ e. (om
 
 -- a day within the days of a month is a day that the month has, and there is such a month
 day_means : (y m d : ℕ) → 1 ≤ d → d ≤ days_of y m → (1 ≤ m) × (m ≤ 12) × HasDay y m d
-day_means y m d lo hi = ⊎_elim february-day (λ n. ⊎_elim short-day (other-day n) (short_or_not m)) (eq_or_ne m 2)
+day_means y m d lo hi = ⊎_elim february_day (λ n. ⊎_elim short_day (other_day n) (short_or_not m)) (eq_or_ne m 2)
   where
-    february-day : m ≡ 2 → (1 ≤ m) × (m ≤ 12) × HasDay y m d
-    february-day e = ⊎_elim
-        (λ l. (omega arith, omega arith, of_29 e (leap_means y l) (omega (arith, february-leap y m e refl l))))
+    february_day : m ≡ 2 → (1 ≤ m) × (m ≤ 12) × HasDay y m d
+    february_day e = ⊎_elim
+        (λ l. (omega arith, omega arith, of_29 e (leap_means y l) (omega (arith, february_leap y m e refl l))))
         (λ l. (omega arith, omega arith, of_28 e (omega (arith, february y m e refl l))))
         (bool_cases (is_leap y))
 
-    short-day : Short m → (1 ≤ m) × (m ≤ 12) × HasDay y m d
-    short-day s = ((short_range m s).0, (short_range m s).1, of_30 s (omega (arith, short-month y m s)))
+    short_day : Short m → (1 ≤ m) × (m ≤ 12) × HasDay y m d
+    short_day s = ((short_range m s).0, (short_range m s).1, of_30 s (omega (arith, short_month y m s)))
 
-    other-day : (m ≡ 2 → ⊥) → (Short m → ⊥) → (1 ≤ m) × (m ≤ 12) × HasDay y m d
-    other-day n s = go (leb 1 m && leb m 12) refl
+    other_day : (m ≡ 2 → ⊥) → (Short m → ⊥) → (1 ≤ m) × (m ≤ 12) × HasDay y m d
+    other_day n s = go (leb 1 m && leb m 12) refl
       where
         go : (t : Bool) → (leb 1 m && leb m 12) ≡ t → (1 ≤ m) × (m ≤ 12) × HasDay y m d
         go true e =
             let (p, q) = and_true (leb 1 m) (leb m 12) e in
             let a = leb-true 1 m p in
             let b = leb-true m 12 q in
-            (a, b, of_31 n s (omega (arith, long-month y m n s a b)))
-        go false e = absurd (let z : 0 ≡ days_of y m = rw e at (other-month y m n s) in omega arith)
+            (a, b, of_31 n s (omega (arith, long_month y m n s a b)))
+        go false e = absurd (let z : 0 ≡ days_of y m = rw e at (other_month y m n s) in omega arith)
 
 has_day : (y m d : ℕ) → 1 ≤ m → m ≤ 12 → HasDay y m d → d ≤ days_of y m
-has_day y m d lo hi (of_28 e h) = ⊎_elim (λ l. omega (arith, february-leap y m e refl l)) (λ l. omega (arith, february y m e refl l)) (bool_cases (is_leap y))
-has_day y m d lo hi (of_29 e l h) = omega (arith, february-leap y m e refl (leap_is y l))
-has_day y m d lo hi (of_30 s h) = omega (arith, short-month y m s)
-has_day y m d lo hi (of_31 n s h) = omega (arith, long-month y m n s lo hi)
+has_day y m d lo hi (of_28 e h) = ⊎_elim (λ l. omega (arith, february_leap y m e refl l)) (λ l. omega (arith, february y m e refl l)) (bool_cases (is_leap y))
+has_day y m d lo hi (of_29 e l h) = omega (arith, february_leap y m e refl (leap_is y l))
+has_day y m d lo hi (of_30 s h) = omega (arith, short_month y m s)
+has_day y m d lo hi (of_31 n s h) = omega (arith, long_month y m n s lo hi)
 
 pub date_means : (y m d : ℕ) → is_date y m d ≡ true → RealDate y m d
 unfolding is_date

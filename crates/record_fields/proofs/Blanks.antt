@@ -18,9 +18,9 @@ module _ (s : List ℕ) (at : ℕ) where
   unfolding long word
   bytes_of = let e : at + 2 + 1 ≡ at + 3 = omega arith in rw e
 
-  all-zero : at + 4 ≤ length s → long s at ≡ 0 → blank (part s at 4) ≡ true
+  all_zero : at + 4 ≤ length s → long s at ≡ 0 → blank (part s at 4) ≡ true
   unfolding blank
-  all-zero h e =
+  all_zero h e =
       let b1 : at + 1 + 1 ≡ at + 2 = omega arith in
       let b2 : at + 2 + 1 ≡ at + 3 = omega arith in
       let b3 : at + 3 + 1 ≡ at + 4 = omega arith in
@@ -49,16 +49,16 @@ module _ (s : List ℕ) (at : ℕ) where
       let a' : get_or s at 0 ≡ 0 = rw z at a in
       omega (arith, bytes_of)
 
-  pub four-zero : {n : ℕ} → at + 4 ≤ length s → n ≡ long s at → eqb n 0 ≡ blank (part s at 4)
-  four-zero {n} h f = go (eqb n 0) refl
+  pub four_zero : {n : ℕ} → at + 4 ≤ length s → n ≡ long s at → eqb n 0 ≡ blank (part s at 4)
+  four_zero {n} h f = go (eqb n 0) refl
     where
       go : (t : Bool) → eqb n 0 ≡ t → eqb n 0 ≡ blank (part s at 4)
-      go true e = e ∙ sym (all-zero h (sym f ∙ eqb-true n 0 e))
+      go true e = e ∙ sym (all_zero h (sym f ∙ eqb-true n 0 e))
       go false e = e ∙ sym (test_false (blank (part s at 4)) (λ b. eqb-false n 0 e (f ∙ none_left b)))
 
-  pub sixteen-zero : {a b c d : Bool} → a ≡ blank (part s at 4) → b ≡ blank (part s (at + 4) 4) → c ≡ blank (part s (at + 8) 4) → d ≡ blank (part s (at + 12) 4)
+  pub sixteen_zero : {a b c d : Bool} → a ≡ blank (part s at 4) → b ≡ blank (part s (at + 4) 4) → c ≡ blank (part s (at + 8) 4) → d ≡ blank (part s (at + 12) 4)
       → (((a && b) && c) && d) ≡ blank (part s at 16)
-  sixteen-zero a b c d =
+  sixteen_zero a b c d =
       rw (
         a,
         b,

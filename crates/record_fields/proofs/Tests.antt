@@ -5,7 +5,7 @@ use mathlib.Core.Path.{◌≡◌, refl, sym}
 use mathlib.Core.Bool.{Bool, true, false, cond, not, ◌&&◌}
 use lib.Dec.{leb, eqb}
 use lib.ListN.{get_or, take, drop}
-use borrow.Author.Tests.{eq-eqb, ne_eqb, le-leb, lt-leb, not-true, not-false}
+use borrow.Author.Tests.{eq-eqb, ne_eqb, le-leb, lt-leb, not-true, not_false}
 use Rattle.model.specs.Bytes.{word, blank, part}
 use Rattle.model.specs.Date.{is_date}
 use Rattle.model.specs.Record.{Rec, unit, op, num, seen, label_of, is_label, uses_object, uses_folder, uses_label, uses_mark, unused, names, head_fits, object_fits, folder_fits, date_fits, label_fits, mark_fits}
@@ -18,89 +18,89 @@ module _ (r : Rec) (at : ℕ) where
   unfolding names
   unit_above a = rw (lt-leb (get_or r at 0) 7 a)
 
-  pub byte-used : get_or r at 0 ≤ 7 → (get_or r (at + 1) 0 ≡ 0 → ⊥) → false ≡ names r at
+  pub byte_used : get_or r at 0 ≤ 7 → (get_or r (at + 1) 0 ≡ 0 → ⊥) → false ≡ names r at
   unfolding names
-  byte-used a b = rw (le-leb (get_or r at 0) 7 a, ne_eqb (get_or r (at + 1) 0) 0 b)
+  byte_used a b = rw (le-leb (get_or r at 0) 7 a, ne_eqb (get_or r (at + 1) 0) 0 b)
 
   module _ {n : ℕ} (a : get_or r at 0 ≤ 7) (b : get_or r (at + 1) 0 ≡ 0) (e : n ≡ word r (at + 2)) where
-    pub number-none : n < 1 → false ≡ names r at
+    pub number_none : n < 1 → false ≡ names r at
     unfolding names
-    number-none h = rw (le-leb (get_or r at 0) 7 a, eq-eqb (get_or r (at + 1) 0) 0 b, ← e, lt-leb 1 n h)
+    number_none h = rw (le-leb (get_or r at 0) 7 a, eq-eqb (get_or r (at + 1) 0) 0 b, ← e, lt-leb 1 n h)
 
-    pub number-seen : {s : ℕ} → 1 ≤ n → s ≡ word r (4 + 2 * get_or r at 0) → leb n s ≡ names r at
+    pub number_seen : {s : ℕ} → 1 ≤ n → s ≡ word r (4 + 2 * get_or r at 0) → leb n s ≡ names r at
     unfolding names seen
-    number-seen h f = rw (le-leb (get_or r at 0) 7 a, eq-eqb (get_or r (at + 1) 0) 0 b, ← e, le-leb 1 n h, ← f)
+    number_seen h f = rw (le-leb (get_or r at 0) 7 a, eq-eqb (get_or r (at + 1) 0) 0 b, ← e, le-leb 1 n h, ← f)
 
 -- ---- unit, operation and number
 
 module _ (r : Rec) where
-  pub head-unit : 7 < get_or r 0 0 → false ≡ head_fits r
+  pub head_unit_lem : 7 < get_or r 0 0 → false ≡ head_fits r
   unfolding head_fits unit
-  head-unit a = rw (lt-leb (get_or r 0 0) 7 a)
+  head_unit_lem a = rw (lt-leb (get_or r 0 0) 7 a)
 
   module _ (a : get_or r 0 0 ≤ 7) where
-    pub head-no-op : get_or r 1 0 < 1 → false ≡ head_fits r
+    pub head_no_op : get_or r 1 0 < 1 → false ≡ head_fits r
     unfolding head_fits unit op
-    head-no-op b = rw (le-leb (get_or r 0 0) 7 a, lt-leb 1 (get_or r 1 0) b)
+    head_no_op b = rw (le-leb (get_or r 0 0) 7 a, lt-leb 1 (get_or r 1 0) b)
 
-    pub head-op-above : 1 ≤ get_or r 1 0 → 7 < get_or r 1 0 → false ≡ head_fits r
+    pub head_op_above : 1 ≤ get_or r 1 0 → 7 < get_or r 1 0 → false ≡ head_fits r
     unfolding head_fits unit op
-    head-op-above b d = rw (le-leb (get_or r 0 0) 7 a, le-leb 1 (get_or r 1 0) b, lt-leb (get_or r 1 0) 7 d)
+    head_op_above b d = rw (le-leb (get_or r 0 0) 7 a, le-leb 1 (get_or r 1 0) b, lt-leb (get_or r 1 0) 7 d)
 
     module _ {n : ℕ} (b : 1 ≤ get_or r 1 0) (d : get_or r 1 0 ≤ 7) (e : n ≡ word r 2) where
-      pub head-number : n < 1 → false ≡ head_fits r
+      pub head_number : n < 1 → false ≡ head_fits r
       unfolding head_fits unit op num
-      head-number h = rw (le-leb (get_or r 0 0) 7 a, le-leb 1 (get_or r 1 0) b, le-leb (get_or r 1 0) 7 d, ← e, lt-leb 1 n h)
+      head_number h = rw (le-leb (get_or r 0 0) 7 a, le-leb 1 (get_or r 1 0) b, le-leb (get_or r 1 0) 7 d, ← e, lt-leb 1 n h)
 
-      pub head-seen : {s : ℕ} → 1 ≤ n → s ≡ word r (4 + 2 * get_or r 0 0) → eqb s (n - 1) ≡ head_fits r
+      pub head_seen : {s : ℕ} → 1 ≤ n → s ≡ word r (4 + 2 * get_or r 0 0) → eqb s (n - 1) ≡ head_fits r
       unfolding head_fits unit op num seen
-      head-seen h f = rw (le-leb (get_or r 0 0) 7 a, le-leb 1 (get_or r 1 0) b, le-leb (get_or r 1 0) 7 d, ← e, le-leb 1 n h, ← f)
+      head_seen h f = rw (le-leb (get_or r 0 0) 7 a, le-leb 1 (get_or r 1 0) b, le-leb (get_or r 1 0) 7 d, ← e, le-leb 1 n h, ← f)
 
 -- ---- the fields; u is the test whether the operation uses the field, b what the field's own test says
 
 module _ (r : Rec) {u : Bool} where
-  pub object-used : {b : Bool} → u ≡ uses_object (get_or r 1 0) → u ≡ true → b ≡ names r 20 → b ≡ object_fits r
+  pub object_used : {b : Bool} → u ≡ uses_object (get_or r 1 0) → u ≡ true → b ≡ names r 20 → b ≡ object_fits r
   unfolding object_fits op
-  object-used e h f = rw (← e, h, f)
+  object_used e h f = rw (← e, h, f)
 
-  pub object-unused : {b : Bool} → u ≡ uses_object (get_or r 1 0) → u ≡ false → b ≡ blank (part r 20 4) → b ≡ object_fits r
+  pub object_unused : {b : Bool} → u ≡ uses_object (get_or r 1 0) → u ≡ false → b ≡ blank (part r 20 4) → b ≡ object_fits r
   unfolding object_fits op unused
-  object-unused e h f = rw (← e, h, f)
+  object_unused e h f = rw (← e, h, f)
 
-  pub label-used : {b : Bool} → u ≡ uses_label (get_or r 1 0) → u ≡ true → b ≡ is_label (take 32 (drop 32 r)) → b ≡ label_fits r
+  pub label_used : {b : Bool} → u ≡ uses_label (get_or r 1 0) → u ≡ true → b ≡ is_label (take 32 (drop 32 r)) → b ≡ label_fits r
   unfolding label_fits op label_of part
-  label-used e h f = rw (← e, h, f)
+  label_used e h f = rw (← e, h, f)
 
-  pub label-unused : {a b : Bool} → u ≡ uses_label (get_or r 1 0) → u ≡ false → a ≡ blank (part r 32 16) → b ≡ blank (part r 48 16) → (a && b) ≡ label_fits r
+  pub label_unused : {a b : Bool} → u ≡ uses_label (get_or r 1 0) → u ≡ false → a ≡ blank (part r 32 16) → b ≡ blank (part r 48 16) → (a && b) ≡ label_fits r
   unfolding label_fits op unused
-  label-unused e h f g = rw (← e, h, f, g) (two_sixteens r 32)
+  label_unused e h f g = rw (← e, h, f, g) (two_sixteens r 32)
 
-  pub mark-used : u ≡ uses_mark (get_or r 1 0) → u ≡ true → true ≡ mark_fits r
+  pub mark_used : u ≡ uses_mark (get_or r 1 0) → u ≡ true → true ≡ mark_fits r
   unfolding mark_fits op
-  mark-used e h = rw (← e, h)
+  mark_used e h = rw (← e, h)
 
-  pub mark-unused : {b : Bool} → u ≡ uses_mark (get_or r 1 0) → u ≡ false → b ≡ blank (part r 64 16) → b ≡ mark_fits r
+  pub mark_unused : {b : Bool} → u ≡ uses_mark (get_or r 1 0) → u ≡ false → b ≡ blank (part r 64 16) → b ≡ mark_fits r
   unfolding mark_fits op unused
-  mark-unused e h f = rw (← e, h, f)
+  mark_unused e h f = rw (← e, h, f)
 
 pub date_used : (r : Rec) {b : Bool} {y : ℕ} → y ≡ word r 28 → b ≡ is_date y (get_or r 30 0) (get_or r 31 0) → b ≡ date_fits r
 unfolding date_fits
 date_used r e f = rw (f, e)
 
 module _ (r : Rec) {z : Bool} (e : z ≡ blank (part r 24 4)) where
-  pub folder-zero : z ≡ true → true ≡ folder_fits r
+  pub folder_zero : z ≡ true → true ≡ folder_fits r
   unfolding folder_fits unused
-  folder-zero h = rw (← e, h) (sym (go (uses_folder (op r))))
+  folder_zero h = rw (← e, h) (sym (go (uses_folder (op r))))
     where
       go : (t : Bool) → cond t true true ≡ true
       go true = refl
       go false = refl
 
   module _ {u : Bool} (h : z ≡ false) (f : u ≡ uses_folder (get_or r 1 0)) where
-    pub folder-unused : not u ≡ true → false ≡ folder_fits r
+    pub folder_unused : not u ≡ true → false ≡ folder_fits r
     unfolding folder_fits op unused
-    folder-unused g = rw (← f, not-true u g, ← e, h)
+    folder_unused g = rw (← f, not-true u g, ← e, h)
 
-    pub folder-used : {b : Bool} → not u ≡ false → b ≡ names r 24 → b ≡ folder_fits r
+    pub folder_used : {b : Bool} → not u ≡ false → b ≡ names r 24 → b ≡ folder_fits r
     unfolding folder_fits op unused
-    folder-used g k = rw (← f, not-false u g, ← e, h, k)
+    folder_used g k = rw (← f, not_false u g, ← e, h, k)

@@ -54,9 +54,9 @@ all_printable (x ∷ t) f g =
     rw (le-leb 32 x (f 0 (omega arith)), le-leb x 126 (g 0 (omega arith))) (all_printable t (λ i k. f (suc i) (omega arith)) (λ i k. g (suc i) (omega arith)))
 
 module _ (t : List ℕ) where
-  pub label-means : is_label t ≡ true → Label t
+  pub label_means : is_label t ≡ true → Label t
   unfolding is_label
-  label-means e =
+  label_means e =
       let n = text_length t in
       let w = text_within t in
       let l = length-take-le n t w in
@@ -86,5 +86,5 @@ module _ (t : List ℕ) where
       rw (m, le-leb 1 n r.some_text, p, ne_eqb (get_or t 0 0) 32 r.first, ne_eqb (get_or t (n - 1) 0) 32 r.last, z)
 
   -- R3
-  pub label-exact : is_label t ≡ true ↔ Label t
-  label-exact = (label-means, a_label)
+  pub label_exact : is_label t ≡ true ↔ Label t
+  label_exact = (label_means, a_label)

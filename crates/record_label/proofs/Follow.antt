@@ -10,12 +10,12 @@ use mathlib.Core.Bool.{Bool, true, false, cond, not, ◌&&◌, ◌||◌}
 use mathlib.Core.List.{List, [], ◌∷◌}
 use lib.Dec.{leb, eqb}
 use lib.ListN.{get_or, length, get_or-eq_default}
-use borrow.Author.Tests.{leb-true, eqb-true, eqb-false, le-leb, eq-eqb, ne_eqb, not-true, not-false}
+use borrow.Author.Tests.{leb-true, eqb-true, eqb-false, le-leb, eq-eqb, ne_eqb, not-true, not_false}
 use Rattle.model.specs.Record.{text_length, is_label}
 use Rattle.byte_slice.proofs.Numbers.{lt_or_ge, and_true, or_true, true_and, test_false, not_both, bool_cases}
 use Rattle.record_label.specs.Label.{Label}
 use Rattle.record_label.specs.Follow.{follows, follow_to}
-use Rattle.record_label.proofs.Claims.{label-means, a_label, text_within}
+use Rattle.record_label.proofs.Claims.{label_means, a_label, text_within}
 
 -- ---- one pair
 
@@ -68,18 +68,18 @@ within_run t at m n h e = all_run t at m (λ i k. rw zero-add at (run_at t 0 n e
 
 -- what `all_follow` is asked, over plain values
 module _ (t : List ℕ) (n : ℕ) (p : Bool) (field : n ≡ 31) (first : p ≡ follow_to t 0 16) where
-  pub front-fails : not p ≡ true → false ≡ follow_to t 0 n
-  front-fails g = sym (test_false (follow_to t 0 n) (λ e. not_both p (first ∙ within_run t 0 16 n (omega arith) e) (not-true p g)))
+  pub front_fails : not p ≡ true → false ≡ follow_to t 0 n
+  front_fails g = sym (test_false (follow_to t 0 n) (λ e. not_both p (first ∙ within_run t 0 16 n (omega arith) e) (not-true p g)))
 
-  pub back-tells : {r : Bool} → not p ≡ false → r ≡ follow_to t 15 16 → r ≡ follow_to t 0 n
-  back-tells {r} g e = go (follow_to t 15 16) refl
+  pub back_tells : {r : Bool} → not p ≡ false → r ≡ follow_to t 15 16 → r ≡ follow_to t 0 n
+  back_tells {r} g e = go (follow_to t 15 16) refl
     where
       go : (b : Bool) → follow_to t 15 16 ≡ b → r ≡ follow_to t 0 n
       go true k =
           let whole : follow_to t 0 n ≡ true =
           all_run t 0 n (λ i l.
           ⊎_elim
-          (λ (m : i < 16). run_at t 0 16 (sym first ∙ not-false p g) i m)
+          (λ (m : i < 16). run_at t 0 16 (sym first ∙ not_false p g) i m)
           (λ (m : 16 ≤ i).
           let q : 15 + (i - 15) ≡ 0 + i = omega arith in
           rw q at (run_at t 15 16 k (i - 15) (omega arith)))
@@ -111,18 +111,18 @@ text_zero (x ∷ t) = go (eqb x 0) refl (text_zero t)
 -- ---- a label
 
 module _ (t : List ℕ) (some : 1 ≤ length t) where
-  pair-at : follow_to t 0 (length t - 1) ≡ true → (i : ℕ) → i + 1 < length t → follows (get_or t i 0) (get_or t (i + 1) 0) ≡ true
-  pair-at f i h = rw zero-add at (run_at t 0 (length t - 1) f i (omega arith))
+  pair_at : follow_to t 0 (length t - 1) ≡ true → (i : ℕ) → i + 1 < length t → follows (get_or t i 0) (get_or t (i + 1) 0) ≡ true
+  pair_at f i h = rw zero-add at (run_at t 0 (length t - 1) f i (omega arith))
 
-  zeros-on : follow_to t 0 (length t - 1) ≡ true → (k : ℕ) → get_or t (text_length t + k) 0 ≡ 0
-  zeros-on f zero = let e : text_length t + 0 ≡ text_length t = omega arith in rw e (text_zero t)
-  zeros-on f (suc k) =
+  zeros_on : follow_to t 0 (length t - 1) ≡ true → (k : ℕ) → get_or t (text_length t + k) 0 ≡ 0
+  zeros_on f zero = let e : text_length t + 0 ≡ text_length t = omega arith in rw e (text_zero t)
+  zeros_on f (suc k) =
       let i = text_length t + k in
       let e : text_length t + suc k ≡ i + 1 = omega arith in
-      let z : get_or t i 0 ≡ 0 = zeros-on f k in
+      let z : get_or t i 0 ≡ 0 = zeros_on f k in
       rw e
       (⊎_elim
-      (λ (h : i + 1 < length t). ⊎_elim (λ q. q.0) (λ q. absurd (q.0 z)) (follows_means (get_or t i 0) (get_or t (i + 1) 0) (pair-at f i h)))
+      (λ (h : i + 1 < length t). ⊎_elim (λ q. q.0) (λ q. absurd (q.0 z)) (follows_means (get_or t i 0) (get_or t (i + 1) 0) (pair_at f i h)))
       (λ (h : length t ≤ i + 1). get_or-eq_default t 0 {n = i + 1} h)
       (lt_or_ge (i + 1) (length t)))
 
@@ -131,7 +131,7 @@ module _ (t : List ℕ) (some : 1 ≤ length t) where
   in_range f a b (suc i) h =
       let e : i + 1 ≡ suc i = omega arith in
       let w = text_within t in
-      let m = rw e at (follows_means (get_or t i 0) (get_or t (i + 1) 0) (pair-at f i (omega arith))) in
+      let m = rw e at (follows_means (get_or t i 0) (get_or t (i + 1) 0) (pair_at f i (omega arith))) in
       ⊎_elim (λ q. absurd (text_nonzero t (suc i) h q.0)) (λ q. (q.1, q.2)) m
 
   told : follow_to t 0 (length t - 1) ≡ true → 33 ≤ get_or t 0 0 → get_or t 0 0 ≤ 126 → (get_or t (length t - 1) 0 ≡ 32 → ⊥) → Label t
@@ -150,11 +150,11 @@ module _ (t : List ℕ) (some : 1 ≤ length t) where
             ⊎_elim
             (λ (h : n < length t).
             let k : n - 1 + 1 ≡ n = omega arith in
-            let m = rw k at (follows_means (get_or t (n - 1) 0) (get_or t (n - 1 + 1) 0) (pair-at f (n - 1) (omega arith))) in
+            let m = rw k at (follows_means (get_or t (n - 1) 0) (get_or t (n - 1 + 1) 0) (pair_at f (n - 1) (omega arith))) in
             ⊎_elim (λ q. q.1 e) (λ q. let y = text_zero t in let y32 : 32 ≤ get_or t n 0 = q.1 in omega arith) m)
             (λ (h : length t ≤ n). z (let k : n ≡ length t = omega arith in rw k at e))
             (lt_or_ge n (length t));
-        zeros = λ i h. let k : n + (i - n) ≡ i = omega arith in rw k at (zeros-on f (i - n));
+        zeros = λ i h. let k : n + (i - n) ≡ i = omega arith in rw k at (zeros_on f (i - n));
       }
 
   pairs : Label t → follow_to t 0 (length t - 1) ≡ true
@@ -172,8 +172,8 @@ module _ (t : List ℕ) (some : 1 ≤ length t) where
       (lt_or_ge i r.size)))
       (lt_or_ge (i + 1) r.size)))
 
-  end-no-space : Label t → get_or t (length t - 1) 0 ≡ 32 → ⊥
-  end-no-space r e =
+  end_no_space : Label t → get_or t (length t - 1) 0 ≡ 32 → ⊥
+  end_no_space r e =
       let w = r.within in
       ⊎_elim
       (λ (h : r.size ≤ length t - 1). let z = r.zeros (length t - 1) h in omega arith)
@@ -183,25 +183,25 @@ module _ (t : List ℕ) (some : 1 ≤ length t) where
 -- what `is_label` is asked at each way out, over plain values
 module _ (t : List ℕ) where
   pub no_bytes : length t < 1 → false ≡ is_label t
-  no_bytes h = sym (test_false (is_label t) (λ e. let r = label-means t e in let a = r.some_text in let w = r.within in omega arith))
+  no_bytes h = sym (test_false (is_label t) (λ e. let r = label_means t e in let a = r.some_text in let w = r.within in omega arith))
 
   module _ (p : Bool) (some : 1 ≤ length t) (f : p ≡ follow_to t 0 (length t - 1)) where
-    pub pair-fails : not p ≡ true → false ≡ is_label t
-    pair-fails g = sym (test_false (is_label t) (λ e. not_both p (f ∙ pairs t some (label-means t e)) (not-true p g)))
+    pub pair_fails : not p ≡ true → false ≡ is_label t
+    pair_fails g = sym (test_false (is_label t) (λ e. not_both p (f ∙ pairs t some (label_means t e)) (not-true p g)))
 
     pub first_below : get_or t 0 0 < 33 → false ≡ is_label t
     first_below g =
         sym (test_false (is_label t) (λ e.
-        let r = label-means t e in
+        let r = label_means t e in
         let a = r.range_from 0 r.some_text in
         r.first (omega arith)))
 
     pub first_above : 126 < get_or t 0 0 → false ≡ is_label t
-    first_above g = sym (test_false (is_label t) (λ e. let r = label-means t e in let a = r.range_to 0 r.some_text in omega arith))
+    first_above g = sym (test_false (is_label t) (λ e. let r = label_means t e in let a = r.range_to 0 r.some_text in omega arith))
 
-    pub end-tells : not p ≡ false → 33 ≤ get_or t 0 0 → get_or t 0 0 ≤ 126 → not (eqb (get_or t (length t - 1) 0) 32) ≡ is_label t
-    end-tells g a b = go (eqb (get_or t (length t - 1) 0) 32) refl
+    pub end_tells : not p ≡ false → 33 ≤ get_or t 0 0 → get_or t 0 0 ≤ 126 → not (eqb (get_or t (length t - 1) 0) 32) ≡ is_label t
+    end_tells g a b = go (eqb (get_or t (length t - 1) 0) 32) refl
       where
         go : (s : Bool) → eqb (get_or t (length t - 1) 0) 32 ≡ s → not (eqb (get_or t (length t - 1) 0) 32) ≡ is_label t
-        go true k = rw k (sym (test_false (is_label t) (λ e. end-no-space t some (label-means t e) (eqb-true (get_or t (length t - 1) 0) 32 k))))
-        go false k = rw k (sym (a_label t (told t some (sym f ∙ not-false p g) a b (eqb-false (get_or t (length t - 1) 0) 32 k))))
+        go true k = rw k (sym (test_false (is_label t) (λ e. end_no_space t some (label_means t e) (eqb-true (get_or t (length t - 1) 0) 32 k))))
+        go false k = rw k (sym (a_label t (told t some (sym f ∙ not_false p g) a b (eqb-false (get_or t (length t - 1) 0) 32 k))))

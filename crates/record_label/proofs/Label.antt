@@ -9,7 +9,7 @@ use mathlib.Core.List.{List}
 use lib.Dec.{leb, eqb}
 use lib.ListN.{get_or, length, take, drop, length-drop, drop_of_length-le}
 use lib.Seq.{take_all}
-use borrow.Author.Tests.{eq-eqb, ne_eqb, le-leb, lt-leb, not-true, not-false}
+use borrow.Author.Tests.{eq-eqb, ne_eqb, le-leb, lt-leb, not-true, not_false}
 use Rattle.model.specs.Bytes.{blank}
 use Rattle.model.specs.Record.{text_length, printable, is_label}
 use Rattle.byte_slice.proofs.Parts.{drop_more}
@@ -21,12 +21,12 @@ module _ (t : List ℕ) (i : ℕ) (inv : i + text_length (drop i t) ≡ text_len
   unfolding text_length
   step h = rw (drop_more t i h) at inv
 
-  pub text-next : i < length t → (get_or t i 0 ≡ 0 → ⊥) → i + 1 + text_length (drop (i + 1) t) ≡ text_length t
-  text-next h g = omega (arith, rw (ne_eqb (get_or t i 0) 0 g) at (step h))
+  pub text_next : i < length t → (get_or t i 0 ≡ 0 → ⊥) → i + 1 + text_length (drop (i + 1) t) ≡ text_length t
+  text_next h g = omega (arith, rw (ne_eqb (get_or t i 0) 0 g) at (step h))
 
-  pub text-stops : i < length t → get_or t i 0 ≡ 0 → i ≡ text_length t
-  text-stops h g = omega (arith, rw (eq-eqb (get_or t i 0) 0 g) at (step h))
+  pub text_stops : i < length t → get_or t i 0 ≡ 0 → i ≡ text_length t
+  text_stops h g = omega (arith, rw (eq-eqb (get_or t i 0) 0 g) at (step h))
 
-  pub text-ends : length t ≤ i → i ≡ text_length t
+  pub text_ends : length t ≤ i → i ≡ text_length t
   unfolding text_length
-  text-ends h = omega (arith, rw (drop_of_length-le t {i = i} h) at inv)
+  text_ends h = omega (arith, rw (drop_of_length-le t {i = i} h) at inv)

@@ -18,16 +18,16 @@ use Rattle.byte_slice.proofs.Compare.{same_eq, eq_same, same_append}
 -- ---- a byte
 
 module _ (x : ℕ) where
-  pub lower-capital : (leb 65 x && leb x 90) ≡ true → x + 32 ≡ lower x
+  pub lower_capital : (leb 65 x && leb x 90) ≡ true → x + 32 ≡ lower x
   unfolding lower
-  lower-capital h = rw h
+  lower_capital h = rw h
 
-  pub capital-fits : (leb 65 x && leb x 90) ≡ true → x + 32 < 256
-  capital-fits h = let (_, q) = and_true (leb 65 x) (leb x 90) h in omega (arith, leb-true x 90 q)
+  pub capital_fits : (leb 65 x && leb x 90) ≡ true → x + 32 < 256
+  capital_fits h = let (_, q) = and_true (leb 65 x) (leb x 90) h in omega (arith, leb-true x 90 q)
 
-  pub lower-other : (leb 65 x && leb x 90) ≡ false → x ≡ lower x
+  pub lower_other : (leb 65 x && leb x 90) ≡ false → x ≡ lower x
   unfolding lower
-  lower-other h = rw h
+  lower_other h = rw h
 
 -- ---- a label
 
@@ -52,9 +52,9 @@ key_same a b e = eq_same (label_key a) (label_key b) e
 
 -- what the loop of `same_label` is asked, over plain values
 module _ (a b : List ℕ) (i : ℕ) {t : Bool} (inv : t ≡ same_label (take i a) (take i b)) (m : length a ≡ 32) (n : length b ≡ 32) where
-  pub label-next : i < 32 → (x y : ℕ) → x ≡ lower (get_or a i 0) → y ≡ lower (get_or b i 0) → (t && eqb x y) ≡ same_label (take (i + 1) a) (take (i + 1) b)
+  pub label_next : i < 32 → (x y : ℕ) → x ≡ lower (get_or a i 0) → y ≡ lower (get_or b i 0) → (t && eqb x y) ≡ same_label (take (i + 1) a) (take (i + 1) b)
   unfolding same_label label_key same_bytes
-  label-next h x y p q =
+  label_next h x y p q =
       let u = take i a in
       let v = take i b in
       let e : length (label_key u) ≡ length (label_key v) = key_length u ∙ length-take-le i a (omega arith) ∙ sym (key_length v ∙ length-take-le i b (omega arith)) in
@@ -71,5 +71,5 @@ module _ (a b : List ℕ) (i : ℕ) {t : Bool} (inv : t ≡ same_label (take i a
         q,
       )
 
-  pub label-end : i ≤ 32 → 32 ≤ i → t ≡ same_label a b
-  label-end h g = let e : i ≡ 32 = omega arith in rw (e, take_all 32 a (omega arith), take_all 32 b (omega arith)) at inv
+  pub label_end : i ≤ 32 → 32 ≤ i → t ≡ same_label a b
+  label_end h g = let e : i ≡ 32 = omega arith in rw (e, take_all 32 a (omega arith), take_all 32 b (omega arith)) at inv

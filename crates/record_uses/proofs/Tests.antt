@@ -7,10 +7,10 @@ use borrow.Author.Tests.{eq-eqb, ne_eqb}
 use Rattle.model.specs.Record.{uses_mark}
 
 module _ (o : ℕ) where
-  pub make-mark : o ≡ 2 → eqb o 2 ≡ uses_mark o
+  pub make_mark : o ≡ 2 → eqb o 2 ≡ uses_mark o
   unfolding uses_mark
-  make-mark h = rw (eq-eqb o 2 h)
+  make_mark h = rw (eq-eqb o 2 h)
 
-  pub other-mark : (o ≡ 2 → ⊥) → eqb o 3 ≡ uses_mark o
+  pub other_mark : (o ≡ 2 → ⊥) → eqb o 3 ≡ uses_mark o
   unfolding uses_mark
-  other-mark h = rw (ne_eqb o 2 h)
+  other_mark h = rw (ne_eqb o 2 h)

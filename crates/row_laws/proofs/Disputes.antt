@@ -99,9 +99,9 @@ module _ (t t' : Tree) where
       i
 
   -- the entries listed are exactly those that become disputed
-  pub newly-exactly : (e : Entry) → HasEntry e (became_disputed t t') ↔ BecameDisputed t t' e
+  pub newly_exactly : (e : Entry) → HasEntry e (became_disputed t t') ↔ BecameDisputed t t' e
   unfolding became_disputed is_new
-  newly-exactly e = (
+  newly_exactly e = (
     λ i.
         let (p, q) = listed_has (present_ones t'.entries) e i in
         let (a, b) = and_true (is_disputed e.made t'.asides) (not (has_disputed e.made t)) q in
@@ -117,16 +117,16 @@ module _ (t t' : Tree) where
           (λ (a : has_disputed e.made t ≡ false). a)
           (bool_cases (has_disputed e.made t))
 
-  newly-in-order : (l : List Entry) → InOrder (newly_disputed t t' l) l
+  newly_in_order : (l : List Entry) → InOrder (newly_disputed t t' l) l
   unfolding newly_disputed
-  newly-in-order [] = ends
-  newly-in-order (x ∷ l) = go (is_disputed x.made t'.asides && not (has_disputed x.made t)) (newly-in-order l)
+  newly_in_order [] = ends
+  newly_in_order (x ∷ l) = go (is_disputed x.made t'.asides && not (has_disputed x.made t)) (newly_in_order l)
     where
       go : (b : Bool) → InOrder (newly_disputed t t' l) l → InOrder (cond b (x ∷ newly_disputed t t' l) (newly_disputed t t' l)) (x ∷ l)
       go true h = keeps x (newly_disputed t t' l) l h
       go false h = passes x (newly_disputed t t' l) l h
 
   -- and they stand in the order of the tree: by rank of their makers
-  pub newly-ordered : InOrder (became_disputed t t') (present_ones t'.entries)
+  pub newly_ordered : InOrder (became_disputed t t') (present_ones t'.entries)
   unfolding became_disputed
-  newly-ordered = newly-in-order (present_ones t'.entries)
+  newly_ordered = newly_in_order (present_ones t'.entries)

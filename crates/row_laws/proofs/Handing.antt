@@ -22,11 +22,11 @@ use Rattle.log_laws.proofs.Lacking.{has_lacking}
 use Rattle.encoding_laws.proofs.Logs.{Proper, sound_proper_on, proper_sized}
 use Rattle.encoding_laws.proofs.Files.{six}
 use Rattle.call_laws.specs.Keeps.{Good, Keeps}
-use Rattle.call_laws.proofs.States.{good-records}
-use Rattle.call_laws.proofs.Calls.{guarded-cases, guarded-passes, guarded-keeps, refusal-keeps}
+use Rattle.call_laws.proofs.States.{good_records}
+use Rattle.call_laws.proofs.Calls.{guarded_cases, guarded-passes, guarded-keeps, refusal-keeps}
 use Rattle.call_laws.proofs.Behind.{lacking_length_on}
 use Rattle.call_laws.proofs.Given.{Holds, block_holds}
-use Rattle.row_laws.proofs.Raised.{block-of-row}
+use Rattle.row_laws.proofs.Raised.{block_of_row}
 
 -- block k of the bytes holds six records from 6 times k on of those that the vector lacks, or what is left of them
 pub row-holds : (archive u : ℕ) (held v : List ℕ) (l : List Rec) → u ≤ 7 → Proper l → (k : ℕ) → k < blocks_for (length (lacking v l))
@@ -35,7 +35,7 @@ unfolding padded row_of row_block
 row-holds archive u held v l h p k i =
     let w : List Rec = lacking v l in
     let own : Proper w = λ r j. p r (has_lacking v l r j) in
-    subst (λ (b : List ℕ). Holds archive b (take 6 (drop (6 * k) w))) (sym (block-of-row archive u held w (proper_sized w own) (blocks_for (length w)) k _ i))
+    subst (λ (b : List ℕ). Holds archive b (take 6 (drop (6 * k) w))) (sym (block_of_row archive u held w (proper_sized w own) (blocks_for (length w)) k _ i))
     (block_holds archive u 0 held (take 6 (drop (6 * k) w)) h (λ r j. own r (has_drop (6 * k) w r (has_take 6 (drop (6 * k) w) r j))) (six (drop (6 * k) w)))
 
 module _ (archive u : ℕ) (log base v lent : List ℕ) where
@@ -43,34 +43,34 @@ module _ (archive u : ℕ) (log base v lent : List ℕ) where
   abbrev pub rowOut : Outcome
   rowOut = outcome 0 0 log (padded 44032 (row_of archive u (held_on log base) (records_of log) v)) (blocks_for (length (lacking v (records_of log))))
 
-  pub handed-row-passes : covers v (base_vector base) ≡ true → handed_row archive u log base v lent ≡ rowOut
+  pub handed_row_passes : covers v (base_vector base) ≡ true → handed_row archive u log base v lent ≡ rowOut
   unfolding handed_row
-  handed-row-passes c = rw c
+  handed_row_passes c = rw c
 
-  pub handed-row-below : covers v (base_vector base) ≡ false → handed_row archive u log base v lent ≡ refusal 27 log lent
+  pub handed_row_below : covers v (base_vector base) ≡ false → handed_row archive u log base v lent ≡ refusal 27 log lent
   unfolding handed_row
-  handed-row-below c = rw c
+  handed_row_below c = rw c
 
-  pub hand-row-keeps : Keeps log base lent (hand_row_of archive u log base v lent)
+  pub hand_row_keeps : Keeps log base lent (hand_row_of archive u log base v lent)
   unfolding hand_row_of
-  hand-row-keeps =
+  hand_row_keeps =
       guarded-keeps u log base lent (eqb (length lent) 44032) (handed_row archive u log base v lent) (λ a g.
       ⊎_elim
       (λ (c : covers v (base_vector base) ≡ true).
-      subst (Keeps log base lent) (sym (handed-row-passes c)) (record { accepted = λ _. g; refused = λ z. absurd (z refl) }))
-      (λ (c : covers v (base_vector base) ≡ false). subst (Keeps log base lent) (sym (handed-row-below c)) (refusal-keeps 26 log base lent))
+      subst (Keeps log base lent) (sym (handed_row_passes c)) (record { accepted = λ _. g; refused = λ z. absurd (z refl) }))
+      (λ (c : covers v (base_vector base) ≡ false). subst (Keeps log base lent) (sym (handed_row_below c)) (refusal-keeps 26 log base lent))
       (bool_cases (covers v (base_vector base))))
 
   -- a vector that covers the base vector is answered, any other with 27
-  pub hand-row-done : length lent ≡ 44032 → u ≤ 7 → Good log base → covers v (base_vector base) ≡ true → hand_row_of archive u log base v lent ≡ rowOut
+  pub hand_row_done : length lent ≡ 44032 → u ≤ 7 → Good log base → covers v (base_vector base) ≡ true → hand_row_of archive u log base v lent ≡ rowOut
   unfolding hand_row_of
-  hand-row-done n k g c =
-      guarded-passes u log base lent (eqb (length lent) 44032) (handed_row archive u log base v lent) (eq-eqb (length lent) 44032 n) k g ∙ handed-row-passes c
+  hand_row_done n k g c =
+      guarded-passes u log base lent (eqb (length lent) 44032) (handed_row archive u log base v lent) (eq-eqb (length lent) 44032 n) k g ∙ handed_row_passes c
 
-  pub hand-row-below : length lent ≡ 44032 → u ≤ 7 → Good log base → covers v (base_vector base) ≡ false → hand_row_of archive u log base v lent ≡ refusal 27 log lent
+  pub hand_row_below : length lent ≡ 44032 → u ≤ 7 → Good log base → covers v (base_vector base) ≡ false → hand_row_of archive u log base v lent ≡ refusal 27 log lent
   unfolding hand_row_of
-  hand-row-below n k g c =
-      guarded-passes u log base lent (eqb (length lent) 44032) (handed_row archive u log base v lent) (eq-eqb (length lent) 44032 n) k g ∙ handed-row-below c
+  hand_row_below n k g c =
+      guarded-passes u log base lent (eqb (length lent) 44032) (handed_row archive u log base v lent) (eq-eqb (length lent) 44032 n) k g ∙ handed_row_below c
 
   -- refused, or a row of blocks with all records that the vector lacks; the vector covers the base vector
   abbrev pub RowHanded : Type 0
@@ -82,23 +82,23 @@ module _ (archive u : ℕ) (log base v lent : List ℕ) where
       × (covers v (base_vector base) ≡ true)
       × Good log base)
 
-  pub hand-row-cases : RowHanded
+  pub hand_row_cases : RowHanded
   unfolding hand_row_of
-  hand-row-cases =
+  hand_row_cases =
       ⊎_elim (λ (a, b, g, e). passed b g e (bool_cases (covers v (base_vector base)))) (λ k. inl k)
-      (guarded-cases u log base lent (eqb (length lent) 44032) (handed_row archive u log base v lent))
+      (guarded_cases u log base lent (eqb (length lent) 44032) (handed_row archive u log base v lent))
     where
       passed : u ≤ 7 → Good log base → hand_row_of archive u log base v lent ≡ handed_row archive u log base v lent
           → (covers v (base_vector base) ≡ true) ⊎ (covers v (base_vector base) ≡ false) → RowHanded
       passed b g e (inl c) =
           inr (
-            e ∙ handed-row-passes c,
-            row-holds archive u (held_on log base) v (records_of log) b (sound_proper_on (base_vector base) (records_of log) (good-records log base g)),
+            e ∙ handed_row_passes c,
+            row-holds archive u (held_on log base) v (records_of log) b (sound_proper_on (base_vector base) (records_of log) (good_records log base g)),
             c,
             g,
           )
-      passed b g e (inr c) = inl (26, e ∙ handed-row-below c)
+      passed b g e (inr c) = inl (26, e ∙ handed_row_below c)
 
   -- as many blocks as what the vector lacks against the held one needs
-  pub row-out-counts : Good log base → covers v (base_vector base) ≡ true → blocks_for (length (lacking v (records_of log))) ≡ blocks_for (lacks_of v (held_on log base))
-  row-out-counts g c = ap blocks_for (lacking_length_on (base_vector base) v (records_of log) (good-records log base g) c)
+  pub row_out_counts : Good log base → covers v (base_vector base) ≡ true → blocks_for (length (lacking v (records_of log))) ≡ blocks_for (lacks_of v (held_on log base))
+  row_out_counts g c = ap blocks_for (lacking_length_on (base_vector base) v (records_of log) (good_records log base g) c)

@@ -125,25 +125,25 @@ row_counts n = (omega arith, omega arith)
 -- ---- the blocks in the bytes of a row
 
 module _ (archive u : ℕ) (held : List ℕ) (w : List Rec) (z : Sized w) where
-  pub length-rowBlock : (k : ℕ) → length (row_block archive u held w k) ≡ 512
+  pub length-row_block : (k : ℕ) → length (row_block archive u held w k) ≡ 512
   unfolding row_block
-  length-rowBlock k = length_block (header_of archive u 0 held) (take 6 (drop (6 * k) w)) (sized_take 6 (drop (6 * k) w) (sized_drop (6 * k) w z)) (six (drop (6 * k) w))
+  length-row_block k = length_block (header_of archive u 0 held) (take 6 (drop (6 * k) w)) (sized_take 6 (drop (6 * k) w) (sized_drop (6 * k) w z)) (six (drop (6 * k) w))
 
-  pub length-rowTo : (n : ℕ) → length (row_to archive u held w n) ≡ 512 * n
+  pub length-row_to : (n : ℕ) → length (row_to archive u held w n) ≡ 512 * n
   unfolding row_to
-  length-rowTo zero = refl
-  length-rowTo (suc n) = omega (arith, length-append (row_to archive u held w n) (row_block archive u held w n), length-rowTo n, length-rowBlock n)
+  length-row_to zero = refl
+  length-row_to (suc n) = omega (arith, length-append (row_to archive u held w n) (row_block archive u held w n), length-row_to n, length-row_block n)
 
   -- block k of the first n, whatever stands behind them
-  pub block-of-row : (n k : ℕ) (t : List ℕ) → k < n → block_at (row_to archive u held w n ++ t) k ≡ row_block archive u held w k
+  pub block_of_row : (n k : ℕ) (t : List ℕ) → k < n → block_at (row_to archive u held w n ++ t) k ≡ row_block archive u held w k
   unfolding row_to block_at
-  block-of-row zero k t h = absurd (omega arith)
-  block-of-row (suc n) k t h =
+  block_of_row zero k t h = absurd (omega arith)
+  block_of_row (suc n) k t h =
       let a : List ℕ = row_to archive u held w n in
       let b : List ℕ = row_block archive u held w n in
       ⊎_elim
-      (λ (e : k < n). rw (append_assoc a b t) (block-of-row n k (b ++ t) e))
-      (λ (e : n ≤ k). let q : k ≡ n = omega arith in rw (append_assoc a b t, q) (last a b t n (length-rowTo n) (length-rowBlock n)))
+      (λ (e : k < n). rw (append_assoc a b t) (block_of_row n k (b ++ t) e))
+      (λ (e : n ≤ k). let q : k ≡ n = omega arith in rw (append_assoc a b t, q) (last a b t n (length-row_to n) (length-row_block n)))
       (lt_or_ge k n)
     where
       last : (a b t : List ℕ) (n : ℕ) → length a ≡ 512 * n → length b ≡ 512 → part (a ++ (b ++ t)) (512 * n) 512 ≡ b
@@ -153,4 +153,4 @@ module _ (archive u : ℕ) (held : List ℕ) (w : List Rec) (z : Sized w) where
 pub handed_block : (archive u : ℕ) (base held v : List ℕ) (l : List Rec) (k : ℕ) → 8 ≤ length v → SoundOn base l → Sized (lacking v l) → k < blocks_for (length (lacking v l))
     → block_at (padded 44032 (row_of archive u held l v)) k ≡ hand_block archive u held l (raised v (take (6 * k) (lacking v l)))
 unfolding padded row_of
-handed_block archive u base held v l k n h z i = block-of-row archive u held (lacking v l) z (blocks_for (length (lacking v l))) k _ i ∙ row_hands archive u base held v l k n h
+handed_block archive u base held v l k n h z i = block_of_row archive u held (lacking v l) z (blocks_for (length (lacking v l))) k _ i ∙ row_hands archive u base held v l k n h

@@ -37,26 +37,26 @@ length_made [] = refl
 length_made (e ∷ l) = omega (arith, length-append (identity_bytes e.made) (made_bytes l), length_made l)
 
 module _ (o : Tried) (v : List ℕ) (t t' : Tree) where
-  pub report-taken : get_or (report_bytes o v t t') 0 0 ≡ o.taken
+  pub report_taken : get_or (report_bytes o v t t') 0 0 ≡ o.taken
   unfolding report_bytes
-  report-taken = refl
+  report_taken = refl
 
-  pub report-stopped : get_or (report_bytes o v t t') 1 0 ≡ o.stopped
+  pub report_stopped : get_or (report_bytes o v t t') 1 0 ≡ o.stopped
   unfolding report_bytes
-  report-stopped = refl
+  report_stopped = refl
 
-  pub report-count : word (report_bytes o v t t') 2 ≡ length (became_disputed t t')
+  pub report_count : word (report_bytes o v t t') 2 ≡ length (became_disputed t t')
   unfolding report_bytes
-  report-count = word_at (o.taken ∷ o.stopped ∷ []) (length (became_disputed t t')) (vector_bytes v ++ padded 4096 (made_bytes (became_disputed t t')))
+  report_count = word_at (o.taken ∷ o.stopped ∷ []) (length (became_disputed t t')) (vector_bytes v ++ padded 4096 (made_bytes (became_disputed t t')))
 
-  pub report-vector : length v ≡ 8 → vector_at (report_bytes o v t t') 4 ≡ v
+  pub report_vector : length v ≡ 8 → vector_at (report_bytes o v t t') 4 ≡ v
   unfolding report_bytes
-  report-vector n = vector_back (o.taken ∷ o.stopped ∷ two (length (became_disputed t t'))) v (padded 4096 (made_bytes (became_disputed t t'))) n
+  report_vector n = vector_back (o.taken ∷ o.stopped ∷ two (length (became_disputed t t'))) v (padded 4096 (made_bytes (became_disputed t t'))) n
 
   -- there is room for 1,024 entries
-  pub length-report : length (present_ones t'.entries) ≤ 1024 → length (report_bytes o v t t') ≡ 4116
+  pub length_report : length (present_ones t'.entries) ≤ 1024 → length (report_bytes o v t t') ≡ 4116
   unfolding report_bytes
-  length-report h =
+  length_report h =
       let d : List Entry = became_disputed t t' in
       let k : length (padded 4096 (made_bytes d)) ≡ 4096 = length-padded 4096 (made_bytes d) (omega (arith, length_made d, became_few t t')) in
       omega (arith, length-append (vector_bytes v) (padded 4096 (made_bytes d)), vector_bytes-length v)
@@ -64,4 +64,4 @@ module _ (o : Tried) (v : List ℕ) (t t' : Tree) where
 -- the vector of a trial's report is the held vector of the copy
 pub reported_vector : (log base : List ℕ) (o : Tried) → vector_at (reported log base o).report 4 ≡ held_on o.log base
 unfolding reported
-reported_vector log base o = report-vector o (held_on o.log base) (tree_of log base) (tree_of o.log base) (vector_on-length _ _)
+reported_vector log base o = report_vector o (held_on o.log base) (tree_of log base) (tree_of o.log base) (vector_on-length _ _)

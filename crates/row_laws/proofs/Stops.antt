@@ -37,45 +37,45 @@ Fair (refused n) = Halt n
 Fair (taken l) = Unit {0}
 
 module _ where
-  fair-cond : (b : Bool) (x y : Took) → Fair x → Fair y → Fair (cond b x y)
+  fair_cond : (b : Bool) (x y : Took) → Fair x → Fair y → Fair (cond b x y)
   unfolding Fair
-  fair-cond true x y h g = h
-  fair-cond false x y h g = g
+  fair_cond true x y h g = h
+  fair_cond false x y h g = g
 
   module _ (p : ℕ) (v : List ℕ) where
-    fair-new : (l : List Rec) (r : Rec) → Fair (take_new v l r)
+    fair_new : (l : List Rec) (r : Rec) → Fair (take_new v l r)
     unfolding take_new Fair
-    fair-new l r =
+    fair_new l r =
         let last : Took = cond (ltb (length l) 512) (taken (insert r l)) (refused 11) in
         let shut : Took = cond (is_closed v l r) last (refused 9) in
         let over : Took = cond (covers (seen_vector r) v) shut (refused 27) in
-        fair-cond (is_next v l r && is_within v l r) over (refused 8)
-        (fair-cond (covers (seen_vector r) v) shut (refused 27)
-        (fair-cond (is_closed v l r) last (refused 9)
-        (fair-cond (ltb (length l) 512) (taken (insert r l)) (refused 11) tt (inl (omega arith, omega arith)))
+        fair_cond (is_next v l r && is_within v l r) over (refused 8)
+        (fair_cond (covers (seen_vector r) v) shut (refused 27)
+        (fair_cond (is_closed v l r) last (refused 9)
+        (fair_cond (ltb (length l) 512) (taken (insert r l)) (refused 11) tt (inl (omega arith, omega arith)))
         (inl (omega arith, omega arith)))
         (inr (inr refl)))
         (inl (omega arith, omega arith))
 
-    fair-held : (o : Option Rec) (l : List Rec) (r : Rec) → Fair (take_held v o l r)
+    fair_held : (o : Option Rec) (l : List Rec) (r : Rec) → Fair (take_held v o l r)
     unfolding take_held Fair
-    fair-held none l r = fair-new l r
-    fair-held (some s) l r = fair-cond (same_bytes s r) (taken l) (refused 10) tt (inl (omega arith, omega arith))
+    fair_held none l r = fair_new l r
+    fair_held (some s) l r = fair_cond (same_bytes s r) (taken l) (refused 10) tt (inl (omega arith, omega arith))
 
-    fair-one : (l : List Rec) (r : Rec) → Fair (take_one p v l r)
+    fair_one : (l : List Rec) (r : Rec) → Fair (take_one p v l r)
     unfolding take_one Fair
-    fair-one l r =
+    fair_one l r =
         let one : Took = cond (is_folded v r) (taken l) (take_held v (by_id (unit r) (num r) l) l r) in
-        fair-cond (well_formed r) (cond (is_listed p (unit r)) one (refused 26)) (refused 7)
-        (fair-cond (is_listed p (unit r)) one (refused 26)
-        (fair-cond (is_folded v r) (taken l) (take_held v (by_id (unit r) (num r) l) l r) tt (fair-held (by_id (unit r) (num r) l) l r))
+        fair_cond (well_formed r) (cond (is_listed p (unit r)) one (refused 26)) (refused 7)
+        (fair_cond (is_listed p (unit r)) one (refused 26)
+        (fair_cond (is_folded v r) (taken l) (take_held v (by_id (unit r) (num r) l) l r) tt (fair_held (by_id (unit r) (num r) l) l r))
         (inr (inl refl)))
         (inl (omega arith, omega arith))
 
-    fair-all : (l rs : List Rec) → Fair (takes_all p v l rs)
+    fair_all : (l rs : List Rec) → Fair (takes_all p v l rs)
     unfolding takes_all Fair
-    fair-all l [] = tt
-    fair-all l (r ∷ rs) = go (λ m. fair-all m rs) (take_one p v l r) (fair-one l r)
+    fair_all l [] = tt
+    fair_all l (r ∷ rs) = go (λ m. fair_all m rs) (take_one p v l r) (fair_one l r)
       where
         go : ((m : List Rec) → Fair (takes_all p v m rs)) → (o : Took) → Fair o → Fair (elim o [ refused n ↦ refused n | taken m ↦ takes_all p v m rs ])
         go h (refused n) f = f
@@ -108,7 +108,7 @@ take_stops archive u log base b h g n =
     records (taken m) f = inl refl
 
     faults : (n : ℕ) → Stop n → Stop (took_block log base b n).number
-    faults zero s = records (takes_on log base (block_records b)) (fair-all (base_in base).list (base_vector base) (records_of log) (block_records b))
+    faults zero s = records (takes_on log base (block_records b)) (fair_all (base_in base).list (base_vector base) (records_of log) (block_records b))
     faults (suc n) s = s
 
 -- ---- a row

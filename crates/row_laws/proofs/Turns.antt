@@ -36,9 +36,9 @@ unfolding try_all
 turns_start archive u base row log n e = rw (sub-zero n, e)
 
 module _ (archive u : ℕ) (base row log : List ℕ) (k n : ℕ) (t : Tried) (q : try_from archive u base row log k (n - k) ≡ t) where
-  pub turns-end : k ≤ n → n ≤ k → tried n 0 log ≡ t
+  pub turns_end : k ≤ n → n ≤ k → tried n 0 log ≡ t
   unfolding try_from
-  turns-end h g = let e : n - k ≡ 0 = omega arith in let f : k ≡ n = omega arith in (rw f) ∙ (rw e at q)
+  turns_end h g = let e : n - k ≡ 0 = omega arith in let f : k ≡ n = omega arith in (rw f) ∙ (rw e at q)
 
   module _ (h : k < n) (a p : ℕ) (log' lent : List ℕ) (c : ℕ) (b : List ℕ) (e : outcome a p log' lent c ≡ take_of archive u log base b) (f : b ≡ block_at row k) where
     number_is : (take_of archive u log base (block_at row k)).number ≡ a
@@ -50,15 +50,15 @@ module _ (archive u : ℕ) (base row log : List ℕ) (k n : ℕ) (t : Tried) (q 
     more : n - k ≡ suc (n - (k + 1))
     more = omega arith
 
-    pub turn-stops : (a ≡ 0 → ⊥) → tried k a log' ≡ t
+    pub turn_stops : (a ≡ 0 → ⊥) → tried k a log' ≡ t
     unfolding try_from
-    turn-stops z =
+    turn_stops z =
         let s : log' ≡ log = sym log_is ∙ ((take-keeps archive u log base (block_at row k)).refused (rw number_is z)).0 in
         (rw s) ∙ (rw (more, number_is, ne_eqb a 0 z) at q)
 
-    pub turn-goes : a ≡ 0 → try_from archive u base row log' (k + 1) (n - (k + 1)) ≡ t
+    pub turn_goes : a ≡ 0 → try_from archive u base row log' (k + 1) (n - (k + 1)) ≡ t
     unfolding try_from
-    turn-goes z = rw (add-one k) (rw (more, number_is, log_is, z, add-one k) at q)
+    turn_goes z = rw (add-one k) (rw (more, number_is, log_is, z, add-one k) at q)
 
 -- ---- no more blocks are taken than there are
 

@@ -45,9 +45,9 @@ module _ (b : List ℕ) (g : Bytes b) where
       let q : (get_or b i 0 + 256 * get_or b (i + 1) 0) / 256 ≡ get_or b (i + 1) 0 = omega arith in
       rw (part-cons b i 1 (omega arith), part-cons b (i + 1) 0 (omega arith), part_none b (i + 1 + 1), p, q)
 
-  four-back : (i : ℕ) → i + 4 ≤ length b → four (long b i) ≡ part b i 4
+  four_back : (i : ℕ) → i + 4 ≤ length b → four (long b i) ≡ part b i 4
   unfolding long
-  four-back i h =
+  four_back i h =
       let w : word b i < 65536 = word_bound b i g in
       let p : (word b i + 65536 * word b (i + 2)) % 65536 ≡ word b i = omega arith in
       let q : (word b i + 65536 * word b (i + 2)) / 65536 ≡ word b (i + 2) = omega arith in
@@ -56,17 +56,17 @@ module _ (b : List ℕ) (g : Bytes b) where
       ∙ (λ k. two_back i (omega arith) k ++ two_back (i + 2) (omega arith) k)
       ∙ sym (part_split b i 2 2)
 
-  counts-back : (at n : ℕ) → n ≤ 8 → at + 2 * n ≤ length b → count_bytes (vector_at b at) n ≡ part b at (2 * n)
+  counts_back : (at n : ℕ) → n ≤ 8 → at + 2 * n ≤ length b → count_bytes (vector_at b at) n ≡ part b at (2 * n)
   unfolding count_bytes
-  counts-back at zero k h = sym (part_none b at)
-  counts-back at (suc n) k h =
+  counts_back at zero k h = sym (part_none b at)
+  counts_back at (suc n) k h =
       let e : 2 * suc n ≡ 2 * n + 2 = omega arith in
       rw (e, part_split b at (2 * n) 2, vector_at_get_d b at n (omega arith), two_back (at + 2 * n) (omega arith))
-      (ap (λ (x : List ℕ). x ++ part b (at + 2 * n) 2) (counts-back at n (omega arith) (omega arith)))
+      (ap (λ (x : List ℕ). x ++ part b (at + 2 * n) 2) (counts_back at n (omega arith) (omega arith)))
 
-  vector-bytes-back : (at : ℕ) → at + 16 ≤ length b → vector_bytes (vector_at b at) ≡ part b at 16
+  vector_bytes_back : (at : ℕ) → at + 16 ≤ length b → vector_bytes (vector_at b at) ≡ part b at 16
   unfolding vector_bytes
-  vector-bytes-back at h = counts-back at 8 (omega arith) h
+  vector_bytes_back at h = counts_back at 8 (omega arith) h
 
 -- ---- records
 
@@ -91,22 +91,22 @@ module _ (t b : List ℕ) (n : length b ≡ 512) (g : Bytes b) (e : block_fault_
   unused : blank (part b (28 + 80 * count_in b) (480 - 80 * count_in b)) ≡ true
   unused = (stored_header b (three_passed t b e).2).2
 
-  length-records : length (block_records b) ≡ count_in b
+  length_records : length (block_records b) ≡ count_in b
   unfolding block_records
-  length-records = length-records_from b 0 (count_in b)
+  length_records = length-records_from b 0 (count_in b)
 
-  head-back : head_as t (header_in b) (length (block_records b)) ≡ part b 0 28
+  head_back : head_as t (header_in b) (length (block_records b)) ≡ part b 0 28
   unfolding head_as header_in archive_in sender_in place_in vector_in count_in
-  head-back =
+  head_back =
       let pair : get_or b 8 0 ∷ get_or b 9 0 ∷ [] ≡ part b 8 2 = sym (part-cons b 8 1 (omega arith) ∙ rw (part-cons b 9 0 (omega arith), part_none b 10)) in
       let l : t ≡ part b 0 4 = sym (part_start b 4 ∙ same_eq (take 4 b) t (three_passed t b e).0) in
-      rw length-records
-      ((λ k. l k ++ (four-back b g 4 (omega arith) k ++ (pair k ++ (two_back b g 10 (omega arith) k ++ vector-bytes-back b g 12 (omega arith) k))))
+      rw length_records
+      ((λ k. l k ++ (four_back b g 4 (omega arith) k ++ (pair k ++ (two_back b g 10 (omega arith) k ++ vector_bytes_back b g 12 (omega arith) k))))
       ∙ sym (part_split b 0 4 24 ∙ rw (part_split b 4 4 20, part_split b 8 2 18, part_split b 10 2 16)))
 
-  places-back : padded 480 (joined (block_records b)) ≡ part b 28 480
+  places_back : padded 480 (joined (block_records b)) ≡ part b 28 480
   unfolding padded block_records
-  places-back =
+  places_back =
       let c : ℕ = count_in b in
       let r : List ℕ = part b 28 (80 * c) in
       let j : joined (records_from b 0 c) ≡ r = records_joined b c 0 in
@@ -118,12 +118,12 @@ module _ (t b : List ℕ) (n : length b ≡ 512) (g : Bytes b) (e : block_fault_
 
   body_back : body_as t (header_in b) (block_records b) ≡ part b 0 508
   unfolding body_as
-  body_back = (λ k. head-back k ++ places-back k) ∙ sym (part_split b 0 28 480)
+  body_back = (λ k. head_back k ++ places_back k) ∙ sym (part_split b 0 28 480)
 
   -- such a block is what writing its own header and records gives
-  pub block-again : block_as t (header_in b) (block_records b) ≡ b
+  pub block_again : block_as t (header_in b) (block_records b) ≡ b
   unfolding block_as sealed
-  block-again =
+  block_again =
       let (p, q) = stored_sums b (three_passed t b e).1 in
       let f : first_to (part b 0 508) 254 ≡ word b 508 = rw (part_start b 508) (first_take b 254 508 (omega arith) ∙ sym p) in
       let s : second_to (part b 0 508) 254 ≡ word b 510 = rw (part_start b 508) (second_take b 254 508 (omega arith) ∙ sym q) in

@@ -21,15 +21,15 @@ use Rattle.block_laws.proofs.Faults.{three_passed}
 use Rattle.run_laws.specs.Fits.{Agreeing}
 
 module _ (t : List ℕ) (r : ℕ) (f : List ℕ) where
-  pub blocks-passed : (n k : ℕ) → (blocks_fault_as t r f k n).number ≡ 0 → (j : ℕ) → k ≤ j → j < k + n → file_block_fault_as t r f j ≡ 0
+  pub blocks_passed : (n k : ℕ) → (blocks_fault_as t r f k n).number ≡ 0 → (j : ℕ) → k ≤ j → j < k + n → file_block_fault_as t r f j ≡ 0
   unfolding blocks_fault_as fault
-  blocks-passed zero k e j a b = absurd (omega arith)
-  blocks-passed (suc n) k e j a b =
+  blocks_passed zero k e j a b = absurd (omega arith)
+  blocks_passed (suc n) k e j a b =
       ⊎_elim
       (λ (h : eqb (file_block_fault_as t r f k) 0 ≡ true).
       ⊎_elim
       (λ (q : k ≡ j). rw (sym q) (eqb-true (file_block_fault_as t r f k) 0 h))
-      (λ (q : k ≡ j → ⊥). blocks-passed n (suc k) (rw h at e) j (omega arith) (omega arith))
+      (λ (q : k ≡ j → ⊥). blocks_passed n (suc k) (rw h at e) j (omega arith) (omega arith))
       (eq_or_ne k j))
       (λ (h : eqb (file_block_fault_as t r f k) 0 ≡ false). let z : file_block_fault_as t r f k ≡ 0 = rw h at e in absurd (eqb-false (file_block_fault_as t r f k) 0 h z))
       (bool_cases (eqb (file_block_fault_as t r f k) 0))
@@ -67,9 +67,9 @@ module _ (t : List ℕ) (r : ℕ) (f : List ℕ) where
       n : ℕ
       n = blocks_in f
 
-  agreeing-passes : (k : ℕ) → Agreeing t r f k → file_block_fault_as t r f k ≡ 0
+  agreeing_passes : (k : ℕ) → Agreeing t r f k → file_block_fault_as t r f k ≡ 0
   unfolding file_block_fault_as agrees_as
-  agreeing-passes k A =
+  agreeing_passes k A =
       rw (
         A.good,
         eq-eqb (place_in (block_at f k)) k A.placed,
@@ -83,7 +83,7 @@ module _ (t : List ℕ) (r : ℕ) (f : List ℕ) where
   pub all_pass : (n k : ℕ) → ((j : ℕ) → k ≤ j → j < k + n → Agreeing t r f j) → blocks_fault_as t r f k n ≡ fault 0 0
   unfolding blocks_fault_as
   all_pass zero k a = refl
-  all_pass (suc n) k a = rw (agreeing-passes k (a k (omega arith) (omega arith))) (all_pass n (suc k) (λ j x y. a j (omega arith) (omega arith)))
+  all_pass (suc n) k a = rw (agreeing_passes k (a k (omega arith) (omega arith))) (all_pass n (suc k) (λ j x y. a j (omega arith) (omega arith)))
 
 -- a file begins with the letters of its first block
 pub begins_with : (t f : List ℕ) → block_fault_as t (block_at f 0) ≡ 0 → same_bytes (take 4 f) t ≡ true

@@ -22,8 +22,8 @@ use Rattle.block_laws.proofs.Fields.{Sized}
 use Rattle.block_laws.proofs.Faults.{three_passed, stored_header}
 use Rattle.run_laws.specs.Fits.{Fits, Agreeing, Holds}
 use Rattle.run_laws.proofs.Again.{Bytes, bytes_drop}
-use Rattle.run_laws.proofs.Runs.{run-rewritten}
-use Rattle.run_laws.proofs.Passed.{blocks-passed, block_passed}
+use Rattle.run_laws.proofs.Runs.{run_rewritten}
+use Rattle.run_laws.proofs.Passed.{blocks_passed, block_passed}
 use Rattle.run_laws.proofs.Written.{none_counted}
 
 -- ---- counts
@@ -77,13 +77,13 @@ module _ (t : List ℕ) (r : ℕ) (f : List ℕ) (whole : length f ≡ 512 * blo
   count k = count_in (block_at f k)
 
   pub agreeing : (k : ℕ) → k < n → Agreeing t r f k
-  agreeing k h = block_passed t r f k (blocks-passed t r f n 0 e k (omega arith) (omega arith))
+  agreeing k h = block_passed t r f k (blocks_passed t r f n 0 e k (omega arith) (omega arith))
 
   few : (k : ℕ) → k < n → count k ≤ 6
   few k h = (stored_header (block_at f k) (three_passed t (block_at f k) (agreeing k h).good).2).1
 
-  pub sender-right : sender_in (block_at f 0) ≤ 7
-  sender-right = (stored_header (block_at f 0) (three_passed t (block_at f 0) (agreeing 0 some).good).2).0
+  pub sender_right : sender_in (block_at f 0) ≤ 7
+  sender_right = (stored_header (block_at f 0) (three_passed t (block_at f 0) (agreeing 0 some).good).2).0
 
   -- the file does not end before its rows
   pub rows_inside : p ≤ n
@@ -108,16 +108,16 @@ module _ (t : List ℕ) (r : ℕ) (f : List ℕ) (whole : length f ≡ 512 * blo
   abbrev rest : List ℕ
   rest = drop (512 * p) f
 
-  rest-bytes : length rest ≡ 512 * (n - p)
-  rest-bytes = omega (arith, length-drop (512 * p) f, whole, rows_inside)
+  rest_bytes : length rest ≡ 512 * (n - p)
+  rest_bytes = omega (arith, length-drop (512 * p) f, whole, rows_inside)
 
-  rest-blocks : blocks_in rest ≡ n - p
+  rest_blocks : blocks_in rest ≡ n - p
   unfolding blocks_in
-  rest-blocks = omega (arith, rest-bytes)
+  rest_blocks = omega (arith, rest_bytes)
 
-  pub rest-block : (j : ℕ) → block_at rest j ≡ block_at f (p + j)
+  pub rest_block : (j : ℕ) → block_at rest j ≡ block_at f (p + j)
   unfolding block_at
-  rest-block j =
+  rest_block j =
       let s : 512 * p + 512 * j ≡ 512 * (p + j) = omega arith in
       part-drop f (512 * p) (512 * j) 512 ∙ ap (λ (i : ℕ). part f i 512) s
 
@@ -125,11 +125,11 @@ module _ (t : List ℕ) (r : ℕ) (f : List ℕ) (whole : length f ≡ 512 * blo
   unfolding records_counted
   counted h =
       let s : p + (n - p - 1) ≡ n - 1 = omega arith in
-      rw (rest-blocks, rest-block (n - p - 1), s)
+      rw (rest_blocks, rest_block (n - p - 1), s)
 
   none : n ≡ p → records_counted rest ≡ 0
   unfolding records_counted
-  none h = rw rest-blocks (omega (arith, none_counted rest (n - p - 1) (omega (arith, rest-bytes))))
+  none h = rw rest_blocks (omega (arith, none_counted rest (n - p - 1) (omega (arith, rest_bytes))))
 
   -- the blocks behind hold as many records as they count
   pub held : Holds r (records_counted rest) (n - p)
@@ -174,7 +174,7 @@ module _ (t : List ℕ) (r : ℕ) (f : List ℕ) (whole : length f ≡ 512 * blo
   unfolding header_of behind
   record_fits j h =
       let A : Agreeing t r f (p + j) = agreeing (p + j) (omega arith) in
-      let q : block_at rest j ≡ block_at f (p + j) = rest-block j in
+      let q : block_at rest j ≡ block_at f (p + j) = rest_block j in
       let m : records_counted rest ≡ 6 * (n - p - 1) + count (n - 1) = counted (omega arith) in
       let c : count (p + j) ≡ min 6 (records_counted rest - 6 * j) =
       ⊎_elim
@@ -199,14 +199,14 @@ module _ (t : List ℕ) (r : ℕ) (f : List ℕ) (whole : length f ≡ 512 * blo
 
   module _ (g : Bytes f) where
     rows_right : run_to t H (file_records_from f 0 r) p ≡ take (512 * p) f
-    rows_right = run-rewritten t H r f g p (omega (arith, whole, rows_inside)) row_fits_lem
+    rows_right = run_rewritten t H r f g p (omega (arith, whole, rows_inside)) row_fits_lem
 
-    records-right : run_to t (behind H p) (file_records rest) (n - p) ≡ rest
+    records_right : run_to t (behind H p) (file_records rest) (n - p) ≡ rest
     unfolding file_records
-    records-right =
-        run-rewritten t (behind H p) (records_counted rest) rest (bytes_drop f (512 * p) g) (n - p) (omega (arith, rest-bytes)) record_fits
-        ∙ take_all (512 * (n - p)) rest (omega (arith, rest-bytes))
+    records_right =
+        run_rewritten t (behind H p) (records_counted rest) rest (bytes_drop f (512 * p) g) (n - p) (omega (arith, rest_bytes)) record_fits
+        ∙ take_all (512 * (n - p)) rest (omega (arith, rest_bytes))
 
     -- its rows and records, written again, are the file
-    pub file-again : run_to t H (file_records_from f 0 r) p ++ run_to t (behind H p) (file_records rest) (n - p) ≡ f
-    file-again = (λ i. rows_right i ++ records-right i) ∙ take-append-drop (512 * p) f
+    pub file_again : run_to t H (file_records_from f 0 r) p ++ run_to t (behind H p) (file_records rest) (n - p) ≡ f
+    file_again = (λ i. rows_right i ++ records_right i) ∙ take-append-drop (512 * p) f

@@ -21,7 +21,7 @@ use Rattle.byte_slice.proofs.Numbers.{lt_or_ge, eq_or_ne}
 use Rattle.byte_slice.proofs.Parts.{part-behind}
 use Rattle.block_laws.proofs.Fields.{Sized}
 use Rattle.run_laws.specs.Fits.{Fits, Agreeing, Holds}
-use Rattle.run_laws.proofs.Runs.{run_length, run_row, run-rows-back, run_fits, enough}
+use Rattle.run_laws.proofs.Runs.{run_length, run_row, run_rows_back, run_fits, enough}
 use Rattle.run_laws.proofs.Passed.{all_pass}
 
 -- ---- counts
@@ -103,15 +103,15 @@ module _ (t : List ℕ) (t4 : length t ≡ 4) (h : Header) (h0 : h.place ≡ 0) 
   front_bytes : length front ≡ 512 * p
   front_bytes = run_length t t4 h rows y p
 
-  back-bytes : length back ≡ 512 * q
-  back-bytes = run_length t t4 (behind h p) l z q
+  back_bytes : length back ≡ 512 * q
+  back_bytes = run_length t t4 (behind h p) l z q
 
-  pub file-bytes : length file ≡ 512 * (p + q)
-  file-bytes = omega (arith, length-append front back, front_bytes, back-bytes)
+  pub file_bytes : length file ≡ 512 * (p + q)
+  file_bytes = omega (arith, length-append front back, front_bytes, back_bytes)
 
-  pub file-blocks : blocks_in file ≡ p + q
+  pub file_blocks : blocks_in file ≡ p + q
   unfolding blocks_in
-  file-blocks = omega (arith, file-bytes)
+  file_blocks = omega (arith, file_bytes)
 
   -- block k of the file
   record Stands (k : ℕ) : Type 0 where
@@ -122,8 +122,8 @@ module _ (t : List ℕ) (t4 : length t ≡ 4) (h : Header) (h0 : h.place ≡ 0) 
     vectored : vector_in (block_at file k) ≡ h.vector
     filled : count_fits_as (length rows) (p + q) k (count_in (block_at file k)) ≡ true
 
-  row_block : (k : ℕ) → k < p → Stands k
-  row_block k b =
+  row_block_lem : (k : ℕ) → k < p → Stands k
+  row_block_lem k b =
       let F : Fits t h (length rows) file k = run_fits t t4 h rows y p k back b u7 v8 in
       record {
         good = F.good;
@@ -134,9 +134,9 @@ module _ (t : List ℕ) (t4 : length t ≡ 4) (h : Header) (h0 : h.place ≡ 0) 
         filled = rw F.filled (count-row (length rows) (p + q) k b (omega arith));
       }
 
-  pub back-block : (j : ℕ) → block_at file (p + j) ≡ block_at back j
+  pub back_block : (j : ℕ) → block_at file (p + j) ≡ block_at back j
   unfolding block_at
-  back-block j =
+  back_block j =
       let e : 512 * (p + j) ≡ length front + 512 * j = omega (arith, front_bytes) in
       rw e (part-behind front back (512 * j) 512)
 
@@ -144,11 +144,11 @@ module _ (t : List ℕ) (t4 : length t ≡ 4) (h : Header) (h0 : h.place ≡ 0) 
   unfolding behind
   back_fits j b = rw append-nil at (run_fits t t4 (behind h p) l z q j [] b u7 v8)
 
-  record-block : (j : ℕ) → j < q → Stands (p + j)
+  record_block : (j : ℕ) → j < q → Stands (p + j)
   unfolding behind
-  record-block j b =
+  record_block j b =
       let F : Fits t (behind h p) (length l) back j = back_fits j b in
-      let e : block_at file (p + j) ≡ block_at back j = back-block j in
+      let e : block_at file (p + j) ≡ block_at back j = back_block j in
       record {
         good = rw e F.good;
         placed = rw e (omega (arith, F.placed));
@@ -158,71 +158,71 @@ module _ (t : List ℕ) (t4 : length t ≡ 4) (h : Header) (h0 : h.place ≡ 0) 
         filled = rw (e, F.filled) (count_record (length rows) (length l) q j Q b);
       }
 
-  any-block : (k : ℕ) → k < p + q → Stands k
-  any-block k b =
+  any_block : (k : ℕ) → k < p + q → Stands k
+  any_block k b =
       ⊎_elim
-      (λ (e : k < p). row_block k e)
-      (λ (e : p ≤ k). let x : k ≡ p + (k - p) = omega arith in rw x (record-block (k - p) (omega arith)))
+      (λ (e : k < p). row_block_lem k e)
+      (λ (e : p ≤ k). let x : k ≡ p + (k - p) = omega arith in rw x (record_block (k - p) (omega arith)))
       (lt_or_ge k p)
 
   first : Stands 0
-  first = any-block 0 Q.some
+  first = any_block 0 Q.some
 
   pub agreeing : (k : ℕ) → k < p + q → Agreeing t (length rows) file k
   agreeing k b =
-      let B : Stands k = any-block k b in
+      let B : Stands k = any_block k b in
       record {
         good = B.good;
         placed = B.placed;
         sent = B.sent ∙ sym first.sent;
         archived = B.archived ∙ sym first.archived;
         vectored = B.vectored ∙ sym first.vectored;
-        filled = rw file-blocks B.filled;
+        filled = rw file_blocks B.filled;
       }
 
   -- the blocks pass
-  pub blocks-pass : blocks_fault_as t (length rows) file 0 (blocks_in file) ≡ fault 0 0
-  blocks-pass = all_pass t (length rows) file (blocks_in file) 0 (λ j a b. agreeing j (omega (arith, file-blocks)))
+  pub blocks_pass : blocks_fault_as t (length rows) file 0 (blocks_in file) ≡ fault 0 0
+  blocks_pass = all_pass t (length rows) file (blocks_in file) 0 (λ j a b. agreeing j (omega (arith, file_blocks)))
 
   -- what the first block says
-  pub archive-read : archive_in (block_at file 0) ≡ h.archive
-  archive-read = first.archived
+  pub archive_read : archive_in (block_at file 0) ≡ h.archive
+  archive_read = first.archived
 
-  pub sender-read : sender_in (block_at file 0) ≡ h.sender
-  sender-read = first.sent
+  pub sender_read : sender_in (block_at file 0) ≡ h.sender
+  sender_read = first.sent
 
-  pub vector-read : vector_in (block_at file 0) ≡ h.vector
-  vector-read = first.vectored
+  pub vector_read : vector_in (block_at file 0) ≡ h.vector
+  vector_read = first.vectored
 
   -- the rows, one by one and together
   pub row_read : (i : ℕ) → i < length rows → file_record file i ≡ get_or rows i []
   row_read i b = run_row t t4 h rows y p back (enough (length rows)) i b
 
-  pub rows-read : file_records_from file 0 (length rows) ≡ rows
-  rows-read = run-rows-back t t4 h rows y p back (enough (length rows))
+  pub rows_read : file_records_from file 0 (length rows) ≡ rows
+  rows_read = run_rows_back t t4 h rows y p back (enough (length rows))
 
   -- the records, in the blocks behind
-  pub record-part : drop (512 * p) file ≡ back
-  record-part = drop_at front back (512 * p) front_bytes
+  pub record_part_lem : drop (512 * p) file ≡ back
+  record_part_lem = drop_at front back (512 * p) front_bytes
 
-  back-blocks : blocks_in back ≡ q
+  back_blocks : blocks_in back ≡ q
   unfolding blocks_in
-  back-blocks = omega (arith, back-bytes)
+  back_blocks = omega (arith, back_bytes)
 
-  back-counted : records_counted back ≡ length l
+  back_counted : records_counted back ≡ length l
   unfolding records_counted
-  back-counted =
-      rw back-blocks
+  back_counted =
+      rw back_blocks
       (⊎_elim
-      (λ (e : q < 1). omega (arith, none_counted back (q - 1) (omega (arith, back-bytes)), Q.all))
+      (λ (e : q < 1). omega (arith, none_counted back (q - 1) (omega (arith, back_bytes)), Q.all))
       (λ (e : 1 ≤ q).
       rw (back_fits (q - 1) (omega arith)).filled
       (counted (length l) q e Q.all (⊎_elim (λ (x : 6 * q < length l + 6). inl x) (λ (x : (length rows ≡ 0) × (q ≡ 1)). inr x.1) Q.tight)))
       (lt_or_ge q 1))
 
-  pub count-read : records_counted (drop (512 * p) file) ≡ length l
-  count-read = rw record-part back-counted
+  pub count_read : records_counted (drop (512 * p) file) ≡ length l
+  count_read = rw record_part_lem back_counted
 
-  pub records-read : file_records (drop (512 * p) file) ≡ l
+  pub records_read : file_records (drop (512 * p) file) ≡ l
   unfolding file_records
-  records-read = rw (record-part, back-counted) (rw append-nil at (run-rows-back t t4 (behind h p) l z q [] Q.all))
+  records_read = rw (record_part_lem, back_counted) (rw append-nil at (run_rows_back t t4 (behind h p) l z q [] Q.all))

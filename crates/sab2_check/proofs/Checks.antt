@@ -8,7 +8,7 @@ use mathlib.Core.List.{List, []}
 use lib.Dec.{leb, eqb}
 use lib.ListN.{get_or, length, take, drop, length-take, length-drop}
 use lib.Seq.{take_all}
-use borrow.Author.Tests.{ne_eqb, eqb-true, leb-true, not-true, not-false}
+use borrow.Author.Tests.{ne_eqb, eqb-true, leb-true, not-true, not_false}
 use Rattle.model.specs.Bytes.{word, part}
 use Rattle.model.specs.Vector.{blocks_for}
 use Rattle.model.specs.Record.{Rec}
@@ -32,37 +32,37 @@ blocks_asked f e = rw e
 -- ---- list and base
 
 module _ (f : List ℕ) {t : Bool} (e : t ≡ rows_hold (sab2_rows f)) where
-  pub rows-fail : not t ≡ true → false ≡ rows_stand (sab2_rows f)
+  pub rows_fail : not t ≡ true → false ≡ rows_stand (sab2_rows f)
   unfolding rows_stand
-  rows-fail h = rw (← e, not-true t h)
+  rows_fail h = rw (← e, not-true t h)
 
   module _ (h : not t ≡ false) {b : List ℕ} (l : t ≡ true → b ≡ sab2_base f) {m n k : ℕ} {v : List ℕ} (eh : headed m v n k ≡ head_of b) where
-    base-is : b ≡ sab2_base f
-    base-is = l (not-false t h)
+    base_is : b ≡ sab2_base f
+    base_is = l (not_false t h)
 
     list_is : m ≡ get_or (sab2_base f) 0 0
     unfolding head_of
-    list_is = ap (λ (x : BaseHead). x.list) eh ∙ rw base-is
+    list_is = ap (λ (x : BaseHead). x.list) eh ∙ rw base_is
 
     vector_is : v ≡ base_vector (sab2_base f)
     unfolding head_of
-    vector_is = ap (λ (x : BaseHead). x.folded) eh ∙ rw base-is
+    vector_is = ap (λ (x : BaseHead). x.folded) eh ∙ rw base_is
 
-    stands-as : rows_stand (sab2_rows f) ≡ (lists_all m v && sound_base b)
+    stands_as : rows_stand (sab2_rows f) ≡ (lists_all m v && sound_base b)
     unfolding rows_stand base_stands sab2_base
-    stands-as = rw (← e, not-false t h, list_is, vector_is, base-is)
+    stands_as = rw (← e, not_false t h, list_is, vector_is, base_is)
 
-    pub list-fails : {u : Bool} → u ≡ lists_all m v → not u ≡ true → false ≡ rows_stand (sab2_rows f)
-    list-fails {u} eu z = sym (stands-as ∙ rw (← eu, not-true u z))
+    pub list_fails : {u : Bool} → u ≡ lists_all m v → not u ≡ true → false ≡ rows_stand (sab2_rows f)
+    list_fails {u} eu z = sym (stands_as ∙ rw (← eu, not-true u z))
 
-    pub base-decides : {u w : Bool} → u ≡ lists_all m v → not u ≡ false → w ≡ sound_base b → w ≡ rows_stand (sab2_rows f)
-    base-decides {u} eu z ew = ew ∙ sym (stands-as ∙ rw (← eu, not-false u z))
+    pub base_decides : {u w : Bool} → u ≡ lists_all m v → not u ≡ false → w ≡ sound_base b → w ≡ rows_stand (sab2_rows f)
+    base_decides {u} eu z ew = ew ∙ sym (stands_as ∙ rw (← eu, not_false u z))
 
 pub none_left : (o s : List ℕ) → false ≡ true → o ≡ s
 none_left o s e = absurd (not_both false e refl)
 
 pub base_left_lem : (f b : List ℕ) {t : Bool} → not t ≡ false → (t ≡ true → b ≡ sab2_base f) → b ≡ sab2_base f
-base_left_lem f b {t} h l = l (not-false t h)
+base_left_lem f b {t} h l = l (not_false t h)
 
 -- rows that keep their layout are few
 two_few : (rows : List Rec) → rows_hold rows ≡ true → (word (get_or rows 0 []) 2 ≤ 512) × (word (get_or rows 0 []) 4 ≤ 512)
@@ -110,33 +110,33 @@ module _ (f : List ℕ) (n : ℕ) (whole : length f ≡ 512 * n) where
     unfolding row_blocks
     inside = rw counted at (rows_inside letters2 (said_rows f) f whole_blocks some_blocks (passed z))
 
-    pub rows-room : 512 * row_blocks f ≤ length f
-    rows-room = omega (arith, inside)
+    pub rows_room : 512 * row_blocks f ≤ length f
+    rows_room = omega (arith, inside)
 
     -- the blocks behind the rows
-    part-rest : take (512 * n - 512 * row_blocks f) (drop (512 * row_blocks f) f) ≡ record_part f
+    part_rest : take (512 * n - 512 * row_blocks f) (drop (512 * row_blocks f) f) ≡ record_part f
     unfolding record_part
-    part-rest = take_all (512 * n - 512 * row_blocks f) (drop (512 * row_blocks f) f) (omega (arith, length-drop (512 * row_blocks f) f))
+    part_rest = take_all (512 * n - 512 * row_blocks f) (drop (512 * row_blocks f) f) (omega (arith, length-drop (512 * row_blocks f) f))
 
-    few-behind : records_counted (record_part f) ≤ 6 * (n - row_blocks f)
+    few_behind : records_counted (record_part f) ≤ 6 * (n - row_blocks f)
     unfolding record_part row_blocks
-    few-behind = rw counted at (held letters2 (said_rows f) f whole_blocks some_blocks (passed z)).all
+    few_behind = rw counted at (held letters2 (said_rows f) f whole_blocks some_blocks (passed z)).all
 
     module _ {p : ℕ} (ep : p ≡ row_blocks f) where
-      pub rows-inside-file : p ≤ n
-      rows-inside-file = omega (arith, inside)
+      pub rows_inside_file : p ≤ n
+      rows_inside_file = omega (arith, inside)
 
-      pub part-order : 512 * p ≤ 512 * n
-      part-order = omega (arith, inside)
+      pub part_order : 512 * p ≤ 512 * n
+      part_order = omega (arith, inside)
 
       pub part_length : length (take (512 * n - 512 * p) (drop (512 * p) f)) ≡ 512 * (n - p)
       part_length = omega (arith, inside, length-take (512 * n - 512 * p) (drop (512 * p) f), length-drop (512 * p) f)
 
       pub part_few : records_counted (take (512 * n - 512 * p) (drop (512 * p) f)) ≤ 6 * (n - p)
-      part_few = rw (ep, part-rest) few-behind
+      part_few = rw (ep, part_rest) few_behind
 
-      pub few-in-front : rows_stand (sab2_rows f) ≡ true → p ≤ 100
-      few-in-front e = omega (arith, few_blocks f e)
+      pub few_in_front : rows_stand (sab2_rows f) ≡ true → p ≤ 100
+      few_in_front e = omega (arith, few_blocks f e)
 
       pub held-behind : (x y : ℕ) {b v : List ℕ} {m i j : ℕ} → b ≡ sab2_base f → headed m v i j ≡ head_of b
           → fault x y ≡ or_else (records_fault_on m v p [] 0 (file_records (take (512 * n - 512 * p) (drop (512 * p) f)))) (counts_fault_on v n (vector_in (take (512 - 0) (drop 0 f))) (file_records (take (512 * n - 512 * p) (drop (512 * p) f))))
@@ -145,69 +145,69 @@ module _ (f : List ℕ) (n : ℕ) (whole : length f ≡ 512 * n) where
       held-behind x y eb eh e =
           let em = ap (λ (x : BaseHead). x.list) eh in
           let ev = ap (λ (x : BaseHead). x.folded) eh in
-          e ∙ rw (em, ev, eb, ep, part-rest)
+          e ∙ rw (em, ev, eb, ep, part_rest)
 
 module _ (f : List ℕ) (n : ℕ) (whole : length f ≡ 512 * n) (r bn bp : ℕ) (er : r ≡ said_rows f) (eb : fault bn bp ≡ blocks_fault_as letters2 r f 0 n) where
-  blocks-are : sab2_blocks_fault f ≡ fault bn bp
+  blocks_are : sab2_blocks_fault f ≡ fault bn bp
   unfolding sab2_blocks_fault
-  blocks-are = rw (blocks_counted f n whole, ← er, ← eb)
+  blocks_are = rw (blocks_counted f n whole, ← er, ← eb)
 
   pub block_refused : (bn ≡ 0 → ⊥) → fault bn bp ≡ sab2_fault f
   unfolding sab2_fault or_else fault
-  block_refused h = sym (rw (blocks-are, ne_eqb bn 0 h))
+  block_refused h = sym (rw (blocks_are, ne_eqb bn 0 h))
 
-  pub blocks-pass : bn ≡ 0 → (sab2_blocks_fault f).number ≡ 0
+  pub blocks_pass : bn ≡ 0 → (sab2_blocks_fault f).number ≡ 0
   unfolding fault
-  blocks-pass z = rw blocks-are z
+  blocks_pass z = rw blocks_are z
 
   pub rows_lie : 1 ≤ n → bn ≡ 0 → 512 * row_blocks f ≤ length f
-  rows_lie some z = rows-room f n whole some (blocks-pass z)
+  rows_lie some z = rows_room f n whole some (blocks_pass z)
 
   module _ (z : bn ≡ 0) {t : Bool} (et : t ≡ rows_stand (sab2_rows f)) where
-    then-held : sab2_fault f ≡ held_fault t (sab2_base f) (row_blocks f) n (vector_in (block_at f 0)) (sab2_records f)
+    then_held : sab2_fault f ≡ held_fault t (sab2_base f) (row_blocks f) n (vector_in (block_at f 0)) (sab2_records f)
     unfolding sab2_fault or_else fault
-    then-held = rw (blocks-are, z, ← et, blocks_counted f n whole)
+    then_held = rw (blocks_are, z, ← et, blocks_counted f n whole)
 
-    pub base-refused : not t ≡ true → fault 31 0 ≡ sab2_fault f
+    pub base_refused : not t ≡ true → fault 31 0 ≡ sab2_fault f
     unfolding held_fault or_else fault
-    base-refused h = sym (then-held ∙ rw (not-true t h))
+    base_refused h = sym (then_held ∙ rw (not-true t h))
 
-    pub stands-so : not t ≡ false → rows_stand (sab2_rows f) ≡ true
-    stands-so h = sym et ∙ not-false t h
+    pub stands_so : not t ≡ false → rows_stand (sab2_rows f) ≡ true
+    stands_so h = sym et ∙ not_false t h
 
-    pub behind-decides : not t ≡ false → (x y : ℕ) → fault x y ≡ held_fault true (sab2_base f) (row_blocks f) n (vector_in (block_at f 0)) (sab2_records f) → fault x y ≡ sab2_fault f
-    behind-decides h x y e = e ∙ sym (then-held ∙ rw (not-false t h))
+    pub behind_decides : not t ≡ false → (x y : ℕ) → fault x y ≡ held_fault true (sab2_base f) (row_blocks f) n (vector_in (block_at f 0)) (sab2_records f) → fault x y ≡ sab2_fault f
+    behind_decides h x y e = e ∙ sym (then_held ∙ rw (not_false t h))
 
 -- ---- the length
 
 module _ (f : List ℕ) {t : Bool} (e : t ≡ (eqb (length f % 512) 0 && (leb 1 (length f / 512) && leb (length f / 512) 186))) where
-  fits-as : sab2_fits (length f) ≡ t
+  fits_as_lem : sab2_fits (length f) ≡ t
   unfolding sab2_fits
-  fits-as = sym e
+  fits_as_lem = sym e
 
-  pub not-whole : not t ≡ true → fault 2 0 ≡ checked_sab2 f
+  pub not_whole : not t ≡ true → fault 2 0 ≡ checked_sab2 f
   unfolding checked_sab2
-  not-whole h = rw (fits-as, not-true t h)
+  not_whole h = rw (fits_as_lem, not-true t h)
 
   module _ (h : not t ≡ false) where
     tests : (length f % 512 ≡ 0) × (1 ≤ length f / 512) × (length f / 512 ≤ 186)
     tests =
-        let (p, q) = and_true (eqb (length f % 512) 0) (leb 1 (length f / 512) && leb (length f / 512) 186) (sym e ∙ not-false t h) in
+        let (p, q) = and_true (eqb (length f % 512) 0) (leb 1 (length f / 512) && leb (length f / 512) 186) (sym e ∙ not_false t h) in
         let (r, s) = and_true (leb 1 (length f / 512)) (leb (length f / 512) 186) q in
         (eqb-true (length f % 512) 0 p, leb-true 1 (length f / 512) r, leb-true (length f / 512) 186 s)
 
-    pub whole-file : length f ≡ 512 * (length f / 512)
-    whole-file = omega (arith, tests.0)
+    pub whole_file : length f ≡ 512 * (length f / 512)
+    whole_file = omega (arith, tests.0)
 
     pub some_block : 1 ≤ length f / 512
     some_block = tests.1
 
-    pub few-file : length f / 512 ≤ 186
-    few-file = tests.2
+    pub few_file : length f / 512 ≤ 186
+    few_file = tests.2
 
     pub whole-checked : (n p : ℕ) → fault n p ≡ sab2_fault f → fault n p ≡ checked_sab2 f
     unfolding checked_sab2
-    whole-checked n p q = q ∙ rw (fits-as, not-false t h)
+    whole-checked n p q = q ∙ rw (fits_as_lem, not_false t h)
 
 -- a refusal leaves nothing to say
 pub number_not : (x : ℕ) (o s : List ℕ) → (x ≡ 0 → ⊥) → x ≡ 0 → o ≡ s

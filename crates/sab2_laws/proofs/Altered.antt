@@ -35,7 +35,7 @@ accepted_summed f e =
     (λ (a : is_sab2 f ≡ true).
     let c = rw (sab2_fault_lem f a) at e in
     let (w, n, _) = Sab2.lengths f c in
-    record { whole = w; sums = λ k h. (three_passed letters2 (block_at f k) (Runs.agreeing letters2 (said_rows f) f w n (Sab2.blocks-right f c) k h).good).1 })
+    record { whole = w; sums = λ k h. (three_passed letters2 (block_at f k) (Runs.agreeing letters2 (said_rows f) f w n (Sab2.blocks_right f c) k h).good).1 })
     (λ (a : is_sab2 f ≡ false).
     let (x, y) = checked-right f (rw (sab1_fault f a) at e) in
     record { whole = (Sab1.lengths f x y).0; sums = λ k h. (three_passed letters (block_at f k) (Sab1.agreeing f x y k h).good).1 })

@@ -24,7 +24,7 @@ use Rattle.byte_slice.proofs.Numbers.{bool_cases}
 use Rattle.run_laws.proofs.Again.{Bytes}
 use Rattle.call_laws.specs.Keeps.{Good, Keeps, Reads}
 use Rattle.call_laws.proofs.States.{sound_back_on}
-use Rattle.call_laws.proofs.Calls.{guarded-cases, guarded-passes, guarded-keeps}
+use Rattle.call_laws.proofs.Calls.{guarded_cases, guarded-passes, guarded-keeps}
 use Rattle.call_laws.proofs.Reading.{read_keeps}
 use Rattle.sab2_laws.proofs.Forms.{sab1_read, sab2_fault_lem}
 use Rattle.sab2_laws.proofs.Written as Written
@@ -42,13 +42,13 @@ module _ (archive u : ℕ) (log base lent : List ℕ) where
   write_done n k g = guarded-passes u log base lent (eqb (length lent) 95232) writtenOut (eq-eqb (length lent) 95232 n) k g
 
   -- and nothing else is
-  pub write-accepted : (write_sab2_of archive u log base lent).number ≡ 0 → Good log base × (u ≤ 7) × (length lent ≡ 95232) × (write_sab2_of archive u log base lent ≡ writtenOut)
+  pub write_accepted : (write_sab2_of archive u log base lent).number ≡ 0 → Good log base × (u ≤ 7) × (length lent ≡ 95232) × (write_sab2_of archive u log base lent ≡ writtenOut)
   unfolding write_sab2_of wrote_sab2
-  write-accepted z =
+  write_accepted z =
       ⊎_elim
       (λ (a, k, g, e). (g, k, eqb-true (length lent) 95232 a, e))
       (λ (n, e). let y : suc n ≡ 0 = rw e at z in absurd (omega arith))
-      (guarded-cases u log base lent (eqb (length lent) 95232) writtenOut)
+      (guarded_cases u log base lent (eqb (length lent) 95232) writtenOut)
 
   -- log and base are only read; a refusal leaves the lent bytes
   pub write_keeps : Keeps log base lent (write_sab2_of archive u log base lent)
@@ -109,9 +109,9 @@ pub call_written_then_read : (archive u : ℕ) (log base lent spare spareBase : 
     ≡ record { number = 0; place = 0; archive = archive; sender = u; records = length (records_of log); vector = held_on log base; log = log; base = base }
 unfolding padded
 call_written_then_read archive u log base lent spare spareBase z n m =
-    let (g, k, _, e) = write-accepted archive u log base lent z in
+    let (g, k, _, e) = write_accepted archive u log base lent z in
     let f : List ℕ = sab2_of archive u base (records_of log) in
-    rw (e, take_at f (replicate (95232 - length f) 0) (512 * sab2_blocks base (records_of log)) (Written.state-bytes archive u log base g k)) (Written.read_is archive u log base g k spare spareBase n m)
+    rw (e, take_at f (replicate (95232 - length f) 0) (512 * sab2_blocks base (records_of log)) (Written.state_bytes archive u log base g k)) (Written.read_is archive u log base g k spare spareBase n m)
 
 -- what a call has read from an SAB2 file, written again under the file's archive and unit, gives the file, and zeros behind it
 pub call_read_then_written : (spare spareBase f lent : List ℕ) → Bytes f → is_sab2 f ≡ true → (read_either_of spare spareBase f).number ≡ 0 → length lent ≡ 95232
@@ -122,7 +122,7 @@ call_read_then_written spare spareBase f lent g s z n =
     let (a, b) = read_accepted spare spareBase f z in
     let c : (checked_sab2 f).number ≡ 0 = rw (sab2_fault_lem f s) at a in
     let l : List Rec = sab2_records f in
-    let r : records_of (log_bytes l) ≡ l = sound_back_on (base_vector (sab2_base f)) l (Rewritten.records-sound f c) (Rewritten.records_few f c) in
+    let r : records_of (log_bytes l) ≡ l = sound_back_on (base_vector (sab2_base f)) l (Rewritten.records_sound f c) (Rewritten.records_few f c) in
     rw (b, read_sab2_lem f s)
-    (write_done (archive_in (block_at f 0)) (sender_in (block_at f 0)) (log_bytes l) (sab2_base f) lent n (Rewritten.sender-right f c) (Rewritten.state f c)
-    ∙ rw (r, Rewritten.file-again f c g, Rewritten.blocks-again f c))
+    (write_done (archive_in (block_at f 0)) (sender_in (block_at f 0)) (log_bytes l) (sab2_base f) lent n (Rewritten.sender_right f c) (Rewritten.state f c)
+    ∙ rw (r, Rewritten.file_again f c g, Rewritten.blocks_again f c))

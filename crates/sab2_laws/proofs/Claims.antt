@@ -45,31 +45,31 @@ Bytes f = (j : ℕ) → get_or f j 0 < 256
 
 module _ (archive u : ℕ) (log base : List ℕ) (g : Good log base) (u7 : u ≤ 7) where
   -- the file of a state has 1 to 186 blocks of 512 bytes
-  pub sab2-one-to-186-blocks : (length (sab2_of archive u base (records_of log)) ≡ 512 * sab2_blocks base (records_of log))
+  pub sab2_one_to_186_blocks : (length (sab2_of archive u base (records_of log)) ≡ 512 * sab2_blocks base (records_of log))
       × (1 ≤ sab2_blocks base (records_of log)) × (sab2_blocks base (records_of log) ≤ 186)
-  sab2-one-to-186-blocks =
-      let (a, b) = Written.state-1-186 archive u log base g u7 in
-      (Written.state-bytes archive u log base g u7, a, b)
+  sab2_one_to_186_blocks =
+      let (a, b) = Written.state_1_186 archive u log base g u7 in
+      (Written.state_bytes archive u log base g u7, a, b)
 
   -- in each of them letters, sums and header are right
-  pub sab2-blocks-right : (k : ℕ) → k < sab2_blocks base (records_of log) → block_fault_as letters2 (block_at (sab2_of archive u base (records_of log)) k) ≡ 0
-  sab2-blocks-right = Written.state-block archive u log base g u7
+  pub sab2_blocks_right : (k : ℕ) → k < sab2_blocks base (records_of log) → block_fault_as letters2 (block_at (sab2_of archive u base (records_of log)) k) ≡ 0
+  sab2_blocks_right = Written.state_block archive u log base g u7
 
   -- row i of list and base stands in place i % 6 of block i / 6
-  pub sab2-row-stands : (i : ℕ) → i < length (base_rows base) → part (sab2_of archive u base (records_of log)) (512 * (i / 6) + (28 + 80 * (i % 6))) 80 ≡ get_or (base_rows base) i []
-  sab2-row-stands = Written.state-row archive u log base g u7
+  pub sab2_row_stands : (i : ℕ) → i < length (base_rows base) → part (sab2_of archive u base (records_of log)) (512 * (i / 6) + (28 + 80 * (i % 6))) 80 ≡ get_or (base_rows base) i []
+  sab2_row_stands = Written.state_row archive u log base g u7
 
   -- record j in place j % 6 of the block j / 6 behind those of the rows
-  pub sab2-record-stands : (j : ℕ) → j < length (records_of log)
+  pub sab2_record_stands : (j : ℕ) → j < length (records_of log)
       → part (sab2_of archive u base (records_of log)) (512 * (blocks_for (length (base_rows base)) + j / 6) + (28 + 80 * (j % 6))) 80 ≡ get_or (records_of log) j []
-  sab2-record-stands = Written.state-record archive u log base g u7
+  sab2_record_stands = Written.state_record archive u log base g u7
 
   -- ---- each state has one file, which reads back as that state
 
-  pub sab2-written-then-read : (spare spareBase : List ℕ) → length spare ≡ 40960 → length spareBase ≡ 43032
+  pub sab2_written_then_read : (spare spareBase : List ℕ) → length spare ≡ 40960 → length spareBase ≡ 43032
       → read_either_of spare spareBase (sab2_of archive u base (records_of log))
       ≡ record { number = 0; place = 0; archive = archive; sender = u; records = length (records_of log); vector = held_on log base; log = log; base = base }
-  sab2-written-then-read = Written.read_is archive u log base g u7
+  sab2_written_then_read = Written.read_is archive u log base g u7
 
 -- equal files are of equal states
 pub one_file : (archive other u v : ℕ) (log base log' base' : List ℕ) → Good log base → Good log' base' → u ≤ 7 → v ≤ 7
@@ -80,9 +80,9 @@ one_file archive other u v log base log' base' g g' u7 v7 e =
     let s : List ℕ = replicate 40960 0 in
     let t : List ℕ = replicate 43032 0 in
     let x =
-    sym (sab2-written-then-read archive u log base g u7 s t n m)
+    sym (sab2_written_then_read archive u log base g u7 s t n m)
     ∙ ap (λ (f : List ℕ). read_either_of s t f) e
-    ∙ sab2-written-then-read other v log' base' g' v7 s t n m in
+    ∙ sab2_written_then_read other v log' base' g' v7 s t n m in
     (ap (λ (r : ReadBack). r.archive) x, ap (λ (r : ReadBack). r.sender) x, ap (λ (r : ReadBack). r.log) x, ap (λ (r : ReadBack). r.base) x)
 
 -- ---- demand 2: read back as written, written again the same bytes, the tree of the replay
@@ -96,7 +96,7 @@ sab2_call_written_then_read = Calls.call_written_then_read
 -- an accepted SAB2 file is the file of the list, base and records that it holds, under its own archive and unit
 pub sab2_read_then_written : (f : List ℕ) → Bytes f → is_sab2 f ≡ true → (either_fault f).number ≡ 0
     → sab2_of (archive_in (block_at f 0)) (sender_in (block_at f 0)) (sab2_base f) (sab2_records f) ≡ f
-sab2_read_then_written f g s e = Rewritten.file-again f (rw (Forms.sab2_fault_lem f s) at e) g
+sab2_read_then_written f g s e = Rewritten.file_again f (rw (Forms.sab2_fault_lem f s) at e) g
 
 -- and so by the calls: the file, and zeros behind it
 pub sab2_call_read_then_written : (spare spareBase f lent : List ℕ) → Bytes f → is_sab2 f ≡ true → (read_either_of spare spareBase f).number ≡ 0 → length lent ≡ 95232
@@ -111,7 +111,7 @@ unfolding tree_of
 sab2_holds_a_state f s e =
     let c = rw (Forms.sab2_fault_lem f s) at e in
     let l : List Rec = sab2_records f in
-    (Rewritten.state f c, ap (replay_from (base_tree (sab2_base f))) (sound_back_on (base_vector (sab2_base f)) l (Rewritten.records-sound f c) (Rewritten.records_few f c)))
+    (Rewritten.state f c, ap (replay_from (base_tree (sab2_base f))) (sound_back_on (base_vector (sab2_base f)) l (Rewritten.records_sound f c) (Rewritten.records_few f c)))
 
 -- reading a file of either form leaves a good state, or log and base as they were
 pub read_either_keeps : (log base f : List ℕ) → Reads log base (read_either_of log base f)
@@ -130,7 +130,7 @@ sab1_there_and_back f lent spare g e n m = Ways.there_and_back f e g lent spare 
 -- it reads as it did: the same archive, unit and log, an empty base, all eight listed
 pub sab1_as_sab2_reads : (f spare spareBase : List ℕ) → (checked_fault f).number ≡ 0 → length spare ≡ 40960 → length spareBase ≡ 43032
     → read_either_of spare spareBase (as_sab2 f) ≡ read_of spare spareBase f
-sab1_as_sab2_reads f spare spareBase e n m = Ways.up-reads f e spare spareBase n m ∙ Forms.sab1_read spare spareBase f (Ways.is-sab1 f e)
+sab1_as_sab2_reads f spare spareBase e n m = Ways.up_reads f e spare spareBase n m ∙ Forms.sab1_read spare spareBase f (Ways.is_sab1 f e)
 
 -- ---- the reading program accepts both and counts unfolded records
 
@@ -159,7 +159,7 @@ short_is_sab1 = Forms.short_begins
 
 -- an accepted file is of the form that its letters say
 pub accepted_sab1_is_sab1 : (f : List ℕ) → (checked_fault f).number ≡ 0 → is_sab2 f ≡ false
-accepted_sab1_is_sab1 f e = Ways.is-sab1 f e
+accepted_sab1_is_sab1 f e = Ways.is_sab1 f e
 
 -- ---- K1 accepts SAB1 only, a conversion only its starting form: 3 at place 0, or 2 for a length that the form has not
 
@@ -189,8 +189,8 @@ pub back_29_exactly : (f lent : List ℕ) → length lent ≡ 44032
     → ((to_sab1_of f lent).number ≡ 29) ↔ (((checked_sab2 f).number ≡ 0) × (blank (base_vector (sab2_base f)) ≡ false))
 unfolding fault
 back_29_exactly f lent n = (
-  λ e. Numbers.only-29 f (sym (Numbers.back_number f lent n) ∙ e),
-  λ (a, b). Numbers.back_number f lent n ∙ ap (λ (x : Fault). x.number) (Numbers.way-29 f a b),
+  λ e. Numbers.only_29 f (sym (Numbers.back_number f lent n) ∙ e),
+  λ (a, b). Numbers.back_number f lent n ∙ ap (λ (x : Fault). x.number) (Numbers.way_29 f a b),
 )
 
 -- of another file only the list is lost: its base is empty but for that, and its records are written and read back
@@ -201,8 +201,8 @@ pub back_loses_only_the_list : (f lent spare spareBase : List ℕ) → (checked_
     × (base_in (sab2_base f) ≡ record { list = get_or (sab2_base f) 0 0; vector = no_counts; tree = empty_tree })
 back_loses_only_the_list f lent spare spareBase e b n m k = (
   ap (λ c. c.lent) (Empty.back_done f e b lent n),
-  ap (λ (r : ReadBack). r.log) (Empty.back-reads f e b spare spareBase m k),
-  Empty.base-empty f e b,
+  ap (λ (r : ReadBack). r.log) (Empty.back_reads f e b spare spareBase m k),
+  Empty.base_empty f e b,
 )
 
 -- ---- 31 after the block checks and before the records, at place 0, for a list or base that breaks the layout or that K10 answers with 19
@@ -225,7 +225,7 @@ unsound_base_gives_31 archive u base l b z m k s = Written.unsound_31 archive u 
 
 -- a sound state never is
 pub sound_state_gives_none : (archive u : ℕ) (log base : List ℕ) → Good log base → u ≤ 7 → either_fault (sab2_of archive u base (records_of log)) ≡ fault 0 0
-sound_state_gives_none archive u log base g k = Written.either-faultless archive u log base g k
+sound_state_gives_none archive u log base g k = Written.either_faultless archive u log base g k
 
 -- ---- a changed single byte of an accepted file of either form is refused
 

@@ -25,7 +25,7 @@ use Rattle.call_laws.proofs.Given.{blank_none, base_eight}
 use Rattle.file_laws.proofs.Written as Sab1
 use Rattle.sab2_laws.proofs.Forms.{sab1_read}
 use Rattle.sab2_laws.proofs.Rewritten as Rewritten
-use Rattle.sab2_laws.proofs.Ways.{is-sab1}
+use Rattle.sab2_laws.proofs.Ways.{is_sab1}
 
 -- no identity is named in a vector that counts nothing
 none_named : (v : List ℕ) (k : ℕ) → v ≡ no_counts → NamedIn v k → ⊥
@@ -48,17 +48,17 @@ module _ (f : List ℕ) (e : (checked_sab2 f).number ≡ 0) (b : blank (base_vec
   none = blank_none (base_vector (sab2_base f)) (base_eight (sab2_base f)) b
 
   -- list, zero vector, no entry and no aside
-  pub base-empty : base_in (sab2_base f) ≡ record { list = get_or (sab2_base f) 0 0; vector = no_counts; tree = empty_tree }
+  pub base_empty : base_in (sab2_base f) ≡ record { list = get_or (sab2_base f) 0 0; vector = no_counts; tree = empty_tree }
   unfolding base_in
-  base-empty =
+  base_empty =
       let t : base_tree (sab2_base f) ≡ empty_tree = none-folded (base_vector (sab2_base f)) (base_tree (sab2_base f)) none (sound_tree (sab2_base f) (Rewritten.base_long f e) (Rewritten.base_sound f e)) in
       λ i. record { list = get_or (sab2_base f) 0 0; vector = none i; tree = t i }
 
   sound : Sound (sab2_records f)
-  sound = rw none at (Rewritten.records-sound f e)
+  sound = rw none at (Rewritten.records_sound f e)
 
   own : sender_in (block_at f 0) ≤ 7
-  own = Rewritten.sender-right f e
+  own = Rewritten.sender_right f e
 
   -- the way back is taken
   pub back_done : (lent : List ℕ) → length lent ≡ 44032 → to_sab1_of f lent ≡ converted 0 0 (block_count (length (sab2_records f))) (padded 44032 (as_sab1 f))
@@ -66,7 +66,7 @@ module _ (f : List ℕ) (e : (checked_sab2 f).number ≡ 0) (b : blank (base_vec
   back_done lent n = rw (eq-eqb (length lent) 44032 n, eq-eqb (checked_sab2 f).number 0 e, b)
 
   -- and its file reads as the same archive, unit and log, with all eight listed and nothing folded
-  pub back-reads : (spare spareBase : List ℕ) → length spare ≡ 40960 → length spareBase ≡ 43032
+  pub back_reads : (spare spareBase : List ℕ) → length spare ≡ 40960 → length spareBase ≡ 43032
       → read_either_of spare spareBase (as_sab1 f)
       ≡ record {
         number = 0;
@@ -79,8 +79,8 @@ module _ (f : List ℕ) (e : (checked_sab2 f).number ≡ 0) (b : blank (base_vec
         base = empty_base;
       }
   unfolding as_sab1
-  back-reads spare spareBase n m =
+  back_reads spare spareBase n m =
       let r = Sab1.read_is (archive_in (block_at f 0)) (sender_in (block_at f 0)) (sab2_records f) sound (Rewritten.records_few f e) own spare spareBase n m in
-      let c = Sab1.checked-is (archive_in (block_at f 0)) (sender_in (block_at f 0)) (sab2_records f) sound (Rewritten.records_few f e) own in
+      let c = Sab1.checked_is (archive_in (block_at f 0)) (sender_in (block_at f 0)) (sab2_records f) sound (Rewritten.records_few f e) own in
       let file : List ℕ = file_of (archive_in (block_at f 0)) (sender_in (block_at f 0)) (sab2_records f) in
-      sab1_read spare spareBase file (is-sab1 file c) ∙ r
+      sab1_read spare spareBase file (is_sab1 file c) ∙ r

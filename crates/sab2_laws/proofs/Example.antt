@@ -15,7 +15,7 @@ use Rattle.sab2_model.specs.Sab2.{sab2_of, sab2_base, base_stands, checked_sab2,
 use Rattle.sab2_model.specs.Calls.{to_sab1_of}
 use Rattle.tree_laws.proofs.Trees.{sound_empty}
 use Rattle.base_laws.specs.Laid.{Lays}
-use Rattle.base_laws.proofs.LaidTree.{bytes-length}
+use Rattle.base_laws.proofs.LaidTree.{bytes_length}
 use Rattle.base_laws.proofs.Claims.{laid_back, laid_sound}
 use Rattle.call_laws.specs.Keeps.{Good}
 use Rattle.call_laws.proofs.States.{all_listed, state_good}
@@ -42,7 +42,7 @@ abbrev base : ℕ → List ℕ
 base m = base_bytes (folded m)
 
 long : (m : ℕ) → length (base m) ≡ 43032
-long m = bytes-length (folded m) (lays m)
+long m = bytes_length (folded m) (lays m)
 
 sound : (m : ℕ) → sound_base (base m) ≡ true
 sound m = laid_sound (folded m) (lays m)
@@ -67,8 +67,8 @@ pub no_way_back : (lent : List ℕ) → length lent ≡ 44032 → (to_sab1_of (s
 unfolding blank fault
 no_way_back lent n =
     let f : List ℕ = sab2_of 7 3 (base 255) (records_of (log_bytes [])) in
-    let b : blank (base_vector (sab2_base f)) ≡ false = rw (Written.state-base 7 3 (log_bytes []) (base 255) state (omega arith), vector_is 255) in
-    let e : (checked_sab2 f).number ≡ 0 = rw (Written.state-faultless 7 3 (log_bytes []) (base 255) state (omega arith)) in
+    let b : blank (base_vector (sab2_base f)) ≡ false = rw (Written.state_base 7 3 (log_bytes []) (base 255) state (omega arith), vector_is 255) in
+    let e : (checked_sab2 f).number ≡ 0 = rw (Written.state_faultless 7 3 (log_bytes []) (base 255) state (omega arith)) in
     (back_29_exactly f lent n).1 (e, b)
 
 -- with no unit listed the file is refused with 31

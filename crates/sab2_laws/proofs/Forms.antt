@@ -49,14 +49,14 @@ module _ (t f : List ℕ) (r : ℕ) (e : same_bytes (take 4 f) t ≡ false) wher
   unfolding block_fault_as block_at part
   first_block = rw (take-take 4 512 f (omega arith), e)
 
-  first-fault : file_block_fault_as t r f 0 ≡ 3
+  first_fault_lem : file_block_fault_as t r f 0 ≡ 3
   unfolding file_block_fault_as
-  first-fault = rw first_block
+  first_fault_lem = rw first_block
 
-  pub other-letters : (n : ℕ) → 1 ≤ n → blocks_fault_as t r f 0 n ≡ fault 3 0
+  pub other_letters : (n : ℕ) → 1 ≤ n → blocks_fault_as t r f 0 n ≡ fault 3 0
   unfolding blocks_fault_as
-  other-letters zero h = absurd (omega arith)
-  other-letters (suc n) h = rw first-fault
+  other_letters zero h = absurd (omega arith)
+  other_letters (suc n) h = rw first_fault_lem
 
 -- ---- each form under the checks of the other: 3 at place 0, or 2 for a length that these do not take
 
@@ -71,7 +71,7 @@ pub sab2_as_sab1 : (f : List ℕ) → is_sab2 f ≡ true → checked_fault f ≡
 unfolding file_fault or_else fault
 sab2_as_sab1 f e =
     ⊎_elim
-    (λ (a : file_length f ≡ true). rw (a, blocks_fault_sab1 f (blocks_in f) 0, other-letters letters f 0 (not_both f e) (blocks_in f) (some_blocks f a)))
+    (λ (a : file_length f ≡ true). rw (a, blocks_fault_sab1 f (blocks_in f) 0, other_letters letters f 0 (not_both f e) (blocks_in f) (some_blocks f a)))
     (λ (a : file_length f ≡ false). rw a)
     (bool_cases (file_length f))
 
@@ -79,7 +79,7 @@ pub sab1_as_sab2 : (f : List ℕ) → is_sab2 f ≡ false → checked_sab2 f ≡
 unfolding checked_sab2 sab2_fault sab2_blocks_fault is_sab2 or_else fault
 sab1_as_sab2 f e =
     ⊎_elim
-    (λ (a : sab2_fits (length f) ≡ true). rw (a, other-letters letters2 f (said_rows f) e (blocks_in f) (fits_from f a).1))
+    (λ (a : sab2_fits (length f) ≡ true). rw (a, other_letters letters2 f (said_rows f) e (blocks_in f) (fits_from f a).1))
     (λ (a : sab2_fits (length f) ≡ false). rw a)
     (bool_cases (sab2_fits (length f)))
 

@@ -41,12 +41,12 @@ unfolding read_either read_sab2 either_listing sab2_lines state_lines tree_of ei
 listed_sab2 f s e =
     let l : List Rec = sab2_records f in
     let b : List ℕ = sab2_base f in
-    let r : records_of (log_bytes l) ≡ l = sound_back_on (base_vector b) l (Sab2.records-sound f e) (Sab2.records_few f e) in
+    let r : records_of (log_bytes l) ≡ l = sound_back_on (base_vector b) l (Sab2.records_sound f e) (Sab2.records_few f e) in
     record {
       good = rw s (Sab2.state f e);
       counted = rw s (count_sab2 f ∙ ap (λ (x : List Rec). length x) (sym r));
-      vector = rw (s, r) (sym (Sab2.vector-right f e));
-      lines = rw (s, eq-eqb (checked_sab2 f).number 0 e, r, count_sab2 f, Sab2.vector-right f e);
+      vector = rw (s, r) (sym (Sab2.vector_right f e));
+      lines = rw (s, eq-eqb (checked_sab2 f).number 0 e, r, count_sab2 f, Sab2.vector_right f e);
     }
 
 listed_sab1 : (f : List ℕ) → is_sab2 f ≡ false → (checked_fault f).number ≡ 0 → Listed f
@@ -56,7 +56,7 @@ listed_sab1 f s e =
     let (h, k) = file_records_lem f y in
     let l : List Rec = file_records f in
     let r : records_of (log_bytes l) ≡ l = sound_back l (sound_means l h) k in
-    let v : vector_on (base_vector empty_base) l ≡ vector_in (block_at f 0) = ap (λ (w : List ℕ). vector_on w l) empty_vector ∙ vector_on-none l ∙ sym (Sab1.vector-right f x y) in
+    let v : vector_on (base_vector empty_base) l ≡ vector_in (block_at f 0) = ap (λ (w : List ℕ). vector_on w l) empty_vector ∙ vector_on-none l ∙ sym (Sab1.vector_right f x y) in
     record {
       good = rw s (fresh_good l (sound_means l h) k);
       counted = rw s (count_sab1 f ∙ ap (λ (z : List Rec). length z) (sym r));

@@ -20,7 +20,7 @@ use Rattle.sab2_model.specs.Sab2.{sab2_fits, said_rows, row_blocks, sab2_blocks_
 use Rattle.sab2_model.specs.Calls.{or_converted, way_back, to_sab1_of}
 use Rattle.byte_slice.proofs.Numbers.{bool_cases, eq_or_ne}
 use Rattle.run_laws.proofs.Sab1.{blocks_fault_sab1}
-use Rattle.held_laws.proofs.Held.{else_other, else_small, held-31, held_small, fault_sab1}
+use Rattle.held_laws.proofs.Held.{else_other, else_small, held_31, held_small, fault_sab1}
 use Rattle.sab2_laws.proofs.Forms.{sab1_fault, sab2_fault_lem}
 
 -- ---- the blocks: 3, 4, 5, 20 or 0
@@ -72,9 +72,9 @@ module _ (f : List ℕ) where
   abbrev held : Bool → Fault
   held s = held_fault s (sab2_base f) (row_blocks f) (blocks_in f) (vector_in (block_at f 0)) (sab2_records f)
 
-  sab2-blocks-small : (sab2_blocks_fault f).number ≤ 26
+  sab2_blocks_small : (sab2_blocks_fault f).number ≤ 26
   unfolding sab2_blocks_fault
-  sab2-blocks-small = blocks_small letters2 (said_rows f) f (blocks_in f) 0
+  sab2_blocks_small = blocks_small letters2 (said_rows f) f (blocks_in f) 0
 
   -- a number above those of blocks and records is answered where list and base are judged
   above : (n : ℕ) → 27 ≤ n → (checked_sab2 f).number ≡ n → (sab2_fits (length f) ≡ true) × ((sab2_blocks_fault f).number ≡ 0) × ((held (rows_stand (sab2_rows f))).number ≡ n)
@@ -82,7 +82,7 @@ module _ (f : List ℕ) where
   above n h e =
       ⊎_elim
       (λ (a : sab2_fits (length f) ≡ true).
-      let (x, y) = else_other (sab2_blocks_fault f) (held (rows_stand (sab2_rows f))) n (rw a at e) (λ z. omega (arith, sab2-blocks-small)) in
+      let (x, y) = else_other (sab2_blocks_fault f) (held (rows_stand (sab2_rows f))) n (rw a at e) (λ z. omega (arith, sab2_blocks_small)) in
       (a, x, y))
       (λ (a : sab2_fits (length f) ≡ false). let z : 2 ≡ n = rw a at e in absurd (omega arith))
       (bool_cases (sab2_fits (length f)))
@@ -93,29 +93,29 @@ module _ (f : List ℕ) where
       ⊎_elim
       (λ (a : rows_stand (sab2_rows f) ≡ true). absurd (omega (arith, (rw a at e), held_small (sab2_base f) (row_blocks f) (blocks_in f) (vector_in (block_at f 0)) (sab2_records f))))
       (λ (a : rows_stand (sab2_rows f) ≡ false).
-      let z : (fault 31 0).number ≡ n = rw (a, held-31 (sab2_base f) (row_blocks f) (blocks_in f) (vector_in (block_at f 0)) (sab2_records f)) at e in
+      let z : (fault 31 0).number ≡ n = rw (a, held_31 (sab2_base f) (row_blocks f) (blocks_in f) (vector_in (block_at f 0)) (sab2_records f)) at e in
       (a, sym z))
       (bool_cases (rows_stand (sab2_rows f)))
 
   -- 31 at place 0 where the blocks pass and list and base do not stand
   pub unsound_31 : sab2_fits (length f) ≡ true → (sab2_blocks_fault f).number ≡ 0 → rows_stand (sab2_rows f) ≡ false → checked_sab2 f ≡ fault 31 0
   unfolding checked_sab2 sab2_fault or_else
-  unsound_31 a b c = rw (a, eq-eqb (sab2_blocks_fault f).number 0 b, c) (held-31 (sab2_base f) (row_blocks f) (blocks_in f) (vector_in (block_at f 0)) (sab2_records f))
+  unsound_31 a b c = rw (a, eq-eqb (sab2_blocks_fault f).number 0 b, c) (held_31 (sab2_base f) (row_blocks f) (blocks_in f) (vector_in (block_at f 0)) (sab2_records f))
 
   -- and nowhere else
-  pub only-31 : (checked_sab2 f).number ≡ 31 → (sab2_fits (length f) ≡ true) × ((sab2_blocks_fault f).number ≡ 0) × (rows_stand (sab2_rows f) ≡ false)
-  only-31 e = let (a, b, c) = above 31 (omega arith) e in (a, b, (unsound 31 (omega arith) c).0)
+  pub only_31 : (checked_sab2 f).number ≡ 31 → (sab2_fits (length f) ≡ true) × ((sab2_blocks_fault f).number ≡ 0) × (rows_stand (sab2_rows f) ≡ false)
+  only_31 e = let (a, b, c) = above 31 (omega arith) e in (a, b, (unsound 31 (omega arith) c).0)
 
   -- 29 is never answered by these checks
-  pub not-29 : (checked_sab2 f).number ≡ 29 → ⊥
-  not-29 e = let (a, b, c) = above 29 (omega arith) e in omega (arith, (unsound 29 (omega arith) c).1)
+  pub not_29 : (checked_sab2 f).number ≡ 29 → ⊥
+  not_29 e = let (a, b, c) = above 29 (omega arith) e in omega (arith, (unsound 29 (omega arith) c).1)
 
 -- ---- either form
 
 pub either_31 : (f : List ℕ) → (either_fault f).number ≡ 31 → (is_sab2 f ≡ true) × (sab2_fits (length f) ≡ true) × ((sab2_blocks_fault f).number ≡ 0) × (rows_stand (sab2_rows f) ≡ false)
 either_31 f e =
     ⊎_elim
-    (λ (a : is_sab2 f ≡ true). let (x, y, z) = only-31 f (rw (sab2_fault_lem f a) at e) in (a, x, y, z))
+    (λ (a : is_sab2 f ≡ true). let (x, y, z) = only_31 f (rw (sab2_fault_lem f a) at e) in (a, x, y, z))
     (λ (a : is_sab2 f ≡ false). absurd (omega (arith, sab1_small f, (rw (sab1_fault f a) at e))))
     (bool_cases (is_sab2 f))
 
@@ -135,14 +135,14 @@ unfolding to_sab1_of
 back_number f lent h = converts 44032 (way_back (checked_sab2 f) (base_vector (sab2_base f))) _ _ lent h
 
 module _ (f : List ℕ) where
-  pub way-29 : (checked_sab2 f).number ≡ 0 → blank (base_vector (sab2_base f)) ≡ false → way_back (checked_sab2 f) (base_vector (sab2_base f)) ≡ fault 29 0
+  pub way_29 : (checked_sab2 f).number ≡ 0 → blank (base_vector (sab2_base f)) ≡ false → way_back (checked_sab2 f) (base_vector (sab2_base f)) ≡ fault 29 0
   unfolding way_back or_else
-  way-29 e b = rw (eq-eqb (checked_sab2 f).number 0 e, b)
+  way_29 e b = rw (eq-eqb (checked_sab2 f).number 0 e, b)
 
-  pub only-29 : (way_back (checked_sab2 f) (base_vector (sab2_base f))).number ≡ 29 → ((checked_sab2 f).number ≡ 0) × (blank (base_vector (sab2_base f)) ≡ false)
+  pub only_29 : (way_back (checked_sab2 f) (base_vector (sab2_base f))).number ≡ 29 → ((checked_sab2 f).number ≡ 0) × (blank (base_vector (sab2_base f)) ≡ false)
   unfolding way_back fault
-  only-29 e =
-      let (a, b) = else_other (checked_sab2 f) (fault (whole_number (base_vector (sab2_base f))) 0) 29 e (not-29 f) in (
+  only_29 e =
+      let (a, b) = else_other (checked_sab2 f) (fault (whole_number (base_vector (sab2_base f))) 0) 29 e (not_29 f) in (
         a,
         ⊎_elim
             (λ (h : blank (base_vector (sab2_base f)) ≡ true). let z : ◌≡◌ {A = ℕ} 0 29 = rw h at b in absurd (omega arith))

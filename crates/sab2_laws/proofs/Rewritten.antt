@@ -27,11 +27,11 @@ use Rattle.log_laws.proofs.Tests.{vector_on_get_d, sound_means_on}
 use Rattle.run_laws.proofs.Records.{length-file_records}
 use Rattle.run_laws.proofs.Again.{Bytes}
 use Rattle.run_laws.proofs.Rewritten as Runs
-use Rattle.held_laws.proofs.Records.{faultless-sound}
-use Rattle.held_laws.proofs.Held.{no_fault, held-from}
+use Rattle.held_laws.proofs.Records.{faultless_sound}
+use Rattle.held_laws.proofs.Held.{no_fault, held_from}
 use Rattle.call_laws.specs.Keeps.{Good}
 use Rattle.call_laws.proofs.States.{lists_at, all_lists, state_good}
-use Rattle.sab2_row_laws.proofs.Rows.{length_from, rows-of-base}
+use Rattle.sab2_row_laws.proofs.Rows.{length_from, rows_of_base}
 use Rattle.sab2_row_laws.proofs.Bases.{row_count_lem, sound_laid}
 use Rattle.sab2_laws.proofs.Counts.{holds_for, some_said, fits_from}
 
@@ -74,7 +74,7 @@ written_again : (f : List ℕ) → length f ≡ 512 * blocks_in f → 1 ≤ bloc
     ++ run_to letters2 (behind (header_of (archive_in (block_at f 0)) (sender_in (block_at f 0)) 0 (vector_in (block_at f 0))) (row_blocks f)) (sab2_records f) (blocks_in f - row_blocks f)
     ≡ f
 unfolding sab2_rows sab2_records record_part row_blocks
-written_again f a b e g = Runs.file-again letters2 (said_rows f) f a b e g
+written_again f a b e g = Runs.file_again letters2 (said_rows f) f a b e g
 
 module _ (f : List ℕ) (e : (checked_sab2 f).number ≡ 0) where
   pub lengths : (length f ≡ 512 * blocks_in f) × (1 ≤ blocks_in f) × (blocks_in f ≤ 186)
@@ -87,17 +87,17 @@ module _ (f : List ℕ) (e : (checked_sab2 f).number ≡ 0) where
       no_fault (sab2_blocks_fault f) (held_fault (rows_stand (sab2_rows f)) (sab2_base f) (row_blocks f) (blocks_in f) (vector_in (block_at f 0)) (sab2_records f))
       (checked-right f e).1
 
-  pub blocks-right : (blocks_fault_as letters2 (said_rows f) f 0 (blocks_in f)).number ≡ 0
+  pub blocks_right : (blocks_fault_as letters2 (said_rows f) f 0 (blocks_in f)).number ≡ 0
   unfolding sab2_blocks_fault
-  blocks-right = faults.0
+  blocks_right = faults.0
 
   held : (rows_stand (sab2_rows f) ≡ true)
       × ((records_fault_on (get_or (sab2_base f) 0 0) (base_vector (sab2_base f)) (row_blocks f) [] 0 (sab2_records f)).number ≡ 0)
       × (vector_in (block_at f 0) ≡ vector_on (base_vector (sab2_base f)) (sab2_records f))
-  held = held-from (sab2_base f) (row_blocks f) (blocks_in f) (vector_in (block_at f 0)) (sab2_records f) (rows_stand (sab2_rows f)) faults.1
+  held = held_from (sab2_base f) (row_blocks f) (blocks_in f) (vector_in (block_at f 0)) (sab2_records f) (rows_stand (sab2_rows f)) faults.1
 
-  pub vector-right : vector_in (block_at f 0) ≡ vector_on (base_vector (sab2_base f)) (sab2_records f)
-  vector-right = held.2
+  pub vector_right : vector_in (block_at f 0) ≡ vector_on (base_vector (sab2_base f)) (sab2_records f)
+  vector_right = held.2
 
   -- ---- its rows
 
@@ -108,12 +108,12 @@ module _ (f : List ℕ) (e : (checked_sab2 f).number ≡ 0) where
   unfolding sab2_rows
   rows_length = length-file_records f 0 (said_rows f)
 
-  rows-80 : Sized (sab2_rows f)
+  rows_80 : Sized (sab2_rows f)
   unfolding sab2_rows
-  rows-80 = Runs.rows_sized letters2 (said_rows f) f lengths.0 lengths.1 blocks-right
+  rows_80 = Runs.rows_sized letters2 (said_rows f) f lengths.0 lengths.1 blocks_right
 
-  rows-said : length (sab2_rows f) ≡ rows_said (get_or (sab2_rows f) 0 [])
-  rows-said = rows_length ∙ rw (first_row f) (said_first f)
+  rows_said_lem : length (sab2_rows f) ≡ rows_said (get_or (sab2_rows f) 0 [])
+  rows_said_lem = rows_length ∙ rw (first_row f) (said_first f)
 
   stand : (rows_hold (sab2_rows f) ≡ true) × (lists_all (get_or (sab2_base f) 0 0) (base_vector (sab2_base f)) ≡ true) × (sound_base (sab2_base f) ≡ true)
   unfolding rows_stand base_stands sab2_base
@@ -128,20 +128,20 @@ module _ (f : List ℕ) (e : (checked_sab2 f).number ≡ 0) where
 
   pub base_long : length (sab2_base f) ≡ 43032
   unfolding sab2_base
-  base_long = length_from (sab2_rows f) rows-80 rows-said stand.0
+  base_long = length_from (sab2_rows f) rows_80 rows_said_lem stand.0
 
   rows_back : base_rows (sab2_base f) ≡ sab2_rows f
   unfolding sab2_base
-  rows_back = rows-of-base (sab2_rows f) rows-80 rows-said stand.0
+  rows_back = rows_of_base (sab2_rows f) rows_80 rows_said_lem stand.0
 
   -- ---- its records
 
   sound : (sound_after (base_vector (sab2_base f)) [] (sab2_records f) ≡ true) × (0 + length (sab2_records f) ≤ 512)
       × ((s : Rec) → Has s (sab2_records f) → is_listed (get_or (sab2_base f) 0 0) (unit s) ≡ true)
-  sound = faultless-sound (get_or (sab2_base f) 0 0) (base_vector (sab2_base f)) (row_blocks f) (sab2_records f) [] 0 (omega arith) held.1
+  sound = faultless_sound (get_or (sab2_base f) 0 0) (base_vector (sab2_base f)) (row_blocks f) (sab2_records f) [] 0 (omega arith) held.1
 
-  pub records-sound : SoundOn (base_vector (sab2_base f)) (sab2_records f)
-  records-sound = sound_means_on (base_vector (sab2_base f)) (sab2_records f) sound.0
+  pub records_sound : SoundOn (base_vector (sab2_base f)) (sab2_records f)
+  records_sound = sound_means_on (base_vector (sab2_base f)) (sab2_records f) sound.0
 
   pub records_few : length (sab2_records f) ≤ 512
   records_few = omega (arith, sound.1)
@@ -150,32 +150,32 @@ module _ (f : List ℕ) (e : (checked_sab2 f).number ≡ 0) where
   pub state : Good (log_bytes (sab2_records f)) (sab2_base f)
   unfolding base_in
   state =
-      state_good (sab2_base f) (sab2_records f) base_long base_sound records-sound records_few
-      (held_lists (get_or (sab2_base f) 0 0) (base_vector (sab2_base f)) (sab2_records f) records-sound stand.1 sound.2)
+      state_good (sab2_base f) (sab2_records f) base_long base_sound records_sound records_few
+      (held_lists (get_or (sab2_base f) 0 0) (base_vector (sab2_base f)) (sab2_records f) records_sound stand.1 sound.2)
 
-  pub sender-right : sender_in (block_at f 0) ≤ 7
-  sender-right = Runs.sender-right letters2 (said_rows f) f lengths.0 lengths.1 blocks-right
+  pub sender_right : sender_in (block_at f 0) ≤ 7
+  sender_right = Runs.sender_right letters2 (said_rows f) f lengths.0 lengths.1 blocks_right
 
   pub count-right : blocks_for (length (sab2_records f)) ≡ blocks_in f - row_blocks f
   unfolding sab2_records file_records record_part row_blocks
   count-right =
       rw (length-file_records (record_part f) 0 (records_counted (record_part f)))
-      (holds_for (said_rows f) (records_counted (record_part f)) (blocks_in f - row_blocks f) some_rows (Runs.held letters2 (said_rows f) f lengths.0 lengths.1 blocks-right))
+      (holds_for (said_rows f) (records_counted (record_part f)) (blocks_in f - row_blocks f) some_rows (Runs.held letters2 (said_rows f) f lengths.0 lengths.1 blocks_right))
 
-  pub row-blocks-right : row_blocks f ≤ blocks_in f
+  pub row_blocks_right : row_blocks f ≤ blocks_in f
   unfolding row_blocks
-  row-blocks-right = Runs.rows_inside letters2 (said_rows f) f lengths.0 lengths.1 blocks-right
+  row_blocks_right = Runs.rows_inside letters2 (said_rows f) f lengths.0 lengths.1 blocks_right
 
   -- it has as many blocks as that state asks for
-  pub blocks-again : sab2_blocks (sab2_base f) (sab2_records f) ≡ blocks_in f
+  pub blocks_again : sab2_blocks (sab2_base f) (sab2_records f) ≡ blocks_in f
   unfolding sab2_blocks
-  blocks-again =
+  blocks_again =
       let n : row_count (word (sab2_base f) 2) (word (sab2_base f) 4) ≡ said_rows f = sym (row_count_lem (sab2_base f) (sound_laid (sab2_base f) base_long base_sound)) ∙ ap (λ (x : List Rec). length x) rows_back ∙ rows_length in
-      rw (n, row_blocks_lem f, count-right) (omega (arith, row-blocks-right))
+      rw (n, row_blocks_lem f, count-right) (omega (arith, row_blocks_right))
 
   -- the file is that of its own list, base and records
-  pub file-again : Bytes f → sab2_of (archive_in (block_at f 0)) (sender_in (block_at f 0)) (sab2_base f) (sab2_records f) ≡ f
+  pub file_again : Bytes f → sab2_of (archive_in (block_at f 0)) (sender_in (block_at f 0)) (sab2_base f) (sab2_records f) ≡ f
   unfolding sab2_of sab2_from run_blocks
-  file-again g =
+  file_again g =
       let z : blocks_for (length (sab2_rows f)) ≡ row_blocks f = ap blocks_for rows_length ∙ row_blocks_lem f in
-      rw (rows_back, ← vector-right, z, count-right) (written_again f lengths.0 lengths.1 blocks-right g)
+      rw (rows_back, ← vector_right, z, count-right) (written_again f lengths.0 lengths.1 blocks_right g)

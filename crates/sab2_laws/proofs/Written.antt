@@ -28,12 +28,12 @@ use Rattle.run_laws.proofs.Runs.{run_length, run_row}
 use Rattle.run_laws.proofs.Passed.{begins_with}
 use Rattle.run_laws.proofs.Written as Runs
 use Rattle.encoding_laws.proofs.Logs.{sound_proper_on, proper_sized, sound_few, sound_bytes_on}
-use Rattle.held_laws.proofs.Records.{sound-faultless}
-use Rattle.held_laws.proofs.Held.{held-right, held-31}
+use Rattle.held_laws.proofs.Records.{sound_faultless}
+use Rattle.held_laws.proofs.Held.{held-right, held_31}
 use Rattle.call_laws.specs.Keeps.{Good}
-use Rattle.call_laws.proofs.States.{lists_at, all_lists, good-base, good-log, good-records, good-lists, good-listed}
+use Rattle.call_laws.proofs.States.{lists_at, all_lists, good_base, good_log, good_records, good_lists, good_listed}
 use Rattle.sab2_row_laws.specs.LaidOut.{LaidOut}
-use Rattle.sab2_row_laws.proofs.Bases.{sound_laid, rows-said, few-rows, rows_sized, rows-hold, base-of-rows, row_count_lem}
+use Rattle.sab2_row_laws.proofs.Bases.{sound_laid, rows_said_lem, few_rows, rows_sized, rows_hold_lem, base_of_rows, row_count_lem}
 use Rattle.sab2_laws.proofs.Counts.{for_holds, few_row_blocks, few_record_blocks, some_said, fits_test}
 
 -- ---- rows and records, whether they are sound or not
@@ -52,9 +52,9 @@ module _ (archive u : ℕ) (v : List ℕ) (rows l : List Rec) (y : Sized rows) (
   abbrev run : List ℕ
   run = run_to letters2 h rows p ++ run_to letters2 (behind h p) l q
 
-  file-is : sab2_from (header_of archive u 0 v) rows l ≡ run
+  file_is : sab2_from (header_of archive u 0 v) rows l ≡ run
   unfolding sab2_from run_blocks
-  file-is = refl
+  file_is = refl
 
   some_rows : 1 ≤ length rows
   some_rows = omega (arith, some_said (get_or rows 0 []))
@@ -79,82 +79,82 @@ module _ (archive u : ℕ) (v : List ℕ) (rows l : List Rec) (y : Sized rows) (
 
   -- ---- its length
 
-  pub file-bytes : length file ≡ 512 * (blocks_for (length rows) + blocks_for (length l))
-  file-bytes = rw file-is (Runs.file-bytes letters2 refl h h0 h7 h8 rows l y z q holds)
+  pub file_bytes : length file ≡ 512 * (blocks_for (length rows) + blocks_for (length l))
+  file_bytes = rw file_is (Runs.file_bytes letters2 refl h h0 h7 h8 rows l y z q holds)
 
-  pub blocks-1-186 : (1 ≤ blocks_for (length rows) + blocks_for (length l)) × (blocks_for (length rows) + blocks_for (length l) ≤ 186)
-  blocks-1-186 = let (a, b) = few_row_blocks (length rows) some_rows few in (omega arith, omega (arith, few_record_blocks (length l) room))
+  pub blocks_1_186 : (1 ≤ blocks_for (length rows) + blocks_for (length l)) × (blocks_for (length rows) + blocks_for (length l) ≤ 186)
+  blocks_1_186 = let (a, b) = few_row_blocks (length rows) some_rows few in (omega arith, omega (arith, few_record_blocks (length l) room))
 
-  pub length-fits : sab2_fits (length file) ≡ true
-  length-fits = fits_test (length file) (p + q) file-bytes blocks-1-186.0 blocks-1-186.1
+  pub length_fits : sab2_fits (length file) ≡ true
+  length_fits = fits_test (length file) (p + q) file_bytes blocks_1_186.0 blocks_1_186.1
 
   -- ---- its blocks
 
   -- each has the letters SAB2, right sums and a right header
-  pub block-good : (k : ℕ) → k < blocks_for (length rows) + blocks_for (length l) → block_fault_as letters2 (block_at file k) ≡ 0
-  block-good k b = rw file-is (Runs.agreeing letters2 refl h h0 h7 h8 rows l y z q holds k b).good
+  pub block_good : (k : ℕ) → k < blocks_for (length rows) + blocks_for (length l) → block_fault_as letters2 (block_at file k) ≡ 0
+  block_good k b = rw file_is (Runs.agreeing letters2 refl h h0 h7 h8 rows l y z q holds k b).good
 
   pub chosen : is_sab2 file ≡ true
   unfolding is_sab2
-  chosen = begins_with letters2 file (block-good 0 blocks-1-186.0)
+  chosen = begins_with letters2 file (block_good 0 blocks_1_186.0)
 
   -- where row i stands
-  pub row-stands : (i : ℕ) → i < length rows → part file (512 * (i / 6) + (28 + 80 * (i % 6))) 80 ≡ get_or rows i []
+  pub row_stands : (i : ℕ) → i < length rows → part file (512 * (i / 6) + (28 + 80 * (i % 6))) 80 ≡ get_or rows i []
   unfolding file_record
-  row-stands i b = rw file-is (Runs.row_read letters2 refl h h0 h7 h8 rows l y z q holds i b)
+  row_stands i b = rw file_is (Runs.row_read letters2 refl h h0 h7 h8 rows l y z q holds i b)
 
   -- and record j
-  pub record-stands : (j : ℕ) → j < length l → part file (512 * (blocks_for (length rows) + j / 6) + (28 + 80 * (j % 6))) 80 ≡ get_or l j []
+  pub record_stands : (j : ℕ) → j < length l → part file (512 * (blocks_for (length rows) + j / 6) + (28 + 80 * (j % 6))) 80 ≡ get_or l j []
   unfolding file_record
-  record-stands j b =
+  record_stands j b =
       let front : List ℕ = run_to letters2 h rows p in
       let n : length front ≡ 512 * p = run_length letters2 refl h rows y p in
       let e : 512 * (p + j / 6) + (28 + 80 * (j % 6)) ≡ length front + (512 * (j / 6) + (28 + 80 * (j % 6))) = omega arith in
-      rw (file-is, e, part-behind front (run_to letters2 (behind h p) l q) (512 * (j / 6) + (28 + 80 * (j % 6))) 80)
+      rw (file_is, e, part-behind front (run_to letters2 (behind h p) l q) (512 * (j / 6) + (28 + 80 * (j % 6))) 80)
       (rw append-nil at (run_row letters2 refl (behind h p) l z q [] holds.all j b))
 
-  said-is : said_rows file ≡ length rows
+  said_is : said_rows file ≡ length rows
   unfolding said_rows
-  said-is = rw (file-is, Runs.row_read letters2 refl h h0 h7 h8 rows l y z q holds 0 some_rows) said
+  said_is = rw (file_is, Runs.row_read letters2 refl h h0 h7 h8 rows l y z q holds 0 some_rows) said
 
-  pub blocks-pass : sab2_blocks_fault file ≡ fault 0 0
+  pub blocks_pass : sab2_blocks_fault file ≡ fault 0 0
   unfolding sab2_blocks_fault
-  blocks-pass = rw (said-is, file-is) (Runs.blocks-pass letters2 refl h h0 h7 h8 rows l y z q holds)
+  blocks_pass = rw (said_is, file_is) (Runs.blocks_pass letters2 refl h h0 h7 h8 rows l y z q holds)
 
   -- ---- what they hold
 
-  pub archive-read : archive_in (block_at file 0) ≡ archive
+  pub archive_read : archive_in (block_at file 0) ≡ archive
   unfolding header_of
-  archive-read = rw file-is (Runs.archive-read letters2 refl h h0 h7 h8 rows l y z q holds)
+  archive_read = rw file_is (Runs.archive_read letters2 refl h h0 h7 h8 rows l y z q holds)
 
-  pub sender-read : sender_in (block_at file 0) ≡ u
+  pub sender_read : sender_in (block_at file 0) ≡ u
   unfolding header_of
-  sender-read = rw file-is (Runs.sender-read letters2 refl h h0 h7 h8 rows l y z q holds)
+  sender_read = rw file_is (Runs.sender_read letters2 refl h h0 h7 h8 rows l y z q holds)
 
-  pub vector-read : vector_in (block_at file 0) ≡ v
+  pub vector_read : vector_in (block_at file 0) ≡ v
   unfolding header_of
-  vector-read = rw file-is (Runs.vector-read letters2 refl h h0 h7 h8 rows l y z q holds)
+  vector_read = rw file_is (Runs.vector_read letters2 refl h h0 h7 h8 rows l y z q holds)
 
-  pub rows-read : sab2_rows file ≡ rows
+  pub rows_read : sab2_rows file ≡ rows
   unfolding sab2_rows
-  rows-read = rw (said-is, file-is) (Runs.rows-read letters2 refl h h0 h7 h8 rows l y z q holds)
+  rows_read = rw (said_is, file_is) (Runs.rows_read letters2 refl h h0 h7 h8 rows l y z q holds)
 
-  part-read : record_part file ≡ drop (512 * p) file
+  part_read : record_part file ≡ drop (512 * p) file
   unfolding record_part row_blocks
-  part-read = rw said-is
+  part_read = rw said_is
 
-  pub count-read : sab2_counted file ≡ length l
+  pub count_read : sab2_counted file ≡ length l
   unfolding sab2_counted
-  count-read = rw (part-read, file-is) (Runs.count-read letters2 refl h h0 h7 h8 rows l y z q holds)
+  count_read = rw (part_read, file_is) (Runs.count_read letters2 refl h h0 h7 h8 rows l y z q holds)
 
-  pub records-read : sab2_records file ≡ l
+  pub records_read : sab2_records file ≡ l
   unfolding sab2_records
-  records-read = rw (part-read, file-is) (Runs.records-read letters2 refl h h0 h7 h8 rows l y z q holds)
+  records_read = rw (part_read, file_is) (Runs.records_read letters2 refl h h0 h7 h8 rows l y z q holds)
 
   -- rows that do not stand are 31, whatever the records
-  pub rows-31 : rows_stand rows ≡ false → checked_sab2 file ≡ fault 31 0
+  pub rows_31 : rows_stand rows ≡ false → checked_sab2 file ≡ fault 31 0
   unfolding checked_sab2 sab2_fault or_else fault
-  rows-31 s = rw (length-fits, blocks-pass, rows-read, s) (held-31 (sab2_base file) (row_blocks file) (blocks_in file) (vector_in (block_at file 0)) (sab2_records file))
+  rows_31 s = rw (length_fits, blocks_pass, rows_read, s) (held_31 (sab2_base file) (row_blocks file) (blocks_in file) (vector_in (block_at file 0)) (sab2_records file))
 
 -- so is a base that is laid out and does not stand
 pub unsound_31 : (archive u : ℕ) (base : List ℕ) (l : List Rec) → LaidOut base → Sized l → length l ≤ 512 → u ≤ 7 → base_stands base ≡ false
@@ -163,9 +163,9 @@ unfolding sab2_of either_fault rows_stand
 unsound_31 archive u base l b z m k s =
     let v : List ℕ = vector_on (base_vector base) l in
     let eight : length v ≡ 8 = vector_on-length (base_vector base) l in
-    let bad : rows_stand (base_rows base) ≡ false = rw (base-of-rows base b, s) (and_wrong (rows_hold (base_rows base))) in
-    rw (chosen archive u v (base_rows base) l (rows_sized base b) z (rows-said base b) (few-rows base b) m k eight)
-    (rows-31 archive u v (base_rows base) l (rows_sized base b) z (rows-said base b) (few-rows base b) m k eight bad)
+    let bad : rows_stand (base_rows base) ≡ false = rw (base_of_rows base b, s) (and_wrong (rows_hold (base_rows base))) in
+    rw (chosen archive u v (base_rows base) l (rows_sized base b) z (rows_said_lem base b) (few_rows base b) m k eight)
+    (rows_31 archive u v (base_rows base) l (rows_sized base b) z (rows_said_lem base b) (few_rows base b) m k eight bad)
 
 -- ---- the file of a state
 
@@ -188,97 +188,97 @@ module _ (archive u : ℕ) (log base : List ℕ) (g : Good log base) (u7 : u ≤
   stateFile = sab2_of archive u base (records_of log)
 
   laid : LaidOut base
-  laid = sound_laid base g.long.1 (good-base log base g)
+  laid = sound_laid base g.long.1 (good_base log base g)
 
-  rows-80 : Sized rows
-  rows-80 = rows_sized base laid
+  rows_80 : Sized rows
+  rows_80 = rows_sized base laid
 
-  records-80 : Sized l
-  records-80 = proper_sized l (sound_proper_on (base_vector base) l (good-records log base g))
+  records_80 : Sized l
+  records_80 = proper_sized l (sound_proper_on (base_vector base) l (good_records log base g))
 
   eight : length v ≡ 8
   eight = vector_on-length (base_vector base) l
 
-  pub state-bytes : length stateFile ≡ 512 * sab2_blocks base (records_of log)
+  pub state_bytes : length stateFile ≡ 512 * sab2_blocks base (records_of log)
   unfolding sab2_of sab2_blocks
-  state-bytes = rw (← row_count_lem base laid) (file-bytes archive u v rows l rows-80 records-80 (rows-said base laid) (few-rows base laid) (sound_few log) u7 eight)
+  state_bytes = rw (← row_count_lem base laid) (file_bytes archive u v rows l rows_80 records_80 (rows_said_lem base laid) (few_rows base laid) (sound_few log) u7 eight)
 
-  pub state-1-186 : (1 ≤ sab2_blocks base (records_of log)) × (sab2_blocks base (records_of log) ≤ 186)
+  pub state_1_186 : (1 ≤ sab2_blocks base (records_of log)) × (sab2_blocks base (records_of log) ≤ 186)
   unfolding sab2_blocks
-  state-1-186 = rw (← row_count_lem base laid) (blocks-1-186 archive u v rows l rows-80 records-80 (rows-said base laid) (few-rows base laid) (sound_few log) u7 eight)
+  state_1_186 = rw (← row_count_lem base laid) (blocks_1_186 archive u v rows l rows_80 records_80 (rows_said_lem base laid) (few_rows base laid) (sound_few log) u7 eight)
 
-  pub state-block : (k : ℕ) → k < sab2_blocks base (records_of log) → block_fault_as letters2 (block_at stateFile k) ≡ 0
+  pub state_block : (k : ℕ) → k < sab2_blocks base (records_of log) → block_fault_as letters2 (block_at stateFile k) ≡ 0
   unfolding sab2_of sab2_blocks
-  state-block = rw (← row_count_lem base laid) (block-good archive u v rows l rows-80 records-80 (rows-said base laid) (few-rows base laid) (sound_few log) u7 eight)
+  state_block = rw (← row_count_lem base laid) (block_good archive u v rows l rows_80 records_80 (rows_said_lem base laid) (few_rows base laid) (sound_few log) u7 eight)
 
-  pub state-row : (i : ℕ) → i < length (base_rows base) → part stateFile (512 * (i / 6) + (28 + 80 * (i % 6))) 80 ≡ get_or (base_rows base) i []
+  pub state_row : (i : ℕ) → i < length (base_rows base) → part stateFile (512 * (i / 6) + (28 + 80 * (i % 6))) 80 ≡ get_or (base_rows base) i []
   unfolding sab2_of
-  state-row = row-stands archive u v rows l rows-80 records-80 (rows-said base laid) (few-rows base laid) (sound_few log) u7 eight
+  state_row = row_stands archive u v rows l rows_80 records_80 (rows_said_lem base laid) (few_rows base laid) (sound_few log) u7 eight
 
-  pub state-record : (j : ℕ) → j < length (records_of log) → part stateFile (512 * (blocks_for (length (base_rows base)) + j / 6) + (28 + 80 * (j % 6))) 80 ≡ get_or (records_of log) j []
+  pub state_record : (j : ℕ) → j < length (records_of log) → part stateFile (512 * (blocks_for (length (base_rows base)) + j / 6) + (28 + 80 * (j % 6))) 80 ≡ get_or (records_of log) j []
   unfolding sab2_of
-  state-record = record-stands archive u v rows l rows-80 records-80 (rows-said base laid) (few-rows base laid) (sound_few log) u7 eight
+  state_record = record_stands archive u v rows l rows_80 records_80 (rows_said_lem base laid) (few_rows base laid) (sound_few log) u7 eight
 
-  pub state-chosen : is_sab2 stateFile ≡ true
+  pub state_chosen : is_sab2 stateFile ≡ true
   unfolding sab2_of
-  state-chosen = chosen archive u v rows l rows-80 records-80 (rows-said base laid) (few-rows base laid) (sound_few log) u7 eight
+  state_chosen = chosen archive u v rows l rows_80 records_80 (rows_said_lem base laid) (few_rows base laid) (sound_few log) u7 eight
 
-  pub state-archive : archive_in (block_at stateFile 0) ≡ archive
+  pub state_archive : archive_in (block_at stateFile 0) ≡ archive
   unfolding sab2_of
-  state-archive = archive-read archive u v rows l rows-80 records-80 (rows-said base laid) (few-rows base laid) (sound_few log) u7 eight
+  state_archive = archive_read archive u v rows l rows_80 records_80 (rows_said_lem base laid) (few_rows base laid) (sound_few log) u7 eight
 
-  pub state-sender : sender_in (block_at stateFile 0) ≡ u
+  pub state_sender : sender_in (block_at stateFile 0) ≡ u
   unfolding sab2_of
-  state-sender = sender-read archive u v rows l rows-80 records-80 (rows-said base laid) (few-rows base laid) (sound_few log) u7 eight
+  state_sender = sender_read archive u v rows l rows_80 records_80 (rows_said_lem base laid) (few_rows base laid) (sound_few log) u7 eight
 
-  pub state-vector : vector_in (block_at stateFile 0) ≡ vector_on (base_vector base) (records_of log)
+  pub state_vector : vector_in (block_at stateFile 0) ≡ vector_on (base_vector base) (records_of log)
   unfolding sab2_of
-  state-vector = vector-read archive u v rows l rows-80 records-80 (rows-said base laid) (few-rows base laid) (sound_few log) u7 eight
+  state_vector = vector_read archive u v rows l rows_80 records_80 (rows_said_lem base laid) (few_rows base laid) (sound_few log) u7 eight
 
-  state-rows : sab2_rows stateFile ≡ base_rows base
+  state_rows : sab2_rows stateFile ≡ base_rows base
   unfolding sab2_of
-  state-rows = rows-read archive u v rows l rows-80 records-80 (rows-said base laid) (few-rows base laid) (sound_few log) u7 eight
+  state_rows = rows_read archive u v rows l rows_80 records_80 (rows_said_lem base laid) (few_rows base laid) (sound_few log) u7 eight
 
-  pub state-base : sab2_base stateFile ≡ base
+  pub state_base : sab2_base stateFile ≡ base
   unfolding sab2_base
-  state-base = rw state-rows (base-of-rows base laid)
+  state_base = rw state_rows (base_of_rows base laid)
 
-  pub state-count : sab2_counted stateFile ≡ length (records_of log)
+  pub state_count : sab2_counted stateFile ≡ length (records_of log)
   unfolding sab2_of
-  state-count = count-read archive u v rows l rows-80 records-80 (rows-said base laid) (few-rows base laid) (sound_few log) u7 eight
+  state_count = count_read archive u v rows l rows_80 records_80 (rows_said_lem base laid) (few_rows base laid) (sound_few log) u7 eight
 
-  pub state-records : sab2_records stateFile ≡ records_of log
+  pub state_records : sab2_records stateFile ≡ records_of log
   unfolding sab2_of
-  state-records = records-read archive u v rows l rows-80 records-80 (rows-said base laid) (few-rows base laid) (sound_few log) u7 eight
+  state_records = records_read archive u v rows l rows_80 records_80 (rows_said_lem base laid) (few_rows base laid) (sound_few log) u7 eight
 
   -- ---- no fault
 
   stands : rows_stand rows ≡ true
   unfolding rows_stand base_stands base_in
   stands =
-      true_and (rows_hold rows) (base_stands (base_from rows)) (rows-hold base laid)
-      (rw (base-of-rows base laid)
-      (true_and (lists_all (get_or base 0 0) (base_vector base)) (sound_base base) (base_listed (get_or base 0 0) (base_vector base) l (good-lists log base g)) (good-base log base g)))
+      true_and (rows_hold rows) (base_stands (base_from rows)) (rows_hold_lem base laid)
+      (rw (base_of_rows base laid)
+      (true_and (lists_all (get_or base 0 0) (base_vector base)) (sound_base base) (base_listed (get_or base 0 0) (base_vector base) l (good_lists log base g)) (good_base log base g)))
 
   fits : sab2_fits (length stateFile) ≡ true
   unfolding sab2_of
-  fits = length-fits archive u v rows l rows-80 records-80 (rows-said base laid) (few-rows base laid) (sound_few log) u7 eight
+  fits = length_fits archive u v rows l rows_80 records_80 (rows_said_lem base laid) (few_rows base laid) (sound_few log) u7 eight
 
   passes : sab2_blocks_fault stateFile ≡ fault 0 0
   unfolding sab2_of
-  passes = blocks-pass archive u v rows l rows-80 records-80 (rows-said base laid) (few-rows base laid) (sound_few log) u7 eight
+  passes = blocks_pass archive u v rows l rows_80 records_80 (rows_said_lem base laid) (few_rows base laid) (sound_few log) u7 eight
 
-  pub state-faultless : checked_sab2 stateFile ≡ fault 0 0
+  pub state_faultless : checked_sab2 stateFile ≡ fault 0 0
   unfolding checked_sab2 sab2_fault or_else fault base_in
-  state-faultless =
-      rw (fits, passes, state-rows, stands, state-base, state-records)
+  state_faultless =
+      rw (fits, passes, state_rows, stands, state_base, state_records)
       (held-right base (row_blocks stateFile) (blocks_in stateFile) (vector_in (block_at stateFile 0)) l
-      (sound-faultless (get_or base 0 0) (base_vector base) (row_blocks stateFile) l [] 0 (means_sound_on (base_vector base) l (good-records log base g)) (good-listed log base g) (omega (arith, sound_few log)))
-      state-vector)
+      (sound_faultless (get_or base 0 0) (base_vector base) (row_blocks stateFile) l [] 0 (means_sound_on (base_vector base) l (good_records log base g)) (good_listed log base g) (omega (arith, sound_few log)))
+      state_vector)
 
-  pub either-faultless : either_fault stateFile ≡ fault 0 0
+  pub either_faultless : either_fault stateFile ≡ fault 0 0
   unfolding either_fault
-  either-faultless = rw state-chosen state-faultless
+  either_faultless = rw state_chosen state_faultless
 
   -- ---- it reads back
 
@@ -290,13 +290,13 @@ module _ (archive u : ℕ) (log base : List ℕ) (g : Good log base) (u7 : u ≤
       rw (
         eq-eqb (length spare) 40960 e,
         eq-eqb (length spareBase) 43032 d,
-        either-faultless,
-        state-chosen,
-        state-archive,
-        state-sender,
-        state-count,
-        state-vector,
-        state-records,
-        state-base,
-        sound_bytes_on (base_vector base) log g.long.0 (good-log log base g),
+        either_faultless,
+        state_chosen,
+        state_archive,
+        state_sender,
+        state_count,
+        state_vector,
+        state_records,
+        state_base,
+        sound_bytes_on (base_vector base) log g.long.0 (good_log log base g),
       )

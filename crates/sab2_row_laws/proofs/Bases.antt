@@ -97,9 +97,9 @@ module _ (b : List ℕ) (B : LaidOut b) where
   unfolding base_rows
   row_count_lem = length_rows_from b 0 (row_count e a)
 
-  row_is : (i : ℕ) → i < row_count e a → get_or rows i [] ≡ base_row b i
+  row_is_lem : (i : ℕ) → i < row_count e a → get_or rows i [] ≡ base_row b i
   unfolding base_rows
-  row_is i h = let q : 0 + i ≡ i = omega arith in get_d_rows_from b 0 (row_count e a) i h ∙ ap (base_row b) q
+  row_is_lem i h = let q : 0 + i ≡ i = omega arith in get_d_rows_from b 0 (row_count e a) i h ∙ ap (base_row b) q
 
   inside : (i : ℕ) → i < row_count e a → row_start e i + row_long e a i ≤ 43032
   inside i h = row_inside e a i B.entries B.asides h
@@ -107,14 +107,14 @@ module _ (b : List ℕ) (B : LaidOut b) where
   bytes_long : (i : ℕ) → i < row_count e a → length (part b (row_start e i) (row_long e a i)) ≡ row_long e a i
   bytes_long i h = part_length b (row_start e i) (row_long e a i) (omega (arith, inside i h, B.long))
 
-  row-front : (i : ℕ) → i < row_count e a → take (row_long e a i) (get_or rows i []) ≡ part b (row_start e i) (row_long e a i)
+  row_front : (i : ℕ) → i < row_count e a → take (row_long e a i) (get_or rows i []) ≡ part b (row_start e i) (row_long e a i)
   unfolding base_row padded
-  row-front i h =
-      rw (row_is i h) (take_at (part b (row_start e i) (row_long e a i)) _ (row_long e a i) (bytes_long i h))
+  row_front i h =
+      rw (row_is_lem i h) (take_at (part b (row_start e i) (row_long e a i)) _ (row_long e a i) (bytes_long i h))
 
   -- between two rows, and behind the last, a base is zero
-  gap-blank : (i : ℕ) → blank (part b (row_start e i + row_long e a i) (row_start e (suc i) - (row_start e i + row_long e a i))) ≡ true
-  gap-blank i =
+  gap_blank : (i : ℕ) → blank (part b (row_start e i + row_long e a i) (row_start e (suc i) - (row_start e i + row_long e a i))) ≡ true
+  gap_blank i =
       ⊎_elim
       (λ (h : row_start e (suc i) ≡ row_start e i + row_long e a i). nothing _ _ (omega arith))
       (λ (h : ((row_start e i + row_long e a i ≡ 24 + 72 * e) × (row_start e (suc i) ≡ 36888)) ⊎ (36888 + 12 * a ≤ row_start e i + row_long e a i)).
@@ -136,19 +136,19 @@ module _ (b : List ℕ) (B : LaidOut b) where
           ap blank (sym (part-drop b (36888 + 12 * a) (x - (36888 + 12 * a)) y ∙ ap (λ (i : ℕ). part b i y) s)) ∙ blank_part (drop (36888 + 12 * a) b) (x - (36888 + 12 * a)) y B.behind_asides
 
   -- as the first n rows leave it
-  base-front : (n : ℕ) → n ≤ row_count e a → base_to rows e a n ≡ padded 43032 (take (row_start e n) b)
+  base_front : (n : ℕ) → n ≤ row_count e a → base_to rows e a n ≡ padded 43032 (take (row_start e n) b)
   unfolding base_to
-  base-front zero h = rw (start_of_head e) (sym (padded-nil 43032))
-  base-front (suc n) h =
+  base_front zero h = rw (start_of_head e) (sym (padded-nil 43032))
+  base_front (suc n) h =
       let s : ℕ = row_start e n in
       let l : ℕ = row_long e a n in
       let w : s + l ≤ 43032 = inside n (omega arith) in
       let m : length (take s b) ≡ s = omega (arith, length-take s b, B.long) in
       let g : take s b ++ part b s l ≡ take (s + l) b = sym (grown b s l) in
-      rw (base-front n (omega arith), row-front n (omega arith))
+      rw (base_front n (omega arith), row_front n (omega arith))
       ((rw m at (put-padded 43032 (take s b) (part b s l)))
       ∙ ap (padded 43032) g
-      ∙ sym (pad_gap 43032 b (s + l) (row_start e (suc n)) B.long w (rows_apart e a n (suc n) B.entries (omega arith)) (gap-blank n)))
+      ∙ sym (pad_gap 43032 b (s + l) (row_start e (suc n)) B.long w (rows_apart e a n (suc n) B.entries (omega arith)) (gap_blank n)))
 
   -- the head row is in front
   head_word : (i : ℕ) → i + 1 < 24 → word (get_or rows 0 []) i ≡ word b i
@@ -157,15 +157,15 @@ module _ (b : List ℕ) (B : LaidOut b) where
       let q : 0 < row_count e a = some_rows e a in
       let m : length (part b 0 24) ≡ 24 = part_length b 0 24 (omega (arith, B.long)) in
       let t : 0 + i ≡ i = omega arith in
-      rw (row_is 0 q, start_of_head e, long_of_head e a) (word_front (part b 0 24) _ i (omega arith) ∙ word-part b 0 24 i h ∙ ap (word b) t)
+      rw (row_is_lem 0 q, start_of_head e, long_of_head e a) (word_front (part b 0 24) _ i (omega arith) ∙ word-part b 0 24 i h ∙ ap (word b) t)
 
-  pub rows-said : rows_said (get_or (base_rows b) 0 []) ≡ length (base_rows b)
+  pub rows_said_lem : rows_said (get_or (base_rows b) 0 []) ≡ length (base_rows b)
   unfolding rows_said
-  rows-said = rw (head_word 2 (omega arith), head_word 4 (omega arith)) (sym row_count_lem)
+  rows_said_lem = rw (head_word 2 (omega arith), head_word 4 (omega arith)) (sym row_count_lem)
 
-  pub few-rows : length (base_rows b) ≤ 599
+  pub few_rows : length (base_rows b) ≤ 599
   unfolding row_count blocks_for
-  few-rows = omega (arith, row_count_lem, B.entries, B.asides)
+  few_rows = omega (arith, row_count_lem, B.entries, B.asides)
 
   row-long : (i : ℕ) → length (base_row b i) ≡ 80
   unfolding base_row part
@@ -180,14 +180,14 @@ module _ (b : List ℕ) (B : LaidOut b) where
   unfolding base_row padded
   tail i k = rw (drop_at (part b (row_start e i) (row_long e a i)) _ (row_long e a i) (bytes_long i k)) (blank-zeros (80 - length (part b (row_start e i) (row_long e a i))))
 
-  pub rows-hold : rows_hold (base_rows b) ≡ true
+  pub rows_hold_lem : rows_hold (base_rows b) ≡ true
   unfolding rows_hold rows_hold_for tail_blank
-  rows-hold =
+  rows_hold_lem =
       rw (head_word 2 (omega arith), head_word 4 (omega arith), le-leb e 512 B.entries, le-leb a 512 B.asides, row_count_lem)
-      (all_of (row_count e a) (tail_blank rows e a) (λ i h. rw (row_is i h) (tail i h)))
+      (all_of (row_count e a) (tail_blank rows e a) (λ i h. rw (row_is_lem i h) (tail i h)))
 
-  behind-last : 36888 + 12 * a ≤ row_start e (row_count e a)
-  behind-last = go (row_cases e a (row_count e a))
+  behind_last : 36888 + 12 * a ≤ row_start e (row_count e a)
+  behind_last = go (row_cases e a (row_count e a))
     where
       k : (row_count e a ≡ suc (e + blocks_for a)) × (a ≤ 6 * blocks_for a)
       k = (count_is e a, enough a)
@@ -203,10 +203,10 @@ module _ (b : List ℕ) (B : LaidOut b) where
       let s : ℕ = row_start e (row_count e a) in
       let x : ℕ = 36888 + 12 * a in
       let h : x ≤ 43032 = omega (arith, B.asides) in
-      pad_gap 43032 b x s B.long h behind-last (blank-take (s - x) (drop x b) B.behind_asides)
+      pad_gap 43032 b x s B.long h behind_last (blank-take (s - x) (drop x b) B.behind_asides)
       ∙ padded_front b x 43032 B.long h B.behind_asides
 
   -- the base that its rows leave is that base
-  pub base-of-rows : base_from (base_rows b) ≡ b
+  pub base_of_rows : base_from (base_rows b) ≡ b
   unfolding base_from
-  base-of-rows = rw (head_word 2 (omega arith), head_word 4 (omega arith), row_count_lem) (base-front (row_count e a) (omega arith) ∙ whole)
+  base_of_rows = rw (head_word 2 (omega arith), head_word 4 (omega arith), row_count_lem) (base_front (row_count e a) (omega arith) ∙ whole)

@@ -62,31 +62,31 @@ module _ (rows : List Rec) (e a : ℕ) (e512 : e ≤ 512) (a512 : a ≤ 512) (z 
   abbrev piece : ℕ → List ℕ
   piece i = take (row_long e a i) (get_or rows i [])
 
-  piece-length : (i : ℕ) → i < length rows → length (piece i) ≡ row_long e a i
-  piece-length i h = omega (arith, length-take (row_long e a i) (get_or rows i []), sized_at rows i z h, row_short e a i)
+  piece_length : (i : ℕ) → i < length rows → length (piece i) ≡ row_long e a i
+  piece_length i h = omega (arith, length-take (row_long e a i) (get_or rows i []), sized_at rows i z h, row_short e a i)
 
   inside : (i : ℕ) → i < length rows → row_start e i + row_long e a i ≤ 43032
   inside i h = row_inside e a i e512 a512 (omega arith)
 
-  pub length-base : (n : ℕ) → n ≤ length rows → length (base_to rows e a n) ≡ 43032
+  pub length_base : (n : ℕ) → n ≤ length rows → length (base_to rows e a n) ≡ 43032
   unfolding base_to
-  length-base zero h = length-replicate {A = ℕ} 43032 0
-  length-base (suc n) h =
-      let m : length (base_to rows e a n) ≡ 43032 = length-base n (omega arith) in
-      length-put (base_to rows e a n) (row_start e n) (piece n) (omega (arith, piece-length n (omega arith), inside n (omega arith))) ∙ m
+  length_base zero h = length-replicate {A = ℕ} 43032 0
+  length_base (suc n) h =
+      let m : length (base_to rows e a n) ≡ 43032 = length_base n (omega arith) in
+      length-put (base_to rows e a n) (row_start e n) (piece n) (omega (arith, piece_length n (omega arith), inside n (omega arith))) ∙ m
 
   -- every row's bytes stand in the base
-  base-part : (n i : ℕ) → i < n → n ≤ length rows → part (base_to rows e a n) (row_start e i) (row_long e a i) ≡ piece i
+  base_part : (n i : ℕ) → i < n → n ≤ length rows → part (base_to rows e a n) (row_start e i) (row_long e a i) ≡ piece i
   unfolding base_to
-  base-part zero i h k = absurd (omega arith)
-  base-part (suc n) i h k =
-      let m : length (base_to rows e a n) ≡ 43032 = length-base n (omega arith) in
+  base_part zero i h k = absurd (omega arith)
+  base_part (suc n) i h k =
+      let m : length (base_to rows e a n) ≡ 43032 = length_base n (omega arith) in
       let w : row_start e n ≤ length (base_to rows e a n) = omega (arith, inside n (omega arith)) in
       ⊎_elim
-      (λ (q : i < n). part_put_before (base_to rows e a n) (row_start e n) (piece n) (row_start e i) (row_long e a i) (rows_apart e a i n e512 q) w ∙ base-part n i q (omega arith))
+      (λ (q : i < n). part_put_before (base_to rows e a n) (row_start e n) (piece n) (row_start e i) (row_long e a i) (rows_apart e a i n e512 q) w ∙ base_part n i q (omega arith))
       (λ (q : n ≤ i).
       let y : i ≡ n = omega arith in
-      rw y (rw (piece-length n (omega arith)) at (part-put (base_to rows e a n) (row_start e n) (piece n) w)))
+      rw y (rw (piece_length n (omega arith)) at (part-put (base_to rows e a n) (row_start e n) (piece n) w)))
       (lt_or_ge i n)
 
 module _ (rows : List Rec) (z : Sized rows) (c : length rows ≡ rows_said (get_or rows 0 [])) (k : rows_hold rows ≡ true) where
@@ -113,12 +113,12 @@ module _ (rows : List Rec) (z : Sized rows) (c : length rows ≡ rows_said (get_
 
   stands : (i : ℕ) → i < length rows → part (base_from rows) (row_start e i) (row_long e a i) ≡ take (row_long e a i) (get_or rows i [])
   unfolding base_from
-  stands i h = base-part rows e a holds.0 holds.1 z many (length rows) i h (omega arith)
+  stands i h = base_part rows e a holds.0 holds.1 z many (length rows) i h (omega arith)
 
   -- the base that rows leave has its length
   pub length_from : length (base_from rows) ≡ 43032
   unfolding base_from
-  length_from = length-base rows e a holds.0 holds.1 z many (length rows) (omega arith)
+  length_from = length_base rows e a holds.0 holds.1 z many (length rows) (omega arith)
 
   head_start : (row_start e 0 ≡ 0) × (row_long e a 0 ≡ 24)
   unfolding row_start row_long
@@ -139,6 +139,6 @@ module _ (rows : List Rec) (z : Sized rows) (c : length rows ≡ rows_said (get_
       (padded_front (get_or rows i []) (row_long e a i) 80 (sized_at rows i z h) (omega (arith, row_short e a i)) (holds.2 i h))
 
   -- the rows of the base that rows leave are those rows
-  pub rows-of-base : base_rows (base_from rows) ≡ rows
+  pub rows_of_base : base_rows (base_from rows) ≡ rows
   unfolding base_rows
-  rows-of-base = rw (head_word 2 (omega arith), head_word 4 (omega arith), ← many) (rows_are (base_from rows) rows row_back (length rows) 0 (omega arith))
+  rows_of_base = rw (head_word 2 (omega arith), head_word 4 (omega arith), ← many) (rows_are (base_from rows) rows row_back (length rows) 0 (omega arith))

@@ -62,22 +62,22 @@ module _ (f : List ℕ) (e a n : ℕ) where
   unfolding base_to
   begun d l h = h ∙ rw l
 
-  pub one-loaded : (i : ℕ) {d o : List ℕ} → i < n → d ≡ base_to (file_records_from f 0 n) e a i → o ≡ put_at d (row_start e i) (take (row_long e a i) (file_record f i)) → o ≡ base_to (file_records_from f 0 n) e a (i + 1)
+  pub one_loaded : (i : ℕ) {d o : List ℕ} → i < n → d ≡ base_to (file_records_from f 0 n) e a i → o ≡ put_at d (row_start e i) (take (row_long e a i) (file_record f i)) → o ≡ base_to (file_records_from f 0 n) e a (i + 1)
   unfolding base_to
-  one-loaded i h hd ho = ho ∙ rw (hd, add-one i, row_of_lem f n i h)
+  one_loaded i h hd ho = ho ∙ rw (hd, add-one i, row_of_lem f n i h)
 
-  pub one-blank : (i : ℕ) {t u : Bool} → i < n → t ≡ all_to i (tail_blank (file_records_from f 0 n) e a) → u ≡ blank (drop (row_long e a i) (file_record f i)) → (t && u) ≡ all_to (i + 1) (tail_blank (file_records_from f 0 n) e a)
+  pub one_blank : (i : ℕ) {t u : Bool} → i < n → t ≡ all_to i (tail_blank (file_records_from f 0 n) e a) → u ≡ blank (drop (row_long e a i) (file_record f i)) → (t && u) ≡ all_to (i + 1) (tail_blank (file_records_from f 0 n) e a)
   unfolding tail_blank
-  one-blank i h ht hu = all_next (tail_blank (file_records_from f 0 n) e a) i ht (hu ∙ rw (row_of_lem f n i h))
+  one_blank i h ht hu = all_next (tail_blank (file_records_from f 0 n) e a) i ht (hu ∙ rw (row_of_lem f n i h))
 
   pub none-blank : true ≡ all_to 0 (tail_blank (file_records_from f 0 n) e a)
   none-blank = all_none (tail_blank (file_records_from f 0 n) e a)
 
-  pub all-loaded : (i : ℕ) {o : List ℕ} → i ≤ n → n ≤ i → o ≡ base_to (file_records_from f 0 n) e a i → o ≡ base_to (file_records_from f 0 n) e a n
-  all-loaded i h g p = let q : i ≡ n = omega arith in rw q at p
+  pub all_loaded : (i : ℕ) {o : List ℕ} → i ≤ n → n ≤ i → o ≡ base_to (file_records_from f 0 n) e a i → o ≡ base_to (file_records_from f 0 n) e a n
+  all_loaded i h g p = let q : i ≡ n = omega arith in rw q at p
 
-  pub all-blank : (i : ℕ) {t : Bool} → i ≤ n → n ≤ i → t ≡ all_to i (tail_blank (file_records_from f 0 n) e a) → t ≡ all_to n (tail_blank (file_records_from f 0 n) e a)
-  all-blank i h g p = all_ends (tail_blank (file_records_from f 0 n) e a) i n h g p
+  pub all_blank : (i : ℕ) {t : Bool} → i ≤ n → n ≤ i → t ≡ all_to i (tail_blank (file_records_from f 0 n) e a) → t ≡ all_to n (tail_blank (file_records_from f 0 n) e a)
+  all_blank i h g p = all_ends (tail_blank (file_records_from f 0 n) e a) i n h g p
 
 -- a row lies within the blocks of the rows
 pub row_inside : (f : List ℕ) (n i : ℕ) → i < n → 512 * blocks_for n ≤ length f → 512 * (i / 6) + 512 ≤ length f
@@ -94,40 +94,40 @@ pub none-loaded : (o s : List ℕ) → false ≡ true → o ≡ s
 none-loaded o s e = absurd (not_both false e refl)
 
 module _ (f : List ℕ) {e a : ℕ} (he : e ≡ word (file_record f 0) 2) (ha : a ≡ word (file_record f 0) 4) where
-  pub rows-are-said : {n : ℕ} → n ≡ row_count e a → n ≡ said_rows f
+  pub rows_are_said : {n : ℕ} → n ≡ row_count e a → n ≡ said_rows f
   unfolding said_rows rows_said
-  rows-are-said h = h ∙ rw (he, ha)
+  rows_are_said h = h ∙ rw (he, ha)
 
   -- the first row is the head
   first_row : get_or (sab2_rows f) 0 [] ≡ file_record f 0
   unfolding sab2_rows said_rows rows_said row_count file_records_from
   first_row = refl
 
-  length-said : length (sab2_rows f) ≡ said_rows f
+  length_said : length (sab2_rows f) ≡ said_rows f
   unfolding sab2_rows
-  length-said = length-file_records f 0 (said_rows f)
+  length_said = length-file_records f 0 (said_rows f)
 
   holds_as : (n : ℕ) → n ≡ said_rows f → rows_hold (sab2_rows f) ≡ rows_hold_for (sab2_rows f) e a n
   unfolding rows_hold
-  holds_as n hn = rw (first_row, length-said, ← he, ← ha, ← hn)
+  holds_as n hn = rw (first_row, length_said, ← he, ← ha, ← hn)
 
-  pub many-entries : base_places < e → false ≡ rows_hold (sab2_rows f)
+  pub many_entries : base_places < e → false ≡ rows_hold (sab2_rows f)
   unfolding rows_hold_for
-  many-entries h = rw (holds_as (said_rows f) refl, lt-leb e base_places h)
+  many_entries h = rw (holds_as (said_rows f) refl, lt-leb e base_places h)
 
-  pub many-asides : e ≤ base_places → base_places < a → false ≡ rows_hold (sab2_rows f)
+  pub many_asides : e ≤ base_places → base_places < a → false ≡ rows_hold (sab2_rows f)
   unfolding rows_hold_for
-  many-asides g h = rw (holds_as (said_rows f) refl, le-leb e base_places g, lt-leb a base_places h)
+  many_asides g h = rw (holds_as (said_rows f) refl, le-leb e base_places g, lt-leb a base_places h)
 
   module _ {n : ℕ} (g : e ≤ base_places) (h : a ≤ base_places) (hn : n ≡ row_count e a) where
-    pub tails-decide : {t : Bool} → t ≡ all_to n (tail_blank (file_records_from f 0 n) e a) → t ≡ rows_hold (sab2_rows f)
+    pub tails_decide : {t : Bool} → t ≡ all_to n (tail_blank (file_records_from f 0 n) e a) → t ≡ rows_hold (sab2_rows f)
     unfolding rows_hold_for sab2_rows
-    tails-decide k = k ∙ rw (holds_as n (rows-are-said hn), le-leb e base_places g, le-leb a base_places h, ← rows-are-said hn)
+    tails_decide k = k ∙ rw (holds_as n (rows_are_said hn), le-leb e base_places g, le-leb a base_places h, ← rows_are_said hn)
 
-    pub base-loaded : {o : List ℕ} → o ≡ base_to (file_records_from f 0 n) e a n → o ≡ sab2_base f
+    pub base_loaded : {o : List ℕ} → o ≡ base_to (file_records_from f 0 n) e a n → o ≡ sab2_base f
     unfolding sab2_base base_from sab2_rows
-    base-loaded k = k ∙ rw (first_row, length-said, ← he, ← ha, ← rows-are-said hn)
+    base_loaded k = k ∙ rw (first_row, length_said, ← he, ← ha, ← rows_are_said hn)
 
-    pub rows-room : 512 * row_blocks f ≤ length f → 512 * blocks_for n ≤ length f
+    pub rows_room : 512 * row_blocks f ≤ length f → 512 * blocks_for n ≤ length f
     unfolding row_blocks
-    rows-room k = rw (rows-are-said hn) k
+    rows_room k = rw (rows_are_said hn) k

@@ -13,14 +13,14 @@ use Rattle.read_file_check.specs.Outcome.{read_back_of}
 use Rattle.sab_words.specs.Words.{packed, narrowed, head_of}
 use Rattle.sab_words.specs.Called.{called, told}
 use Rattle.sab_words.proofs.Told.{tells_blocks}
-use Rattle.sab_words.proofs.Units.{guarded-alike, write-alike}
+use Rattle.sab_words.proofs.Units.{guarded-alike, write_alike}
 use Rattle.sab_file.specs.Loaded.{loaded, head_left, loaded_of}
 
 -- ---- writing a file
 
 pub writes : (archive u : ℕ) {v r n p k j : ℕ} (log base lent : List ℕ) {lent' : List ℕ} → v ≡ narrowed u → outcome n p log lent' k ≡ write_of archive v log base lent → j ≡ k → r ≡ packed n p j
     → called r log lent' ≡ told (write_of archive u log base lent)
-writes archive u log base lent given e h w = tells_blocks (e ∙ rw given (write-alike u log base archive lent)) h w
+writes archive u log base lent given e h w = tells_blocks (e ∙ rw given (write_alike u log base archive lent)) h w
 
 -- a unit above 7 is refused as it is narrowed
 sab2_alike : (archive u : ℕ) (log base lent : List ℕ) → write_sab2_of archive (narrowed u) log base lent ≡ write_sab2_of archive u log base lent
@@ -35,14 +35,14 @@ writes_sab2 archive u log base lent given e h w = tells_blocks (e ∙ rw given (
 -- ---- reading a file
 
 module _ {r : ℕ} (log base f head : List ℕ) where
-  pub head-wrong : (length head ≡ 24 → ⊥) → r ≡ packed 1 0 0 → loaded r log base head ≡ loaded_of log base f head
+  pub head_wrong : (length head ≡ 24 → ⊥) → r ≡ packed 1 0 0 → loaded r log base head ≡ loaded_of log base f head
   unfolding loaded_of
-  head-wrong a w = rw (ne_eqb (length head) 24 a, w)
+  head_wrong a w = rw (ne_eqb (length head) 24 a, w)
 
   module _ {n p a u k : ℕ} {v log' base' : List ℕ} (full : length head ≡ 24) (back : read_back_of n p a u k v log' base' ≡ read_either_of log base f) (w : r ≡ packed n p k) where
-    pub loads-not : (n ≡ 0 → ⊥) → loaded r log' base' head ≡ loaded_of log base f head
+    pub loads_not : (n ≡ 0 → ⊥) → loaded r log' base' head ≡ loaded_of log base f head
     unfolding loaded_of head_left
-    loads-not e = rw (eq-eqb (length head) 24 full, ← back, ne_eqb n 0 e, w)
+    loads_not e = rw (eq-eqb (length head) 24 full, ← back, ne_eqb n 0 e, w)
 
     pub loads : {head' : List ℕ} → n ≡ 0 → head' ≡ head_of a u k v → loaded r log' base' head' ≡ loaded_of log base f head
     unfolding loaded_of head_left

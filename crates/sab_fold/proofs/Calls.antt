@@ -14,7 +14,7 @@ use Rattle.log_laws.proofs.Counts.{no_counts_lem}
 use Rattle.sab_words.specs.Words.{packed, narrowed}
 use Rattle.sab_words.specs.Called.{called_both, told_work}
 use Rattle.sab_words.proofs.Told.{tells_work}
-use Rattle.sab_words.proofs.Units.{fold-alike, fold-work-alike}
+use Rattle.sab_words.proofs.Units.{fold_alike, fold_work_alike}
 use Rattle.sab_fold.specs.Given.{list_given}
 
 -- ---- the list
@@ -41,4 +41,4 @@ wide_list_refused u {m} log base work h = rw (← above m h, none-listed u)
 pub folds : (u m : ℕ) {v l r n k : ℕ} (log base work : List ℕ) {log' base' work' : List ℕ} → v ≡ narrowed u → l ≡ list_given m → outcome n 0 log' base' k ≡ fold_of v log base l work → work' ≡ fold_work v log base l work → r ≡ packed n 0 k
     → called_both r log' base' work' ≡ told_work (fold_of u log base (list_given m) work) (fold_work u log base (list_given m) work)
 folds u m log base work given i e h w =
-    tells_work (e ∙ rw (given, i) (fold-alike u log base (list_given m) work)) (h ∙ rw (given, i) (fold-work-alike u log base (list_given m) work)) w
+    tells_work (e ∙ rw (given, i) (fold_alike u log base (list_given m) work)) (h ∙ rw (given, i) (fold_work_alike u log base (list_given m) work)) w

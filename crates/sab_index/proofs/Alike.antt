@@ -16,7 +16,7 @@ use Rattle.index_model.specs.Acting.{change_in}
 use Rattle.index_model.specs.Kept.{Kept, kept, index_fits, kept_of, start_kept, act_kept, act_kept_work, take_kept, take_kept_work, RowKept, row_kept, take_row_kept, take_row_kept_work}
 use Rattle.sab_words.specs.Words.{packed, narrowed}
 use Rattle.sab_words.specs.Called.{called_both}
-use Rattle.sab_words.proofs.Units.{guard-alike, start-alike, act-alike, act-work-alike, take-alike}
+use Rattle.sab_words.proofs.Units.{guard_alike, start_alike, act-alike, act_work_alike, take-alike}
 use Rattle.sab_index.specs.Told.{told_start, told_kept, told_row_kept}
 
 -- ---- units
@@ -33,18 +33,18 @@ act_refused u log base w work {k} e z = let y : ◌≡◌ {A = ℕ} (suc k) 0 = 
 pub row-alike : (archive u : ℕ) (log base row : List ℕ) → take_row_of archive (narrowed u) log base row ≡ take_row_of archive u log base row
 unfolding take_row_of
 row-alike archive u log base row =
-    let (a, b) = guard-alike u log base true (row_fits (length row)) in
+    let (a, b) = guard_alike u log base true (row_fits (length row)) in
     ⊎_elim (λ n. rw n) (λ (k, q). rw (a, q)) b
 
 module _ (u : ℕ) (log base i : List ℕ) where
-  pub start-kept-alike : start_kept (narrowed u) log base i ≡ start_kept u log base i
+  pub start_kept_alike : start_kept (narrowed u) log base i ≡ start_kept u log base i
   unfolding start_kept
-  start-kept-alike = rw (start-alike u log base)
+  start_kept_alike = rw (start_alike u log base)
 
-  pub act-kept-alike : (w work : List ℕ) → act_kept (narrowed u) log base i w work ≡ act_kept u log base i w work
+  pub act_kept_alike : (w work : List ℕ) → act_kept (narrowed u) log base i w work ≡ act_kept u log base i w work
   unfolding act_kept
-  act-kept-alike w work =
-      let (a, b) = guard-alike u log base (act_lent w work) true in
+  act_kept_alike w work =
+      let (a, b) = guard_alike u log base (act_lent w work) true in
       ⊎_elim
       (λ n. rw n)
       (λ (k, q).
@@ -55,26 +55,26 @@ module _ (u : ℕ) (log base i : List ℕ) where
       (act_refused u log base w work q)))
       b
 
-  pub act-kept-work-alike : (w work : List ℕ) → act_kept_work (narrowed u) log base i w work ≡ act_kept_work u log base i w work
+  pub act_kept_work_alike : (w work : List ℕ) → act_kept_work (narrowed u) log base i w work ≡ act_kept_work u log base i w work
   unfolding act_kept_work
-  act-kept-work-alike w work = rw (act-work-alike u log base w work)
+  act_kept_work_alike w work = rw (act_work_alike u log base w work)
 
   module _ (archive : ℕ) (b work : List ℕ) where
-    pub take-kept-alike : take_kept archive (narrowed u) log base i b work ≡ take_kept archive u log base i b work
+    pub take_kept_alike : take_kept archive (narrowed u) log base i b work ≡ take_kept archive u log base i b work
     unfolding take_kept
-    take-kept-alike = rw (take-alike u log base archive b)
+    take_kept_alike = rw (take-alike u log base archive b)
 
-    pub take-kept-work-alike : take_kept_work archive (narrowed u) log base i b work ≡ take_kept_work archive u log base i b work
+    pub take_kept_work_alike : take_kept_work archive (narrowed u) log base i b work ≡ take_kept_work archive u log base i b work
     unfolding take_kept_work
-    take-kept-work-alike = rw (take-alike u log base archive b)
+    take_kept_work_alike = rw (take-alike u log base archive b)
 
-    pub row-kept-alike : take_row_kept archive (narrowed u) log base i b work ≡ take_row_kept archive u log base i b work
+    pub row_kept_alike : take_row_kept archive (narrowed u) log base i b work ≡ take_row_kept archive u log base i b work
     unfolding take_row_kept
-    row-kept-alike = rw (row-alike archive u log base b)
+    row_kept_alike = rw (row-alike archive u log base b)
 
-    pub row-kept-work-alike : take_row_kept_work archive (narrowed u) log base i b work ≡ take_row_kept_work archive u log base i b work
+    pub row_kept_work_alike : take_row_kept_work archive (narrowed u) log base i b work ≡ take_row_kept_work archive u log base i b work
     unfolding take_row_kept_work
-    row-kept-work-alike = rw (row-alike archive u log base b)
+    row_kept_work_alike = rw (row-alike archive u log base b)
 
 -- ---- words
 

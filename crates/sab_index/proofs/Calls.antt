@@ -21,13 +21,13 @@ use Rattle.sab_index.specs.Told.{folder_asked, found_word, range_bytes, told_ran
 -- ---- the folder asked
 
 module _ (u n : ℕ) where
-  pub far-unit : 7 < u → 4294967295 ≡ folder_asked u n
+  pub far_unit : 7 < u → 4294967295 ≡ folder_asked u n
   unfolding folder_asked
-  far-unit h = rw (lt-leb u 7 h)
+  far_unit h = rw (lt-leb u 7 h)
 
-  pub far-number : u ≤ 7 → 65535 < n → 4294967295 ≡ folder_asked u n
+  pub far_number : u ≤ 7 → 65535 < n → 4294967295 ≡ folder_asked u n
   unfolding folder_asked
-  far-number h k = rw (le-leb u 7 h, lt-leb n 65535 k)
+  far_number h k = rw (le-leb u 7 h, lt-leb n 65535 k)
 
   pub near : u ≤ 7 → n ≤ 65535 → 8 * n + u ≡ folder_asked u n
   unfolding folder_asked identity
@@ -88,14 +88,14 @@ tells_range d a k h i j p q w =
     rw (w, q, p, i, j, t, put_whole d (two a ++ two k) (omega arith))
 
 module _ (b d : List ℕ) (g : ℕ) {r : ℕ} where
-  pub lent-wrong : (length d ≡ 4 → ⊥) → r ≡ packed 1 0 0 → called r [] d ≡ listed_of b g d
+  pub lent_wrong : (length d ≡ 4 → ⊥) → r ≡ packed 1 0 0 → called r [] d ≡ listed_of b g d
   unfolding listed_of wrong_buffer
-  lent-wrong h w = rw (ne_eqb (length d) 4 h, w)
+  lent_wrong h w = rw (ne_eqb (length d) 4 h, w)
 
   module _ (f n x k : ℕ) (h : length d ≡ 4) (i : f ≡ g) (e : range n x k ≡ range_of b f) where
-    pub list-refused : (n ≡ 0 → ⊥) → r ≡ packed n 0 0 → called r [] d ≡ listed_of b g d
+    pub list_refused : (n ≡ 0 → ⊥) → r ≡ packed n 0 0 → called r [] d ≡ listed_of b g d
     unfolding listed_of told_range range
-    list-refused z w = rw (eq-eqb (length d) 4 h, ← i, ← e, ne_eqb n 0 z, w)
+    list_refused z w = rw (eq-eqb (length d) 4 h, ← i, ← e, ne_eqb n 0 z, w)
 
     pub lists : {y : List ℕ} → n ≡ 0 → called r [] y ≡ told_range d (range 0 x k) → called r [] y ≡ listed_of b g d
     unfolding listed_of

@@ -12,15 +12,15 @@ use Rattle.sab_words.specs.Words.{packed}
 use Rattle.sab_listing.specs.Printed.{printed, size_left, printed_listing, printed_of}
 
 module _ {r : ℕ} (f log base tree text size : List ℕ) where
-  pub size-wrong : (length size ≡ 4 → ⊥) → r ≡ packed 1 0 0 → printed r log base tree text size ≡ printed_of f log base tree text size
+  pub size_wrong : (length size ≡ 4 → ⊥) → r ≡ packed 1 0 0 → printed r log base tree text size ≡ printed_of f log base tree text size
   unfolding printed_of
-  size-wrong a w = rw (ne_eqb (length size) 4 a, w)
+  size_wrong a w = rw (ne_eqb (length size) 4 a, w)
 
   module _ {n p k : ℕ} {log' base' tree' text' : List ℕ} (four_bytes : length size ≡ 4)
       (lists : listed n p k log' base' tree' text' ≡ either_listed f log base tree text) (w : r ≡ packed n p 0) where
-    pub prints-not : n ≡ 1 → printed r log' base' tree' text' size ≡ printed_of f log base tree text size
+    pub prints_not : n ≡ 1 → printed r log' base' tree' text' size ≡ printed_of f log base tree text size
     unfolding printed_of printed_listing size_left
-    prints-not e = rw (eq-eqb (length size) 4 four_bytes, ← lists, eq-eqb n 1 e, w)
+    prints_not e = rw (eq-eqb (length size) 4 four_bytes, ← lists, eq-eqb n 1 e, w)
 
     pub prints : {size' : List ℕ} → (n ≡ 1 → ⊥) → size' ≡ put_at size 0 (four k) → printed r log' base' tree' text' size' ≡ printed_of f log base tree text size
     unfolding printed_of printed_listing size_left

@@ -12,9 +12,9 @@ use Rattle.sab_words.specs.Words.{packed}
 use Rattle.sab_plan.specs.Told.{plan_told, size_told, told_plan, plan_told_of}
 
 module _ {r : ℕ} (f logs base work text size : List ℕ) where
-  pub size-wrong : (length size ≡ 4 → ⊥) → r ≡ packed 1 0 0 → plan_told r logs base work text size ≡ plan_told_of f logs base work text size
+  pub size_wrong : (length size ≡ 4 → ⊥) → r ≡ packed 1 0 0 → plan_told r logs base work text size ≡ plan_told_of f logs base work text size
   unfolding plan_told_of
-  size-wrong a w = rw (ne_eqb (length size) 4 a, w)
+  size_wrong a w = rw (ne_eqb (length size) 4 a, w)
 
   module _ {n p k : ℕ} {logs' base' work' text' : List ℕ} (four_bytes : length size ≡ 4)
       (tried : planned n p k logs' base' work' text' ≡ planned_of f logs base work text) where

@@ -14,9 +14,9 @@ use Rattle.index_model.specs.Kept.{row_kept, take_row_kept, take_row_kept_work}
 use Rattle.sab_words.specs.Words.{packed, narrowed}
 use Rattle.sab_words.specs.Called.{called, called_both, wrong_buffer}
 use Rattle.sab_words.proofs.Told.{tells_blocks}
-use Rattle.sab_words.proofs.Units.{guard-alike, guarded-alike}
+use Rattle.sab_words.proofs.Units.{guard_alike, guarded-alike}
 use Rattle.sab_index.specs.Told.{told_row_kept}
-use Rattle.sab_index.proofs.Alike.{row-kept-alike, row-kept-work-alike, tells_row}
+use Rattle.sab_index.proofs.Alike.{row_kept_alike, row_kept_work_alike, tells_row}
 use Rattle.sab_row.specs.Rows.{row_handed_of, tried_call, told_trial, row_tried_of}
 
 -- ---- units above 7 are alike
@@ -24,7 +24,7 @@ use Rattle.sab_row.specs.Rows.{row_handed_of, tried_call, told_trial, row_tried_
 try_alike : (archive u : ℕ) (log base row copy tree report : List ℕ) → try_of archive (narrowed u) log base row copy tree report ≡ try_of archive u log base row copy tree report
 unfolding try_of
 try_alike archive u log base row copy tree report =
-    let (a, b) = guard-alike u log base (trial_lent copy tree report) (row_fits (length row)) in
+    let (a, b) = guard_alike u log base (trial_lent copy tree report) (row_fits (length row)) in
     ⊎_elim (λ n. rw n) (λ (k, q). rw (a, q)) b
 
 hand_row_alike : (archive u : ℕ) (log base v lent : List ℕ) → hand_row_of archive (narrowed u) log base v lent ≡ hand_row_of archive u log base v lent
@@ -34,9 +34,9 @@ hand_row_alike archive u log base v lent = guarded-alike u log base lent (eqb (l
 -- ---- handing out
 
 module _ (archive u : ℕ) {r : ℕ} (log base asked lent : List ℕ) where
-  pub asks-wrong : (length asked ≡ 16 → ⊥) → r ≡ packed 1 0 0 → called r log lent ≡ row_handed_of archive u log base asked lent
+  pub asks_wrong : (length asked ≡ 16 → ⊥) → r ≡ packed 1 0 0 → called r log lent ≡ row_handed_of archive u log base asked lent
   unfolding row_handed_of wrong_buffer
-  asks-wrong a w = rw (ne_eqb (length asked) 16 a, w)
+  asks_wrong a w = rw (ne_eqb (length asked) 16 a, w)
 
   pub hands : {n p k j m : ℕ} (v : List ℕ) {lent' : List ℕ} → length asked ≡ 16 → v ≡ vector_at asked 0 → m ≡ narrowed u → outcome n p log lent' k ≡ hand_row_of archive m log base v lent → j ≡ k → r ≡ packed n p j
       → called r log lent' ≡ row_handed_of archive u log base asked lent
@@ -52,7 +52,7 @@ pub takes : (archive u : ℕ) {v r n p k s x y : ℕ} (log base i row work : Lis
     → r ≡ packed n p (x + 256 * y)
     → called_both r log' j work' ≡ told_row_kept (take_row_kept archive u log base i row work) (take_row_kept_work archive u log base i row work)
 takes archive u log base i row work given e h a b w =
-    tells_row (e ∙ rw given (row-kept-alike u log base i archive row work)) (h ∙ rw given (row-kept-work-alike u log base i archive row work)) a b w
+    tells_row (e ∙ rw given (row_kept_alike u log base i archive row work)) (h ∙ rw given (row_kept_work_alike u log base i archive row work)) a b w
 
 pub tries : (archive u : ℕ) {v r n p : ℕ} (log base row copy tree report : List ℕ) {copy' tree' report' : List ℕ} → v ≡ narrowed u → trial n p copy' tree' report' ≡ try_of archive v log base row copy tree report → r ≡ packed n p 0
     → tried_call r copy' tree' report' ≡ row_tried_of archive u log base row copy tree report

@@ -22,17 +22,17 @@ tells_both d n f s h p q i w =
     rw (w, i, q, p, t, put_whole d (four f ++ four s) (omega arith))
 
 module _ {r : ℕ} (a b d : List ℕ) where
-  pub first-wrong : (length a ≡ 16 → ⊥) → r ≡ packed 1 0 0 → called r [] d ≡ compared_of a b d
+  pub first_wrong : (length a ≡ 16 → ⊥) → r ≡ packed 1 0 0 → called r [] d ≡ compared_of a b d
   unfolding compared_of wrong_buffer
-  first-wrong h w = rw (ne_eqb (length a) 16 h, w)
+  first_wrong h w = rw (ne_eqb (length a) 16 h, w)
 
-  pub second-wrong : length a ≡ 16 → (length b ≡ 16 → ⊥) → r ≡ packed 1 0 0 → called r [] d ≡ compared_of a b d
+  pub second_wrong : length a ≡ 16 → (length b ≡ 16 → ⊥) → r ≡ packed 1 0 0 → called r [] d ≡ compared_of a b d
   unfolding compared_of wrong_buffer
-  second-wrong h g w = rw (eq-eqb (length a) 16 h, ne_eqb (length b) 16 g, w)
+  second_wrong h g w = rw (eq-eqb (length a) 16 h, ne_eqb (length b) 16 g, w)
 
-  pub lent-wrong : length a ≡ 16 → length b ≡ 16 → (length d ≡ lacks_size → ⊥) → r ≡ packed 1 0 0 → called r [] d ≡ compared_of a b d
+  pub lent_wrong : length a ≡ 16 → length b ≡ 16 → (length d ≡ lacks_size → ⊥) → r ≡ packed 1 0 0 → called r [] d ≡ compared_of a b d
   unfolding compared_of wrong_buffer
-  lent-wrong h g f w = rw (eq-eqb (length a) 16 h, eq-eqb (length b) 16 g, ne_eqb (length d) lacks_size f, w)
+  lent_wrong h g f w = rw (eq-eqb (length a) 16 h, eq-eqb (length b) 16 g, ne_eqb (length d) lacks_size f, w)
 
   pub compares : {x y e : List ℕ} {m f s : ℕ} → length a ≡ 16 → length b ≡ 16 → length d ≡ lacks_size → x ≡ vector_at a 0 → y ≡ vector_at b 0
       → compared m f s ≡ comparison_of x y → called r [] e ≡ told_compared (compared m f s) → called r [] e ≡ compared_of a b d

@@ -32,9 +32,9 @@ within u h = rw (le-leb u 7 h)
 
 -- the guard refuses both, or both are the same
 module _ (u : ℕ) (log base : List ℕ) where
-  pub guard-alike : (ok row : Bool) → (guard_number (narrowed u) log base ok row ≡ guard_number u log base ok row) × ((narrowed u ≡ u) ⊎ ((k : ℕ) × (guard_number u log base ok row ≡ suc k)))
+  pub guard_alike : (ok row : Bool) → (guard_number (narrowed u) log base ok row ≡ guard_number u log base ok row) × ((narrowed u ≡ u) ⊎ ((k : ℕ) × (guard_number u log base ok row ≡ suc k)))
   unfolding narrowed
-  guard-alike ok row = on (leb u 7) refl
+  guard_alike ok row = on (leb u 7) refl
     where
       at255 : leb u 7 ≡ false → (t : Bool) → (eqb (length log) 40960 && (eqb (length base) 43032 && ok)) ≡ t
           → (guard_number (narrowed u) log base ok row ≡ guard_number u log base ok row) × ((narrowed u ≡ u) ⊎ ((k : ℕ) × (guard_number u log base ok row ≡ suc k)))
@@ -49,20 +49,20 @@ module _ (u : ℕ) (log base : List ℕ) where
   pub guarded-alike : (lent : List ℕ) (ok : Bool) (f : ℕ → Outcome) → guarded (narrowed u) log base lent ok (f (narrowed u)) ≡ guarded u log base lent ok (f u)
   unfolding guarded
   guarded-alike lent ok f =
-      let (a, b) = guard-alike ok true in
+      let (a, b) = guard_alike ok true in
       ⊎_elim (λ n. rw n) (λ (k, q). rw (a, q)) b
 
   -- and so with the work memory
-  pub work-alike : (ok : Bool) (f : ℕ → ℕ) (t : ℕ → Tree) (work : List ℕ)
+  pub work_alike : (ok : Bool) (f : ℕ → ℕ) (t : ℕ → Tree) (work : List ℕ)
       → work_after (first_of (guard_number (narrowed u) log base ok true) (f (narrowed u))) (t (narrowed u)) work ≡ work_after (first_of (guard_number u log base ok true) (f u)) (t u) work
-  work-alike ok f t work =
-      let (a, b) = guard-alike ok true in
+  work_alike ok f t work =
+      let (a, b) = guard_alike ok true in
       ⊎_elim (λ n. rw n) (λ (k, q). rw (a, q)) b
 
 module _ (u : ℕ) (log base : List ℕ) where
-  pub start-alike : start_of (narrowed u) log base ≡ start_of u log base
+  pub start_alike : start_of (narrowed u) log base ≡ start_of u log base
   unfolding narrowed start_of
-  start-alike = on (leb u 7) refl
+  start_alike = on (leb u 7) refl
     where
       at255 : leb u 7 ≡ false → (t : Bool) → (eqb (length log) 40960 && (eqb (length base) 43032 && true)) ≡ t → start_of (narrowed u) log base ≡ start_of u log base
       at255 e true x = let n : narrowed u ≡ 255 = rw e in rw (n, e, x)
@@ -78,28 +78,28 @@ module _ (u : ℕ) (log base : List ℕ) where
       guarded-alike u log base [] (act_lent w work)
       (λ v. acted v log (base_vector base) w (act_number (base_in base).list v (base_vector base) (base_in base).tree (records_of log) w))
 
-  pub act-work-alike : (w work : List ℕ) → act_work (narrowed u) log base w work ≡ act_work u log base w work
+  pub act_work_alike : (w work : List ℕ) → act_work (narrowed u) log base w work ≡ act_work u log base w work
   unfolding act_work
-  act-work-alike w work =
-      work-alike u log base (act_lent w work) (λ v. early_wish (base_in base).list v (base_vector base) (records_of log) w) (λ _. tree_of log base) work
+  act_work_alike w work =
+      work_alike u log base (act_lent w work) (λ v. early_wish (base_in base).list v (base_vector base) (records_of log) w) (λ _. tree_of log base) work
 
-  pub hand-alike : (archive : ℕ) (v lent : List ℕ) → hand_of archive (narrowed u) log base v lent ≡ hand_of archive u log base v lent
+  pub hand_alike : (archive : ℕ) (v lent : List ℕ) → hand_of archive (narrowed u) log base v lent ≡ hand_of archive u log base v lent
   unfolding hand_of
-  hand-alike archive v lent = guarded-alike u log base lent (eqb (length lent) 512) (λ n. handed archive n log base v lent)
+  hand_alike archive v lent = guarded-alike u log base lent (eqb (length lent) 512) (λ n. handed archive n log base v lent)
 
   pub take-alike : (archive : ℕ) (b : List ℕ) → take_of archive (narrowed u) log base b ≡ take_of archive u log base b
   unfolding take_of
   take-alike archive b = guarded-alike u log base [] true (λ n. took_block log base b (given_fault archive b))
 
-  pub write-alike : (archive : ℕ) (lent : List ℕ) → write_of archive (narrowed u) log base lent ≡ write_of archive u log base lent
+  pub write_alike : (archive : ℕ) (lent : List ℕ) → write_of archive (narrowed u) log base lent ≡ write_of archive u log base lent
   unfolding write_of
-  write-alike archive lent = guarded-alike u log base lent (eqb (length lent) 44032) (λ n. written archive n log base lent)
+  write_alike archive lent = guarded-alike u log base lent (eqb (length lent) 44032) (λ n. written archive n log base lent)
 
-  pub fold-alike : (m : ℕ) (work : List ℕ) → fold_of (narrowed u) log base m work ≡ fold_of u log base m work
+  pub fold_alike : (m : ℕ) (work : List ℕ) → fold_of (narrowed u) log base m work ≡ fold_of u log base m work
   unfolding fold_of
-  fold-alike m work = guarded-alike u log base base (eqb (length work) 86020) (λ n. fold_by m n log base)
+  fold_alike m work = guarded-alike u log base base (eqb (length work) 86020) (λ n. fold_by m n log base)
 
-  pub fold-work-alike : (m : ℕ) (work : List ℕ) → fold_work (narrowed u) log base m work ≡ fold_work u log base m work
+  pub fold_work_alike : (m : ℕ) (work : List ℕ) → fold_work (narrowed u) log base m work ≡ fold_work u log base m work
   unfolding fold_work
-  fold-work-alike m work =
-      work-alike u log base (eqb (length work) 86020) (λ n. list_number m n (held_on log base)) (λ n. replay_from (base_in base).tree (take (run_in m n log base) (records_of log))) work
+  fold_work_alike m work =
+      work_alike u log base (eqb (length work) 86020) (λ n. list_number m n (held_on log base)) (λ n. replay_from (base_in base).tree (take (run_in m n log base) (records_of log))) work

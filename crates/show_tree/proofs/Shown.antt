@@ -13,14 +13,14 @@ use Rattle.base_head.specs.Head.{headed}
 use Rattle.call_model.specs.Outcome.{outcome, show_of}
 use Rattle.tree_table.specs.Rows.{tree_in}
 use Rattle.tree_lookup.specs.Roles.{Works}
-use Rattle.tree_lookup.proofs.Working.{works-tree}
+use Rattle.tree_lookup.proofs.Working.{works_tree}
 use Rattle.call_guard.specs.Opened.{opened, open_of}
 use Rattle.call_guard.proofs.Opening.{call_passes}
 
 -- ---- a table laid
 
 pub laid : (b register : List ℕ) (n m : ℕ) (t : Tree) (f : List ℕ) → Works b register n m t → f ≡ table_bytes (tree_in b n m) → f ≡ table_bytes t
-laid b register n m t f w e = e ∙ ap table_bytes (works-tree b register n m t w)
+laid b register n m t f w e = e ∙ ap table_bytes (works_tree b register n m t w)
 
 pub zeroed : (b₀ b : List ℕ) → length b₀ ≡ 86020 → b ≡ replicate (length b₀) 0 → b ≡ replicate 86020 0
 zeroed b₀ b h e = rw h at e

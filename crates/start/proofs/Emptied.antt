@@ -7,17 +7,17 @@ use mathlib.Core.List.{List}
 use lib.ListN.{length, replicate}
 use Rattle.base_model.specs.Base.{empty_base}
 use Rattle.call_model.specs.Outcome.{outcome, refusal, early_number, start_of}
-use Rattle.call_answer.proofs.Guards.{early-long, early-based, refused_by}
+use Rattle.call_answer.proofs.Guards.{early_long, early_based, refused_by}
 
 module _ (u : ℕ) (log base : List ℕ) (n : ℕ) (e : n ≡ early_number u log base true true) where
-  pub not-started : (n ≡ 0 → ⊥) → refusal n log base ≡ start_of u log base
+  pub not_started : (n ≡ 0 → ⊥) → refusal n log base ≡ start_of u log base
   unfolding start_of
-  not-started h = rw (← e) (refused_by n log base (outcome 0 0 (replicate 40960 0) empty_base 0) h)
+  not_started h = rw (← e) (refused_by n log base (outcome 0 0 (replicate 40960 0) empty_base 0) h)
 
   module _ (z : n ≡ 0) where
     pub base_long : length base ≡ 43032
-    base_long = early-based u log base true true (sym e ∙ z)
+    base_long = early_based u log base true true (sym e ∙ z)
 
     pub emptied : (left clear : List ℕ) → left ≡ replicate (length log) 0 → clear ≡ empty_base → outcome 0 0 left clear 0 ≡ start_of u log base
     unfolding start_of
-    emptied left clear q p = rw (← e, z, q, p, early-long u log base true true (sym e ∙ z))
+    emptied left clear q p = rw (← e, z, q, p, early_long u log base true true (sym e ∙ z))

@@ -14,7 +14,7 @@ use Rattle.base_model.specs.Base.{base_vector, base_entry, base_aside, base_entr
 use Rattle.byte_slice.proofs.Numbers.{eq_or_ne}
 use Rattle.tree_laws.specs.Trees.{NamedIn, NamedOrNone, EntryFits, AsideFits}
 use Rattle.base_laws.specs.Plain.{Plain, Reaches, top, up}
-use Rattle.base_laws.proofs.Plain.{all_at, id-made, id-who, plain_of}
+use Rattle.base_laws.proofs.Plain.{all_at, id_made, id_who, plain_of}
 use Rattle.base_laws.proofs.Rows.{row_fits_lem, row_present, aside_fits_lem}
 use Rattle.base_laws.proofs.Trees.{sound_tells}
 use Rattle.tree_table.specs.Rows.{InRange}
@@ -22,7 +22,7 @@ use Rattle.tree_lookup.specs.Roles.{row_from, note_from, row_of, note_of, behind
 use Rattle.tree_lookup.proofs.Places.{row_absent, absent_at}
 use Rattle.tree_lookup.proofs.Working.{blank_entry}
 use Rattle.base_load.specs.Loading.{Ranged, Noted, Loads, tree_to}
-use Rattle.base_load.proofs.Listed.{no_row, no_note, entries-long}
+use Rattle.base_load.proofs.Listed.{no_row, no_note, entries_long}
 use Rattle.base_load.proofs.Entering.{entry_is}
 use Rattle.state_tree.specs.Small.{Small}
 
@@ -38,14 +38,14 @@ none-range : (v : List ℕ) (k : ℕ) → Small v → NamedOrNone v k → (k ≡
 none-range v k s h = ⊎_elim (λ (z : k ≡ root). inl z) (λ z. inr (named-range v k s z)) h
 
 id_aside : (b : List ℕ) (n k : ℕ) → id_at b n (n + k) ≡ (base_aside b k).who
-id_aside b n k = let e : n + k - n ≡ k = omega arith in (rw e at (id-who b n (n + k) (omega arith)))
+id_aside b n k = let e : n + k - n ≡ k = omega arith in (rw e at (id_who b n (n + k) (omega arith)))
 
 -- an identity that stands in a row has a row
 has_row : (b : List ℕ) (n j f : ℕ) → j < n → (base_entry b j).made ≡ f → 1 ≤ row_from f 0 (base_entries b 0 n)
 has_row b n j f h e =
     ⊎_elim
     (λ (z : row_from f 0 (base_entries b 0 n) ≡ 0).
-    absurd (absent_at f (base_entries b 0 n) j blank_entry (row_absent f 0 (base_entries b 0 n) z) (omega (arith, entries-long b 0 n)) (ap (λ (x : Entry). x.made) (entry_is b n j blank_entry h) ∙ e)))
+    absurd (absent_at f (base_entries b 0 n) j blank_entry (row_absent f 0 (base_entries b 0 n) z) (omega (arith, entries_long b 0 n)) (ap (λ (x : Entry). x.made) (entry_is b n j blank_entry h) ∙ e)))
     (λ (z : row_from f 0 (base_entries b 0 n) ≡ 0 → ⊥). omega arith)
     (eq_or_ne (row_from f 0 (base_entries b 0 n)) 0)
 
@@ -82,9 +82,9 @@ sound_loads b len e small =
             own = named-range v (base_aside b j).who small (stands j h).who_named;
             mark = none-range v (base_aside b j).marked small (stands j h).mark_named;
           };
-      once = λ i j h g q. p.lone j i (omega arith) h (id-made b n i (omega arith) ∙ q ∙ sym (id-made b n j g));
+      once = λ i j h g q. p.lone j i (omega arith) h (id_made b n i (omega arith) ∙ q ∙ sym (id_made b n j g));
       notes_once = λ i j h g q. p.lone (n + j) (n + i) (omega arith) (omega arith) (id_aside b n i ∙ q ∙ sym (id_aside b n j));
-      not_both = λ i j h g q. p.lone (n + j) i (omega arith) (omega arith) (id-made b n i h ∙ q ∙ sym (id_aside b n j));
+      not_both = λ i j h g q. p.lone (n + j) i (omega arith) (omega arith) (id_made b n i h ∙ q ∙ sym (id_aside b n j));
       housed = λ i h. home b n (base_entry b i).inside (p.rooted i h);
     }
 

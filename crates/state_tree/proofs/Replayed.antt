@@ -21,11 +21,11 @@ use Rattle.encoding_laws.proofs.Logs.{sound_records_on, sound_few}
 use Rattle.log_check.specs.declared.Layout.TheVariants.{Log}
 use Rattle.log_check.specs.Places.{laid_at, Laid}
 use Rattle.log_check.specs.InOrder.{listed}
-use Rattle.log_check.proofs.Sound.{listed-records, log-laid}
+use Rattle.log_check.proofs.Sound.{listed_records, log_laid}
 use Rattle.tree_table.specs.Rows.{tree_in}
 use Rattle.hash_chains.specs.Chains.{nodes_in}
 use Rattle.tree_lookup.specs.Roles.{role_of, Works, Holds}
-use Rattle.tree_lookup.proofs.Working.{works-tree, works-holds}
+use Rattle.tree_lookup.proofs.Working.{works_tree, works_holds}
 use Rattle.tree_replay.specs.Playable.{Playable}
 use Rattle.tree_replay.proofs.Sound.{playable_on}
 use Rattle.base_laws.proofs.Trees.{sound_tells}
@@ -51,33 +51,33 @@ held_small v w e s = rw (← e) s
 -- ---- a sound state told apart
 
 module _ (log base : List ℕ) (s : sound_state log base ≡ true) where
-  pub state-base : sound_base base ≡ true
+  pub state_base : sound_base base ≡ true
   unfolding sound_state
-  state-base = (and_true (sound_base base) (sound_log_on (base_vector base) log && lists_all (get_or base 0 0) (held_on log base)) s).0
+  state_base = (and_true (sound_base base) (sound_log_on (base_vector base) log && lists_all (get_or base 0 0) (held_on log base)) s).0
 
-  pub state-log : sound_log_on (base_vector base) log ≡ true
+  pub state_log : sound_log_on (base_vector base) log ≡ true
   unfolding sound_state
-  state-log =
+  state_log =
       (and_true (sound_log_on (base_vector base) log) (lists_all (get_or base 0 0) (held_on log base))
       (and_true (sound_base base) (sound_log_on (base_vector base) log && lists_all (get_or base 0 0) (held_on log base)) s).1).0
 
-  pub state-records : SoundOn (base_vector base) (records_of log)
-  state-records = sound_records_on (base_vector base) log state-log
+  pub state_records : SoundOn (base_vector base) (records_of log)
+  state_records = sound_records_on (base_vector base) log state_log
 
 -- ---- room for all of them
 
 module _ (log base : List ℕ) (s : sound_state log base ≡ true) (k : ℕ) (c : k ≡ length (records_of log)) where
   pub entries_room : (n : ℕ) → n ≡ word base 2 → n + k ≤ 1024
-  entries_room n e = omega (arith, sound_few log, (sound_tells base (state-base log base s)).few_entries)
+  entries_room n e = omega (arith, sound_few log, (sound_tells base (state_base log base s)).few_entries)
 
   pub asides_room : (m : ℕ) → m ≡ word base 4 → m + k ≤ 1024
-  asides_room m f = omega (arith, sound_few log, (sound_tells base (state-base log base s)).few_asides)
+  asides_room m f = omega (arith, sound_few log, (sound_tells base (state_base log base s)).few_asides)
 
-  pub both-room : (n m : ℕ) → n ≡ word base 2 → m ≡ word base 4 → n + m + k ≤ 1536
-  both-room n m e f = omega (arith, sound_few log, (sound_tells base (state-base log base s)).few_entries, (sound_tells base (state-base log base s)).few_asides)
+  pub both_room : (n m : ℕ) → n ≡ word base 2 → m ≡ word base 4 → n + m + k ≤ 1536
+  both_room n m e f = omega (arith, sound_few log, (sound_tells base (state_base log base s)).few_entries, (sound_tells base (state_base log base s)).few_asides)
 
-  pub nodes-room : (n : ℕ) → n ≡ word base 2 → (register : List ℕ) → nodes_in 4097 register ≡ n → nodes_in 4097 register + k ≤ 1536
-  nodes-room n e register nodes = omega (arith, sound_few log, (sound_tells base (state-base log base s)).few_entries)
+  pub nodes_room : (n : ℕ) → n ≡ word base 2 → (register : List ℕ) → nodes_in 4097 register ≡ n → nodes_in 4097 register + k ≤ 1536
+  nodes_room n e register nodes = omega (arith, sound_few log, (sound_tells base (state_base log base s)).few_entries)
 
 module _ (log base : List ℕ) (s : sound_state log base ≡ true) (held : List ℕ) (are : Small held) (is : held ≡ held_on log base) (len : length base ≡ 43032) where
   small : Small (held_on log base)
@@ -90,8 +90,8 @@ module _ (log base : List ℕ) (s : sound_state log base ≡ true) (held : List 
   base_small = record { at = λ u h. omega (arith, counts_small u h) }
 
   module _ (n m : ℕ) (e : n ≡ word base 2) (f : m ≡ word base 4) where
-    pub state-loads : Loads base n m
-    state-loads = rw (e, f) (sound_loads base len (state-base log base s) base_small)
+    pub state_loads : Loads base n m
+    state_loads = rw (e, f) (sound_loads base len (state_base log base s) base_small)
 
     -- what `replay` is asked once the base is loaded
     module _ (table register : List ℕ) (w : Works table register n m (tree_to base n m)) (k : ℕ) (c : k ≡ length (records_of log)) where
@@ -99,32 +99,32 @@ module _ (log base : List ℕ) (s : sound_state log base ≡ true) (held : List 
       unfolding self_of identity
       fresh r i =
           let v = base_vector base in
-          let so = state-records log base s in
+          let so = state_records log base s in
           let u : unit r < 8 = unit_of_on v [] (records_of log) r so i in
           let a = (numbers_on v [] (records_of log) r so i).0 in
           let b = count-nil (unit r) in
           let x : (8 * num r + unit r) % 8 ≡ unit r = omega arith in
           let y : (8 * num r + unit r) / 8 ≡ num r = omega arith in
-          rw (works-tree table register n m (tree_to base n m) w, e, f)
-          (not_there base len (state-base log base s) (8 * num r + unit r) (rw (x, y) (omega arith)))
+          rw (works_tree table register n m (tree_to base n m) w, e, f)
+          (not_there base len (state_base log base s) (8 * num r + unit r) (rw (x, y) (omega arith)))
 
-      pub log-plays : Playable (tree_in table n m) (laid_at Log log) k
-      log-plays =
-          playable_on (base_vector base) (tree_in table n m) (laid_at Log log) k (records_of log) (sym (listed-records log k c)) (sym c) (state-records log base s) counts_small fresh
+      pub log_plays : Playable (tree_in table n m) (laid_at Log log) k
+      log_plays =
+          playable_on (base_vector base) (tree_in table n m) (laid_at Log log) k (records_of log) (sym (listed_records log k c)) (sym c) (state_records log base s) counts_small fresh
 
-      pub base-holds : Holds table register n m
-      base-holds = works-holds table register n m (tree_to base n m) w
+      pub base_holds : Holds table register n m
+      base_holds = works_holds table register n m (tree_to base n m) w
 
-      pub log-lies : length log ≡ 40960 → Laid Log log k
-      log-lies h = log-laid log k c h
+      pub log_lies : length log ≡ 40960 → Laid Log log k
+      log_lies h = log_laid log k c h
 
-      pub state-replayed : (b' register' : List ℕ) (x y : ℕ) → Works b' register' x y (replay_from (tree_in table n m) (listed (laid_at Log log) 0 k)) → Works b' register' x y (tree_of log base)
+      pub state_replayed : (b' register' : List ℕ) (x y : ℕ) → Works b' register' x y (replay_from (tree_in table n m) (listed (laid_at Log log) 0 k)) → Works b' register' x y (tree_of log base)
       unfolding tree_of
-      state-replayed b' register' x y o =
+      state_replayed b' register' x y o =
           let z : replay_from (tree_in table n m) (listed (laid_at Log log) 0 k) ≡ replay_from (base_tree base) (records_of log) =
-          (rw (works-tree table register n m (tree_to base n m) w, listed-records log k c, e, f, tree_to_lem base)) in
+          (rw (works_tree table register n m (tree_to base n m) w, listed_records log k c, e, f, tree_to_lem base)) in
           rw (← z) o
 
 pub plays_on : (table register base : List ℕ) (n m : ℕ) → Works table register n m (tree_to base n m) → (held : List ℕ) → Small held → (log : List ℕ) → sound_state log base ≡ true → held ≡ held_on log base
     → length base ≡ 43032 → n ≡ word base 2 → m ≡ word base 4 → (k : ℕ) → k ≡ length (records_of log) → Playable (tree_in table n m) (laid_at Log log) k
-plays_on table register base n m w held are log s is len e f k c = log-plays log base s held are is len n m e f table register w k c
+plays_on table register base n m w held are log s is len e f k c = log_plays log base s held are is len n m e f table register w k c

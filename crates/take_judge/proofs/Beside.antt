@@ -20,10 +20,10 @@ use Rattle.byte_slice.proofs.Numbers.{lt_or_ge, eq_or_ne, bool_cases}
 use Rattle.log_laws.proofs.Formed.{well_unit}
 use Rattle.log_laws.proofs.Insert.{length-insert}
 use Rattle.log_closure.specs.Tables.{position_of, Indexed}
-use Rattle.log_admit.proofs.Counts.{Alike, alike-inside, count_few}
-use Rattle.log_admit.proofs.Tables.{held_at, join_is, indexed-note, indexed-alike, indexed-where}
+use Rattle.log_admit.proofs.Counts.{Alike, alike_inside, count_few}
+use Rattle.log_admit.proofs.Tables.{held_at, join_is, indexed_note, indexed_alike, indexed_where}
 use Rattle.take_beside.specs.Judging.{Counted, Step, step, held_by, new_by, new_step, take_by, after}
-use Rattle.take_beside.proofs.Checks.{new-free}
+use Rattle.take_beside.proofs.Checks.{new_free}
 
 -- ---- insertion puts the record somewhere
 
@@ -39,7 +39,7 @@ put_somewhere r (x ∷ l) =
     (lt_or_ge (rank r) (rank x))
 
 alike-put : (r : Rec) (l m a b : List Rec) → l ≡ a ++ b → m ≡ a ++ r ∷ b → by_id (unit r) (num r) l ≡ none → Alike (r ∷ l) m
-alike-put r l m a b p q e = rw (q, p) (alike-inside r b a (rw p at e))
+alike-put r l m a b p q e = rw (q, p) (alike_inside r b a (rw p at e))
 
 alike-insert : (r : Rec) (l : List Rec) → by_id (unit r) (num r) l ≡ none → Alike (r ∷ l) (insert r l)
 alike-insert r l e =
@@ -107,75 +107,75 @@ module _ (base : List ℕ) (at : ℕ → Rec) (top : ℕ) (m : List Rec) (held p
       u8 = well_unit r w
 
       -- it comes before
-      beside-before : num r ≤ get_or base (unit r) 0 → Accepts (step (held_by base at places r) held used places seens)
+      beside_before : num r ≤ get_or base (unit r) 0 → Accepts (step (held_by base at places r) held used places seens)
       unfolding take_one is_folded held_by
-      beside-before k =
+      beside_before k =
           let z = le-leb (num r) (get_or base (unit r) 0) k in
-          accepts (step (held_by base at places r) held used places seens) m (rw z) (rw (w, y, z)) (indexed-where base at top m held places seens h at (suc p) (omega arith) hi (λ x y. refl)) e
+          accepts (step (held_by base at places r) held used places seens) m (rw z) (rw (w, y, z)) (indexed_where base at top m held places seens h at (suc p) (omega arith) hi (λ x y. refl)) e
 
       -- its identity is held
-      beside-here : num r ≤ get_or held (unit r) 0 → get_or base (unit r) 0 < num r → Refuses (step (held_by base at places r) held used places seens) ⊎ Accepts (step (held_by base at places r) held used places seens)
+      beside_here : num r ≤ get_or held (unit r) 0 → get_or base (unit r) 0 < num r → Refuses (step (held_by base at places r) held used places seens) ⊎ Accepts (step (held_by base at places r) held used places seens)
       unfolding take_one is_folded take_held held_by
-      beside-here k l =
+      beside_here k l =
           let d : ℕ = num r - get_or base (unit r) 0 in
           let s = h.stands (unit r) d u8 (omega arith) (omega (arith, held_at base at top m held places seens h (unit r) u8)) in
           let c : get_or base (unit r) 0 + d ≡ num r = omega arith in
           let f : by_id (unit r) (num r) m ≡ some (at (position_of places (unit r) d)) = rw c at s.found in
           let x = lt-leb (num r) (get_or base (unit r) 0) l in
           ⊎_elim
-          (λ (z : same_bytes (at (position_of places (unit r) d)) r ≡ true). inr (accepts (step (held_by base at places r) held used places seens) m (rw (x, z)) (rw (w, y, x, f, z)) (indexed-where base at top m held places seens h at (suc p) (omega arith) hi (λ i j. refl)) e))
+          (λ (z : same_bytes (at (position_of places (unit r) d)) r ≡ true). inr (accepts (step (held_by base at places r) held used places seens) m (rw (x, z)) (rw (w, y, x, f, z)) (indexed_where base at top m held places seens h at (suc p) (omega arith) hi (λ i j. refl)) e))
           (λ (z : same_bytes (at (position_of places (unit r) d)) r ≡ false). inl (rw (x, z) (λ i. omega (arith, i)), rw (w, y, x, f, z)))
           (bool_cases (same_bytes (at (position_of places (unit r) d)) r))
 
-      beside-held : num r ≤ get_or held (unit r) 0 → Refuses (step (held_by base at places r) held used places seens) ⊎ Accepts (step (held_by base at places r) held used places seens)
-      beside-held k = ⊎_elim (λ l. beside-here k l) (λ l. inr (beside-before l)) (lt_or_ge (get_or base (unit r) 0) (num r))
+      beside_held : num r ≤ get_or held (unit r) 0 → Refuses (step (held_by base at places r) held used places seens) ⊎ Accepts (step (held_by base at places r) held used places seens)
+      beside_held k = ⊎_elim (λ l. beside_here k l) (λ l. inr (beside_before l)) (lt_or_ge (get_or base (unit r) 0) (num r))
 
       -- its identity is not held
       absent : get_or held (unit r) 0 < num r → by_id (unit r) (num r) m ≡ none
       absent k = h.beyond (unit r) (num r) (omega (arith, held_at base at top m held places seens h (unit r) u8))
 
-      one-new : get_or held (unit r) 0 < num r → take_one g base m r ≡ took_new (new_by base held used places seens r) (insert r m)
+      one_new : get_or held (unit r) 0 < num r → take_one g base m r ≡ took_new (new_by base held used places seens r) (insert r m)
       unfolding take_one is_folded take_held
-      one-new k =
+      one_new k =
           let l : get_or base (unit r) 0 < num r = omega (arith, held_at base at top m held places seens h (unit r) u8) in
           rw (w, y, lt-leb (num r) (get_or base (unit r) 0) l, absent k) (new_is r u8)
 
-      indexed-insert : get_or held (unit r) 0 < num r → new_by base held used places seens r ≡ 0 → (o : Step) → o ≡ new_step base r p held used places seens → Indexed base at (suc p) (insert r m) o.held o.places o.seens
+      indexed_insert : get_or held (unit r) 0 < num r → new_by base held used places seens r ≡ 0 → (o : Step) → o ≡ new_step base r p held used places seens → Indexed base at (suc p) (insert r m) o.held o.places o.seens
       unfolding new_step
-      indexed-insert k z o f =
-          let (n, free) = new-free r base held used places seens (new_by base held used places seens r) refl z in
+      indexed_insert k z o f =
+          let (n, free) = new_free r base held used places seens (new_by base held used places seens r) refl z in
           let n' : num r ≡ suc (count_on base (unit r) m) = n ∙ ap suc (held_at base at top m held places seens h (unit r) u8) in
-          let i = indexed-note base at top m held places seens h r p u8 n' (omega arith) lo hi q in
-          rw (f, z) (indexed-alike base at (suc p) (r ∷ m) _ _ _ i (insert r m) (alike-insert r m (absent k)) (omega (arith, length-insert r m)))
+          let i = indexed_note base at top m held places seens h r p u8 n' (omega arith) lo hi q in
+          rw (f, z) (indexed_alike base at (suc p) (r ∷ m) _ _ _ i (insert r m) (alike-insert r m (absent k)) (omega (arith, length-insert r m)))
 
-      beside-new : get_or held (unit r) 0 < num r → Refuses (new_step base r p held used places seens) ⊎ Accepts (new_step base r p held used places seens)
+      beside_new : get_or held (unit r) 0 < num r → Refuses (new_step base r p held used places seens) ⊎ Accepts (new_step base r p held used places seens)
       unfolding new_step took_new
-      beside-new k =
+      beside_new k =
           ⊎_elim
           (λ (z : new_by base held used places seens r ≡ 0).
-          let t : take_one g base m r ≡ taken (insert r m) = rw z at (one-new k) in
-          inr (accepts (new_step base r p held used places seens) (insert r m) (rw z) t (indexed-insert k z (new_step base r p held used places seens) refl) (rw z (omega (arith, length-insert r m)))))
-          (λ (z : new_by base held used places seens r ≡ 0 → ⊥). inl (rw (ne_eqb (new_by base held used places seens r) 0 z) (z, one-new k ∙ refuses (new_by base held used places seens r) z)))
+          let t : take_one g base m r ≡ taken (insert r m) = rw z at (one_new k) in
+          inr (accepts (new_step base r p held used places seens) (insert r m) (rw z) t (indexed_insert k z (new_step base r p held used places seens) refl) (rw z (omega (arith, length-insert r m)))))
+          (λ (z : new_by base held used places seens r ≡ 0 → ⊥). inl (rw (ne_eqb (new_by base held used places seens r) 0 z) (z, one_new k ∙ refuses (new_by base held used places seens r) z)))
           (eq_or_ne (new_by base held used places seens r) 0)
         where
           refuses : (n : ℕ) → (n ≡ 0 → ⊥) → took_new n (insert r m) ≡ refused n
           refuses zero i = absurd (i refl)
           refuses (suc n) i = refl
 
-    refused-malformed : well_formed r ≡ false → take_one g base m r ≡ refused 7
+    refused_malformed : well_formed r ≡ false → take_one g base m r ≡ refused 7
     unfolding take_one
-    refused-malformed w = rw w
+    refused_malformed w = rw w
 
-    refused-unlisted : well_formed r ≡ true → is_listed g (unit r) ≡ false → take_one g base m r ≡ refused 26
+    refused_unlisted : well_formed r ≡ true → is_listed g (unit r) ≡ false → take_one g base m r ≡ refused 26
     unfolding take_one
-    refused-unlisted w y = rw (w, y)
+    refused_unlisted w y = rw (w, y)
 
-    beside-listed : well_formed r ≡ true → is_listed g (unit r) ≡ true → (o : Step) → o ≡ take_by g base at r p held used places seens → Refuses o ⊎ Accepts o
+    beside_listed : well_formed r ≡ true → is_listed g (unit r) ≡ true → (o : Step) → o ≡ take_by g base at r p held used places seens → Refuses o ⊎ Accepts o
     unfolding take_by
-    beside-listed w y o f =
+    beside_listed w y o f =
         ⊎_elim
-        (λ (k : get_or held (unit r) 0 < num r). rw (f, w, y, lt-leb (num r) (get_or held (unit r) 0) k) (beside-new w y k))
-        (λ (k : num r ≤ get_or held (unit r) 0). rw (f, w, y, le-leb (num r) (get_or held (unit r) 0) k) (beside-held w y k))
+        (λ (k : get_or held (unit r) 0 < num r). rw (f, w, y, lt-leb (num r) (get_or held (unit r) 0) k) (beside_new w y k))
+        (λ (k : num r ≤ get_or held (unit r) 0). rw (f, w, y, le-leb (num r) (get_or held (unit r) 0) k) (beside_held w y k))
         (lt_or_ge (get_or held (unit r) 0) (num r))
 
     -- the two ways of a record
@@ -185,15 +185,15 @@ module _ (base : List ℕ) (at : ℕ → Rec) (top : ℕ) (m : List Rec) (held p
         ⊎_elim
         (λ (w : well_formed r ≡ true).
         ⊎_elim
-        (λ (y : is_listed g (unit r) ≡ true). beside-listed w y o f)
-        (λ (y : is_listed g (unit r) ≡ false). rw (f, w, y) (inl ((λ x. omega (arith, x)), refused-unlisted w y)))
+        (λ (y : is_listed g (unit r) ≡ true). beside_listed w y o f)
+        (λ (y : is_listed g (unit r) ≡ false). rw (f, w, y) (inl ((λ x. omega (arith, x)), refused_unlisted w y)))
         (bool_cases (is_listed g (unit r))))
-        (λ (w : well_formed r ≡ false). rw (f, w) (inl ((λ x. omega (arith, x)), refused-malformed w)))
+        (λ (w : well_formed r ≡ false). rw (f, w) (inl ((λ x. omega (arith, x)), refused_malformed w)))
         (bool_cases (well_formed r))
 
     module _ (o : Step) (f : o ≡ take_by g base at r p held used places seens) where
-      pub beside-refused : (o.number ≡ 0 → ⊥) → take_one g base m r ≡ refused o.number
-      beside-refused z = ⊎_elim (λ (x : Refuses o). x.1) (λ (x : Accepts o). absurd (z x.zero_number)) (beside o f)
+      pub beside_refused : (o.number ≡ 0 → ⊥) → take_one g base m r ≡ refused o.number
+      beside_refused z = ⊎_elim (λ (x : Refuses o). x.1) (λ (x : Accepts o). absurd (z x.zero_number)) (beside o f)
 
-      pub beside-taken : o.number ≡ 0 → Accepts o
-      beside-taken z = ⊎_elim (λ (x : Refuses o). absurd (x.0 z)) (λ (x : Accepts o). x) (beside o f)
+      pub beside_taken : o.number ≡ 0 → Accepts o
+      beside_taken z = ⊎_elim (λ (x : Refuses o). absurd (x.0 z)) (λ (x : Accepts o). x) (beside o f)

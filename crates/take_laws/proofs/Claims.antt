@@ -18,7 +18,7 @@ use Rattle.log_laws.proofs.Claims.{order_fixed}
 use Rattle.tree_laws.proofs.Trimming.{shown_from_base}
 use Rattle.take_laws.specs.Held.{Counts}
 use Rattle.take_laws.proofs.Take.{above_base, beyond_folded, Grown, all_from}
-use Rattle.take_laws.proofs.Held.{take-adds}
+use Rattle.take_laws.proofs.Held.{take_adds}
 use Rattle.take_laws.proofs.Arrival.{take_all-append}
 
 -- blocks taken one after another are their records taken one after another
@@ -53,10 +53,10 @@ module _ (m n : ℕ) (v w : List ℕ) (p q b c rs qs k j : List Rec) (cv : Count
     (sc : sound_after no_counts [] (q ++ c) ≡ true) (agree : Agree p rs) (agree' : Agree q qs) (e : takes_all m v b rs ≡ taken k) (f : takes_all n w c qs ≡ taken j)
     (same : (s : Rec) → (Has s (p ++ b) ⊎ Has s rs) ↔ (Has s (q ++ c) ⊎ Has s qs)) where
   -- all records held are the same
-  pub arrival-over-bases : p ++ k ≡ q ++ j
-  arrival-over-bases =
-      let g = take-adds v p cv m rs b k (sound_means (p ++ b) sb) e in
-      let d = take-adds w q cw n qs c j (sound_means (q ++ c) sc) f in
+  pub arrival_over_bases : p ++ k ≡ q ++ j
+  arrival_over_bases =
+      let g = take_adds v p cv m rs b k (sound_means (p ++ b) sb) e in
+      let d = take_adds w q cw n qs c j (sound_means (q ++ c) sc) f in
       order_fixed (p ++ k) (q ++ j) (means_sound (p ++ k) g.sound) (means_sound (q ++ j) d.sound)
       (λ s. (
         λ i. ⊎_elim (λ x. d.kept s x) (λ x. d.got agree' s x) ((same s).0 (g.from s i)),
@@ -64,5 +64,5 @@ module _ (m n : ℕ) (v w : List ℕ) (p q b c rs qs k j : List Rec) (cv : Count
       ))
 
   -- and so both show the same
-  pub arrival-shows-the-same : table_bytes (replay_from (trim (replay p)) k) ≡ table_bytes (replay_from (trim (replay q)) j)
-  arrival-shows-the-same = shown_from_base p k ∙ ap (λ (l : List Rec). table_bytes (replay l)) arrival-over-bases ∙ sym (shown_from_base q j)
+  pub arrival_shows_the_same : table_bytes (replay_from (trim (replay p)) k) ≡ table_bytes (replay_from (trim (replay q)) j)
+  arrival_shows_the_same = shown_from_base p k ∙ ap (λ (l : List Rec). table_bytes (replay l)) arrival_over_bases ∙ sym (shown_from_base q j)

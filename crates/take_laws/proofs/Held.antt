@@ -77,8 +77,8 @@ module _ (v : List ℕ) (p : List Rec) (c : Counts v p) where
   pub counts-held : (l : List Rec) (u : ℕ) → u < 8 → count_on v u l ≡ count u (p ++ l)
   counts-held l u k = omega (arith, c u k, count-append u p l)
 
-  pub vector-held : (l : List Rec) → vector_on v l ≡ vector_of (p ++ l)
-  vector-held l =
+  pub vector_held_lem : (l : List Rec) → vector_on v l ≡ vector_of (p ++ l)
+  vector_held_lem l =
       let n = vector_on-length v l in
       ext_get_or 0 (vector_on v l) (vector_of (p ++ l)) (n ∙ sym (vector_of-length (p ++ l))) (λ u k.
       let b : u < 8 = omega arith in
@@ -86,11 +86,11 @@ module _ (v : List ℕ) (p : List Rec) (c : Counts v p) where
 
   -- a new record that covers the base vector joins all records held, behind the folded ones
   module _ (l : List Rec) (r : Rec) (h : Sound (p ++ l)) (j : Joins v [] l r) (over : (u : ℕ) → u < 8 → get_or v u 0 ≤ seen r u) where
-    above-folded : (s : Rec) → Has s p → rank s < rank r
-    above-folded = covering_above p r (sound_front [] p l h) (λ u k. omega (arith, over u k, c u k))
+    above_folded : (s : Rec) → Has s p → rank s < rank r
+    above_folded = covering_above p r (sound_front [] p l h) (λ u k. omega (arith, over u k, c u k))
 
-    pub joins-all : Joins no_counts [] (p ++ l) r
-    joins-all =
+    pub joins_all : Joins no_counts [] (p ++ l) r
+    joins_all =
         record {
           formed = j.formed;
           next = omega (arith, j.next, count-append (unit r) p l, c (unit r) (well_unit r j.formed), count-nil (unit r), no_counts_lem (unit r));
@@ -102,22 +102,22 @@ module _ (v : List ℕ) (p : List Rec) (c : Counts v p) where
               i;
         }
 
-    pub insert_all : insert r (p ++ l) ≡ p ++ insert r l
-    insert_all = insert-behind p l r above-folded
+    pub insert_all_lem : insert r (p ++ l) ≡ p ++ insert r l
+    insert_all_lem = insert-behind p l r above_folded
 
-    pub sound-all : Sound (p ++ insert r l)
-    sound-all = subst Sound insert_all (insert_sound (p ++ l) r h joins-all)
+    pub sound_all : Sound (p ++ insert r l)
+    sound_all = subst Sound insert_all_lem (insert_sound (p ++ l) r h joins_all)
 
   -- ---- taking
 
   -- a take leaves all records held sound
-  pub take-sound : (m : ℕ) (rs l k : List Rec) → Sound (p ++ l) → takes_all m v l rs ≡ taken k → Sound (p ++ k)
-  take-sound m [] l k h e = let q : k ≡ l = sym (taken_same (sym (take_all-nil m v l) ∙ e)) in rw q h
-  take-sound m (r ∷ rs) l k h e = go (take_one m v l r) refl (λ x hx ex. take-sound m rs x k hx ex)
+  pub take_sound : (m : ℕ) (rs l k : List Rec) → Sound (p ++ l) → takes_all m v l rs ≡ taken k → Sound (p ++ k)
+  take_sound m [] l k h e = let q : k ≡ l = sym (taken_same (sym (take_all-nil m v l) ∙ e)) in rw q h
+  take_sound m (r ∷ rs) l k h e = go (take_one m v l r) refl (λ x hx ex. take_sound m rs x k hx ex)
     where
       one : (x : List Rec) → Known v l r x ⊎ New v l r x → Sound (p ++ x)
       one x (inl (q, _)) = rw q h
-      one x (inr n) = let q = n.inserted in rw q (sound-all l r h n.joins n.covering)
+      one x (inr n) = let q = n.inserted in rw q (sound_all l r h n.joins n.covering)
 
       go : (o : Took) → take_one m v l r ≡ o → ((x : List Rec) → Sound (p ++ x) → takes_all m v x rs ≡ taken k → Sound (p ++ k)) → Sound (p ++ k)
       go (refused n) q f = refused_taken (sym (take_all_stops m v l r rs n q) ∙ e)
@@ -132,11 +132,11 @@ module _ (v : List ℕ) (p : List Rec) (c : Counts v p) where
     pub fit : (s : Rec) → Has s rs → (well_formed s ≡ true) × (is_listed m (unit s) ≡ true)
     pub room : length l ≤ 512 → length k ≤ 512
 
-  pub take-adds : (m : ℕ) (rs l k : List Rec) → Sound (p ++ l) → takes_all m v l rs ≡ taken k → Added m l rs k
-  take-adds m rs l k h e =
+  pub take_adds : (m : ℕ) (rs l k : List Rec) → Sound (p ++ l) → takes_all m v l rs ≡ taken k → Added m l rs k
+  take_adds m rs l k h e =
       let g = all_from m v rs l k (shed v p l c h) e in
       record {
-        sound = take-sound m rs l k h e;
+        sound = take_sound m rs l k h e;
         from = λ s i.
             ⊎_elim
             (λ j. inl (append_has p l s (inl j)))

@@ -20,7 +20,7 @@ use Rattle.log_laws.proofs.Ids.{held-by_id, none-by_id}
 use Rattle.log_laws.proofs.Insert.{length-insert}
 use Rattle.log_laws.proofs.Lacking.{lacking-cons, lacking-nil}
 use Rattle.log_laws.proofs.Tests.{all_to-at}
-use Rattle.merge_laws.proofs.Union.{Going, fr, fresh, joins, held, goes-new, goes-held, begins}
+use Rattle.merge_laws.proofs.Union.{Going, fr, fresh, joins, held, goes_new, goes_held, begins}
 use Rattle.take_laws.proofs.Take.{beyond_folded, take_new_lem, take-held, take_all-nil, take_all_goes}
 
 -- the list 255 names all eight units
@@ -34,15 +34,15 @@ module _ (a b : List Rec) (sa : Sound a) (sb : Sound b) (agree : Agree a b) wher
     listed = all_eight (unit r) (well_unit r (fr a b sa sb agree pre r rs acc g))
 
     -- it is taken as a new one
-    takes-new : get_or (vector_of a) (unit r) 0 < num r → length acc < 512 → take_one 255 no_counts acc r ≡ taken (insert r acc)
-    takes-new new k =
+    takes_new : get_or (vector_of a) (unit r) 0 < num r → length acc < 512 → take_one 255 no_counts acc r ≡ taken (insert r acc)
+    takes_new new k =
         take_new_lem 255 no_counts acc r listed (none-by_id (unit r) (num r) acc (fresh a b sa sb agree pre r rs acc g new)) (joins a b sa sb agree pre r rs acc g new)
         (λ u h. omega (arith, no_counts_lem u))
         k
 
     -- it is taken as one that is held
-    takes-held : num r ≤ get_or (vector_of a) (unit r) 0 → take_one 255 no_counts acc r ≡ taken acc
-    takes-held old =
+    takes_held : num r ≤ get_or (vector_of a) (unit r) 0 → take_one 255 no_counts acc r ≡ taken acc
+    takes_held old =
         let f = fr a b sa sb agree pre r rs acc g in
         take-held 255 no_counts acc r f listed (beyond_folded no_counts r (omega (arith, no_counts_lem (unit r), well_own r f)))
         (held-by_id acc r g.sound (held a b sa sb agree pre r rs acc g old))
@@ -55,17 +55,17 @@ module _ (a b : List Rec) (sa : Sound a) (sb : Sound b) (agree : Agree a b) wher
       ⊎_elim
       (λ k.
       let n : length (lacking (vector_of a) (r ∷ rs)) ≡ suc (length (lacking (vector_of a) rs)) = ap (λ (m : List Rec). length m) k.1 in
-      take_all_goes 255 no_counts acc r rs (insert r acc) (takes-new pre r rs acc g k.0 (omega arith))
-      ∙ takes (r ∷ pre) rs (insert r acc) (goes-new a b sa sb agree pre r rs acc g k.0) (omega (arith, length-insert r acc))
+      take_all_goes 255 no_counts acc r rs (insert r acc) (takes_new pre r rs acc g k.0 (omega arith))
+      ∙ takes (r ∷ pre) rs (insert r acc) (goes_new a b sa sb agree pre r rs acc g k.0) (omega (arith, length-insert r acc))
       ∙ ap (λ (m : List Rec). taken (insert_all acc m)) (sym k.1))
       (λ k.
       let n : length (lacking (vector_of a) (r ∷ rs)) ≡ length (lacking (vector_of a) rs) = ap (λ (m : List Rec). length m) k.1 in
-      take_all_goes 255 no_counts acc r rs acc (takes-held pre r rs acc g k.0)
-      ∙ takes (r ∷ pre) rs acc (goes-held a b sa sb agree pre r rs acc g k.0) (omega arith)
+      take_all_goes 255 no_counts acc r rs acc (takes_held pre r rs acc g k.0)
+      ∙ takes (r ∷ pre) rs acc (goes_held a b sa sb agree pre r rs acc g k.0) (omega arith)
       ∙ ap (λ (m : List Rec). taken (insert_all acc m)) (sym k.1))
       (lacking-cons (vector_of a) r rs)
 
   -- taking the records of the second log, one after another, gives the union
-  pub union-taken : length a + length (lacking (vector_of a) b) ≤ 512 → takes_all 255 no_counts a b ≡ taken (union a b)
+  pub union_taken : length a + length (lacking (vector_of a) b) ≤ 512 → takes_all 255 no_counts a b ≡ taken (union a b)
   unfolding union
-  union-taken few = takes [] b a (begins a b sa sb agree) few
+  union_taken few = takes [] b a (begins a b sa sb agree) few

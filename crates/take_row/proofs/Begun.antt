@@ -19,7 +19,7 @@ use Rattle.log_laws.specs.Sound.{SoundOn}
 use Rattle.encoding_laws.proofs.Logs.{sound_records_on, sound_few}
 use Rattle.call_laws.proofs.States.{sound_back_on, state_parts}
 use Rattle.log_closure.specs.Tables.{Indexed}
-use Rattle.log_admit.proofs.Tables.{indexed-where}
+use Rattle.log_admit.proofs.Tables.{indexed_where}
 use Rattle.log_check.specs.declared.Layout.TheVariants.{Log}
 use Rattle.log_check.specs.Places.{offset_of, laid_at}
 use Rattle.log_insert.specs.Where.{insert_to}
@@ -49,11 +49,11 @@ row_short n h =
 -- ---- what is held at first
 
 module _ (m : ℕ) (v log base : List ℕ) (state : sound_state log base ≡ true) (a : m ≡ get_or base 0 0) (b : v ≡ base_vector base) where
-  pub row-sound : sound_log_on v log ≡ true
-  row-sound = rw b (state_parts log base state).log_sound
+  pub row_sound : sound_log_on v log ≡ true
+  row_sound = rw b (state_parts log base state).log_sound
 
-  pub row-foot : length base ≡ 43032 → Footing m v base
-  row-foot n = record { long = n; sound = (state_parts log base state).base_sound; list = a; folded = b }
+  pub row_foot : length base ≡ 43032 → Footing m v base
+  row_foot n = record { long = n; sound = (state_parts log base state).base_sound; list = a; folded = b }
 
   row_listed : lists_all m (vector_on v (records_of log)) ≡ true
   unfolding base_in
@@ -70,16 +70,16 @@ module _ (m : ℕ) (v log base : List ℕ) (state : sound_state log base ≡ tru
 
     none : (j : ℕ) → j ≤ 0 → SoundOn v (insert_to (records_of log) (new_at used work) j)
     unfolding insert_to
-    none zero h = sound_records_on v log row-sound
+    none zero h = sound_records_on v log row_sound
     none (suc j) h = absurd (omega arith)
 
-    pub row_kept : Kept m v (records_of log) used work used held places seens
-    row_kept =
+    pub row_kept_lem : Kept m v (records_of log) used work used held places seens
+    row_kept_lem =
         record {
           grown = record { from = omega arith; few = few; first = e; sound = λ j h. none j (omega (arith, sub_self used)) };
           indexed =
               rw (held_none (records_of log) used work)
-              (indexed-where v (laid_at Log log) used (records_of log) held places seens (rw b i) (laid_at Log work) used (omega arith) (omega (arith, few)) copied);
+              (indexed_where v (laid_at Log log) used (records_of log) held places seens (rw b i) (laid_at Log work) used (omega arith) (omega (arith, few)) copied);
           listed = rw (held_none (records_of log) used work) row_listed;
         }
 
@@ -97,8 +97,8 @@ module _ (v base log row work held : List ℕ) (start archive u n number used : 
       rw e
       (sound_back_on v (held_in (records_of log) start work used) (held_sound v (records_of log) start work used j.grown) (omega (arith, held-long v (records_of log) start work used j.grown, j.grown.few)))
 
-  pub row-used : used ≡ length (records_of o)
-  row-used = rw records (held-long v (records_of log) start work used j.grown)
+  pub row_used : used ≡ length (records_of o)
+  row_used = rw records (held-long v (records_of log) start work used j.grown)
 
   pub row_counts : v ≡ base_vector base → held ≡ held_on o base
   row_counts b = rw (records, ← b) j.counts
@@ -109,9 +109,9 @@ module _ (archive u : ℕ) (log base row : List ℕ) {n m k j : ℕ} {v held : L
   opens : opened n (headed m v k j) held used ≡ open_of u log base true (row_fits (length row))
   opens = rw l at e
 
-  pub row-refused : (n ≡ 0 → ⊥) → row_taken n 0 0 0 log ≡ take_row_of archive u log base row
+  pub row_refused : (n ≡ 0 → ⊥) → row_taken n 0 0 0 log ≡ take_row_of archive u log base row
   unfolding take_row_of
-  row-refused z = rw (← number_is u log base true (row_fits (length row)) opens) (go n z)
+  row_refused z = rw (← number_is u log base true (row_fits (length row)) opens) (go n z)
     where
       go : (i : ℕ) → (i ≡ 0 → ⊥) → row_taken i 0 0 0 log ≡ took_row i log (try_all archive u log base row)
       go zero y = absurd (y refl)

@@ -16,7 +16,7 @@ use Rattle.base_model.specs.Base.{base_in}
 use Rattle.call_model.specs.Outcome.{outcome, taken, refused, takes_all, took_all, took_block, take_of}
 use Rattle.byte_slice.proofs.Numbers.{eq_or_ne}
 use Rattle.byte_slice.proofs.Parts.{part-take}
-use Rattle.block_laws.proofs.Faults.{header-right, stored_header}
+use Rattle.block_laws.proofs.Faults.{header_right, stored_header}
 use Rattle.encoding_laws.proofs.Logs.{sound_bytes_on}
 use Rattle.call_laws.proofs.States.{sound_back_on, state_good}
 use Rattle.call_laws.proofs.Calls.{guarded-passes}
@@ -24,7 +24,7 @@ use Rattle.log_check.specs.declared.Layout.TheVariants.{Log}
 use Rattle.log_check.specs.Places.{offset_of, laid_at}
 use Rattle.row_model.specs.Row.{tried, try_from, try_all}
 use Rattle.take_row_store.specs.Grown.{held_in, Grown}
-use Rattle.take_row_store.proofs.Runs.{held_none, held-alike, held-long, held_sound, grown-alike}
+use Rattle.take_row_store.proofs.Runs.{held_none, held-alike, held-long, held_sound, grown_alike}
 use Rattle.take_row_judge.specs.Kept.{Footing, Kept, JudgedInto, JudgedOne, JudgedRow}
 
 -- ---- a take into a log that is known to be sound
@@ -37,9 +37,9 @@ module _ (m : ℕ) (v base : List ℕ) (foot : Footing m v base) (archive u : �
   back = sound_back_on v (held_in l start work i) (held_sound v l start work i k.grown) small
 
   -- the checks 1, 21 and 19 pass
-  take-is : take_of archive u (log_bytes (held_in l start work i)) base b ≡ took_block (log_bytes (held_in l start work i)) base b (given_fault archive b)
+  take_is : take_of archive u (log_bytes (held_in l start work i)) base b ≡ took_block (log_bytes (held_in l start work i)) base b (given_fault archive b)
   unfolding take_of base_in
-  take-is =
+  take_is =
       guarded-passes u (log_bytes (held_in l start work i)) base [] true (took_block (log_bytes (held_in l start work i)) base b (given_fault archive b)) refl h
       (state_good base (held_in l start work i) foot.long foot.sound
       (rw (← foot.folded) (held_sound v l start work i k.grown))
@@ -49,7 +49,7 @@ module _ (m : ℕ) (v base : List ℕ) (foot : Footing m v base) (archive u : �
   module _ (f : ℕ) (e : f ≡ given_fault archive b) where
     bad : (f ≡ 0 → ⊥) → outcome f 0 (log_bytes (held_in l start work i)) [] 0 ≡ take_of archive u (log_bytes (held_in l start work i)) base b
     unfolding took_block
-    bad z = rw (take-is, ← e) (go f z)
+    bad z = rw (take_is, ← e) (go f z)
       where
         go : (n : ℕ) → (n ≡ 0 → ⊥) → outcome n 0 (log_bytes (held_in l start work i)) [] 0 ≡ took_block (log_bytes (held_in l start work i)) base b n
         go zero z = absurd (z refl)
@@ -73,11 +73,11 @@ module _ (m : ℕ) (v base : List ℕ) (foot : Footing m v base) (archive u : �
 
       no : {k : ℕ} → takes_all m v (held_in l start work i) (block_records b) ≡ refused k → outcome k 0 (log_bytes (held_in l start work i)) [] 0 ≡ take_of archive u (log_bytes (held_in l start work i)) base b
       unfolding took_block took_all base_in
-      no q = rw (take-is, good, back, ← foot.list, ← foot.folded, q)
+      no q = rw (take_is, good, back, ← foot.list, ← foot.folded, q)
 
       yes : {w : List Rec} → takes_all m v (held_in l start work i) (block_records b) ≡ taken w → outcome 0 0 (log_bytes w) [] 0 ≡ take_of archive u (log_bytes (held_in l start work i)) base b
       unfolding took_block took_all base_in
-      yes q = rw (take-is, good, back, ← foot.list, ← foot.folded, q)
+      yes q = rw (take_is, good, back, ← foot.list, ← foot.folded, q)
 
 pub given_long : (archive : ℕ) (b : List ℕ) (f : ℕ) → f ≡ given_fault archive b → f ≡ 0 → length b ≡ 512
 unfolding given_fault
@@ -91,32 +91,32 @@ pub given_few : (archive : ℕ) (b : List ℕ) (f : ℕ) → f ≡ given_fault a
 unfolding given_fault
 given_few archive b f e z n q =
     ⊎_elim
-    (λ (y : block_fault b ≡ 0). rw q (stored_header b (header-right b y)).1)
+    (λ (y : block_fault b ≡ 0). rw q (stored_header b (header_right b y)).1)
     (λ (y : block_fault b ≡ 0 → ⊥). absurd (y (rw (eq-eqb (length b) 512 (given_long archive b f e z), ne_eqb (block_fault b) 0 y) at (sym e ∙ z))))
     (eq_or_ne (block_fault b) 0)
 
 -- ---- one block
 
 module _ (m : ℕ) (v base : List ℕ) (foot : Footing m v base) (archive u : ℕ) (b : List ℕ) (l : List Rec) (start : ℕ) (work : List ℕ) (i : ℕ) (held places seens : List ℕ) (h : u ≤ 7) (k : Kept m v l start work i held places seens) (f : ℕ) (e : f ≡ given_fault archive b) where
-  pub one-bad : (f ≡ 0 → ⊥) → JudgedOne m v base l start archive u b work i f work i held places seens
-  one-bad z = record { answers = bad m v base foot archive u b l start work i held places seens k h f e z; grown = k.grown; counts = k.indexed.counts; kept = λ y. k }
+  pub one_bad : (f ≡ 0 → ⊥) → JudgedOne m v base l start archive u b work i f work i held places seens
+  one_bad z = record { answers = bad m v base foot archive u b l start work i held places seens k h f e z; grown = k.grown; counts = k.indexed.counts; kept = λ y. k }
 
   module _ (z : f ≡ 0) (number : ℕ) (work' : List ℕ) (used : ℕ) (held' places' seens' : List ℕ) (j : JudgedInto m v l start b work i number work' used held' places' seens') where
     same : (p : ℕ) → p < i → laid_at Log work p ≡ laid_at Log work' p
     unfolding laid_at offset_of
     same p q = sym (part-take work (80 * i) (80 * p) 80 (omega arith)) ∙ rw (← j.front) (part-take work' (80 * i) (80 * p) 80 (omega arith))
 
-    pub one-refused : (number ≡ 0 → ⊥) → JudgedOne m v base l start archive u b work i number work' i held places' seens'
-    one-refused y =
+    pub one_refused : (number ≡ 0 → ⊥) → JudgedOne m v base l start archive u b work i number work' i held places' seens'
+    one_refused y =
         record {
           answers = rw (← held-alike l start work work' i same) (no m v base foot archive u b l start work i held places seens k h f e z (j.refuses y));
-          grown = grown-alike v l start work i k.grown work' same;
+          grown = grown_alike v l start work i k.grown work' same;
           counts = rw (← held-alike l start work work' i same) k.indexed.counts;
           kept = λ x. absurd (y x);
         }
 
-    pub one-taken : number ≡ 0 → JudgedOne m v base l start archive u b work i number work' used held' places' seens'
-    one-taken y =
+    pub one_taken : number ≡ 0 → JudgedOne m v base l start archive u b work i number work' used held' places' seens'
+    one_taken y =
         record {
           answers = rw y (yes m v base foot archive u b l start work i held places seens k h f e z (j.accepts y));
           grown = (j.kept y).grown;

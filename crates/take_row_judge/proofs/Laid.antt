@@ -24,14 +24,14 @@ use Rattle.log_laws.proofs.Insert.{length-insert, has_insert, insert_sound_on}
 use Rattle.take_laws.proofs.Take.{New, Known, one_fits, one_from}
 use Rattle.call_laws.proofs.States.{lists_grown}
 use Rattle.log_closure.specs.Tables.{slot_of, Indexed, Placed}
-use Rattle.log_admit.proofs.Tables.{indexed-placed, indexed-where}
+use Rattle.log_admit.proofs.Tables.{indexed_placed, indexed_where}
 use Rattle.log_check.specs.declared.Layout.TheVariants.{Log}
 use Rattle.log_check.specs.Places.{offset_of, laid_at}
 use Rattle.log_insert.specs.Where.{insert_to}
 use Rattle.take_beside.specs.Judging.{Counted, Step, step, held_by, new_by, new_step, take_by, after}
-use Rattle.take_judge.proofs.Beside.{counted, beside-refused, beside-taken}
+use Rattle.take_judge.proofs.Beside.{counted, beside_refused, beside_taken}
 use Rattle.take_row_store.specs.Grown.{new_at, held_in, Grown}
-use Rattle.take_row_store.proofs.Runs.{insert-alike, held-alike, held-long, held_sound, grown-alike}
+use Rattle.take_row_store.proofs.Runs.{insert-alike, held-alike, held-long, held_sound, grown_alike}
 use Rattle.take_row_judge.specs.Kept.{Kept}
 
 pub same_at : (work rec : List ℕ) (q : ℕ) (t : Bool) → t ≡ same_bytes (take (80 * q + 80 - 80 * q) (drop (80 * q) work)) rec → t ≡ same_bytes (laid_at Log work q) rec
@@ -44,9 +44,9 @@ abbrev Same : Step → List ℕ → List ℕ → List ℕ → Type 0
 Same o held places seens = (o.held ≡ held) × (o.places ≡ places) × (o.seens ≡ seens)
 
 module _ (m : ℕ) (v : List ℕ) (at : ℕ → Rec) (r : Rec) (p : ℕ) (held : List ℕ) (used : ℕ) (places seens : List ℕ) where
-  new-same : (o : Step) → o ≡ new_step v r p held used places seens → o.used ≡ used → Same o held places seens
+  new_same : (o : Step) → o ≡ new_step v r p held used places seens → o.used ≡ used → Same o held places seens
   unfolding new_step
-  new-same o e q =
+  new_same o e q =
       ⊎_elim
       (λ (z : eqb (new_by v held used places seens r) 0 ≡ true).
       let f : o.used ≡ used + 1 = ap (λ (x : Step). x.used) e ∙ rw z in absurd (omega arith))
@@ -58,7 +58,7 @@ module _ (m : ℕ) (v : List ℕ) (at : ℕ → Rec) (r : Rec) (p : ℕ) (held :
   listed_same w y o e q =
       ⊎_elim
       (λ (l : leb (num r) (get_or held (unit r) 0) ≡ true). rw (e, w, y, l) (refl, refl, refl))
-      (λ (l : leb (num r) (get_or held (unit r) 0) ≡ false). new-same o (e ∙ rw (w, y, l)) q)
+      (λ (l : leb (num r) (get_or held (unit r) 0) ≡ false). new_same o (e ∙ rw (w, y, l)) q)
       (bool_cases (leb (num r) (get_or held (unit r) 0)))
 
   stays : (o : Step) → o ≡ take_by m v at r p held used places seens → o.used ≡ used → Same o held places seens
@@ -77,27 +77,27 @@ module _ (m : ℕ) (v : List ℕ) (at : ℕ → Rec) (r : Rec) (p : ℕ) (held :
 
 module _ (m : ℕ) (v : List ℕ) (l : List Rec) (start : ℕ) (work : List ℕ) (used : ℕ) (held places seens : List ℕ) (k : Kept m v l start work used held places seens) where
   pub kept-placed : Placed v held places
-  kept-placed = indexed-placed v (laid_at Log work) used (held_in l start work used) held places seens k.indexed
+  kept-placed = indexed_placed v (laid_at Log work) used (held_in l start work used) held places seens k.indexed
 
-  pub kept-counted : Counted v held used
-  kept-counted = counted v (laid_at Log work) used (held_in l start work used) held places seens k.indexed used (held-long v l start work used k.grown)
+  pub kept_counted : Counted v held used
+  kept_counted = counted v (laid_at Log work) used (held_in l start work used) held places seens k.indexed used (held-long v l start work used k.grown)
 
-  pub kept-few : used ≤ 512
-  kept-few = k.grown.few
+  pub kept_few : used ≤ 512
+  kept_few = k.grown.few
 
   -- ---- a record laid at the place used
 
   module _ (r : Rec) (n : length r ≡ 80) (long : length work ≡ 41440) (work' : List ℕ) (w : work' ≡ put_at work (80 * used) r) where
     pub below : (p : ℕ) → p < used → laid_at Log work p ≡ laid_at Log work' p
     unfolding laid_at offset_of
-    below p h = rw w (sym (part_put_before work (80 * used) r (80 * p) 80 (omega arith) (omega (arith, kept-few))))
+    below p h = rw w (sym (part_put_before work (80 * used) r (80 * p) 80 (omega arith) (omega (arith, kept_few))))
 
     here : laid_at Log work' used ≡ r
     unfolding laid_at offset_of
-    here = rw w (rw n at (part-put work (80 * used) r (omega (arith, kept-few))))
+    here = rw w (rw n at (part-put work (80 * used) r (omega (arith, kept_few))))
 
     indexed : Indexed v (laid_at Log work') used (held_in l start work used) held places seens
-    indexed = indexed-where v (laid_at Log work) used (held_in l start work used) held places seens k.indexed (laid_at Log work') used (omega arith) (omega (arith, kept-few)) below
+    indexed = indexed_where v (laid_at Log work) used (held_in l start work used) held places seens k.indexed (laid_at Log work') used (omega arith) (omega (arith, kept_few)) below
 
     held_same : held_in l start work used ≡ held_in l start work' used
     held_same = held-alike l start work work' used below
@@ -112,8 +112,8 @@ module _ (m : ℕ) (v : List ℕ) (l : List Rec) (start : ℕ) (work : List ℕ)
         rw (e, f, here, held_same)
 
     module _ (o : Step) (e : o ≡ take_by m v (laid_at Log work') r used held used places seens) where
-      pub laid-refused : (o.number ≡ 0 → ⊥) → take_one m v (held_in l start work used) r ≡ refused o.number
-      laid-refused z = beside-refused v (laid_at Log work') used (held_in l start work used) held places seens indexed used (held-long v l start work used k.grown) m r used (omega arith) (omega (arith, kept-few)) here o e z
+      pub laid_refused : (o.number ≡ 0 → ⊥) → take_one m v (held_in l start work used) r ≡ refused o.number
+      laid_refused z = beside_refused v (laid_at Log work') used (held_in l start work used) held places seens indexed used (held-long v l start work used k.grown) m r used (omega arith) (omega (arith, kept_few)) here o e z
 
       -- what is held after a record that passed
       pub record Passed : Type 0 where
@@ -122,27 +122,27 @@ module _ (m : ℕ) (v : List ℕ) (l : List Rec) (start : ℕ) (work : List ℕ)
         pub grows : used ≤ o.used
 
       module _ (z : o.number ≡ 0) where
-        long-is : used ≡ length (held_in l start work used)
-        long-is = held-long v l start work used k.grown
+        long_is : used ≡ length (held_in l start work used)
+        long_is = held-long v l start work used k.grown
 
         takes : take_one m v (held_in l start work used) r ≡ taken (after m v (held_in l start work used) r)
         takes =
-            (beside-taken v (laid_at Log work') used (held_in l start work used) held places seens indexed used long-is m r used (omega arith) (omega (arith, kept-few)) here o e z).takes
+            (beside_taken v (laid_at Log work') used (held_in l start work used) held places seens indexed used long_is m r used (omega arith) (omega (arith, kept_few)) here o e z).takes
 
         has_all : Indexed v (laid_at Log work') (suc used) (after m v (held_in l start work used) r) o.held o.places o.seens
         has_all =
-            (beside-taken v (laid_at Log work') used (held_in l start work used) held places seens indexed used long-is m r used (omega arith) (omega (arith, kept-few)) here o e z).indexed
+            (beside_taken v (laid_at Log work') used (held_in l start work used) held places seens indexed used long_is m r used (omega arith) (omega (arith, kept_few)) here o e z).indexed
 
         counts : o.used ≡ length (after m v (held_in l start work used) r)
         counts =
-            (beside-taken v (laid_at Log work') used (held_in l start work used) held places seens indexed used long-is m r used (omega arith) (omega (arith, kept-few)) here o e z).counts
+            (beside_taken v (laid_at Log work') used (held_in l start work used) held places seens indexed used long_is m r used (omega arith) (omega (arith, kept_few)) here o e z).counts
 
         -- a record that was held
         once : after m v (held_in l start work used) r ≡ held_in l start work used → Passed
         once x =
-            let u : o.used ≡ used = counts ∙ ap length x ∙ sym long-is in
+            let u : o.used ≡ used = counts ∙ ap length x ∙ sym long_is in
             let s = stays m v (laid_at Log work') r used held used places seens o e u in
-            let i : Kept m v l start work' used held places seens = record { grown = grown-alike v l start work used k.grown work' below; indexed = rw (← held_same) indexed; listed = rw (← held_same) k.listed } in
+            let i : Kept m v l start work' used held places seens = record { grown = grown_alike v l start work used k.grown work' below; indexed = rw (← held_same) indexed; listed = rw (← held_same) k.listed } in
             record {
               takes = takes ∙ ap taken (x ∙ held_same ∙ ap (held_in l start work') (sym u));
               kept = rw (u, s.0, s.1, s.2) i;
@@ -152,7 +152,7 @@ module _ (m : ℕ) (v : List ℕ) (l : List Rec) (start : ℕ) (work : List ℕ)
         -- a new one
         module _ (x : New v (held_in l start work used) r (after m v (held_in l start work used) r)) where
           used_is : o.used ≡ used + 1
-          used_is = omega (arith, counts, ap length x.inserted, length-insert r (held_in l start work used), long-is)
+          used_is = omega (arith, counts, ap length x.inserted, length-insert r (held_in l start work used), long_is)
 
           whole : SoundOn v (held_in l start work' (used + 1))
           whole = rw held_next (insert_sound_on v (held_in l start work used) r (held_sound v l start work used k.grown) x.joins)
@@ -163,10 +163,10 @@ module _ (m : ℕ) (v : List ℕ) (l : List Rec) (start : ℕ) (work : List ℕ)
 
           more : Grown v l start work' (used + 1)
           more =
-              let g = grown-alike v l start work used k.grown work' below in
+              let g = grown_alike v l start work used k.grown work' below in
               record {
                 from = omega (arith, g.from);
-                few = omega (arith, x.room, long-is);
+                few = omega (arith, x.room, long_is);
                 first = g.first;
                 sound = λ j h.
                     ⊎_elim
@@ -198,8 +198,8 @@ module _ (m : ℕ) (v : List ℕ) (l : List Rec) (start : ℕ) (work : List ℕ)
                 grows = omega (arith, used_is);
               }
 
-        pub laid-taken : Passed
-        laid-taken =
+        pub laid_taken : Passed
+        laid_taken =
             ⊎_elim
             (λ (x : Known v (held_in l start work used) r (after m v (held_in l start work used) r)). once x.0)
             (λ (x : New v (held_in l start work used) r (after m v (held_in l start work used) r)). anew x)

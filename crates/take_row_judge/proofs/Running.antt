@@ -21,7 +21,7 @@ use Rattle.log_check.specs.Places.{laid_at}
 use Rattle.take_beside.specs.Judging.{Counted, Step, step, take_by}
 use Rattle.take_row_store.specs.Grown.{held_in}
 use Rattle.take_row_judge.specs.Kept.{Kept, JudgedInto}
-use Rattle.take_row_judge.proofs.Laid.{kept-placed, kept-counted, kept-few, Passed, laid-refused, laid-taken}
+use Rattle.take_row_judge.proofs.Laid.{kept-placed, kept_counted, kept_few, Passed, laid_refused, laid_taken}
 
 -- the first j records of a block passed: all records are held, and the rest is still to come; work₀ and i stand for before
 pub record Running (m : ℕ) (v : List ℕ) (l : List Rec) (start : ℕ) (block : List ℕ) (n j : ℕ) (work₀ : List ℕ) (i : ℕ) (work : List ℕ) (used : ℕ) (held places seens : List ℕ) : Type 0 where
@@ -36,18 +36,18 @@ unfolding block_records
 running_starts m v l start block n work i held places seens e k = record { kept = k; rest = rw (sub-zero n, e); front = refl; grows = omega arith }
 
 module _ (m : ℕ) (v : List ℕ) (l : List Rec) (start : ℕ) (block : List ℕ) (n j : ℕ) (work₀ : List ℕ) (i : ℕ) (work : List ℕ) (used : ℕ) (held places seens : List ℕ) (g : Running m v l start block n j work₀ i work used held places seens) where
-  pub running-placed : Placed v held places
-  running-placed = kept-placed m v l start work used held places seens g.kept
+  pub running_placed : Placed v held places
+  running_placed = kept-placed m v l start work used held places seens g.kept
 
-  pub running-counted : Counted v held used
-  running-counted = kept-counted m v l start work used held places seens g.kept
+  pub running_counted : Counted v held used
+  running_counted = kept_counted m v l start work used held places seens g.kept
 
-  pub running-few : used ≤ 512
-  running-few = kept-few m v l start work used held places seens g.kept
+  pub running_few : used ≤ 512
+  running_few = kept_few m v l start work used held places seens g.kept
 
-  pub running-ends : j ≤ n → n ≤ j → JudgedInto m v l start block work₀ i 0 work used held places seens
+  pub running_ends : j ≤ n → n ≤ j → JudgedInto m v l start block work₀ i 0 work used held places seens
   unfolding records_from
-  running-ends h k =
+  running_ends h k =
       let e : n - j ≡ 0 = omega arith in
       let r : takes_all m v (held_in l start work used) [] ≡ takes_all m v (held_in l start work₀ i) (block_records block) = rw e at g.rest in
       record { refuses = λ z. absurd (z refl); accepts = λ z. sym r ∙ take_all-nil m v (held_in l start work used); kept = λ z. g.kept; front = g.front }
@@ -66,41 +66,41 @@ module _ (m : ℕ) (v : List ℕ) (l : List Rec) (start : ℕ) (block : List ℕ
     unfolding record_at
     laid = rw (part_is block (28 + 80 * j) 80) at w
 
-    long-record : length (record_at block j) ≡ 80
+    long_record : length (record_at block j) ≡ 80
     unfolding record_at
-    long-record = part_length block (28 + 80 * j) 80 (omega arith)
+    long_record = part_length block (28 + 80 * j) 80 (omega arith)
 
-    next-rest : takes_all m v (held_in l start work used) (record_at block j ∷ records_from block (suc j) (n - (j + 1))) ≡ takes_all m v (held_in l start work₀ i) (block_records block)
+    next_rest : takes_all m v (held_in l start work used) (record_at block j ∷ records_from block (suc j) (n - (j + 1))) ≡ takes_all m v (held_in l start work₀ i) (block_records block)
     unfolding records_from
-    next-rest = let f : n - j ≡ suc (n - (j + 1)) = omega arith in rw f at g.rest
+    next_rest = let f : n - j ≡ suc (n - (j + 1)) = omega arith in rw f at g.rest
 
-    next-front : take (80 * i) work' ≡ take (80 * i) work₀
-    next-front =
+    next_front : take (80 * i) work' ≡ take (80 * i) work₀
+    next_front =
         let k = g.grows in
         sym (take-take (80 * i) (80 * used) work' (omega arith))
-        ∙ rw (laid, take_put work (80 * used) (record_at block j) (omega (arith, running-few)), take-take (80 * i) (80 * used) work (omega arith)) g.front
+        ∙ rw (laid, take_put work (80 * used) (record_at block j) (omega (arith, running_few)), take-take (80 * i) (80 * used) work (omega arith)) g.front
 
-    pub running-stops : (number ≡ 0 → ⊥) → JudgedInto m v l start block work₀ i number work' used' held' places' seens'
+    pub running_stops : (number ≡ 0 → ⊥) → JudgedInto m v l start block work₀ i number work' used' held' places' seens'
     unfolding o
-    running-stops z =
-        let t : take_one m v (held_in l start work used) (record_at block j) ≡ refused number = laid-refused m v l start work used held places seens g.kept (record_at block j) long-record long work' laid o judged z in
+    running_stops z =
+        let t : take_one m v (held_in l start work used) (record_at block j) ≡ refused number = laid_refused m v l start work used held places seens g.kept (record_at block j) long_record long work' laid o judged z in
         record {
-          refuses = λ y. sym next-rest ∙ take_all_stops m v (held_in l start work used) (record_at block j) (records_from block (suc j) (n - (j + 1))) number t;
+          refuses = λ y. sym next_rest ∙ take_all_stops m v (held_in l start work used) (record_at block j) (records_from block (suc j) (n - (j + 1))) number t;
           accepts = λ y. absurd (z y);
           kept = λ y. absurd (z y);
-          front = next-front;
+          front = next_front;
         }
 
-    pub running-next : number ≡ 0 → Running m v l start block n (j + 1) work₀ i work' used' held' places' seens'
+    pub running_next : number ≡ 0 → Running m v l start block n (j + 1) work₀ i work' used' held' places' seens'
     unfolding o
-    running-next z =
-        let p = laid-taken m v l start work used held places seens g.kept (record_at block j) long-record long work' laid o judged z in
+    running_next z =
+        let p = laid_taken m v l start work used held places seens g.kept (record_at block j) long_record long work' laid o judged z in
         record {
           kept = p.kept;
-          rest = rw (add-one j) (sym (take_all_goes m v (held_in l start work used) (record_at block j) (records_from block (suc j) (n - suc j)) (held_in l start work' used') p.takes) ∙ (rw (add-one j) at next-rest));
-          front = next-front;
+          rest = rw (add-one j) (sym (take_all_goes m v (held_in l start work used) (record_at block j) (records_from block (suc j) (n - suc j)) (held_in l start work' used') p.takes) ∙ (rw (add-one j) at next_rest));
+          front = next_front;
           grows = omega (arith, p.grows, g.grows);
         }
 
-    pub running-room : number ≡ 0 → used' ≤ 512
-    running-room z = kept-few m v l start work' used' held' places' seens' (running-next z).kept
+    pub running_room : number ≡ 0 → used' ≤ 512
+    running_room z = kept_few m v l start work' used' held' places' seens' (running_next z).kept

@@ -61,9 +61,9 @@ module _ (v : List ℕ) (l : List Rec) (start : ℕ) (work : List ℕ) (used : �
   unfolding held_in
   held_sound = g.sound (used - start) (omega arith)
 
-  pub grown-alike : (work' : List ℕ) → ((p : ℕ) → p < used → laid_at Log work p ≡ laid_at Log work' p) → Grown v l start work' used
+  pub grown_alike : (work' : List ℕ) → ((p : ℕ) → p < used → laid_at Log work p ≡ laid_at Log work' p) → Grown v l start work' used
   unfolding new_at
-  grown-alike work' h =
+  grown_alike work' h =
       record {
         from = g.from;
         few = g.few;
@@ -77,17 +77,17 @@ pub run_one : (work : List ℕ) (from : ℕ) → Run work from (from + 1)
 run_one work from = record { rises = λ j a b. absurd (omega arith) }
 
 module _ (work : List ℕ) (from last : ℕ) where
-  pub run-first : last ≡ rank (take (80 * from + 80 - 80 * from) (drop (80 * from) work)) → last ≡ rank (laid_at Log work (from + 1 - 1))
+  pub run_first : last ≡ rank (take (80 * from + 80 - 80 * from) (drop (80 * from) work)) → last ≡ rank (laid_at Log work (from + 1 - 1))
   unfolding laid_at offset_of
-  run-first e = let f : from + 1 - 1 ≡ from = omega arith in rw f (rw (part_is work (80 * from) 80) at e)
+  run_first e = let f : from + 1 - 1 ≡ from = omega arith in rw f (rw (part_is work (80 * from) 80) at e)
 
   module _ (i : ℕ) (p : last ≡ rank (laid_at Log work (i - 1))) (r : Run work from i) (h : from < i) (k : ℕ) (e : k ≡ rank (take (80 * i + 80 - 80 * i) (drop (80 * i) work))) (up : last < k) where
     rank_is : k ≡ rank (laid_at Log work i)
     unfolding laid_at offset_of
     rank_is = rw (part_is work (80 * i) 80) at e
 
-    pub run-last : k ≡ rank (laid_at Log work (i + 1 - 1))
-    run-last = let f : i + 1 - 1 ≡ i = omega arith in rw f rank_is
+    pub run_last : k ≡ rank (laid_at Log work (i + 1 - 1))
+    run_last = let f : i + 1 - 1 ≡ i = omega arith in rw f rank_is
 
     pub run-next : Run work from (i + 1)
     run-next =
@@ -114,15 +114,15 @@ module _ (v : List ℕ) (l : List Rec) (start : ℕ) (work : List ℕ) (used : �
   records : records_of log ≡ held_in l start work done
   records = rw e (records_back (held_in l start work done) (sound_proper_on v (held_in l start work done) (held_sound v l start work done until)) small)
 
-  pub puts-used : done ≡ length (records_of log)
-  puts-used = rw records (held-long v l start work done until)
+  pub puts_used : done ≡ length (records_of log)
+  puts_used = rw records (held-long v l start work done until)
 
-  pub puts-ordered : Ordered log done
-  puts-ordered = sound_ordered v log done (rw e (log_sound_on v (held_in l start work done) (held_sound v l start work done until) small)) puts-used
+  pub puts_ordered : Ordered log done
+  puts_ordered = sound_ordered v log done (rw e (log_sound_on v (held_in l start work done) (held_sound v l start work done until) small)) puts_used
 
   module _ (end : ℕ) (a : done < end) (b : end ≤ used) where
-    pub puts-room : done + (end - done) ≤ 512
-    puts-room = omega (arith, g.few)
+    pub puts_room : done + (end - done) ≤ 512
+    puts_room = omega (arith, g.few)
 
     lent : (j : ℕ) → j < end - done → laid_at Log (take (80 * end - 80 * done) (drop (80 * done) work)) j ≡ laid_at Log work (done + j)
     unfolding laid_at offset_of part
@@ -130,17 +130,17 @@ module _ (v : List ℕ) (l : List Rec) (start : ℕ) (work : List ℕ) (used : �
         let f : 80 * (done + j) ≡ 80 * done + 80 * j = omega arith in
         rw f (part-part work (80 * done) (80 * end - 80 * done) (80 * j) 80 (omega arith))
 
-    pub puts-rising : Run work done end → Rising (laid_at Log (take (80 * end - 80 * done) (drop (80 * done) work))) (end - done)
-    puts-rising r =
+    pub puts_rising : Run work done end → Rising (laid_at Log (take (80 * end - 80 * done) (drop (80 * done) work))) (end - done)
+    puts_rising r =
         record {
           rises = λ j h.
               let f : done + suc j ≡ suc (done + j) = omega arith in
               rw (lent j (omega arith), lent (suc j) h, f) (r.rises (done + j) (omega arith) (omega arith));
         }
 
-    pub puts-next : (log' : List ℕ) → log' ≡ log_bytes (insert_to (records_of log) (laid_at Log (take (80 * end - 80 * done) (drop (80 * done) work))) (end - done)) → log' ≡ log_bytes (held_in l start work end)
+    pub puts_next : (log' : List ℕ) → log' ≡ log_bytes (insert_to (records_of log) (laid_at Log (take (80 * end - 80 * done) (drop (80 * done) work))) (end - done)) → log' ≡ log_bytes (held_in l start work end)
     unfolding held_in new_at
-    puts-next log' q =
+    puts_next log' q =
         let s : List ℕ = take (80 * end - 80 * done) (drop (80 * done) work) in
         let p : ℕ = done - start in
         let f : p + (end - done) ≡ end - start = omega arith in

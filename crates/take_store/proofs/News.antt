@@ -10,7 +10,7 @@ use mathlib.Core.Bool.{Bool, true, false, not, ◌&&◌}
 use mathlib.Core.List.{List, [], ◌∷◌}
 use lib.Dec.{ltb, leb}
 use lib.ListN.{length, get_or, take, drop}
-use borrow.Author.Tests.{lt-leb, le-leb, ltb-true, leb-true, not-true, not-false}
+use borrow.Author.Tests.{lt-leb, le-leb, ltb-true, leb-true, not-true, not_false}
 use Rattle.model.specs.Record.{Rec, unit, num}
 use Rattle.model.specs.Log.{rank, insert, count_on, vector_on, log_bytes}
 use Rattle.model.specs.Block.{record_at, records_from}
@@ -59,11 +59,11 @@ module _ (held b : List ℕ) (n floor j : ℕ) (h : j < n) (q : new_from held (r
       rank_is : rank (record_at b j) ≡ k
       rank_is = sym (rw lent_is at d)
 
-      pub not-rising : k < floor → false ≡ new_from held (record_at b) 0 0 n
-      not-rising l = rw (not-false t g, rank_is, lt-leb floor k l) at step
+      pub not_rising : k < floor → false ≡ new_from held (record_at b) 0 0 n
+      not_rising l = rw (not_false t g, rank_is, lt-leb floor k l) at step
 
-      pub new-next : floor ≤ k → new_from held (record_at b) (k + 1) (j + 1) (n - (j + 1)) ≡ new_from held (record_at b) 0 0 n
-      new-next l = rw (← add-one k, ← add-one j) at (rw (not-false t g, rank_is, le-leb floor k l) at step)
+      pub new_next : floor ≤ k → new_from held (record_at b) (k + 1) (j + 1) (n - (j + 1)) ≡ new_from held (record_at b) 0 0 n
+      new_next l = rw (← add-one k, ← add-one j) at (rw (not_false t g, rank_is, le-leb floor k l) at step)
 
 pub new_starts : (held b : List ℕ) (n : ℕ) → new_from held (record_at b) 0 0 (n - 0) ≡ new_from held (record_at b) 0 0 n
 new_starts held b n = rw (sub-zero n)
@@ -75,40 +75,40 @@ new_ends held b n floor j h q = let e : n - j ≡ 0 = omega arith in rw e at q
 -- ---- what it tells
 
 module _ (held : List ℕ) (at : ℕ → Rec) where
-  new-floor : (floor i m : ℕ) → new_from held at floor i (suc m) ≡ true → floor ≤ rank (at i)
+  new_floor : (floor i m : ℕ) → new_from held at floor i (suc m) ≡ true → floor ≤ rank (at i)
   unfolding new_from
-  new-floor floor i m h = leb-true floor (rank (at i)) (and_true (leb floor (rank (at i))) (new_from held at (suc (rank (at i))) (suc i) m) (and_true (is_new held (at i)) (leb floor (rank (at i)) && new_from held at (suc (rank (at i))) (suc i) m) h).1).0
+  new_floor floor i m h = leb-true floor (rank (at i)) (and_true (leb floor (rank (at i))) (new_from held at (suc (rank (at i))) (suc i) m) (and_true (is_new held (at i)) (leb floor (rank (at i)) && new_from held at (suc (rank (at i))) (suc i) m) h).1).0
 
-  new-rest : (floor i m : ℕ) → new_from held at floor i (suc m) ≡ true → new_from held at (suc (rank (at i))) (suc i) m ≡ true
+  new_rest : (floor i m : ℕ) → new_from held at floor i (suc m) ≡ true → new_from held at (suc (rank (at i))) (suc i) m ≡ true
   unfolding new_from
-  new-rest floor i m h = (and_true (leb floor (rank (at i))) (new_from held at (suc (rank (at i))) (suc i) m) (and_true (is_new held (at i)) (leb floor (rank (at i)) && new_from held at (suc (rank (at i))) (suc i) m) h).1).1
+  new_rest floor i m h = (and_true (leb floor (rank (at i))) (new_from held at (suc (rank (at i))) (suc i) m) (and_true (is_new held (at i)) (leb floor (rank (at i)) && new_from held at (suc (rank (at i))) (suc i) m) h).1).1
 
-  new-first : (floor i m : ℕ) → new_from held at floor i (suc m) ≡ true → get_or held (unit (at i)) 0 < num (at i)
+  new_first : (floor i m : ℕ) → new_from held at floor i (suc m) ≡ true → get_or held (unit (at i)) 0 < num (at i)
   unfolding new_from is_new
-  new-first floor i m h = ltb-true (get_or held (unit (at i)) 0) (num (at i)) (and_true (is_new held (at i)) (leb floor (rank (at i)) && new_from held at (suc (rank (at i))) (suc i) m) h).0
+  new_first floor i m h = ltb-true (get_or held (unit (at i)) 0) (num (at i)) (and_true (is_new held (at i)) (leb floor (rank (at i)) && new_from held at (suc (rank (at i))) (suc i) m) h).0
 
-  new-each : (floor i m : ℕ) → new_from held at floor i m ≡ true → (j : ℕ) → i ≤ j → j < i + m → get_or held (unit (at j)) 0 < num (at j)
-  new-each floor i zero h j a b = absurd (omega arith)
-  new-each floor i (suc m) h j a b =
+  new_each : (floor i m : ℕ) → new_from held at floor i m ≡ true → (j : ℕ) → i ≤ j → j < i + m → get_or held (unit (at j)) 0 < num (at j)
+  new_each floor i zero h j a b = absurd (omega arith)
+  new_each floor i (suc m) h j a b =
       ⊎_elim
-      (λ (l : i < j). new-each (suc (rank (at i))) (suc i) m (new-rest floor i m h) j l (omega arith))
-      (λ l. let e : j ≡ i = omega arith in rw e (new-first floor i m h))
+      (λ (l : i < j). new_each (suc (rank (at i))) (suc i) m (new_rest floor i m h) j l (omega arith))
+      (λ l. let e : j ≡ i = omega arith in rw e (new_first floor i m h))
       (lt_or_ge i j)
 
-  new-above : (floor i m : ℕ) → new_from held at floor i m ≡ true → (k : ℕ) → i ≤ k → k < i + m → floor ≤ rank (at k)
-  new-above floor i zero h k a b = absurd (omega arith)
-  new-above floor i (suc m) h k a b =
+  new_above : (floor i m : ℕ) → new_from held at floor i m ≡ true → (k : ℕ) → i ≤ k → k < i + m → floor ≤ rank (at k)
+  new_above floor i zero h k a b = absurd (omega arith)
+  new_above floor i (suc m) h k a b =
       ⊎_elim
-      (λ (l : i < k). omega (arith, new-floor floor i m h, new-above (suc (rank (at i))) (suc i) m (new-rest floor i m h) k l (omega arith)))
-      (λ l. let e : k ≡ i = omega arith in rw e (new-floor floor i m h))
+      (λ (l : i < k). omega (arith, new_floor floor i m h, new_above (suc (rank (at i))) (suc i) m (new_rest floor i m h) k l (omega arith)))
+      (λ l. let e : k ≡ i = omega arith in rw e (new_floor floor i m h))
       (lt_or_ge i k)
 
-  new-rises : (floor i m : ℕ) → new_from held at floor i m ≡ true → (j k : ℕ) → i ≤ j → j < k → k < i + m → rank (at j) < rank (at k)
-  new-rises floor i zero h j k a b c = absurd (omega arith)
-  new-rises floor i (suc m) h j k a b c =
+  new_rises : (floor i m : ℕ) → new_from held at floor i m ≡ true → (j k : ℕ) → i ≤ j → j < k → k < i + m → rank (at j) < rank (at k)
+  new_rises floor i zero h j k a b c = absurd (omega arith)
+  new_rises floor i (suc m) h j k a b c =
       ⊎_elim
-      (λ (l : i < j). new-rises (suc (rank (at i))) (suc i) m (new-rest floor i m h) j k l b (omega arith))
-      (λ l. let e : j ≡ i = omega arith in rw e (new-above (suc (rank (at i))) (suc i) m (new-rest floor i m h) k (omega arith) (omega arith)))
+      (λ (l : i < j). new_rises (suc (rank (at i))) (suc i) m (new_rest floor i m h) j k l b (omega arith))
+      (λ l. let e : j ≡ i = omega arith in rw e (new_above (suc (rank (at i))) (suc i) m (new_rest floor i m h) k (omega arith) (omega arith)))
       (lt_or_ge i j)
 
 -- ---- a block that is taken has each of its records taken
@@ -123,33 +123,33 @@ first_taken g v l r rs m e = go (take_one g v l r) refl
         (q ∙ ap taken (sym a), ap (λ (x : List Rec). takes_all g v x rs) a ∙ sym (take_all_goes g v l r rs k q) ∙ e)
 
 module _ (g : ℕ) (v : List ℕ) (l : List Rec) (b : List ℕ) (n : ℕ) (t : takes_all g v l (records_from b 0 n) ≡ taken (after_to g v l (record_at b) n)) where
-  rest-taken : (j : ℕ) → j ≤ n → takes_all g v (after_to g v l (record_at b) j) (records_from b j (n - j)) ≡ taken (after_to g v l (record_at b) n)
+  rest_taken : (j : ℕ) → j ≤ n → takes_all g v (after_to g v l (record_at b) j) (records_from b j (n - j)) ≡ taken (after_to g v l (record_at b) n)
   unfolding after_to records_from
-  rest-taken zero h = rw (sub-zero n) t
-  rest-taken (suc j) h =
+  rest_taken zero h = rw (sub-zero n) t
+  rest_taken (suc j) h =
       let f : n - j ≡ suc (n - suc j) = omega arith in
-      (first_taken g v (after_to g v l (record_at b) j) (record_at b j) (records_from b (suc j) (n - suc j)) (after_to g v l (record_at b) n) (rw f at (rest-taken j (omega arith)))).1
+      (first_taken g v (after_to g v l (record_at b) j) (record_at b j) (records_from b (suc j) (n - suc j)) (after_to g v l (record_at b) n) (rw f at (rest_taken j (omega arith)))).1
 
-  pub each-taken : (j : ℕ) → j < n → take_one g v (after_to g v l (record_at b) j) (record_at b j) ≡ taken (after g v (after_to g v l (record_at b) j) (record_at b j))
+  pub each_taken : (j : ℕ) → j < n → take_one g v (after_to g v l (record_at b) j) (record_at b j) ≡ taken (after g v (after_to g v l (record_at b) j) (record_at b j))
   unfolding records_from
-  each-taken j h =
+  each_taken j h =
       let f : n - j ≡ suc (n - suc j) = omega arith in
-      (first_taken g v (after_to g v l (record_at b) j) (record_at b j) (records_from b (suc j) (n - suc j)) (after_to g v l (record_at b) n) (rw f at (rest-taken j (omega arith)))).0
+      (first_taken g v (after_to g v l (record_at b) j) (record_at b j) (records_from b (suc j) (n - suc j)) (after_to g v l (record_at b) n) (rw f at (rest_taken j (omega arith)))).0
 
   module _ (s : SoundOn v l) where
-    has-from : (i m j : ℕ) → i ≤ j → j < i + m → Has (record_at b j) (records_from b i m)
+    has_from : (i m j : ℕ) → i ≤ j → j < i + m → Has (record_at b j) (records_from b i m)
     unfolding records_from
-    has-from i zero j a h = absurd (omega arith)
-    has-from i (suc m) j a h =
+    has_from i zero j a h = absurd (omega arith)
+    has_from i (suc m) j a h =
         ⊎_elim
-        (λ (k : i < j). inr (has-from (suc i) m j k (omega arith)))
+        (λ (k : i < j). inr (has_from (suc i) m j k (omega arith)))
         (λ k. let e : j ≡ i = omega arith in inl (ap (record_at b) e))
         (lt_or_ge i j)
 
-    pub taken-units : Units (record_at b) n
-    taken-units =
+    pub taken_units : Units (record_at b) n
+    taken_units =
         let d = all_from g v (records_from b 0 n) l (after_to g v l (record_at b) n) s t in
-        record { below = λ j h. well_unit (record_at b j) (d.fit (record_at b j) (has-from 0 n j (omega arith) (omega arith))).0 }
+        record { below = λ j h. well_unit (record_at b j) (d.fit (record_at b j) (has_from 0 n j (omega arith) (omega arith))).0 }
 
     -- ---- new records that rise are put in one after another
 
@@ -157,38 +157,38 @@ module _ (g : ℕ) (v : List ℕ) (l : List Rec) (b : List ℕ) (n : ℕ) (t : t
       w : new_from held (record_at b) 0 0 n ≡ true
       w = sym q ∙ z
 
-      has-inserted : (j : ℕ) (r : Rec) → Has r (insert_to l (record_at b) j) → Has r l ⊎ ((i : ℕ) × (i < j) × (r ≡ record_at b i))
+      has_inserted : (j : ℕ) (r : Rec) → Has r (insert_to l (record_at b) j) → Has r l ⊎ ((i : ℕ) × (i < j) × (r ≡ record_at b i))
       unfolding insert_to
-      has-inserted zero r h = inl h
-      has-inserted (suc j) r h =
+      has_inserted zero r h = inl h
+      has_inserted (suc j) r h =
           ⊎_elim
           (λ (e : r ≡ record_at b j). inr (j, omega arith, e))
           (λ (k : Has r (insert_to l (record_at b) j)).
           ⊎_elim
           (λ (x : Has r l). inl x)
           (λ (x : (i : ℕ) × (i < j) × (r ≡ record_at b i)). inr (x.0, omega (arith, x.1), x.2))
-          (has-inserted j r k))
+          (has_inserted j r k))
           (has_insert (record_at b j) (insert_to l (record_at b) j) r h)
 
       -- a new record is not among those put in before it
-      not-among : (j : ℕ) → j < n → Has (record_at b j) (insert_to l (record_at b) j) → ⊥
-      not-among j h i =
+      not_among : (j : ℕ) → j < n → Has (record_at b j) (insert_to l (record_at b) j) → ⊥
+      not_among j h i =
           ⊎_elim
           (λ (x : Has (record_at b j) l).
-          let u : unit (record_at b j) < 8 = taken-units.below j h in
+          let u : unit (record_at b j) < 8 = taken_units.below j h in
           let e : get_or held (unit (record_at b j)) 0 ≡ count_on v (unit (record_at b j)) l = rw c (vector_on_get_d v l (unit (record_at b j)) u) in
-          omega (arith, number_held_on v l (record_at b j) s x, new-each held (record_at b) 0 0 n w j (omega arith) (omega arith)))
+          omega (arith, number_held_on v l (record_at b j) s x, new_each held (record_at b) 0 0 n w j (omega arith) (omega arith)))
           (λ (x : (i : ℕ) × (i < j) × (record_at b j ≡ record_at b i)).
           let e : rank (record_at b j) ≡ rank (record_at b x.0) = ap rank x.2 in
-          omega (arith, new-rises held (record_at b) 0 0 n w x.0 j (omega arith) x.1 (omega arith)))
-          (has-inserted j (record_at b j) i)
+          omega (arith, new_rises held (record_at b) 0 0 n w x.0 j (omega arith) x.1 (omega arith)))
+          (has_inserted j (record_at b j) i)
 
       -- nor is it folded
-      not-folded : (j : ℕ) → j < n → is_folded v (record_at b j) ≡ true → ⊥
-      not-folded j h i =
-          let u : unit (record_at b j) < 8 = taken-units.below j h in
+      not_folded : (j : ℕ) → j < n → is_folded v (record_at b j) ≡ true → ⊥
+      not_folded j h i =
+          let u : unit (record_at b j) < 8 = taken_units.below j h in
           let e : get_or held (unit (record_at b j)) 0 ≡ count_on v (unit (record_at b j)) l = rw c (vector_on_get_d v l (unit (record_at b j)) u) in
-          omega (arith, folded_within v (record_at b j) i, new-each held (record_at b) 0 0 n w j (omega arith) (omega arith))
+          omega (arith, folded_within v (record_at b j) i, new_each held (record_at b) 0 0 n w j (omega arith) (omega arith))
 
       inserted : (j : ℕ) → j ≤ n → (after_to g v l (record_at b) j ≡ insert_to l (record_at b) j) × SoundOn v (after_to g v l (record_at b) j)
       unfolding after_to insert_to
@@ -199,11 +199,11 @@ module _ (g : ℕ) (v : List ℕ) (l : List Rec) (b : List ℕ) (n : ℕ) (t : t
           ⊎_elim
           (λ (x : Known v m (record_at b j) (after g v m (record_at b j))).
           ⊎_elim
-          (λ (y : is_folded v (record_at b j) ≡ true). absurd (not-folded j (omega arith) y))
-          (λ (y : Has (record_at b j) m). absurd (not-among j (omega arith) (rw q.0 at y)))
+          (λ (y : is_folded v (record_at b j) ≡ true). absurd (not_folded j (omega arith) y))
+          (λ (y : Has (record_at b j) m). absurd (not_among j (omega arith) (rw q.0 at y)))
           x.1)
           (λ (x : New v m (record_at b j) (after g v m (record_at b j))). (x.inserted ∙ ap (insert (record_at b j)) q.0, rw x.inserted (insert_sound_on v m (record_at b j) q.1 x.joins)))
-          (one_from g v m (record_at b j) (after g v m (record_at b j)) q.1 (each-taken j (omega arith)))
+          (one_from g v m (record_at b j) (after g v m (record_at b j)) q.1 (each_taken j (omega arith)))
 
       length_inserted : (j : ℕ) → length (insert_to l (record_at b) j) ≡ length l + j
       unfolding insert_to
@@ -220,19 +220,19 @@ module _ (g : ℕ) (v : List ℕ) (l : List Rec) (b : List ℕ) (n : ℕ) (t : t
       lent : List ℕ
       lent = take (28 + 80 * n - 28) (drop 28 b)
 
-      lent-record : (j : ℕ) → j < n → laid_at Log lent j ≡ record_at b j
+      lent_record : (j : ℕ) → j < n → laid_at Log lent j ≡ record_at b j
       unfolding lent laid_at offset_of record_at
-      lent-record j h = rw (part_is b 28 (80 * n)) (part-part b 28 (80 * n) (80 * j) 80 (omega arith))
+      lent_record j h = rw (part_is b 28 (80 * n)) (part-part b 28 (80 * n) (80 * j) 80 (omega arith))
 
-      pub lent-rising : Rising (laid_at Log (take (28 + 80 * n - 28) (drop 28 b))) n
+      pub lent_rising : Rising (laid_at Log (take (28 + 80 * n - 28) (drop 28 b))) n
       unfolding lent
-      lent-rising = record { rises = λ j h. rw (lent-record j (omega arith), lent-record (suc j) h) (new-rises held (record_at b) 0 0 n w j (suc j) (omega arith) (omega arith) (omega arith)) }
+      lent_rising = record { rises = λ j h. rw (lent_record j (omega arith), lent_record (suc j) h) (new_rises held (record_at b) 0 0 n w j (suc j) (omega arith) (omega arith) (omega arith)) }
 
-      insert-same : (j : ℕ) → j ≤ n → insert_to l (laid_at Log lent) j ≡ insert_to l (record_at b) j
+      insert_same : (j : ℕ) → j ≤ n → insert_to l (laid_at Log lent) j ≡ insert_to l (record_at b) j
       unfolding insert_to
-      insert-same zero h = refl
-      insert-same (suc j) h = rw (lent-record j h, insert-same j (omega arith))
+      insert_same zero h = refl
+      insert_same (suc j) h = rw (lent_record j h, insert_same j (omega arith))
 
-      pub all-stored : (m : List ℕ) → m ≡ log_bytes (insert_to l (laid_at Log (take (28 + 80 * n - 28) (drop 28 b))) n) → m ≡ log_bytes (after_to g v l (record_at b) n)
+      pub all_stored : (m : List ℕ) → m ≡ log_bytes (insert_to l (laid_at Log (take (28 + 80 * n - 28) (drop 28 b))) n) → m ≡ log_bytes (after_to g v l (record_at b) n)
       unfolding lent
-      all-stored m e = e ∙ ap log_bytes (insert-same n (omega arith) ∙ sym (inserted n (omega arith)).0)
+      all_stored m e = e ∙ ap log_bytes (insert_same n (omega arith) ∙ sym (inserted n (omega arith)).0)

@@ -9,7 +9,7 @@ use mathlib.Core.Bool.{Bool, true, false, not}
 use mathlib.Core.List.{List, [], ◌∷◌}
 use lib.ListN.{length, get_or, set, take, drop}
 use lib.Seq.{ext_get_or}
-use borrow.Author.Tests.{ltb-true, ltb-false, not-true, not-false}
+use borrow.Author.Tests.{ltb-true, ltb-false, not-true, not_false}
 use Rattle.model.specs.Record.{Rec, unit, num, well_formed}
 use Rattle.model.specs.Log.{insert, count_on, vector_on, records_of, log_bytes}
 use Rattle.model.specs.Block.{record_at, records_from}
@@ -30,7 +30,7 @@ use Rattle.log_insert.specs.Where.{Rising, Ordered, insert_to}
 use Rattle.log_insert.proofs.Ordered.{sound_ordered}
 use Rattle.take_store.specs.Stored.{Stored}
 use Rattle.take_store.specs.New.{is_new}
-use Rattle.take_store.proofs.News.{each-taken}
+use Rattle.take_store.proofs.News.{each_taken}
 
 vector_insert : (v : List ℕ) (r : Rec) (l : List Rec) → vector_on v (insert r l) ≡ vector_on v (r ∷ l)
 vector_insert v r l =
@@ -61,31 +61,31 @@ module _ (v log : List ℕ) (used : ℕ) (held : List ℕ) (g : Stored v (record
     unfolding l
     way = one_from m v l r (after m v l r) g.sound t
 
-    pub unit-formed : unit r < 8
-    unit-formed = well_unit r (one_fits m v (records_of log) r (after m v (records_of log) r) t).0
+    pub unit_formed : unit r < 8
+    unit_formed = well_unit r (one_fits m v (records_of log) r (after m v (records_of log) r) t).0
 
     held_is : get_or held (unit r) 0 ≡ count_on v (unit r) l
     unfolding l
-    held_is = rw g.counts (vector_on_get_d v l (unit r) unit-formed)
+    held_is = rw g.counts (vector_on_get_d v l (unit r) unit_formed)
 
-    own-next : New v l r (after m v l r) → num r ≡ suc (count_on v (unit r) l)
-    own-next x = omega (arith, x.joins.next, count-nil (unit r))
+    own_next : New v l r (after m v l r) → num r ≡ suc (count_on v (unit r) l)
+    own_next x = omega (arith, x.joins.next, count-nil (unit r))
 
     module _ (b : Bool) (e : b ≡ is_new held r) where
       -- a record that is held or folded is not stored again
-      pub store-held : not b ≡ true → Stored v (after m v (records_of log) r) log used held
+      pub store_held : not b ≡ true → Stored v (after m v (records_of log) r) log used held
       unfolding l is_new
-      store-held h =
+      store_held h =
           let k : num r ≤ get_or held (unit r) 0 = ltb-false (get_or held (unit r) 0) (num r) (sym e ∙ not-true b h) in
           ⊎_elim
           (λ (x : Known v l r (after m v l r)). subst (λ (k : List Rec). Stored v k log used held) (sym x.0) g)
-          (λ (x : New v l r (after m v l r)). absurd (omega (arith, own-next x, held_is)))
+          (λ (x : New v l r (after m v l r)). absurd (omega (arith, own_next x, held_is)))
           way
 
       module _ (h : not b ≡ false) where
         above : get_or held (unit r) 0 < num r
         unfolding is_new
-        above = ltb-true (get_or held (unit r) 0) (num r) (sym e ∙ not-false b h)
+        above = ltb-true (get_or held (unit r) 0) (num r) (sym e ∙ not_false b h)
 
         new : New v l r (after m v l r)
         unfolding l
@@ -99,29 +99,29 @@ module _ (v log : List ℕ) (used : ℕ) (held : List ℕ) (g : Stored v (record
             (λ (x : New v l r (after m v l r)). x)
             way
 
-        pub store-room : used + 1 ≤ 512
+        pub store_room : used + 1 ≤ 512
         unfolding l
-        store-room = omega (arith, new.room, g.used_is)
+        store_room = omega (arith, new.room, g.used_is)
 
         module _ (u : ℕ) (a : u ≡ unit r) where
           pub unit-stored : u < 8
-          unit-stored = rw a unit-formed
+          unit-stored = rw a unit_formed
 
-          pub count-above : (c : ℕ) → c ≡ num r → get_or held u 0 < c
-          count-above c q = rw (a, q) above
+          pub count_above : (c : ℕ) → c ≡ num r → get_or held u 0 < c
+          count_above c q = rw (a, q) above
 
           -- a new record is put in by rank
-          pub store-new : (o held' : List ℕ) → o ≡ log_bytes (insert_to (records_of log) (laid_at Log r) 1) → length r ≡ 80 → held' ≡ set held u (get_or held u 0 + 1)
+          pub store_new : (o held' : List ℕ) → o ≡ log_bytes (insert_to (records_of log) (laid_at Log r) 1) → length r ≡ 80 → held' ≡ set held u (get_or held u 0 + 1)
               → Stored v (after m v (records_of log) r) o (used + 1) held'
           unfolding l
-          store-new o held' p z q =
+          store_new o held' p z q =
               rw new.inserted
               record {
                 bytes = p ∙ ap log_bytes (one_inserted l r z);
                 sound = insert_sound_on v l r g.sound new.joins;
                 few = omega (arith, length-insert r l, new.room);
                 used_is = omega (arith, length-insert r l, g.used_is);
-                counts = q ∙ rw (g.counts, a) (sym (vector_cons v r l unit-formed) ∙ sym (vector_insert v r l));
+                counts = q ∙ rw (g.counts, a) (sym (vector_cons v r l unit_formed) ∙ sym (vector_insert v r l));
               }
 
 -- ---- one record after another
@@ -135,11 +135,11 @@ module _ (m : ℕ) (v : List ℕ) (l : List Rec) (b : List ℕ) (n j : ℕ) (log
   same_records_lem : records_of log ≡ after_to m v l (record_at b) j
   same_records_lem = rw s.bytes (records_back (after_to m v l (record_at b) j) (sound_proper_on v (after_to m v l (record_at b) j) s.sound) s.few)
 
-  pub storing-stored : Stored v (records_of log) log used held
-  storing-stored = rw same_records_lem s
+  pub storing_stored : Stored v (records_of log) log used held
+  storing_stored = rw same_records_lem s
 
-  pub storing-ends : j ≤ n → n ≤ j → log ≡ log_bytes (after_to m v l (record_at b) n)
-  storing-ends h k = let e : j ≡ n = omega arith in rw e at s.bytes
+  pub storing_ends : j ≤ n → n ≤ j → log ≡ log_bytes (after_to m v l (record_at b) n)
+  storing_ends h k = let e : j ≡ n = omega arith in rw e at s.bytes
 
   module _ (h : j < n) where
     lent : List ℕ
@@ -149,12 +149,12 @@ module _ (m : ℕ) (v : List ℕ) (l : List Rec) (b : List ℕ) (n j : ℕ) (log
     unfolding lent record_at
     lent_is = part_is b (28 + 80 * j) 80
 
-    pub storing-takes : takes_all m v l (records_from b 0 n) ≡ taken (after_to m v l (record_at b) n) → take_one m v (records_of log) (take (28 + 80 * j + 80 - (28 + 80 * j)) (drop (28 + 80 * j) b))
+    pub storing_takes : takes_all m v l (records_from b 0 n) ≡ taken (after_to m v l (record_at b) n) → take_one m v (records_of log) (take (28 + 80 * j + 80 - (28 + 80 * j)) (drop (28 + 80 * j) b))
         ≡ taken (after m v (records_of log) (take (28 + 80 * j + 80 - (28 + 80 * j)) (drop (28 + 80 * j) b)))
     unfolding lent
-    storing-takes t = rw (same_records_lem, lent_is) (each-taken m v l b n t j h)
+    storing_takes t = rw (same_records_lem, lent_is) (each_taken m v l b n t j h)
 
-    pub storing-next : (log' : List ℕ) (used' : ℕ) (held' : List ℕ) → Stored v (after m v (records_of log) (take (28 + 80 * j + 80 - (28 + 80 * j)) (drop (28 + 80 * j) b))) log' used' held'
+    pub storing_next : (log' : List ℕ) (used' : ℕ) (held' : List ℕ) → Stored v (after m v (records_of log) (take (28 + 80 * j + 80 - (28 + 80 * j)) (drop (28 + 80 * j) b))) log' used' held'
         → Stored v (after_to m v l (record_at b) (j + 1)) log' used' held'
     unfolding lent after_to
-    storing-next log' used' held' p = rw (add-one j) (rw (same_records_lem, lent_is) at p)
+    storing_next log' used' held' p = rw (add-one j) (rw (same_records_lem, lent_is) at p)

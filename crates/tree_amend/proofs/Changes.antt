@@ -35,37 +35,37 @@ marks_set (a ∷ l) (suc i) d p = (p.0, marks_set l i d p.1)
 -- ---- the changes
 
 module _ (b register : List ℕ) (n m : ℕ) (t : Tree) (w : Works b register n m t) where
-  pub works-part : (i : ℕ) → i < n → part b (4 + 72 * i) 72 ≡ entry_row 0 (get_or t.entries i blank_entry)
+  pub works_part : (i : ℕ) → i < n → part b (4 + 72 * i) 72 ≡ entry_row 0 (get_or t.entries i blank_entry)
   unfolding work_bytes is_disputed
-  works-part i h =
+  works_part i h =
       let rows = w.rows in
-      let fit = w.rows_fit in
+      let fit = w.rows_fit_lem in
       rw w.bytes (part-entry [] t.entries t.asides w.proper (omega arith) i blank_entry (omega arith))
 
-  pub works-part-aside : (i : ℕ) → i < m → part b (73732 + 12 * i) 12 ≡ aside_row (get_or t.asides i blank_aside)
+  pub works_part_aside : (i : ℕ) → i < m → part b (73732 + 12 * i) 12 ≡ aside_row (get_or t.asides i blank_aside)
   unfolding work_bytes
-  works-part-aside i h =
+  works_part_aside i h =
       let rows = w.rows in
       let notes = w.notes in
-      let fit = w.rows_fit in
+      let fit = w.rows_fit_lem in
       rw w.bytes (part-aside [] t.entries t.asides w.proper (omega arith) i blank_aside (omega arith))
 
   -- row i holds another entry of the same identity, and the register goes with it
-  pub works-change : (i : ℕ) (e : Entry) (l : List ℕ) → i < n → e.made ≡ (get_or t.entries i blank_entry).made → Proper e
+  pub works_change : (i : ℕ) (e : Entry) (l : List ℕ) → i < n → e.made ≡ (get_or t.entries i blank_entry).made → Proper e
       → Home e.inside t.entries → length l ≡ length register → ((s : ℕ) → s < 4097 → get_or l s 0 ≡ get_or register s 0) → Keyed l n (set t.entries i e)
       → Works (put_at b (4 + 72 * i) (entry_row 0 e)) l n m (with_entries t (set t.entries i e))
   unfolding with_entries work_bytes is_disputed row_of note_of role_of name_of
-  works-change i e l h q p home long low key =
+  works_change i e l h q p home long low key =
       let es = t.entries in
       let as' = t.asides in
       let rows = w.rows in
-      let fit = w.rows_fit in
+      let fit = w.rows_fit_lem in
       let same : (k : ℕ) → row_from k 0 (set es i e) ≡ row_from k 0 es = λ k. row-set k 0 es i e blank_entry q in
       record {
         bytes = rw w.bytes (set-entry [] es as' w.proper (omega arith) i e (omega arith) p);
         rows = length-set es i e ∙ w.rows;
         notes = w.notes;
-        rows_fit = fit;
+        rows_fit_lem = fit;
         notes_fit = w.notes_fit;
         proper = proper_set es i e p w.proper;
         lone = lone_set es i e blank_entry q w.lone;
@@ -79,7 +79,7 @@ module _ (b register : List ℕ) (n m : ℕ) (t : Tree) (w : Works b register n 
       }
 
   -- an aside is settled
-  pub works-settle : (i : ℕ) → i < m
+  pub works_settle : (i : ℕ) → i < m
       → Works
       (put_at b (73732 + 12 * i) (aside_row (settled_one (get_or t.asides i blank_aside))))
       register
@@ -87,19 +87,19 @@ module _ (b register : List ℕ) (n m : ℕ) (t : Tree) (w : Works b register n 
       m
       (with_asides t (set t.asides i (settled_one (get_or t.asides i blank_aside))))
   unfolding with_asides work_bytes row_of note_of role_of name_of
-  works-settle i h =
+  works_settle i h =
       let es = t.entries in
       let l = t.asides in
       let a = settled_one (get_or l i blank_aside) in
       let rows = w.rows in
       let notes = w.notes in
-      let fit = w.rows_fit in
+      let fit = w.rows_fit_lem in
       let same : (k : ℕ) → note_from k 0 (set l i a) ≡ note_from k 0 l = λ k. note_set k 0 l i a blank_aside refl in
       record {
         bytes = rw w.bytes (set-aside [] es l w.proper (omega arith) i a (omega arith));
         rows = w.rows;
         notes = length-set l i a ∙ w.notes;
-        rows_fit = fit;
+        rows_fit_lem = fit;
         notes_fit = w.notes_fit;
         proper = w.proper;
         lone = w.lone;

@@ -16,11 +16,11 @@ use Rattle.tree_lookup.specs.Roles.{row_of, Holds}
 use Rattle.tree_lookup.specs.Lookup.{row_among}
 use Rattle.tree_lookup.proofs.Working.{row-none, row_some}
 use Rattle.tree_amend.specs.Registers.{for_found, renamed_on, removed_on, shifted_on, moved_on}
-use Rattle.tree_amend.proofs.Amending.{row-end}
+use Rattle.tree_amend.proofs.Amending.{row_end}
 
 -- a part of a row lies within the table
 pub within_row : (b register : List ℕ) (n m : ℕ) → Holds b register n m → (row k : ℕ) → row < n → k ≤ 72 → 4 + 72 * row + k ≤ length b
-within_row b register n m w row k h g = omega (arith, row-end b register n m w row h)
+within_row b register n m w row k h g = omega (arith, row_end b register n m w row h)
 
 -- the label of a row, as it is lent
 label_lent : (b : List ℕ) (at : ℕ) → take (at + 56 - (at + 24)) (drop (at + 24) b) ≡ (entry_in b at).label
@@ -39,33 +39,33 @@ module _ (b : List ℕ) (n m : ℕ) (register : List ℕ) (r : Rec) (k row : ℕ
       let i : row ≡ row_among (entries_from b 0 n) (some (entry_in b (4 + 72 * row))) = rw e at a in
       rw (← p, e, ← i)
 
-  pub rename-leaves : n ≤ row → register ≡ renamed_on r (tree_in b n m) register
+  pub rename_leaves : n ≤ row → register ≡ renamed_on r (tree_in b n m) register
   unfolding renamed_on tree_in
-  rename-leaves h = found_none h _
+  rename_leaves h = found_none h _
 
-  pub remove-leaves : n ≤ row → register ≡ removed_on r (tree_in b n m) register
+  pub remove_leaves : n ≤ row → register ≡ removed_on r (tree_in b n m) register
   unfolding removed_on tree_in
-  remove-leaves h = found_none h _
+  remove_leaves h = found_none h _
 
-  pub move-leaves : n ≤ row → register ≡ moved_on r (tree_in b n m) register
+  pub move_leaves : n ≤ row → register ≡ moved_on r (tree_in b n m) register
   unfolding moved_on tree_in
-  move-leaves h = found_none h _
+  move_leaves h = found_none h _
 
   module _ (h : row < n) (f : ℕ) (q : f ≡ (entry_in b (4 + 72 * row)).inside) (l : List ℕ) where
-    pub rename-register : l ≡ relabelled register f (take (4 + 72 * row + 56 - (4 + 72 * row + 24)) (drop (4 + 72 * row + 24) b)) (label_of r) row
+    pub rename_register : l ≡ relabelled register f (take (4 + 72 * row + 56 - (4 + 72 * row + 24)) (drop (4 + 72 * row + 24) b)) (label_of r) row
         → l ≡ renamed_on r (tree_in b n m) register
     unfolding renamed_on tree_in
-    rename-register x = (rw (q, label_lent b (4 + 72 * row)) at x) ∙ found_some h _
+    rename_register x = (rw (q, label_lent b (4 + 72 * row)) at x) ∙ found_some h _
 
-    pub remove-register : (s : ℕ) → s ≡ row_of f (tree_in b n m) → l ≡ left register s f (take (4 + 72 * row + 56 - (4 + 72 * row + 24)) (drop (4 + 72 * row + 24) b)) row
+    pub remove_register : (s : ℕ) → s ≡ row_of f (tree_in b n m) → l ≡ left register s f (take (4 + 72 * row + 56 - (4 + 72 * row + 24)) (drop (4 + 72 * row + 24) b)) row
         → l ≡ removed_on r (tree_in b n m) register
     unfolding removed_on tree_in
-    remove-register s y x = (rw (y, q, label_lent b (4 + 72 * row)) at x) ∙ found_some h _
+    remove_register s y x = (rw (y, q, label_lent b (4 + 72 * row)) at x) ∙ found_some h _
 
   module _ (h : row < n) where
-    pub move-register : (l : List ℕ) → l ≡ shifted_on r (tree_in b n m) register (entry_in b (4 + 72 * row)) row → l ≡ moved_on r (tree_in b n m) register
+    pub move_register : (l : List ℕ) → l ≡ shifted_on r (tree_in b n m) register (entry_in b (4 + 72 * row)) row → l ≡ moved_on r (tree_in b n m) register
     unfolding moved_on tree_in
-    move-register l x = x ∙ found_some h _
+    move_register l x = x ∙ found_some h _
 
 -- what `shift_entry` leaves
 pub shift_register : (b : List ℕ) (n m : ℕ) (register : List ℕ) (r : Rec) (row f g s u : ℕ) (l : List ℕ) → f ≡ (entry_in b (4 + 72 * row)).inside → g ≡ folder_of r

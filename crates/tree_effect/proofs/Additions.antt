@@ -17,11 +17,11 @@ use Rattle.tree_lookup.specs.Roles.{row_from, note_from, row_of, note_of, behind
 use Rattle.hash_chains.specs.Chains.{nodes_in}
 use Rattle.tree_maps.specs.Keys.{folder_at, named, entered}
 use Rattle.tree_maps.proofs.Counts.{made_more, made_new}
-use Rattle.tree_maps.proofs.Keeping.{keyed-beside, keyed-made, named-long, named-behind, named-labels, entered-before, entered-long}
+use Rattle.tree_maps.proofs.Keeping.{keyed_beside, keyed_made, named-long, named-behind, named_labels, entered-before, entered-long}
 use Rattle.tree_lookup.proofs.Places.{row_absent, row_more, row_new, note_more, note_new, lone_more}
 use Rattle.tree_lookup.proofs.Working.{behind_cases}
 use Rattle.tree_lookup.proofs.Names.{row_few, role_within, name-row, name_note, who_more, who_new, named-kept, named_more}
-use Rattle.tree_lookup.proofs.Homes.{place-folder, one_each, new_empty, home_other, housed_new}
+use Rattle.tree_lookup.proofs.Homes.{place_folder, one_each, new_empty, home_other, housed_new}
 use Rattle.tree_amend.specs.Effects.{with_entries, with_asides}
 
 -- ---- proper entries, and marks that fit
@@ -41,9 +41,9 @@ module _ (k : ℕ) (t : Tree) (fresh : role_of k t ≡ 0) where
   unfolding role_of
   fresh-row = omega arith
 
-  pub fresh-note : note_of k t ≡ 0
+  pub fresh_note : note_of k t ≡ 0
   unfolding role_of
-  fresh-note =
+  fresh_note =
       ⊎_elim (λ (y : (note_of k t ≡ 0) × (behind_rows (note_of k t) ≡ 0)). y.0)
       (λ (y : (1 ≤ note_of k t) × (behind_rows (note_of k t) ≡ 1024 + note_of k t)). absurd (omega (arith, y.1)))
       (behind_cases (note_of k t))
@@ -52,15 +52,15 @@ module _ (k : ℕ) (t : Tree) (fresh : role_of k t ≡ 0) where
 
 module _ (register : List ℕ) (t : Tree) (w : Named register t) (fit : length t.entries ≤ 1024) (apart : (k : ℕ) → (row_of k t ≡ 0) ⊎ (note_of k t ≡ 0)) (both : length t.entries + length t.asides < 1536) where
   -- a new entry is found by its role
-  pub named-make : (e : Entry) → length t.entries < 1024 → role_of e.made t ≡ 0
+  pub named_make : (e : Entry) → length t.entries < 1024 → role_of e.made t ≡ 0
       → Named (named register e.made (length t.entries + 1)) (with_entries t (t.entries ++ (e ∷ [])))
   unfolding with_entries row_of note_of role_of behind_rows
-  named-make e h fresh =
+  named_make e h fresh =
       let es = t.entries in
       let n = length es in
       let k = e.made in
       let nr : row_from k 0 es ≡ 0 = fresh-row k t fresh in
-      let nn : note_from k 0 t.asides ≡ 0 = fresh-note k t fresh in
+      let nn : note_from k 0 t.asides ≡ 0 = fresh_note k t fresh in
       let u = with_entries t (es ++ (e ∷ [])) in
       let more : length (es ++ (e ∷ [])) ≡ n + 1 = length-append es (e ∷ []) in
       let new : role_of k u ≡ n + 1 = rw (row_new k 0 es e nr refl, nn) (omega arith) in
@@ -84,7 +84,7 @@ module _ (register : List ℕ) (t : Tree) (w : Named register t) (fit : length t
       let m = length l in
       let k = a.who in
       let nr : row_from k 0 es ≡ 0 = fresh-row k t fresh in
-      let nn : note_from k 0 l ≡ 0 = fresh-note k t fresh in
+      let nn : note_from k 0 l ≡ 0 = fresh_note k t fresh in
       let u = with_asides t (l ++ (a ∷ [])) in
       let more : length (l ++ (a ∷ [])) ≡ m + 1 = length-append l (a ∷ []) in
       let new : role_of k u ≡ 1025 + m = rw (nr, note_new k 0 l a nn refl) (omega arith) in
@@ -101,18 +101,18 @@ module _ (register : List ℕ) (t : Tree) (w : Named register t) (fit : length t
 
 module _ (b register : List ℕ) (n m : ℕ) (t : Tree) (w : Works b register n m t) where
   -- a row for a new entry
-  pub works-make : (e : Entry) (p : ℕ) → n < 1024 → n + m < 1536 → nodes_in 4097 register < 1536 → Proper e → is_present e ≡ true → role_of e.made t ≡ 0
+  pub works_make : (e : Entry) (p : ℕ) → n < 1024 → n + m < 1536 → nodes_in 4097 register < 1536 → Proper e → is_present e ≡ true → role_of e.made t ≡ 0
       → Home e.inside t.entries → p ≡ row_of e.inside t
       → Works (put_at b (4 + 72 * n) (entry_row 0 e)) (entered (named register e.made (n + 1)) p e.inside e.label n) (n + 1) m (with_entries t (t.entries ++ (e ∷ [])))
   unfolding with_entries work_bytes is_disputed row_of note_of role_of behind_rows
-  works-make e p h both room fit here fresh home place =
+  works_make e p h both room fit here fresh home place =
       let es = t.entries in
       let l = t.asides in
       let k = e.made in
       let rows = w.rows in
       let notes = w.notes in
       let nr : row_from k 0 es ≡ 0 = fresh-row k t fresh in
-      let nn : note_from k 0 l ≡ 0 = fresh-note k t fresh in
+      let nn : note_from k 0 l ≡ 0 = fresh_note k t fresh in
       let low = fit.range.low in
       let c = w.named.chains in
       let r0 : nodes_in 0 register < 1536 = omega (arith, w.named.count) in
@@ -121,15 +121,15 @@ module _ (b register : List ℕ) (n m : ℕ) (t : Tree) (w : Works b register n 
       let u = with_entries t (es ++ (e ∷ [])) in
       let more : length (es ++ (e ∷ [])) ≡ n + 1 = length-append es (e ∷ []) ∙ rw rows refl in
       let b1 : b ≡ flagged [] es l = w.bytes in
-      let key = keyed-beside register n es w.keyed l1 (named-long register k (n + 1)) (named-behind register k (n + 1) c r0) in
-      let nodes : nodes_in 4097 l1 < 1536 = rw (named-labels register k (n + 1) c r0 w.keyed.chains) room in
+      let key = keyed_beside register n es w.keyed l1 (named-long register k (n + 1)) (named-behind register k (n + 1) c r0) in
+      let nodes : nodes_in 4097 l1 < 1536 = rw (named_labels register k (n + 1) c r0 w.keyed.chains) room in
       let within : p ≤ n = rw place (omega (arith, row_few e.inside t)) in
-      let at : folder_at es p ≡ e.inside = rw place (place-folder es w.proper e.inside home) in
+      let at : folder_at es p ≡ e.inside = rw place (place_folder es w.proper e.inside home) in
       record {
         bytes = rw (b1, ← rows) (add-entry [] es l w.proper (omega arith) e (omega arith) fit);
         rows = more;
         notes = w.notes;
-        rows_fit = omega arith;
+        rows_fit_lem = omega arith;
         notes_fit = w.notes_fit;
         proper = proper_more es e fit w.proper;
         lone = lone_more es e (row_absent k 0 es nr) w.lone;
@@ -140,27 +140,27 @@ module _ (b register : List ℕ) (n m : ℕ) (t : Tree) (w : Works b register n 
             (eq_or_ne j k);
         housed = housed_new es e nr home w.housed;
         named =
-            named-kept l1 l2 u (rw (← rows) (named-make register t w.named (omega arith) w.apart (omega arith) e (omega arith) fresh))
+            named-kept l1 l2 u (rw (← rows) (named_make register t w.named (omega arith) w.apart (omega arith) e (omega arith) fresh))
             (entered-long l1 p e.inside e.label n)
             (entered-before l1 p e.inside e.label n);
         keyed =
-            keyed-made l1 n es key rows e p (one_each es w.proper w.lone) (omega arith) within at (new_empty k es low nr w.housed) (home_other k e.inside es low nr home) here nodes;
+            keyed_made l1 n es key rows e p (one_each es w.proper w.lone) (omega arith) within at (new_empty k es low nr w.housed) (home_other k e.inside es low nr home) here nodes;
       }
 
   -- a row for a new aside
-  pub works-aside : (a : Aside) → m < 1024 → n + m < 1536 → InRange a.who → role_of a.who t ≡ 0 → (a.marked ≡ 0) ⊎ InRange a.marked
+  pub works_aside : (a : Aside) → m < 1024 → n + m < 1536 → InRange a.who → role_of a.who t ≡ 0 → (a.marked ≡ 0) ⊎ InRange a.marked
       → Works (put_at b (73732 + 12 * m) (aside_row a)) (named register a.who (1025 + m)) n (m + 1) (with_asides t (t.asides ++ (a ∷ [])))
   unfolding with_asides work_bytes row_of note_of role_of behind_rows
-  works-aside a h both own fresh mark =
+  works_aside a h both own fresh mark =
       let es = t.entries in
       let l = t.asides in
       let k = a.who in
       let rows = w.rows in
       let notes = w.notes in
       let nr : row_from k 0 es ≡ 0 = fresh-row k t fresh in
-      let nn : note_from k 0 l ≡ 0 = fresh-note k t fresh in
+      let nn : note_from k 0 l ≡ 0 = fresh_note k t fresh in
       let b1 : b ≡ flagged [] es l = w.bytes in
-      let fit = w.rows_fit in
+      let fit = w.rows_fit_lem in
       let c = w.named.chains in
       let r0 : nodes_in 0 register < 1536 = omega (arith, w.named.count) in
       let l1 = named register k (1025 + m) in
@@ -170,7 +170,7 @@ module _ (b register : List ℕ) (n m : ℕ) (t : Tree) (w : Works b register n 
         bytes = rw (b1, ← notes) (add-aside [] es l w.proper (omega arith) a);
         rows = w.rows;
         notes = more;
-        rows_fit = fit;
+        rows_fit_lem = fit;
         notes_fit = omega arith;
         proper = w.proper;
         lone = w.lone;
@@ -181,5 +181,5 @@ module _ (b register : List ℕ) (n m : ℕ) (t : Tree) (w : Works b register n 
             (eq_or_ne j k);
         housed = w.housed;
         named = rw (← notes) (named-aside register t w.named (omega arith) w.apart (omega arith) a fresh);
-        keyed = keyed-beside register n es w.keyed l1 (named-long register k (1025 + m)) (named-behind register k (1025 + m) c r0);
+        keyed = keyed_beside register n es w.keyed l1 (named-long register k (1025 + m)) (named-behind register k (1025 + m) c r0);
       }

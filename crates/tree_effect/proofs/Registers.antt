@@ -13,38 +13,38 @@ use Rattle.tree_maps.specs.Keys.{named, entered}
 use Rattle.tree_amend.specs.Registers.{made_on, renamed_on, removed_on, moved_on, effect_on, aside_on}
 
 module _ (b register : List ℕ) (n m : ℕ) (w : Holds b register n m) (r : Rec) (me : ℕ) (q : me ≡ self_of r) (l : List ℕ) where
-  pub make-register : l ≡ named register me (n + 1) → (f p : ℕ) → f ≡ folder_of r → p ≡ row_of f (tree_in b n m) → (l' : List ℕ) → l' ≡ entered l p f (label_of r) n → l' ≡ made_on r (tree_in b n m) register
+  pub make_register : l ≡ named register me (n + 1) → (f p : ℕ) → f ≡ folder_of r → p ≡ row_of f (tree_in b n m) → (l' : List ℕ) → l' ≡ entered l p f (label_of r) n → l' ≡ made_on r (tree_in b n m) register
   unfolding made_on
-  make-register g f p e s l' x = rw (w.rows, ← q, ← g, ← e, ← s) x
+  make_register g f p e s l' x = rw (w.rows, ← q, ← g, ← e, ← s) x
 
-  pub aside-register : l ≡ named register me (1025 + m) → l ≡ aside_on r (tree_in b n m) register
+  pub aside_register : l ≡ named register me (1025 + m) → l ≡ aside_on r (tree_in b n m) register
   unfolding aside_on
-  aside-register g = rw (w.notes, ← q) g
+  aside_register g = rw (w.notes, ← q) g
 
 -- ---- any operation
 
 module _ (r : Rec) (t : Tree) (register l : List ℕ) where
-  pub make-turns : get_or r 1 0 ≤ 2 → l ≡ made_on r t register → l ≡ effect_on r t register
+  pub make_turns : get_or r 1 0 ≤ 2 → l ≡ made_on r t register → l ≡ effect_on r t register
   unfolding effect_on op
-  make-turns h x = rw (le-leb (get_or r 1 0) 2 h) x
+  make_turns h x = rw (le-leb (get_or r 1 0) 2 h) x
 
-  pub remove-turns : get_or r 1 0 ≡ 4 → l ≡ removed_on r t register → l ≡ effect_on r t register
+  pub remove_turns : get_or r 1 0 ≡ 4 → l ≡ removed_on r t register → l ≡ effect_on r t register
   unfolding effect_on op
-  remove-turns h x = rw h x
+  remove_turns h x = rw h x
 
-  pub rename-turns : get_or r 1 0 ≡ 5 → l ≡ renamed_on r t register → l ≡ effect_on r t register
+  pub rename_turns : get_or r 1 0 ≡ 5 → l ≡ renamed_on r t register → l ≡ effect_on r t register
   unfolding effect_on op
-  rename-turns h x = rw h x
+  rename_turns h x = rw h x
 
-  pub move-turns : get_or r 1 0 ≡ 7 → l ≡ moved_on r t register → l ≡ effect_on r t register
+  pub move_turns : get_or r 1 0 ≡ 7 → l ≡ moved_on r t register → l ≡ effect_on r t register
   unfolding effect_on op
-  move-turns h x = rw h x
+  move_turns h x = rw h x
 
 module _ (r : Rec) (t : Tree) (register : List ℕ) where
-  pub store-turns : get_or r 1 0 ≡ 3 → register ≡ effect_on r t register
+  pub store_turns : get_or r 1 0 ≡ 3 → register ≡ effect_on r t register
   unfolding effect_on op
-  store-turns h = rw h
+  store_turns h = rw h
 
-  pub settle-turns : get_or r 1 0 ≡ 6 → register ≡ effect_on r t register
+  pub settle_turns : get_or r 1 0 ≡ 6 → register ≡ effect_on r t register
   unfolding effect_on op
-  settle-turns h = rw h
+  settle_turns h = rw h

@@ -77,30 +77,30 @@ module _ (d b : List ℕ) (i j : ℕ) (e : b ≡ put_at d 4 (kept_to d i)) (c : 
   pub row_below : j ≤ i
   row_below = omega (arith, present_few d i)
 
-  kind-stays : get_or b (4 + 72 * i) 0 ≡ get_or d (4 + 72 * i) 0
-  kind-stays = rw e (get_d_after d 4 (kept_to d i) (4 + 72 * i) (omega (arith, kept-long, row_below)) (omega arith))
+  kind_stays : get_or b (4 + 72 * i) 0 ≡ get_or d (4 + 72 * i) 0
+  kind_stays = rw e (get_d_after d 4 (kept_to d i) (4 + 72 * i) (omega (arith, kept-long, row_below)) (omega arith))
 
   row_stays : part b (4 + 72 * i) 72 ≡ part d (4 + 72 * i) 72
   row_stays = rw e (part_put_after d 4 (kept_to d i) (4 + 72 * i) 72 (omega (arith, kept-long, row_below)) (omega arith))
 
-  pub compact-rows : (b' : List ℕ) (k : ℕ) → Kept b b' i j k → b' ≡ put_at d 4 (kept_to d (i + 1))
+  pub compact_rows : (b' : List ℕ) (k : ℕ) → Kept b b' i j k → b' ≡ put_at d 4 (kept_to d (i + 1))
   unfolding kept_to
-  compact-rows b' k r =
+  compact_rows b' k r =
       let z = kept-long in
       ⊎_elim
-      (λ (q : get_or d (4 + 72 * i) 0 ≡ 0). r.rows ∙ rw (kind-stays, add-one i, eq-eqb (get_or d (4 + 72 * i) 0) 0 q) e)
+      (λ (q : get_or d (4 + 72 * i) 0 ≡ 0). r.rows ∙ rw (kind_stays, add-one i, eq-eqb (get_or d (4 + 72 * i) 0) 0 q) e)
       (λ (q : get_or d (4 + 72 * i) 0 ≡ 0 → ⊥).
       r.rows
-      ∙ rw (kind-stays, row_stays, add-one i, ne_eqb (get_or d (4 + 72 * i) 0) 0 q, e)
+      ∙ rw (kind_stays, row_stays, add-one i, ne_eqb (get_or d (4 + 72 * i) 0) 0 q, e)
       (rw z at (put_more d 4 (kept_to d i) (part d (4 + 72 * i) 72) (omega (arith, row_below)))))
       (eq_or_ne (get_or d (4 + 72 * i) 0) 0)
 
-  pub compact-count : (b' : List ℕ) (k : ℕ) → Kept b b' i j k → k ≡ present_to d (i + 1)
+  pub compact_count : (b' : List ℕ) (k : ℕ) → Kept b b' i j k → k ≡ present_to d (i + 1)
   unfolding present_to
-  compact-count b' k r =
+  compact_count b' k r =
       ⊎_elim
-      (λ (q : get_or d (4 + 72 * i) 0 ≡ 0). r.count ∙ rw (kind-stays, add-one i, eq-eqb (get_or d (4 + 72 * i) 0) 0 q) c)
-      (λ (q : get_or d (4 + 72 * i) 0 ≡ 0 → ⊥). r.count ∙ rw (kind-stays, add-one i, ne_eqb (get_or d (4 + 72 * i) 0) 0 q) (ap suc c))
+      (λ (q : get_or d (4 + 72 * i) 0 ≡ 0). r.count ∙ rw (kind_stays, add-one i, eq-eqb (get_or d (4 + 72 * i) 0) 0 q) c)
+      (λ (q : get_or d (4 + 72 * i) 0 ≡ 0 → ⊥). r.count ∙ rw (kind_stays, add-one i, ne_eqb (get_or d (4 + 72 * i) 0) 0 q) (ap suc c))
       (eq_or_ne (get_or d (4 + 72 * i) 0) 0)
 
 pub compact_starts : (b : List ℕ) → b ≡ put_at b 4 (kept_to b 0)
@@ -133,9 +133,9 @@ unfolding present_ones is_present
 here e q = rw (ne_eqb e.kind 0 q)
 
 module _ (s : List Aside) (es : List Entry) (l : List Aside) (fit : AllProper es) (room : length es ≤ 1024) where
-  kind-is : (i : ℕ) → i < length es → get_or (flagged s es l) (4 + 72 * i) 0 ≡ (get_or es i blank_entry).kind
+  kind_is : (i : ℕ) → i < length es → get_or (flagged s es l) (4 + 72 * i) 0 ≡ (get_or es i blank_entry).kind
   unfolding entry_row
-  kind-is i h =
+  kind_is i h =
       let a = rw (add-zero (4 + 72 * i)) at (get_d_part (flagged s es l) (4 + 72 * i) 72 0 (omega arith)) in
       sym a ∙ ap (λ (x : List ℕ). get_or x 0 0) (part-entry s es l fit room i blank_entry h)
 
@@ -145,7 +145,7 @@ module _ (s : List Aside) (es : List Entry) (l : List Aside) (fit : AllProper es
   kept_rows (suc i) h =
       let e = get_or es i blank_entry in
       let f = flag_of s e in
-      let k = kind-is i h in
+      let k = kind_is i h in
       let split : entry_rows s (present_ones (take (suc i) es)) ≡ entry_rows s (present_ones (take i es)) ++ entry_rows s (present_ones (e ∷ [])) =
       rw (take-suc es i blank_entry h, present_append (take i es) (e ∷ []), entry_rows_append s (present_ones (take i es)) (present_ones (e ∷ []))) in
       let ih = kept_rows i (omega arith) in
@@ -155,15 +155,15 @@ module _ (s : List Aside) (es : List Entry) (l : List Aside) (fit : AllProper es
       rw (k, ne_eqb e.kind 0 q, split, here e q, part-entry s es l fit room i blank_entry h, ih, append-nil (entry_row f e)))
       (eq_or_ne e.kind 0)
 
-  pub present-rows : (i : ℕ) → i ≤ length es → present_to (flagged s es l) i ≡ length (present_ones (take i es))
+  pub present_rows : (i : ℕ) → i ≤ length es → present_to (flagged s es l) i ≡ length (present_ones (take i es))
   unfolding present_to present_ones
-  present-rows zero h = refl
-  present-rows (suc i) h =
+  present_rows zero h = refl
+  present_rows (suc i) h =
       let e = get_or es i blank_entry in
-      let k = kind-is i h in
+      let k = kind_is i h in
       let split : length (present_ones (take (suc i) es)) ≡ length (present_ones (take i es)) + length (present_ones (e ∷ [])) =
       rw (take-suc es i blank_entry h, present_append (take i es) (e ∷ []), length-append (present_ones (take i es)) (present_ones (e ∷ []))) in
-      let ih = present-rows i (omega arith) in
+      let ih = present_rows i (omega arith) in
       ⊎_elim
       (λ (q : e.kind ≡ 0). rw (k, eq-eqb e.kind 0 q, split, gone e q) (omega arith))
       (λ (q : e.kind ≡ 0 → ⊥). rw (k, ne_eqb e.kind 0 q, split, here e q) (omega arith))

@@ -16,7 +16,7 @@ use Rattle.tree_table.specs.Rows.{entries_from, asides_from, tree_in, AllProper}
 use Rattle.tree_table.proofs.Rows.{rows_length}
 use Rattle.tree_table.proofs.Writes.{rows_written, flagged-long}
 use Rattle.tree_finish.specs.Finishing.{Marked, kept_to, present_to, Compacted, trimmed}
-use Rattle.tree_finish.proofs.Compaction.{kept-length, present_few, kept_rows, present-rows}
+use Rattle.tree_finish.proofs.Compaction.{kept-length, present_few, kept_rows, present_rows}
 
 padded-zeros : (n c : ℕ) (x : List ℕ) → length x + c ≤ n → padded n (x ++ replicate c 0) ≡ padded n x
 unfolding padded
@@ -31,21 +31,21 @@ counted : (y : List ℕ) (j m : ℕ) → put_at (put_at ((0 ∷ 0 ∷ 0 ∷ 0 �
 unfolding put_at
 counted y j m = refl
 
-module _ (es : List Entry) (l : List Aside) (n m : ℕ) (fit : AllProper es) (rows : length es ≡ n) (room : n ≤ 1024) (notes : length l ≡ m) (note-room : m ≤ 1024) where
-  all-kept : kept_to (flagged l es l) n ≡ entry_rows l (present_ones es)
-  all-kept = kept_rows l es l fit (omega arith) n (omega arith) ∙ ap (λ (x : List Entry). entry_rows l (present_ones x)) (take_all n es (omega arith))
+module _ (es : List Entry) (l : List Aside) (n m : ℕ) (fit : AllProper es) (rows : length es ≡ n) (room : n ≤ 1024) (notes : length l ≡ m) (note_room : m ≤ 1024) where
+  all_kept : kept_to (flagged l es l) n ≡ entry_rows l (present_ones es)
+  all_kept = kept_rows l es l fit (omega arith) n (omega arith) ∙ ap (λ (x : List Entry). entry_rows l (present_ones x)) (take_all n es (omega arith))
 
   all_present : present_to (flagged l es l) n ≡ length (present_ones es)
-  all_present = present-rows l es l fit (omega arith) n (omega arith) ∙ ap (λ (x : List Entry). length (present_ones x)) (take_all n es (omega arith))
+  all_present = present_rows l es l fit (omega arith) n (omega arith) ∙ ap (λ (x : List Entry). length (present_ones x)) (take_all n es (omega arith))
 
   table-long : length (flagged l es l) ≡ 86020
   table-long = flagged-long l es l fit (omega arith) (omega arith)
 
   -- the present rows in the place of all, and zeros behind them
-  trimmed-rows : (j : ℕ) → j ≡ present_to (flagged l es l) n
+  trimmed_rows : (j : ℕ) → j ≡ present_to (flagged l es l) n
       → put_at (flagged l es l) 4 (kept_to (flagged l es l) n ++ replicate (72 * (n - j)) 0)
       ≡ (0 ∷ 0 ∷ 0 ∷ 0 ∷ []) ++ (padded 73728 (entry_rows l (present_ones es)) ++ padded 12288 (aside_rows l))
-  trimmed-rows j c =
+  trimmed_rows j c =
       let b = flagged l es l in
       let k = kept_to b n in
       let z : List ℕ = replicate (72 * (n - j)) 0 in
@@ -54,7 +54,7 @@ module _ (es : List Entry) (l : List Aside) (n m : ℕ) (fit : AllProper es) (ro
       let zl : length z ≡ 72 * (n - j) = length-replicate {A = ℕ} (72 * (n - j)) 0 in
       let xl : length (k ++ z) ≡ length (entry_rows l es) = omega (arith, length-append k z, rows_length l es fit) in
       rows_written l es l fit (omega arith) 0 (k ++ z) (omega arith)
-      ∙ rw (put_whole (entry_rows l es) (k ++ z) xl, padded-zeros 73728 (72 * (n - j)) k (omega arith), all-kept)
+      ∙ rw (put_whole (entry_rows l es) (k ++ z) xl, padded-zeros 73728 (72 * (n - j)) k (omega arith), all_kept)
 
   finished : trimmed (flagged l es l) n m ≡ table_bytes (record { entries = es; asides = l })
   unfolding table_bytes trimmed
@@ -66,7 +66,7 @@ module _ (es : List Entry) (l : List Aside) (n m : ℕ) (fit : AllProper es) (ro
       let kl : length k ≡ 72 * j = kept-length t n (omega (arith, table-long)) in
       let more : put_at (put_at t 4 k) (4 + 72 * j) z ≡ put_at t 4 (k ++ z) = rw kl at (put_more t 4 k z (omega (arith, table-long, present_few t n))) in
       let y = padded 73728 (entry_rows l (present_ones es)) ++ padded 12288 (aside_rows l) in
-      rw (more, trimmed-rows j refl) (counted y j m ∙ rw (all_present, notes))
+      rw (more, trimmed_rows j refl) (counted y j m ∙ rw (all_present, notes))
 
 -- what `clear_rows` and `finish` are asked, over plain values
 
@@ -84,15 +84,15 @@ unfolding trimmed
 trim-done b d g e f n m j c hg he hf = hf ∙ rw (he, hg, c.rows, c.present)
 
 module _ (b₀ b register : List ℕ) (n m : ℕ) (k : Marked (asides_from b₀ 0 m) b register n m (tree_in b₀ n m)) where
-  pub marked-long : length b ≡ 86020
+  pub marked_long : length b ≡ 86020
   unfolding tree_in
-  marked-long =
+  marked_long =
       ap (λ (x : List ℕ). length x) k.bytes
-      ∙ table-long (entries_from b₀ 0 n) (asides_from b₀ 0 m) n m k.works.proper k.works.rows k.works.rows_fit k.works.notes k.works.notes_fit
+      ∙ table-long (entries_from b₀ 0 n) (asides_from b₀ 0 m) n m k.works.proper k.works.rows k.works.rows_fit_lem k.works.notes k.works.notes_fit
 
-  pub finish-done : (f : List ℕ) → f ≡ trimmed b n m → f ≡ table_bytes (tree_in b₀ n m)
+  pub finish_done : (f : List ℕ) → f ≡ trimmed b n m → f ≡ table_bytes (tree_in b₀ n m)
   unfolding tree_in
-  finish-done f e =
+  finish_done f e =
       e
       ∙ ap (λ (x : List ℕ). trimmed x n m) k.bytes
-      ∙ finished (entries_from b₀ 0 n) (asides_from b₀ 0 m) n m k.works.proper k.works.rows k.works.rows_fit k.works.notes k.works.notes_fit
+      ∙ finished (entries_from b₀ 0 n) (asides_from b₀ 0 m) n m k.works.proper k.works.rows k.works.rows_fit_lem k.works.notes k.works.notes_fit

@@ -25,7 +25,7 @@ use Rattle.tree_table.proofs.Writes.{rows_written, part-entry, flagged-long}
 use Rattle.tree_table.proofs.Fields.{put_field}
 use Rattle.tree_lookup.specs.Roles.{row_from, row_of, role_of, Absent, Lone, MarksFit, Works, Holds, Reads}
 use Rattle.tree_lookup.proofs.Places.{row_absent, row-at, absent_at}
-use Rattle.tree_lookup.proofs.Working.{blank_entry, blank_aside, proper_at, asides_at, role-row, role-no-row}
+use Rattle.tree_lookup.proofs.Working.{blank_entry, blank_aside, proper_at, asides_at, role_row, role_no_row}
 use Rattle.tree_finish.specs.Finishing.{Marked}
 
 -- ---- one aside more
@@ -126,29 +126,29 @@ module _ (b register : List ℕ) (n m i : ℕ) (k : Marked (take i (asides_from 
   table-long : length b ≡ 86020
   unfolding tree_in
   table-long =
-      let fit = k.works.rows_fit in
+      let fit = k.works.rows_fit_lem in
       let notes = k.works.notes in
       let rows = k.works.rows in
       let nf = k.works.notes_fit in
       ap (λ (y : List ℕ). length y) k.bytes
       ∙ flagged-long (take i (asides_from b 0 m)) (entries_from b 0 n) (asides_from b 0 m) k.works.proper (omega arith) (omega arith)
 
-  pub flag-reads : Reads b register n m
-  flag-reads = record { long = table-long; rows_fit = k.works.rows_fit; notes_fit = k.works.notes_fit; apart = k.works.apart; named = k.works.named }
+  pub flag_reads : Reads b register n m
+  flag_reads = record { long = table-long; rows_fit_lem = k.works.rows_fit_lem; notes_fit = k.works.notes_fit; apart = k.works.apart; named = k.works.named }
 
-  pub state-inside : 73732 + 12 * i + 5 < length b
-  state-inside =
+  pub state_inside : 73732 + 12 * i + 5 < length b
+  state_inside =
       let nf = k.works.notes_fit in
       omega (arith, table-long)
 
-  pub mark-inside : 73732 + 12 * i + 8 + 3 < length b
-  mark-inside =
+  pub mark_inside : 73732 + 12 * i + 8 + 3 < length b
+  mark_inside =
       let nf = k.works.notes_fit in
       omega (arith, table-long)
 
-  pub flag-end : (role : ℕ) → (role ≡ 0 → ⊥) → role ≤ n → 4 + 72 * (role - 1) + 72 ≤ length b
-  flag-end role g f =
-      let fit = k.works.rows_fit in
+  pub flag_end : (role : ℕ) → (role ≡ 0 → ⊥) → role ≤ n → 4 + 72 * (role - 1) + 72 ≤ length b
+  flag_end role g f =
+      let fit = k.works.rows_fit_lem in
       omega (arith, table-long)
 
   same_rows : entry_rows (take i (asides_from b 0 m) ++ (aside_in b (73732 + 12 * i) ∷ [])) (entries_from b 0 n) ≡ entry_rows (take i (asides_from b 0 m)) (entries_from b 0 n)
@@ -159,23 +159,23 @@ module _ (b register : List ℕ) (n m i : ℕ) (k : Marked (take i (asides_from 
       let u = s ++ (aside_in b (73732 + 12 * i) ∷ []) in
       rw one_more (record { bytes = k.bytes ∙ flagged_same s u (entries_from b 0 n) (asides_from b 0 m) e; works = k.works })
 
-  pub flag-closed : (get_or b (73732 + 12 * i + 5) 0 ≡ 1 → ⊥) → Marked (take (i + 1) (asides_from b 0 m)) b register n m (tree_in b n m)
+  pub flag_closed : (get_or b (73732 + 12 * i + 5) 0 ≡ 1 → ⊥) → Marked (take (i + 1) (asides_from b 0 m)) b register n m (tree_in b n m)
   unfolding aside_in
-  flag-closed g =
+  flag_closed g =
       same_rows (rows_closed (take i (asides_from b 0 m)) (aside_in b (73732 + 12 * i)) (entries_from b 0 n) (ne_eqb (get_or b (73732 + 12 * i + 5) 0) 1 g))
 
   module _ (x : ℕ) (q : x ≡ identity_at b (73732 + 12 * i + 8)) where
-    absent-rows : Absent x (entries_from b 0 n) → Marked (take (i + 1) (asides_from b 0 m)) b register n m (tree_in b n m)
+    absent_rows : Absent x (entries_from b 0 n) → Marked (take (i + 1) (asides_from b 0 m)) b register n m (tree_in b n m)
     unfolding aside_in
-    absent-rows g = same_rows (rows_absent (take i (asides_from b 0 m)) (aside_in b (73732 + 12 * i)) (entries_from b 0 n) (rw q at g))
+    absent_rows g = same_rows (rows_absent (take i (asides_from b 0 m)) (aside_in b (73732 + 12 * i)) (entries_from b 0 n) (rw q at g))
 
-    pub flag-none : x ≡ 0 → Marked (take (i + 1) (asides_from b 0 m)) b register n m (tree_in b n m)
+    pub flag_none : x ≡ 0 → Marked (take (i + 1) (asides_from b 0 m)) b register n m (tree_in b n m)
     unfolding tree_in
-    flag-none z = absent-rows (rw z (absent_zero (entries_from b 0 n) k.works.proper))
+    flag_none z = absent_rows (rw z (absent_zero (entries_from b 0 n) k.works.proper))
 
-    pub mark-range : (x ≡ 0 → ⊥) → InRange x
+    pub mark_range : (x ≡ 0 → ⊥) → InRange x
     unfolding tree_in aside_in
-    mark-range z =
+    mark_range z =
         let notes = k.works.notes in
         let c : get_or (asides_from b 0 m) i blank_aside ≡ aside_in b (73732 + 12 * i) = rw (zero-add i) at (asides_at b 0 m i blank_aside h) in
         let a : (get_or (asides_from b 0 m) i blank_aside).marked ≡ x = ap (λ (y : Aside). y.marked) c ∙ sym q in
@@ -187,15 +187,15 @@ module _ (b register : List ℕ) (n m i : ℕ) (k : Marked (take i (asides_from 
       no_row : (role ≡ 0) ⊎ (n < role) → Marked (take (i + 1) (asides_from b 0 m)) b register n m (tree_in b n m)
       unfolding tree_in row_of
       no_row g =
-          absent-rows (row_absent x 0 (entries_from b 0 n) (role-no-row (work_bytes (tree_in b n m)) register n m (tree_in b n m) k.works x role r g))
+          absent_rows (row_absent x 0 (entries_from b 0 n) (role_no_row (work_bytes (tree_in b n m)) register n m (tree_in b n m) k.works x role r g))
 
-      pub flag-no-role : role ≡ 0 → Marked (take (i + 1) (asides_from b 0 m)) b register n m (tree_in b n m)
-      flag-no-role g = no_row (inl g)
+      pub flag_no_role : role ≡ 0 → Marked (take (i + 1) (asides_from b 0 m)) b register n m (tree_in b n m)
+      flag_no_role g = no_row (inl g)
 
-      pub flag-aside : n < role → Marked (take (i + 1) (asides_from b 0 m)) b register n m (tree_in b n m)
-      flag-aside g = no_row (inr g)
+      pub flag_aside : n < role → Marked (take (i + 1) (asides_from b 0 m)) b register n m (tree_in b n m)
+      flag_aside g = no_row (inr g)
 
-      pub flag-done : get_or b (73732 + 12 * i + 5) 0 ≡ 1 → (role ≡ 0 → ⊥) → role ≤ n → (ys : List ℕ)
+      pub flag_done : get_or b (73732 + 12 * i + 5) 0 ≡ 1 → (role ≡ 0 → ⊥) → role ≤ n → (ys : List ℕ)
           → ys ≡ set (take (4 + 72 * (role - 1) + 72 - (4 + 72 * (role - 1))) (drop (4 + 72 * (role - 1)) b)) 1 1
           → Marked
           (take (i + 1) (asides_from b 0 m))
@@ -205,7 +205,7 @@ module _ (b register : List ℕ) (n m i : ℕ) (k : Marked (take i (asides_from 
           m
           (tree_in b n m)
       unfolding tree_in row_of aside_in
-      flag-done o g f ys y =
+      flag_done o g f ys y =
           let s = take i (asides_from b 0 m) in
           let es = entries_from b 0 n in
           let l = asides_from b 0 m in
@@ -213,8 +213,8 @@ module _ (b register : List ℕ) (n m i : ℕ) (k : Marked (take i (asides_from 
           let j = role - 1 in
           let w = k.works in
           let rows = w.rows in
-          let fit = w.rows_fit in
-          let c : row_from x 0 es ≡ suc j = role-row (work_bytes (tree_in b n m)) register n m (tree_in b n m) w x role r (omega arith) f ∙ omega arith in
+          let fit = w.rows_fit_lem in
+          let c : row_from x 0 es ≡ suc j = role_row (work_bytes (tree_in b n m)) register n m (tree_in b n m) w x role r (omega arith) f ∙ omega arith in
           let at = row-at x 0 es j blank_entry c in
           let d : (get_or es j blank_entry).made ≡ x = rw sub-zero at at.is in
           let v : ys ≡ entry_row 1 (get_or es j blank_entry) =
@@ -231,7 +231,7 @@ module _ (b register : List ℕ) (n m i : ℕ) (k : Marked (take i (asides_from 
 
 marked_tree : (s : List Aside) (b register : List ℕ) (n m : ℕ) (t : Tree) → Marked s b register n m t → tree_in b n m ≡ t
 marked_tree s b register n m t k =
-    let f = k.works.rows_fit in
+    let f = k.works.rows_fit_lem in
     let p = k.works.rows in
     rw (← p, ← k.works.notes, k.bytes) (tree_back s t k.works.proper (omega arith))
 
@@ -243,16 +243,16 @@ module _ (b₀ b register : List ℕ) (n m i : ℕ) (k : Marked (take i (asides_
   same_tree : tree_in b n m ≡ tree_in b₀ n m
   same_tree = marked_tree (take i (asides_from b₀ 0 m)) b register n m (tree_in b₀ n m) k
 
-  pub flag-turn : Marked (take i (asides_from b 0 m)) b register n m (tree_in b n m)
+  pub flag_turn : Marked (take i (asides_from b 0 m)) b register n m (tree_in b n m)
   unfolding tree_in
-  flag-turn = subst (λ (x : Tree). Marked (take i x.asides) b register n m x) (sym same_tree) k
+  flag_turn = subst (λ (x : Tree). Marked (take i x.asides) b register n m x) (sym same_tree) k
 
-  pub flag-next : (b' : List ℕ) → Marked (take (i + 1) (asides_from b 0 m)) b' register n m (tree_in b n m) → Marked (take (i + 1) (asides_from b₀ 0 m)) b' register n m (tree_in b₀ n m)
+  pub flag_next : (b' : List ℕ) → Marked (take (i + 1) (asides_from b 0 m)) b' register n m (tree_in b n m) → Marked (take (i + 1) (asides_from b₀ 0 m)) b' register n m (tree_in b₀ n m)
   unfolding tree_in
-  flag-next b' v = subst (λ (x : Tree). Marked (take (i + 1) x.asides) b' register n m x) same_tree v
+  flag_next b' v = subst (λ (x : Tree). Marked (take (i + 1) x.asides) b' register n m x) same_tree v
 
-  pub flags-end : i ≤ m → m ≤ i → Marked (asides_from b₀ 0 m) b register n m (tree_in b₀ n m)
+  pub flags_end : i ≤ m → m ≤ i → Marked (asides_from b₀ 0 m) b register n m (tree_in b₀ n m)
   unfolding tree_in
-  flags-end h g =
+  flags_end h g =
       let notes = k.works.notes in
       rw (take_all i (asides_from b₀ 0 m) (omega arith)) at k

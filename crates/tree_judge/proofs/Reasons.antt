@@ -19,7 +19,7 @@ use Rattle.tree_lookup.specs.Roles.{note_of, role_of, Holds}
 use Rattle.tree_maps.specs.Keys.{children_of, folder_at}
 use Rattle.tree_lookup.proofs.Places.{stands, stands_not}
 use Rattle.tree_maps.proofs.Counts.{has_children, folder_row}
-use Rattle.tree_lookup.proofs.Working.{blank_entry, works-row, row-none, row_some, role-note, role-no-note}
+use Rattle.tree_lookup.proofs.Working.{blank_entry, works_row, row-none, row_some, role_note, role_no_note}
 use Rattle.byte_slice.proofs.Numbers.{bool_cases}
 use Rattle.tree_judge.specs.Judged.{verdict_of, full_by, Asks}
 use Rattle.tree_judge.proofs.Verdicts.{verdict_numbers}
@@ -27,43 +27,43 @@ use Rattle.tree_judge.proofs.Verdicts.{verdict_numbers}
 -- ---- a label
 
 module _ (b : List ℕ) (n row : ℕ) (o : Option Entry) (e : row_in b n row ≡ o) where
-  pub label-held : row < n → (k : ℕ) → k ≡ (entry_in b (4 + 72 * row)).made → verdict_of 15 k ≡ free_label o
+  pub label_held_lem : row < n → (k : ℕ) → k ≡ (entry_in b (4 + 72 * row)).made → verdict_of 15 k ≡ free_label o
   unfolding verdict_of free_label
-  label-held h k q = rw (← e, row_some b n row h, q)
+  label_held_lem h k q = rw (← e, row_some b n row h, q)
 
-  pub label-free : n ≤ row → verdict_of 0 0 ≡ free_label o
+  pub label_free : n ≤ row → verdict_of 0 0 ≡ free_label o
   unfolding verdict_of free_label
-  label-free h = rw (← e, row-none b n row h)
+  label_free h = rw (← e, row-none b n row h)
 
 -- ---- a folder
 
 module _ (b : List ℕ) (n f : ℕ) where
-  pub folder-root : f ≡ 0 → verdict_of 0 0 ≡ folder_stands f (entries_from b 0 n)
+  pub folder_root : f ≡ 0 → verdict_of 0 0 ≡ folder_stands f (entries_from b 0 n)
   unfolding verdict_of folder_stands
-  folder-root z = rw (eq-eqb f 0 z)
+  folder_root z = rw (eq-eqb f 0 z)
 
   module _ (row : ℕ) (z : f ≡ 0 → ⊥) (o : row_in b n row ≡ entry_of f (entries_from b 0 n)) where
-    pub folder-absent : n ≤ row → verdict_of 13 0 ≡ folder_stands f (entries_from b 0 n)
+    pub folder_absent : n ≤ row → verdict_of 13 0 ≡ folder_stands f (entries_from b 0 n)
     unfolding verdict_of folder_stands is_folder
-    folder-absent h = rw (ne_eqb f 0 z, ← o, row-none b n row h)
+    folder_absent h = rw (ne_eqb f 0 z, ← o, row-none b n row h)
 
-    pub folder-trace : row < n → (x k : ℕ) → x ≡ (entry_in b (4 + 72 * row)).kind → (x ≡ 1 → ⊥) → k ≡ (entry_in b (4 + 72 * row)).made → verdict_of 14 k ≡ folder_stands f (entries_from b 0 n)
+    pub folder_trace : row < n → (x k : ℕ) → x ≡ (entry_in b (4 + 72 * row)).kind → (x ≡ 1 → ⊥) → k ≡ (entry_in b (4 + 72 * row)).made → verdict_of 14 k ≡ folder_stands f (entries_from b 0 n)
     unfolding verdict_of folder_stands is_folder
-    folder-trace h x k p q s =
+    folder_trace h x k p q s =
         rw (ne_eqb f 0 z, ← o, row_some b n row h, ne_eqb (entry_in b (4 + 72 * row)).kind 1 (λ (y : (entry_in b (4 + 72 * row)).kind ≡ 1). q (p ∙ y)), s)
 
-    pub folder-found : row < n → (x : ℕ) → x ≡ (entry_in b (4 + 72 * row)).kind → x ≡ 1 → verdict_of 0 0 ≡ folder_stands f (entries_from b 0 n)
+    pub folder_found : row < n → (x : ℕ) → x ≡ (entry_in b (4 + 72 * row)).kind → x ≡ 1 → verdict_of 0 0 ≡ folder_stands f (entries_from b 0 n)
     unfolding verdict_of folder_stands is_folder
-    folder-found h x p q = rw (ne_eqb f 0 z, ← o, row_some b n row h, eq-eqb (entry_in b (4 + 72 * row)).kind 1 (sym p ∙ q))
+    folder_found h x p q = rw (ne_eqb f 0 z, ← o, row_some b n row h, eq-eqb (entry_in b (4 + 72 * row)).kind 1 (sym p ∙ q))
 
 pub folder_range : (f : ℕ) → (f ≡ 0) ⊎ InRange f → (f ≡ 0 → ⊥) → InRange f
 folder_range f a z = ⊎_elim (λ (q : f ≡ 0). absurd (z q)) (λ (q : InRange f). q) a
 
 -- a verdict that is a reason stops, one that fits goes on
 module _ (n k : ℕ) (x : Verdict) (e : verdict_of n k ≡ x) where
-  then-stops : (n ≡ 0 → ⊥) → (v : Verdict) → verdict_of n k ≡ and_then x v
+  then_stops : (n ≡ 0 → ⊥) → (v : Verdict) → verdict_of n k ≡ and_then x v
   unfolding verdict_of and_then
-  then-stops h v = rw (← e, ne_eqb n 0 h)
+  then_stops h v = rw (← e, ne_eqb n 0 h)
 
 -- no folder is refused under the reason 0
 stands_zero : (f : ℕ) (es : List Entry) → reason_of (folder_stands f es) ≡ 0 → folder_stands f es ≡ fits
@@ -93,29 +93,29 @@ unfolding op uses_folder
 make_names r f a h e = rw e (a.folder (rw (le-leb (get_or r 1 0) 2 h)))
 
 module _ (r : Rec) (es : List Entry) (f : ℕ) (e : f ≡ folder_of r) (n k : ℕ) (s : verdict_of n k ≡ folder_stands f es) where
-  pub make-stops : (n ≡ 0 → ⊥) → verdict_of n k ≡ judge_make r es
+  pub make_stops : (n ≡ 0 → ⊥) → verdict_of n k ≡ judge_make r es
   unfolding judge_make
-  make-stops h = rw (← e) (then-stops n k (folder_stands f es) s h (free_label (holder_of 0 f (label_of r) es)))
+  make_stops h = rw (← e) (then_stops n k (folder_stands f es) s h (free_label (holder_of 0 f (label_of r) es)))
 
-  pub make-goes : n ≡ 0 → (v : Verdict) → v ≡ free_label (holder_of 0 f (label_of r) es) → v ≡ judge_make r es
+  pub make_goes : n ≡ 0 → (v : Verdict) → v ≡ free_label (holder_of 0 f (label_of r) es) → v ≡ judge_make r es
   unfolding judge_make
-  make-goes h v q = q ∙ rw (← e) (then_goes n k f es s h (free_label (holder_of 0 f (label_of r) es)))
+  make_goes h v q = q ∙ rw (← e) (then_goes n k f es s h (free_label (holder_of 0 f (label_of r) es)))
 
 -- ---- store, remove and rename of the entry in a row
 
 module _ (r : Rec) (b : List ℕ) (n row : ℕ) where
-  pub store-absent : n ≤ row → verdict_of 12 0 ≡ judge_store r (row_in b n row)
+  pub store_absent : n ≤ row → verdict_of 12 0 ≡ judge_store r (row_in b n row)
   unfolding verdict_of judge_store
-  store-absent h = rw (row-none b n row h)
+  store_absent h = rw (row-none b n row h)
 
-  pub store-folder : row < n → (x k : ℕ) → k ≡ (entry_in b (4 + 72 * row)).made → x ≡ (entry_in b (4 + 72 * row)).kind → x ≡ 1 → verdict_of 14 k ≡ judge_store r (row_in b n row)
+  pub store_folder : row < n → (x k : ℕ) → k ≡ (entry_in b (4 + 72 * row)).made → x ≡ (entry_in b (4 + 72 * row)).kind → x ≡ 1 → verdict_of 14 k ≡ judge_store r (row_in b n row)
   unfolding verdict_of judge_store
-  store-folder h x k s p q = rw (row_some b n row h, eq-eqb (entry_in b (4 + 72 * row)).kind 1 (sym p ∙ q), s)
+  store_folder h x k s p q = rw (row_some b n row h, eq-eqb (entry_in b (4 + 72 * row)).kind 1 (sym p ∙ q), s)
 
   module _ (h : row < n) (x k y : ℕ) (s : k ≡ (entry_in b (4 + 72 * row)).made) (p : x ≡ (entry_in b (4 + 72 * row)).kind) (q : x ≡ 1 → ⊥) (c : y ≡ (entry_in b (4 + 72 * row)).contents) (t : Bool) (u : t ≡ unseen r y) where
-    pub store-unseen : t ≡ true → verdict_of 17 k ≡ judge_store r (row_in b n row)
+    pub store_unseen : t ≡ true → verdict_of 17 k ≡ judge_store r (row_in b n row)
     unfolding verdict_of judge_store
-    store-unseen g =
+    store_unseen g =
         rw (row_some b n row h, ne_eqb (entry_in b (4 + 72 * row)).kind 1 (λ (z : (entry_in b (4 + 72 * row)).kind ≡ 1). q (p ∙ z)), ← c, ← u, g, s)
 
     pub store_fits : t ≡ false → verdict_of 0 0 ≡ judge_store r (row_in b n row)
@@ -128,42 +128,42 @@ module _ (r : Rec) (b : List ℕ) (n row : ℕ) where
   remove_absent es h = rw (row-none b n row h)
 
   module _ (l : List ℕ) (m : ℕ) (w : Holds b l n m) (h : row < n) (k : ℕ) (s : k ≡ (entry_in b (4 + 72 * row)).made) (t : Bool) (g : t ≡ full_by l row (entry_in b (4 + 72 * row))) where
-    full-means : t ≡ (eqb (entry_in b (4 + 72 * row)).kind 1 && has_entries (entry_in b (4 + 72 * row)).made (entries_from b 0 n))
+    full_means : t ≡ (eqb (entry_in b (4 + 72 * row)).kind 1 && has_entries (entry_in b (4 + 72 * row)).made (entries_from b 0 n))
     unfolding full_by tree_in
-    full-means =
+    full_means =
         let es = entries_from b 0 n in
         let e = (entry_in b (4 + 72 * row)).made in
         let at : folder_at es (row + 1) ≡ e =
-        rw (add-one row) (folder_row es row blank_entry (omega (arith, w.rows)) ∙ ap (λ (x : Entry). x.made) (works-row b l n m (tree_in b n m) w row blank_entry h)) in
+        rw (add-one row) (folder_row es row blank_entry (omega (arith, w.rows)) ∙ ap (λ (x : Entry). x.made) (works_row b l n m (tree_in b n m) w row blank_entry h)) in
         let c : get_or l (8194 + (row + 1)) 0 ≡ children_of e es = rw at at (w.keyed.counted (row + 1) (omega arith)) in
         rw (has_children e es, ← c) g
 
-    pub remove-full : t ≡ true → verdict_of 16 k ≡ judge_remove r (entries_from b 0 n) (row_in b n row)
+    pub remove_full : t ≡ true → verdict_of 16 k ≡ judge_remove r (entries_from b 0 n) (row_in b n row)
     unfolding verdict_of judge_remove
-    remove-full q = rw (row_some b n row h, ← full-means, q, s)
+    remove_full q = rw (row_some b n row h, ← full_means, q, s)
 
     module _ (q : t ≡ false) (c : Bool) (v : c ≡ (unseen r (entry_in b (4 + 72 * row)).contents || unseen r (entry_in b (4 + 72 * row)).placing)) where
-      pub remove-unseen : c ≡ true → verdict_of 17 k ≡ judge_remove r (entries_from b 0 n) (row_in b n row)
+      pub remove_unseen : c ≡ true → verdict_of 17 k ≡ judge_remove r (entries_from b 0 n) (row_in b n row)
       unfolding verdict_of judge_remove
-      remove-unseen x = rw (row_some b n row h, ← full-means, q, ← v, x, s)
+      remove_unseen x = rw (row_some b n row h, ← full_means, q, ← v, x, s)
 
-      pub remove-fits : c ≡ false → verdict_of 0 0 ≡ judge_remove r (entries_from b 0 n) (row_in b n row)
+      pub remove_fits : c ≡ false → verdict_of 0 0 ≡ judge_remove r (entries_from b 0 n) (row_in b n row)
       unfolding verdict_of judge_remove
-      remove-fits x = rw (row_some b n row h, ← full-means, q, ← v, x)
+      remove_fits x = rw (row_some b n row h, ← full_means, q, ← v, x)
 
   module _ (es : List Entry) where
-    pub rename-absent : n ≤ row → verdict_of 12 0 ≡ judge_rename r es (row_in b n row)
+    pub rename_absent : n ≤ row → verdict_of 12 0 ≡ judge_rename r es (row_in b n row)
     unfolding verdict_of judge_rename
-    rename-absent h = rw (row-none b n row h)
+    rename_absent h = rw (row-none b n row h)
 
     module _ (h : row < n) (y : ℕ) (c : y ≡ (entry_in b (4 + 72 * row)).placing) (t : Bool) (u : t ≡ unseen r y) where
-      pub rename-unseen : (k : ℕ) → k ≡ (entry_in b (4 + 72 * row)).made → t ≡ true → verdict_of 17 k ≡ judge_rename r es (row_in b n row)
+      pub rename_unseen : (k : ℕ) → k ≡ (entry_in b (4 + 72 * row)).made → t ≡ true → verdict_of 17 k ≡ judge_rename r es (row_in b n row)
       unfolding verdict_of judge_rename
-      rename-unseen k s g = rw (row_some b n row h, ← c, ← u, g, s)
+      rename_unseen k s g = rw (row_some b n row h, ← c, ← u, g, s)
 
-      pub rename-label : (k f : ℕ) (v : Verdict) → k ≡ (entry_in b (4 + 72 * row)).made → f ≡ (entry_in b (4 + 72 * row)).inside → t ≡ false → v ≡ free_label (holder_of k f (label_of r) es) → v ≡ judge_rename r es (row_in b n row)
+      pub rename_label : (k f : ℕ) (v : Verdict) → k ≡ (entry_in b (4 + 72 * row)).made → f ≡ (entry_in b (4 + 72 * row)).inside → t ≡ false → v ≡ free_label (holder_of k f (label_of r) es) → v ≡ judge_rename r es (row_in b n row)
       unfolding judge_rename
-      rename-label k f v p s g q = rw (row_some b n row h, ← c, ← u, g, ← p, ← s) q
+      rename_label k f v p s g q = rw (row_some b n row h, ← c, ← u, g, ← p, ← s) q
 
 -- ---- move of the entry in a row
 
@@ -172,61 +172,61 @@ unfolding op uses_folder
 move_names r f a h e = rw e (a.folder (rw h))
 
 module _ (r : Rec) (b : List ℕ) (n row : ℕ) (es : List Entry) where
-  pub move-absent : n ≤ row → verdict_of 12 0 ≡ judge_move r es (row_in b n row)
+  pub move_absent : n ≤ row → verdict_of 12 0 ≡ judge_move r es (row_in b n row)
   unfolding verdict_of judge_move
-  move-absent h = rw (row-none b n row h)
+  move_absent h = rw (row-none b n row h)
 
   module _ (h : row < n) (y k : ℕ) (p : k ≡ (entry_in b (4 + 72 * row)).made) (c : y ≡ (entry_in b (4 + 72 * row)).placing) (t : Bool) (u : t ≡ unseen r y) where
-    pub move-unseen : t ≡ true → verdict_of 17 k ≡ judge_move r es (row_in b n row)
+    pub move_unseen : t ≡ true → verdict_of 17 k ≡ judge_move r es (row_in b n row)
     unfolding verdict_of judge_move
-    move-unseen g = rw (row_some b n row h, ← c, ← u, g, p)
+    move_unseen g = rw (row_some b n row h, ← c, ← u, g, p)
 
     module _ (g : t ≡ false) (f x j : ℕ) (e : f ≡ folder_of r) (s : verdict_of x j ≡ folder_stands f es) where
-      move_in : judge_move r es (row_in b n row) ≡ and_then (folder_stands f es) (judge_place r es (entry_in b (4 + 72 * row)))
+      move_in_lem : judge_move r es (row_in b n row) ≡ and_then (folder_stands f es) (judge_place r es (entry_in b (4 + 72 * row)))
       unfolding judge_move
-      move_in = rw (row_some b n row h, ← c, ← u, g, ← e)
+      move_in_lem = rw (row_some b n row h, ← c, ← u, g, ← e)
 
-      pub move-stops : (x ≡ 0 → ⊥) → verdict_of x j ≡ judge_move r es (row_in b n row)
-      move-stops z = rw move_in (then-stops x j (folder_stands f es) s z (judge_place r es (entry_in b (4 + 72 * row))))
+      pub move_stops : (x ≡ 0 → ⊥) → verdict_of x j ≡ judge_move r es (row_in b n row)
+      move_stops z = rw move_in_lem (then_stops x j (folder_stands f es) s z (judge_place r es (entry_in b (4 + 72 * row))))
 
       module _ (z : x ≡ 0) (q : Bool) (i : q ≡ is_below k f es) where
         placed : judge_place r es (entry_in b (4 + 72 * row)) ≡ judge_move r es (row_in b n row)
-        placed = rw move_in (then_goes x j f es s z (judge_place r es (entry_in b (4 + 72 * row))))
+        placed = rw move_in_lem (then_goes x j f es s z (judge_place r es (entry_in b (4 + 72 * row))))
 
-        pub move-below : q ≡ true → verdict_of 25 k ≡ judge_move r es (row_in b n row)
+        pub move_below : q ≡ true → verdict_of 25 k ≡ judge_move r es (row_in b n row)
         unfolding verdict_of judge_place
-        move-below d = rw (← placed, ← p, ← e, ← i, d)
+        move_below d = rw (← placed, ← p, ← e, ← i, d)
 
-        pub move-label : (v : Verdict) → q ≡ false → v ≡ free_label (holder_of k f (label_of r) es) → v ≡ judge_move r es (row_in b n row)
+        pub move_label : (v : Verdict) → q ≡ false → v ≡ free_label (holder_of k f (label_of r) es) → v ≡ judge_move r es (row_in b n row)
         unfolding judge_place
-        move-label v d a = a ∙ rw (← placed, ← p, ← e, ← i, d)
+        move_label v d a = a ∙ rw (← placed, ← p, ← e, ← i, d)
 
 module _ (e : Entry) (l : List ℕ) (row : ℕ) where
-  pub full-no : (x : ℕ) → x ≡ e.kind → (x ≡ 1 → ⊥) → false ≡ full_by l row e
+  pub full_no : (x : ℕ) → x ≡ e.kind → (x ≡ 1 → ⊥) → false ≡ full_by l row e
   unfolding full_by
-  full-no x p q = rw (ne_eqb e.kind 1 (λ (z : e.kind ≡ 1). q (p ∙ z)))
+  full_no x p q = rw (ne_eqb e.kind 1 (λ (z : e.kind ≡ 1). q (p ∙ z)))
 
-  pub full-if : (x c : ℕ) → x ≡ e.kind → x ≡ 1 → c ≡ get_or l (8194 + (row + 1)) 0 → not (eqb c 0) ≡ full_by l row e
+  pub full_if : (x c : ℕ) → x ≡ e.kind → x ≡ 1 → c ≡ get_or l (8194 + (row + 1)) 0 → not (eqb c 0) ≡ full_by l row e
   unfolding full_by
-  full-if x c p q u = rw (eq-eqb e.kind 1 (sym p ∙ q), u)
+  full_if x c p q u = rw (eq-eqb e.kind 1 (sym p ∙ q), u)
 
 module _ (e : Entry) (r : Rec) (x : ℕ) (t : Bool) (p : x ≡ e.contents) (u : t ≡ unseen r x) where
-  pub contents-unseen : t ≡ true → true ≡ (unseen r e.contents || unseen r e.placing)
-  contents-unseen g = rw (← p, ← u, g)
+  pub contents_unseen : t ≡ true → true ≡ (unseen r e.contents || unseen r e.placing)
+  contents_unseen g = rw (← p, ← u, g)
 
-  pub label-unseen : t ≡ false → (y : ℕ) (s : Bool) → y ≡ e.placing → s ≡ unseen r y → s ≡ (unseen r e.contents || unseen r e.placing)
-  label-unseen g y s q v = rw (← p, ← u, g, ← q) v
+  pub label_unseen : t ≡ false → (y : ℕ) (s : Bool) → y ≡ e.placing → s ≡ unseen r y → s ≡ (unseen r e.contents || unseen r e.placing)
+  label_unseen g y s q v = rw (← p, ← u, g, ← q) v
 
 -- ---- settle
 
 module _ (role x : ℕ) (e : role ≡ x) where
-  pub settle-stands : 1024 < role → verdict_of 0 0 ≡ cond (ltb 1024 x) fits (aside 18 0)
+  pub settle_stands : 1024 < role → verdict_of 0 0 ≡ cond (ltb 1024 x) fits (aside 18 0)
   unfolding verdict_of
-  settle-stands h = rw (lt-ltb 1024 x (rw e at h))
+  settle_stands h = rw (lt-ltb 1024 x (rw e at h))
 
-  pub settle-not : role ≤ 1024 → verdict_of 18 0 ≡ cond (ltb 1024 x) fits (aside 18 0)
+  pub settle_not : role ≤ 1024 → verdict_of 18 0 ≡ cond (ltb 1024 x) fits (aside 18 0)
   unfolding verdict_of
-  settle-not h = rw (le-ltb 1024 x (rw e at h))
+  settle_not h = rw (le-ltb 1024 x (rw e at h))
 
 stands_role : (b register : List ℕ) (n m : ℕ) → Holds b register n m → (k : ℕ) → stands_aside k (asides_from b 0 m) ≡ ltb 1024 (role_of k (tree_in b n m))
 unfolding note_of tree_in
@@ -236,8 +236,8 @@ stands_role b register n m w k = go (ltb 1024 role) refl
     role = role_of k (tree_in b n m)
 
     go : (t : Bool) → ltb 1024 role ≡ t → stands_aside k (asides_from b 0 m) ≡ t
-    go true e = stands k 0 (asides_from b 0 m) (role - 1025) (role-note b register n m (tree_in b n m) w k role refl (ltb-true 1024 role e))
-    go false e = stands_not k 0 (asides_from b 0 m) (role-no-note b register n m (tree_in b n m) w k role refl (ltb-false 1024 role e))
+    go true e = stands k 0 (asides_from b 0 m) (role - 1025) (role_note b register n m (tree_in b n m) w k role refl (ltb-true 1024 role e))
+    go false e = stands_not k 0 (asides_from b 0 m) (role_no_note b register n m (tree_in b n m) w k role refl (ltb-false 1024 role e))
 
 -- ---- any operation
 
@@ -246,31 +246,31 @@ unfolding op
 object_range r k a h e = rw e (a.object h)
 
 module _ (r : Rec) (b : List ℕ) (n m : ℕ) (v : Verdict) where
-  pub judged-make : get_or r 1 0 ≤ 2 → v ≡ judge_make r (entries_from b 0 n) → v ≡ judge r (tree_in b n m)
+  pub judged_make : get_or r 1 0 ≤ 2 → v ≡ judge_make r (entries_from b 0 n) → v ≡ judge r (tree_in b n m)
   unfolding judge op tree_in
-  judged-make h e = rw (le-leb (get_or r 1 0) 2 h) e
+  judged_make h e = rw (le-leb (get_or r 1 0) 2 h) e
 
   module _ (k row : ℕ) (p : k ≡ object_of r) (o : row_in b n row ≡ entry_of k (entries_from b 0 n)) where
-    pub judged-store : get_or r 1 0 ≡ 3 → v ≡ judge_store r (row_in b n row) → v ≡ judge r (tree_in b n m)
+    pub judged_store : get_or r 1 0 ≡ 3 → v ≡ judge_store r (row_in b n row) → v ≡ judge r (tree_in b n m)
     unfolding judge op tree_in
-    judged-store h e = rw (h, ← p, ← o) e
+    judged_store h e = rw (h, ← p, ← o) e
 
-    pub judged-remove : get_or r 1 0 ≡ 4 → v ≡ judge_remove r (entries_from b 0 n) (row_in b n row) → v ≡ judge r (tree_in b n m)
+    pub judged_remove : get_or r 1 0 ≡ 4 → v ≡ judge_remove r (entries_from b 0 n) (row_in b n row) → v ≡ judge r (tree_in b n m)
     unfolding judge op tree_in
-    judged-remove h e = rw (h, ← p, ← o) e
+    judged_remove h e = rw (h, ← p, ← o) e
 
-    pub judged-rename : get_or r 1 0 ≡ 5 → v ≡ judge_rename r (entries_from b 0 n) (row_in b n row) → v ≡ judge r (tree_in b n m)
+    pub judged_rename : get_or r 1 0 ≡ 5 → v ≡ judge_rename r (entries_from b 0 n) (row_in b n row) → v ≡ judge r (tree_in b n m)
     unfolding judge op tree_in
-    judged-rename h e = rw (h, ← p, ← o) e
+    judged_rename h e = rw (h, ← p, ← o) e
 
-    pub judged-move : get_or r 1 0 ≡ 7 → v ≡ judge_move r (entries_from b 0 n) (row_in b n row) → v ≡ judge r (tree_in b n m)
+    pub judged_move : get_or r 1 0 ≡ 7 → v ≡ judge_move r (entries_from b 0 n) (row_in b n row) → v ≡ judge r (tree_in b n m)
     unfolding judge op tree_in
-    judged-move h e = rw (h, ← p, ← o) e
+    judged_move h e = rw (h, ← p, ← o) e
 
-  pub judged-settle : (register : List ℕ) (k : ℕ) → Holds b register n m → k ≡ object_of r → get_or r 1 0 ≡ 6
+  pub judged_settle : (register : List ℕ) (k : ℕ) → Holds b register n m → k ≡ object_of r → get_or r 1 0 ≡ 6
       → v ≡ cond (ltb 1024 (role_of k (tree_in b n m))) fits (aside 18 0) → v ≡ judge r (tree_in b n m)
   unfolding judge op tree_in judge_settle
-  judged-settle register k w p h e = rw (h, ← p, stands_role b register n m w k) e
+  judged_settle register k w p h e = rw (h, ← p, stands_role b register n m w k) e
 
 -- a record of none of the operations before is a move
 pub is_move : (r : Rec) → Asks r → 2 < get_or r 1 0 → (get_or r 1 0 ≡ 3 → ⊥) → (get_or r 1 0 ≡ 4 → ⊥) → (get_or r 1 0 ≡ 5 → ⊥) → (get_or r 1 0 ≡ 6 → ⊥) → get_or r 1 0 ≡ 7

@@ -37,11 +37,11 @@ is_settle_lem o h a b c d = eq-eqb o 6 (omega (arith, leb-false o 2 a, eqb-false
 
 module _ (r : Rec) (t : Tree) (h : op r ≤ 6) where
   -- a make, store, remove, rename or neither of them
-  by-operation : {A : Type 0} → (leb (op r) 2 ≡ true → A) → (leb (op r) 2 ≡ false → eqb (op r) 3 ≡ true → A)
+  by_operation : {A : Type 0} → (leb (op r) 2 ≡ true → A) → (leb (op r) 2 ≡ false → eqb (op r) 3 ≡ true → A)
       → (leb (op r) 2 ≡ false → eqb (op r) 3 ≡ false → eqb (op r) 4 ≡ true → A)
       → (leb (op r) 2 ≡ false → eqb (op r) 3 ≡ false → eqb (op r) 4 ≡ false → eqb (op r) 5 ≡ true → A)
       → (leb (op r) 2 ≡ false → eqb (op r) 3 ≡ false → eqb (op r) 4 ≡ false → eqb (op r) 5 ≡ false → A) → A
-  by-operation f g h k m =
+  by_operation f g h k m =
       ⊎_elim f
       (λ a. ⊎_elim (g a) (λ b. ⊎_elim (h a b) (λ c. ⊎_elim (k a b c) (m a b c) (bool_cases (eqb (op r) 5))) (bool_cases (eqb (op r) 4))) (bool_cases (eqb (op r) 3)))
       (bool_cases (leb (op r) 2))
@@ -49,7 +49,7 @@ module _ (r : Rec) (t : Tree) (h : op r ≤ 6) where
   judge-before : judge r t ≡ judge_before r t
   unfolding judge judge_before
   judge-before =
-      by-operation
+      by_operation
       (λ a. rw a (make_before_lem r t.entries))
       (λ a b. rw (a, b))
       (λ a b c. rw (a, b, c))
@@ -59,7 +59,7 @@ module _ (r : Rec) (t : Tree) (h : op r ≤ 6) where
   effect-before : effect r t ≡ effect_before r t
   unfolding effect effect_before
   effect-before =
-      by-operation
+      by_operation
       (λ a. rw a)
       (λ a b. rw (a, b))
       (λ a b c. rw (a, b, c))

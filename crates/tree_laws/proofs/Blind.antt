@@ -41,19 +41,19 @@ front_part c r s e at n h = sym (part-take r c at n h) ∙ ap (λ (b : List ℕ)
 
 -- the bytes before the date and the label are all of it
 module _ (r s : Rec) (b : (i : ℕ) → i < 28 → get_or r i 0 ≡ get_or s i 0) where
-  front-word : (i : ℕ) → i + 1 < 28 → word r i ≡ word s i
-  front-word i h = word_same r s i i (b i (omega arith)) (b (i + 1) h)
+  front_word : (i : ℕ) → i + 1 < 28 → word r i ≡ word s i
+  front_word i h = word_same r s i i (b i (omega arith)) (b (i + 1) h)
 
   pub read_same : label_of r ≡ label_of s → SameRead r s
   unfolding unit num seen op identity_at self_of object_of folder_of
   read_same l =
       record {
         op_same = b 1 (omega arith);
-        self_same = ap₂ identity (b 0 (omega arith)) (front-word 2 (omega arith));
-        object_same = ap₂ identity (b 20 (omega arith)) (front-word 22 (omega arith));
-        folder_same = ap₂ identity (b 24 (omega arith)) (front-word 26 (omega arith));
+        self_same = ap₂ identity (b 0 (omega arith)) (front_word 2 (omega arith));
+        object_same = ap₂ identity (b 20 (omega arith)) (front_word 22 (omega arith));
+        folder_same = ap₂ identity (b 24 (omega arith)) (front_word 26 (omega arith));
         label_same = l;
-        seen_same = λ u h. front-word (4 + 2 * u) (omega arith);
+        seen_same = λ u h. front_word (4 + 2 * u) (omega arith);
       }
 
 unseen_same : (r s : Rec) → SameRead r s → (k : ℕ) → unseen r k ≡ unseen s k
@@ -72,15 +72,15 @@ module _ (r s : Rec) (f : SameRead r s) where
   store_same none = refl
   store_same (some e) = rw (unseen_same r s f e.contents)
 
-  remove-same : (es : List Entry) (o : Option Entry) → judge_remove r es o ≡ judge_remove s es o
+  remove_same : (es : List Entry) (o : Option Entry) → judge_remove r es o ≡ judge_remove s es o
   unfolding judge_remove
-  remove-same es none = refl
-  remove-same es (some e) = rw (unseen_same r s f e.contents, unseen_same r s f e.placing)
+  remove_same es none = refl
+  remove_same es (some e) = rw (unseen_same r s f e.contents, unseen_same r s f e.placing)
 
-  rename-same : (es : List Entry) (o : Option Entry) → judge_rename r es o ≡ judge_rename s es o
+  rename_same : (es : List Entry) (o : Option Entry) → judge_rename r es o ≡ judge_rename s es o
   unfolding judge_rename
-  rename-same es none = refl
-  rename-same es (some e) = rw (unseen_same r s f e.placing, f.label_same)
+  rename_same es none = refl
+  rename_same es (some e) = rw (unseen_same r s f e.placing, f.label_same)
 
   place_same : (es : List Entry) (e : Entry) → judge_place r es e ≡ judge_place s es e
   unfolding judge_place
@@ -91,20 +91,20 @@ module _ (r s : Rec) (f : SameRead r s) where
   move_same es none = refl
   move_same es (some e) = rw (unseen_same r s f e.placing, f.folder_same, place_same es e)
 
-  settle-same : (l : List Aside) → judge_settle r l ≡ judge_settle s l
+  settle_same : (l : List Aside) → judge_settle r l ≡ judge_settle s l
   unfolding judge_settle
-  settle-same l = rw f.object_same
+  settle_same l = rw f.object_same
 
-  pub judge-same : (t : Tree) → judge r t ≡ judge s t
+  pub judge_same : (t : Tree) → judge r t ≡ judge s t
   unfolding judge
-  judge-same t =
+  judge_same t =
       let es : List Entry = t.entries in
       rw (
         make_same es,
         store_same (entry_of (object_of r) es),
-        remove-same es (entry_of (object_of r) es),
-        rename-same es (entry_of (object_of r) es),
-        settle-same t.asides,
+        remove_same es (entry_of (object_of r) es),
+        rename_same es (entry_of (object_of r) es),
+        settle_same t.asides,
         move_same es (entry_of (object_of r) es),
         f.op_same,
         f.object_same,
@@ -134,52 +134,52 @@ module _ (d m : Telling) where
   over none = none
   over (some e) = some (blind e)
 
-  over-cond : (b : Bool) (e : Entry) (x y : Option Entry) → x ≡ over y → cond b (some (blind e)) x ≡ over (cond b (some e) y)
+  over_cond : (b : Bool) (e : Entry) (x y : Option Entry) → x ≡ over y → cond b (some (blind e)) x ≡ over (cond b (some e) y)
   unfolding over
-  over-cond true e x y h = refl
-  over-cond false e x y h = h
+  over_cond true e x y h = refl
+  over_cond false e x y h = h
 
   pub entry-map : (k : ℕ) (es : List Entry) → entry_of k (mapped blind es) ≡ over (entry_of k es)
   unfolding entry_of mapped over blind is_present
   entry-map k [] = refl
-  entry-map k (e ∷ es) = over-cond (eqb e.made k && is_present e) e (entry_of k (mapped blind es)) (entry_of k es) (entry-map k es)
+  entry-map k (e ∷ es) = over_cond (eqb e.made k && is_present e) e (entry_of k (mapped blind es)) (entry_of k es) (entry-map k es)
 
-  holder-map : (k g : ℕ) (t : List ℕ) (es : List Entry) → holder_of k g t (mapped blind es) ≡ over (holder_of k g t es)
+  holder_map : (k g : ℕ) (t : List ℕ) (es : List Entry) → holder_of k g t (mapped blind es) ≡ over (holder_of k g t es)
   unfolding holder_of is_holder mapped over blind is_in is_present
-  holder-map k g t [] = refl
-  holder-map k g t (e ∷ es) = over-cond (is_holder k g t e) e (holder_of k g t (mapped blind es)) (holder_of k g t es) (holder-map k g t es)
+  holder_map k g t [] = refl
+  holder_map k g t (e ∷ es) = over_cond (is_holder k g t e) e (holder_of k g t (mapped blind es)) (holder_of k g t es) (holder_map k g t es)
 
-  has-map : (g : ℕ) (es : List Entry) → has_entries g (mapped blind es) ≡ has_entries g es
+  has_map : (g : ℕ) (es : List Entry) → has_entries g (mapped blind es) ≡ has_entries g es
   unfolding has_entries mapped blind is_in is_present
-  has-map g [] = refl
-  has-map g (e ∷ es) = ap (λ (b : Bool). is_in g e || b) (has-map g es)
+  has_map g [] = refl
+  has_map g (e ∷ es) = ap (λ (b : Bool). is_in g e || b) (has_map g es)
 
-  free-map : (o : Option Entry) → free_label (over o) ≡ free_label o
+  free_map : (o : Option Entry) → free_label (over o) ≡ free_label o
   unfolding free_label over blind
-  free-map none = refl
-  free-map (some e) = refl
+  free_map none = refl
+  free_map (some e) = refl
 
-  free-holder : (k g : ℕ) (t : List ℕ) (es : List Entry) → free_label (holder_of k g t (mapped blind es)) ≡ free_label (holder_of k g t es)
-  free-holder k g t es = ap free_label (holder-map k g t es) ∙ free-map (holder_of k g t es)
+  free_holder : (k g : ℕ) (t : List ℕ) (es : List Entry) → free_label (holder_of k g t (mapped blind es)) ≡ free_label (holder_of k g t es)
+  free_holder k g t es = ap free_label (holder_map k g t es) ∙ free_map (holder_of k g t es)
 
-  is-map : (o : Option Entry) → is_folder (over o) ≡ is_folder o
+  is_map : (o : Option Entry) → is_folder (over o) ≡ is_folder o
   unfolding is_folder over blind
-  is-map none = refl
-  is-map (some e) = refl
+  is_map none = refl
+  is_map (some e) = refl
 
-  stands-map : (g : ℕ) (es : List Entry) → folder_stands g (mapped blind es) ≡ folder_stands g es
+  stands_map : (g : ℕ) (es : List Entry) → folder_stands g (mapped blind es) ≡ folder_stands g es
   unfolding folder_stands
-  stands-map g es = rw (entry-map g es, is-map (entry_of g es))
+  stands_map g es = rw (entry-map g es, is_map (entry_of g es))
 
   pub length-map : (es : List Entry) → length (mapped blind es) ≡ length es
   unfolding mapped
   length-map [] = refl
   length-map (e ∷ es) = ap suc (length-map es)
 
-  comes-map : (n k g : ℕ) (es : List Entry) → comes_to n k g (mapped blind es) ≡ comes_to n k g es
+  comes_map : (n k g : ℕ) (es : List Entry) → comes_to n k g (mapped blind es) ≡ comes_to n k g es
   unfolding comes_to over blind
-  comes-map zero k g es = refl
-  comes-map (suc n) k g es = rw (entry-map g es) (go (entry_of g es) (λ i. comes-map n k i es))
+  comes_map zero k g es = refl
+  comes_map (suc n) k g es = rw (entry-map g es) (go (entry_of g es) (λ i. comes_map n k i es))
     where
       go : (o : Option Entry) → ((i : ℕ) → comes_to n k i (mapped blind es) ≡ comes_to n k i es)
           → (eqb g k || elim (over o) [ none ↦ false | some x ↦ comes_to n k x.inside (mapped blind es) ]) ≡ (eqb g k || elim o [ none ↦ false | some x ↦ comes_to n k x.inside es ])
@@ -188,49 +188,49 @@ module _ (d m : Telling) where
 
   below-map : (k g : ℕ) (es : List Entry) → is_below k g (mapped blind es) ≡ is_below k g es
   unfolding is_below
-  below-map k g es = ap (λ (n : ℕ). comes_to (suc n) k g (mapped blind es)) (length-map es) ∙ comes-map (suc (length es)) k g es
+  below-map k g es = ap (λ (n : ℕ). comes_to (suc n) k g (mapped blind es)) (length-map es) ∙ comes_map (suc (length es)) k g es
 
   module _ (r : Rec) (es : List Entry) where
-    make-map : judge_make r (mapped blind es) ≡ judge_make r es
+    make_map : judge_make r (mapped blind es) ≡ judge_make r es
     unfolding judge_make
-    make-map = rw (stands-map (folder_of r) es, free-holder root (folder_of r) (label_of r) es)
+    make_map = rw (stands_map (folder_of r) es, free_holder root (folder_of r) (label_of r) es)
 
-    store-map : (o : Option Entry) → judge_store r (over o) ≡ judge_store r o
+    store_map : (o : Option Entry) → judge_store r (over o) ≡ judge_store r o
     unfolding judge_store over blind
-    store-map none = refl
-    store-map (some e) = refl
+    store_map none = refl
+    store_map (some e) = refl
 
-    remove-map : (o : Option Entry) → judge_remove r (mapped blind es) (over o) ≡ judge_remove r es o
+    remove_map : (o : Option Entry) → judge_remove r (mapped blind es) (over o) ≡ judge_remove r es o
     unfolding judge_remove over blind
-    remove-map none = refl
-    remove-map (some e) = rw (has-map e.made es)
+    remove_map none = refl
+    remove_map (some e) = rw (has_map e.made es)
 
-    rename-map : (o : Option Entry) → judge_rename r (mapped blind es) (over o) ≡ judge_rename r es o
+    rename_map : (o : Option Entry) → judge_rename r (mapped blind es) (over o) ≡ judge_rename r es o
     unfolding judge_rename over blind
-    rename-map none = refl
-    rename-map (some e) = rw (free-holder e.made e.inside (label_of r) es)
+    rename_map none = refl
+    rename_map (some e) = rw (free_holder e.made e.inside (label_of r) es)
 
     place_map : (e : Entry) → judge_place r (mapped blind es) (blind e) ≡ judge_place r es e
     unfolding judge_place blind
-    place_map e = rw (below-map e.made (folder_of r) es, free-holder e.made (folder_of r) (label_of r) es)
+    place_map e = rw (below-map e.made (folder_of r) es, free_holder e.made (folder_of r) (label_of r) es)
 
-    move-map : (o : Option Entry) → judge_move r (mapped blind es) (over o) ≡ judge_move r es o
+    move_map : (o : Option Entry) → judge_move r (mapped blind es) (over o) ≡ judge_move r es o
     unfolding judge_move over blind
-    move-map none = refl
-    move-map (some e) = rw (stands-map (folder_of r) es, place_map e)
+    move_map none = refl
+    move_map (some e) = rw (stands_map (folder_of r) es, place_map e)
 
   pub judge-map : (r : Rec) (t : Tree) → judge r (mapped_tree blind t) ≡ judge r t
   unfolding judge mapped_tree
   judge-map r t =
       let es : List Entry = t.entries in
       let o : Option Entry = entry_of (object_of r) es in
-      rw (make-map r es, entry-map (object_of r) es, store-map r es o, remove-map r es o, rename-map r es o, move-map r es o)
+      rw (make_map r es, entry-map (object_of r) es, store_map r es o, remove_map r es o, rename_map r es o, move_map r es o)
 
   -- the entries shown
-  pub present-map : (es : List Entry) → present_ones (mapped blind es) ≡ mapped blind (present_ones es)
+  pub present_map : (es : List Entry) → present_ones (mapped blind es) ≡ mapped blind (present_ones es)
   unfolding present_ones mapped blind is_present
-  present-map [] = refl
-  present-map (e ∷ es) = go (not (eqb e.kind 0)) (present-map es)
+  present_map [] = refl
+  present_map (e ∷ es) = go (not (eqb e.kind 0)) (present_map es)
     where
       go : (b : Bool) → present_ones (mapped blind es) ≡ mapped blind (present_ones es)
           → cond b (blind e ∷ present_ones (mapped blind es)) (present_ones (mapped blind es)) ≡ mapped blind (cond b (e ∷ present_ones es) (present_ones es))
@@ -265,10 +265,10 @@ module _ (d m : Telling) (p : Settles d) (q : Settles m) where
   unfolding blind
   twice e = rw (p e.made e.date, q e.made e.mark)
 
-  map-twice : (es : List Entry) → mapped g (mapped g es) ≡ mapped g es
+  map_twice : (es : List Entry) → mapped g (mapped g es) ≡ mapped g es
   unfolding mapped
-  map-twice [] = refl
-  map-twice (e ∷ es) = λ i. twice e i ∷ map-twice es i
+  map_twice [] = refl
+  map_twice (e ∷ es) = λ i. twice e i ∷ map_twice es i
 
   map-changed : (f h : Entry → Entry) (k : ℕ) → ((e : Entry) → e.made ≡ k → g (f e) ≡ g (h (g e))) → (es : List Entry)
       → mapped g (changed f k es) ≡ mapped g (changed h k (mapped g es))
@@ -279,16 +279,16 @@ module _ (d m : Telling) (p : Settles d) (q : Settles m) where
     where
       go : (b : Bool) → (b ≡ true → e.made ≡ k) → mapped g (changed f k es) ≡ mapped g (changed h k (mapped g es))
           → mapped g (cond b (f e ∷ es) (e ∷ changed f k es)) ≡ mapped g (cond b (h (g e) ∷ mapped g es) (g e ∷ changed h k (mapped g es)))
-      go true z w = λ i. c e (z refl) i ∷ sym (map-twice es) i
+      go true z w = λ i. c e (z refl) i ∷ sym (map_twice es) i
       go false z w = λ i. sym (twice e) i ∷ w i
 
   module _ (r s : Rec) (a : Alike d m r s) where
     f : SameRead r s
     f = a.read
 
-    new-alike : op r ≤ 2 → g (new_entry r) ≡ g (new_entry s)
+    new_alike : op r ≤ 2 → g (new_entry r) ≡ g (new_entry s)
     unfolding blind new_entry trace_of
-    new-alike h =
+    new_alike h =
         let o = le-leb (op r) 2 h in
         let x : d (self_of r) (date_bytes r) ≡ d (self_of r) (date_bytes s) = rw o at a.date_alike in
         let y : m (self_of r) (mark_of r) ≡ m (self_of r) (mark_of s) = rw o at a.mark_alike in
@@ -328,26 +328,26 @@ module _ (d m : Telling) (p : Settles d) (q : Settles m) where
         rw (effect_make s u (omega (arith, f.op_same)))
         (ap same-asides
         (map-append es (new_entry r ∷ [])
-        ∙ (λ i. sym (map-twice es) i ++ (new-alike o i ∷ []))
+        ∙ (λ i. sym (map_twice es) i ++ (new_alike o i ∷ []))
         ∙ sym (map-append (mapped g es) (new_entry s ∷ [])))))
         (λ o. rw (effect_store s u (sym f.op_same ∙ o)) (ap same-asides (changed-alike (stored r) (stored s) (stored-alike o) es)))
         (λ o. rw (effect_remove s u (sym f.op_same ∙ o)) (ap same-asides (changed-alike removed removed (λ e _. removed-alike e) es)))
         (λ o. rw (effect_rename s u (sym f.op_same ∙ o)) (ap same-asides (changed-alike (renamed r) (renamed s) (λ e _. renamed-alike e) es)))
         (λ o.
         rw (effect_settle s u (sym f.op_same ∙ o))
-        (λ i. record { entries = sym (map-twice es) i; asides = settled (f.object_same i) t.asides }))
+        (λ i. record { entries = sym (map_twice es) i; asides = settled (f.object_same i) t.asides }))
         (λ o. rw (effect_move s u (omega (arith, f.op_same))) (ap same-asides (changed-alike (moved r) (moved s) (λ e _. moved-alike e) es)))
 
     pub step-alike : (t : Tree) → mapped_tree g (step t r) ≡ mapped_tree g (step (mapped_tree g t) s)
     unfolding step apply mapped_tree
     step-alike t =
-        rw (judge-map d m s t, sym (judge-same r s f t)) (go (judge r t))
+        rw (judge-map d m s t, sym (judge_same r s f t)) (go (judge r t))
       where
         go : (v : Verdict) → mapped_tree g (apply v r t) ≡ mapped_tree g (apply v s (mapped_tree g t))
         go fits = effect-alike t
         go (aside n k) =
             λ i. record {
-              entries = sym (map-twice t.entries) i;
+              entries = sym (map_twice t.entries) i;
               asides = t.asides ++ (record { who = f.self_same i; reason = n; marked = k; is_open = true } ∷ []);
             }
 

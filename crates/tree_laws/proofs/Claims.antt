@@ -152,7 +152,7 @@ below_exactly = Roots.below_exactly
 -- So the last place record is the make or the last rename or move that fitted
 pub last_place_record : (t : Tree) (r : Rec) → Rooted t.entries → (Has (self_of r) (makers t.entries) → ⊥) → (k : ℕ) (x : Entry) → entry_of k (step t r).entries ≡ some x
     → PlacedBy k r t x ⊎ PlaceKept k r t x
-last_place_record t r w fresh k x q = Places.place-step t r w.alone fresh k x q
+last_place_record t r w fresh k x q = Places.place_step t r w.alone fresh k x q
 
 -- a record that is the next of its unit and has seen no more than v counts keeps a tree sound, on v with the record counted
 pub tree_stays_sound : (v : List ℕ) (t : Tree) (r : Rec) → length v ≡ 8 → well_formed r ≡ true → num r ≡ suc (get_or v (unit r) 0) → ((u : ℕ) → u < 8 → seen r u ≤ get_or v u 0)

@@ -82,13 +82,13 @@ module _ (t : Tree) (r : Rec) (alone : Distinct (makers t.entries)) (fresh : Has
       }))
       (entry_last k t.entries (new_entry r) x q)
 
-  store-there : (e : Entry) → is_present e ≡ true → is_present (stored r e) ≡ true
+  store_there : (e : Entry) → is_present e ≡ true → is_present (stored r e) ≡ true
   unfolding is_present stored
-  store-there e p = p
+  store_there e p = p
 
-  was-stored : op r ≡ 3 → entry_of k (changed (stored r) (object_of r) es) ≡ some x → Left
+  was_stored : op r ≡ 3 → entry_of k (changed (stored r) (object_of r) es) ≡ some x → Left
   unfolding es Left stored
-  was-stored o q =
+  was_stored o q =
       ⊎_elim
       (λ y.
       let (e, z, a) = y.1 in
@@ -101,28 +101,28 @@ module _ (t : Tree) (r : Rec) (alone : Distinct (makers t.entries)) (fresh : Has
         unplaced = λ _ p. no_placing k r (inl o) p;
       }))
       (λ y. same y.1 (λ _ p. no_placing k r (inl o) p))
-      (changed_back (stored r) (λ e. refl) store-there (object_of r) k t.entries x q)
+      (changed_back (stored r) (λ e. refl) store_there (object_of r) k t.entries x q)
 
   gone : (e : Entry) → is_present (removed e) ≡ false
   unfolding is_present removed
   gone e = refl
 
-  was-removed : op r ≡ 4 → entry_of k (changed removed (object_of r) es) ≡ some x → Left
+  was_removed : op r ≡ 4 → entry_of k (changed removed (object_of r) es) ≡ some x → Left
   unfolding es Left removed
-  was-removed o q =
+  was_removed o q =
       ⊎_elim
       (λ (y : k ≡ object_of r).
       none_some (sym (entry_gone removed (λ e. refl) gone (object_of r) t.entries alone) ∙ ap (λ (v : ℕ). entry_of v (changed removed (object_of r) t.entries)) (sym y) ∙ q))
       (λ (y : k ≡ object_of r → ⊥). same (sym (entry_other removed (λ e. refl) (object_of r) k y t.entries) ∙ q) (λ _ p. no_placing k r (inr (inl o)) p))
       (eq_or_ne k (object_of r))
 
-  rename-there : (e : Entry) → is_present e ≡ true → is_present (renamed r e) ≡ true
+  rename_there : (e : Entry) → is_present e ≡ true → is_present (renamed r e) ≡ true
   unfolding is_present renamed
-  rename-there e p = p
+  rename_there e p = p
 
-  was-renamed : op r ≡ 5 → judge r t ≡ fits → entry_of k (changed (renamed r) (object_of r) es) ≡ some x → Left
+  was_renamed : op r ≡ 5 → judge r t ≡ fits → entry_of k (changed (renamed r) (object_of r) es) ≡ some x → Left
   unfolding es Left renamed
-  was-renamed o h q =
+  was_renamed o h q =
       ⊎_elim
       (λ y.
       let (e, z, a) = y.1 in
@@ -135,15 +135,15 @@ module _ (t : Tree) (r : Rec) (alone : Distinct (makers t.entries)) (fresh : Has
         kept = λ _. (e, z, ap (λ (v : Entry). v.inside) a);
       }))
       (λ y. same y.1 (λ _ p. ⊎_elim (λ a. omega (arith, a.0)) (λ a. y.0 (sym a.1)) p))
-      (changed_back (renamed r) (λ e. refl) rename-there (object_of r) k t.entries x q)
+      (changed_back (renamed r) (λ e. refl) rename_there (object_of r) k t.entries x q)
 
-  move-there : (e : Entry) → is_present e ≡ true → is_present (moved r e) ≡ true
+  move_there : (e : Entry) → is_present e ≡ true → is_present (moved r e) ≡ true
   unfolding is_present moved
-  move-there e p = p
+  move_there e p = p
 
-  was-moved : 6 < op r → judge r t ≡ fits → entry_of k (changed (moved r) (object_of r) es) ≡ some x → Left
+  was_moved : 6 < op r → judge r t ≡ fits → entry_of k (changed (moved r) (object_of r) es) ≡ some x → Left
   unfolding es Left moved
-  was-moved o h q =
+  was_moved o h q =
       ⊎_elim
       (λ y.
       let (e, z, a) = y.1 in
@@ -156,19 +156,19 @@ module _ (t : Tree) (r : Rec) (alone : Distinct (makers t.entries)) (fresh : Has
         kept = λ (z : op r ≡ 5). let w : ⊥ = omega (arith, o) in absurd w;
       }))
       (λ y. same y.1 (λ _ p. ⊎_elim (λ a. omega (arith, a.0)) (λ a. y.0 (sym a.1)) p))
-      (changed_back (moved r) (λ e. refl) move-there (object_of r) k t.entries x q)
+      (changed_back (moved r) (λ e. refl) move_there (object_of r) k t.entries x q)
 
   -- what one record leaves of the place of an entry
-  pub place-step : entry_of k (step t r).entries ≡ some x → PlacedBy k r t x ⊎ PlaceKept k r t x
+  pub place_step : entry_of k (step t r).entries ≡ some x → PlacedBy k r t x ⊎ PlaceKept k r t x
   unfolding es Left
-  place-step =
+  place_step =
       let P : Tree → Type 0 = λ (y : Tree). entry_of k y.entries ≡ some x → PlacedBy k r t x ⊎ PlaceKept k r t x in
       step_elim P t r
       (λ h. effect_elim P r t
       (λ o q. made o h q)
-      (λ o q. was-stored o q)
-      (λ o q. was-removed o q)
-      (λ o q. was-renamed o h q)
+      (λ o q. was_stored o q)
+      (λ o q. was_removed o q)
+      (λ o q. was_renamed o h q)
       (λ o q. same q (λ _ p. no_placing k r (inr (inr o)) p))
-      (λ o q. was-moved o h q))
+      (λ o q. was_moved o h q))
       (λ n m h q. same q (λ f _. absurd (let z : ◌≡◌ {A = ℕ} 0 1 = cc in omega arith)))

@@ -147,8 +147,8 @@ module _ (es : List Entry) (k : ℕ) where
   abbrev Least : ℕ → ℕ → Type 0
   Least s f = Way s k f es × (comes_to s k f es ≡ false)
 
-  least-same : (a b f : ℕ) → Least a f → Least b f → a ≡ b
-  least-same a b f u v =
+  least_same : (a b f : ℕ) → Least a f → Least b f → a ≡ b
+  least_same a b f u v =
       ⊎_elim
       (λ h. absurd (not_both (comes_to b k f es) (way_comes es b a k f u.0 h) v.1))
       (λ h.
@@ -158,9 +158,9 @@ module _ (es : List Entry) (k : ℕ) where
       (lt_or_ge b a))
       (lt_or_ge a b)
 
-  least-next : (s f : ℕ) (e : Entry) → entry_of f es ≡ some e → Way s k e.inside es → comes_to (suc s) k f es ≡ false → Least s e.inside
+  least_next : (s f : ℕ) (e : Entry) → entry_of f es ≡ some e → Way s k e.inside es → comes_to (suc s) k f es ≡ false → Least s e.inside
   unfolding comes_to
-  least-next s f e q w c = (w, rw q at (or_false (eqb f k) (elim (entry_of f es) [ none ↦ false | some g ↦ comes_to s k g.inside es ]) c).1)
+  least_next s f e q w c = (w, rw q at (or_false (eqb f k) (elim (entry_of f es) [ none ↦ false | some g ↦ comes_to s k g.inside es ]) c).1)
 
   passed : (s f : ℕ) → Way s k f es → List ℕ
   passed zero f w = []
@@ -171,36 +171,36 @@ module _ (es : List Entry) (k : ℕ) where
   passed_length zero f w = refl
   passed_length (suc s) f (e, q, w) = ap suc (passed_length s e.inside w)
 
-  passed-named : (s f : ℕ) (w : Way s k f es) (x : ℕ) → Has x (passed s f w) → Has x (makers (present_ones es))
+  passed_named : (s f : ℕ) (w : Way s k f es) (x : ℕ) → Has x (passed s f w) → Has x (makers (present_ones es))
   unfolding passed
-  passed-named zero f w x i = absurd i
-  passed-named (suc s) f (e, q, w) x (inl p) = subst (λ (y : ℕ). Has y (makers (present_ones es))) (sym p) (entry_named f es e q)
-  passed-named (suc s) f (e, q, w) x (inr i) = passed-named s e.inside w x i
+  passed_named zero f w x i = absurd i
+  passed_named (suc s) f (e, q, w) x (inl p) = subst (λ (y : ℕ). Has y (makers (present_ones es))) (sym p) (entry_named f es e q)
+  passed_named (suc s) f (e, q, w) x (inr i) = passed_named s e.inside w x i
 
-  passed-least : (s f : ℕ) (w : Way s k f es) → comes_to s k f es ≡ false → (x : ℕ) → Has x (passed s f w) → (b : ℕ) × Least b x × (b ≤ s)
+  passed_least : (s f : ℕ) (w : Way s k f es) → comes_to s k f es ≡ false → (x : ℕ) → Has x (passed s f w) → (b : ℕ) × Least b x × (b ≤ s)
   unfolding passed
-  passed-least zero f w c x i = absurd i
-  passed-least (suc s) f (e, q, w) c x (inl p) = (suc s, rw p ((e, q, w), c), omega arith)
-  passed-least (suc s) f (e, q, w) c x (inr i) = let (b, v, h) = passed-least s e.inside w (least-next s f e q w c).1 x i in (b, v, omega arith)
+  passed_least zero f w c x i = absurd i
+  passed_least (suc s) f (e, q, w) c x (inl p) = (suc s, rw p ((e, q, w), c), omega arith)
+  passed_least (suc s) f (e, q, w) c x (inr i) = let (b, v, h) = passed_least s e.inside w (least_next s f e q w c).1 x i in (b, v, omega arith)
 
-  passed-distinct : (s f : ℕ) (w : Way s k f es) → comes_to s k f es ≡ false → Distinct (passed s f w)
+  passed_distinct : (s f : ℕ) (w : Way s k f es) → comes_to s k f es ≡ false → Distinct (passed s f w)
   unfolding passed
-  passed-distinct zero f w c = tt
-  passed-distinct (suc s) f (e, q, w) c = (
+  passed_distinct zero f w c = tt
+  passed_distinct (suc s) f (e, q, w) c = (
     λ i.
-        let d = (least-next s f e q w c).1 in
-        let (b, v, h) = passed-least s e.inside w d f i in
-        omega (arith, least-same (suc s) b f ((e, q, w), c) v),
-    passed-distinct s e.inside w (least-next s f e q w c).1,
+        let d = (least_next s f e q w c).1 in
+        let (b, v, h) = passed_least s e.inside w d f i in
+        omega (arith, least_same (suc s) b f ((e, q, w), c) v),
+    passed_distinct s e.inside w (least_next s f e q w c).1,
   )
 
-  least-few : (s f : ℕ) → Least s f → s ≤ length (present_ones es)
-  least-few s f (w, c) =
+  least_few : (s f : ℕ) → Least s f → s ≤ length (present_ones es)
+  least_few s f (w, c) =
       omega (
         arith,
         passed_length s f w,
         length-makers (present_ones es),
-        no_more (passed s f w) (makers (present_ones es)) (passed-distinct s f w c) (passed-named s f w),
+        no_more (passed s f w) (makers (present_ones es)) (passed_distinct s f w c) (passed_named s f w),
       )
 
   least : (n f : ℕ) → comes_to n k f es ≡ true → (s : ℕ) × Least s f × (s < n)
@@ -218,8 +218,8 @@ module _ (es : List Entry) (k : ℕ) where
           (lt_or_ge s n)
 
   -- what is found by any number of steps is found by as many as there are entries
-  pub comes-few : (n f : ℕ) → comes_to n k f es ≡ true → comes_to (suc (length (present_ones es))) k f es ≡ true
-  comes-few n f h = let (s, w, b) = least n f h in way_comes es (suc (length (present_ones es))) s k f w.0 (omega (arith, least-few s f w))
+  pub comes_few : (n f : ℕ) → comes_to n k f es ≡ true → comes_to (suc (length (present_ones es))) k f es ≡ true
+  comes_few n f h = let (s, w, b) = least n f h in way_comes es (suc (length (present_ones es))) s k f w.0 (omega (arith, least_few s f w))
 
 -- ---- steps to the root
 
@@ -229,20 +229,20 @@ up_way es (suc s) k (e, q, u) = (e, q, up_way es s e.inside u)
 
 -- no way is longer than that to the root
 way_short : (es : List Entry) → entry_of root es ≡ none → (s n k f : ℕ) → Way s k f es → Up n f es → s ≤ n
-way_short es no-root zero n k f w u = omega arith
-way_short es no-root (suc s) zero k f (g, q, w) u = none_some (sym no-root ∙ ap (λ (x : ℕ). entry_of x es) (sym u) ∙ q)
-way_short es no-root (suc s) (suc n) k f (g, q, w) (e, p, u) =
+way_short es no_root zero n k f w u = omega arith
+way_short es no_root (suc s) zero k f (g, q, w) u = none_some (sym no_root ∙ ap (λ (x : ℕ). entry_of x es) (sym u) ∙ q)
+way_short es no_root (suc s) (suc n) k f (g, q, w) (e, p, u) =
     let y : e ≡ g = some_same (sym p ∙ q) in
     let v : Up n g.inside es = subst (λ (z : Entry). Up n z.inside es) y u in
-    omega (arith, way_short es no-root s n k g.inside w v)
+    omega (arith, way_short es no_root s n k g.inside w v)
 
 few_steps : (es : List Entry) → entry_of root es ≡ none → (s k : ℕ) → Up s k es → s ≤ length (present_ones es)
-few_steps es no-root s k u = least-few es root s k (up_way es s k u, test_false (comes_to s root k es) (λ c. later s k u c))
+few_steps es no_root s k u = least_few es root s k (up_way es s k u, test_false (comes_to s root k es) (λ c. later s k u c))
   where
     -- the root has no entry, so a way that ends there has one length
     ends : (a b f : ℕ) → Way a root f es → Up b f es → b ≤ a
     ends a zero f w u = omega arith
-    ends zero (suc b) f w (e, q, u) = none_some (sym no-root ∙ ap (λ (x : ℕ). entry_of x es) (sym w) ∙ q)
+    ends zero (suc b) f w (e, q, u) = none_some (sym no_root ∙ ap (λ (x : ℕ). entry_of x es) (sym w) ∙ q)
     ends (suc a) (suc b) f (g, p, w) (e, q, u) =
         let y : e ≡ g = some_same (sym q ∙ p) in
         let v : Up b g.inside es = subst (λ (z : Entry). Up b z.inside es) y u in
@@ -336,16 +336,16 @@ unchanged g k (e ∷ l) q =
     (bool_cases (eqb e.made k && is_present e))
 
 module _ (es : List Entry) (w : Rooted es) (g : Entry → Entry) (h : Same g) (p : (e : Entry) → (g e).inside ≡ e.inside) (c : (e : Entry) → (g e).kind ≡ e.kind) (k : ℕ) where
-  kept-present : (e : Entry) → is_present e ≡ true → is_present (g e) ≡ true
+  kept_present : (e : Entry) → is_present e ≡ true → is_present (g e) ≡ true
   unfolding is_present
-  kept-present e q = rw (c e) q
+  kept_present e q = rw (c e) q
 
-  kept-stays : Stays es (changed g k es)
-  kept-stays j e q =
+  kept_stays : Stays es (changed g k es)
+  kept_stays j e q =
       ⊎_elim
       (λ (y : j ≡ k).
       let q₁ : entry_of k es ≡ some e = ap (λ (x : ℕ). entry_of x es) (sym y) ∙ q in
-      let z = entry_same g h k es e q₁ (kept-present e (entry_made k es e q₁).1) in
+      let z = entry_same g h k es e q₁ (kept_present e (entry_made k es e q₁).1) in
       (g e, ap (λ (x : ℕ). entry_of x (changed g k es)) y ∙ z, p e, c e))
       (λ (y : j ≡ k → ⊥). (e, entry_other g h k j y es ∙ q, refl, refl))
       (eq_or_ne j k)
@@ -361,21 +361,21 @@ module _ (es : List Entry) (w : Rooted es) (g : Entry → Entry) (h : Same g) (p
           none_some (sym y ∙ ap (entry_of j) (sym a) ∙ q))
           (λ (z : j ≡ k → ⊥). none_some (sym y ∙ sym (entry_other g h k j z es) ∙ q))
           (eq_or_ne j k)
-      go (some e) y = let (z, a, b, _) = kept-stays j e y in (e, y, ap (λ (v : Entry). v.inside) (some_same (sym q ∙ a)) ∙ b)
+      go (some e) y = let (z, a, b, _) = kept_stays j e y in (e, y, ap (λ (v : Entry). v.inside) (some_same (sym q ∙ a)) ∙ b)
 
-  kept-rooted : Rooted (changed g k es)
-  kept-rooted =
+  kept_rooted : Rooted (changed g k es)
+  kept_rooted =
       let n = makers-changed g h k es in
       record {
         alone = rw n w.alone;
         rootless = λ i. w.rootless (rw n at i);
         stands = λ j x q.
             let (e, y, i) = kept_back j x q in
-            rw i (stays_stands es (changed g k es) kept-stays e.inside (w.stands j e y));
+            rw i (stays_stands es (changed g k es) kept_stays e.inside (w.stands j e y));
         up = λ j x q.
             let (e, y, i) = kept_back j x q in
             let (s, u) = w.up j e y in
-            (s, stays_up es (changed g k es) kept-stays s j u);
+            (s, stays_up es (changed g k es) kept_stays s j u);
       }
 
 -- ---- a make
@@ -477,8 +477,8 @@ module _ (es : List Entry) (w : Rooted es) (k : ℕ) (e : Entry) (q : entry_of k
   other j d = entry_other removed keeps k j d es
 
   -- nothing lies in it
-  not-inside : (j : ℕ) (x : Entry) → entry_of j es ≡ some x → x.inside ≡ k → ⊥
-  not-inside j x y i =
+  not_inside : (j : ℕ) (x : Entry) → entry_of j es ≡ some x → x.inside ≡ k → ⊥
+  not_inside j x y i =
       let (m, p) = entry_made k es e q in
       ⊎_elim
       (λ (z : x.inside ≡ root). w.rootless (subst (λ (v : ℕ). Has v (makers es)) (sym i ∙ z) (entry_in_lem k es e q)))
@@ -490,18 +490,18 @@ module _ (es : List Entry) (w : Rooted es) (k : ℕ) (e : Entry) (q : entry_of k
       not_both (eqb e.kind 1 && has_entries e.made es) (true_and (eqb e.kind 1) (has_entries e.made es) (eq-eqb e.kind 1 d) f) free)
       (w.stands j x y)
 
-  up-still : (s j : ℕ) → (j ≡ k → ⊥) → Up s j es → Up s j rest
-  up-still zero j d u = u
-  up-still (suc s) j d (x, y, u) = (x, other j d ∙ y, up-still s x.inside (not-inside j x y) u)
+  up_still : (s j : ℕ) → (j ≡ k → ⊥) → Up s j es → Up s j rest
+  up_still zero j d u = u
+  up_still (suc s) j d (x, y, u) = (x, other j d ∙ y, up_still s x.inside (not_inside j x y) u)
 
   still : (j : ℕ) (x : Entry) → entry_of j rest ≡ some x → (j ≡ k → ⊥) × (entry_of j es ≡ some x)
   still j x y =
       let d : j ≡ k → ⊥ = λ (z : j ≡ k). none_some (sym gone ∙ ap (λ (v : ℕ). entry_of v rest) (sym z) ∙ y) in
       (d, sym (other j d) ∙ y)
 
-  remove-rooted : Rooted rest
+  remove_rooted : Rooted rest
   unfolding rest
-  remove-rooted =
+  remove_rooted =
       let n = makers-changed removed keeps k es in
       record {
         alone = rw n w.alone;
@@ -510,12 +510,12 @@ module _ (es : List Entry) (w : Rooted es) (k : ℕ) (e : Entry) (q : entry_of k
             let (d, z) = still j x y in
             ⊎_elim
             (λ a. inl a)
-            (λ a. let (g, b, c) = a in inr (g, other x.inside (not-inside j x z) ∙ b, c))
+            (λ a. let (g, b, c) = a in inr (g, other x.inside (not_inside j x z) ∙ b, c))
             (w.stands j x z);
         up = λ j x y.
             let (d, z) = still j x y in
             let (s, u) = w.up j x z in
-            (s, up-still s j d u);
+            (s, up_still s j d u);
       }
 
 -- ---- a move
@@ -547,28 +547,28 @@ module _ (es : List Entry) (w : Rooted es) (r : Rec) (k : ℕ) (e : Entry) (q : 
       let v : comes_to n k x.inside es ≡ false = rw y at b in
       (x, others f d ∙ y, avoids n s x.inside (omega arith) u v)
 
-  up-folder : (s : ℕ) × Up s (folder_of r) turned
+  up_folder : (s : ℕ) × Up s (folder_of r) turned
   unfolding is_below
-  up-folder =
+  up_folder =
       let (s, u) = up_from es w (folder_of r) st in
       let few = few_steps es (unnamed root es w.rootless) s (folder_of r) u in
       (s, avoids (suc (length es)) s (folder_of r) (omega (arith, present_few es)) u apart)
 
-  up-again : (s j : ℕ) → Up s j es → (b : ℕ) × Up b j turned
+  up_again : (s j : ℕ) → Up s j es → (b : ℕ) × Up b j turned
   unfolding moved
-  up-again zero j u = (0, u)
-  up-again (suc s) j (x, y, u) =
+  up_again zero j u = (0, u)
+  up_again (suc s) j (x, y, u) =
       ⊎_elim
       (λ (z : j ≡ k).
-      let (b, v) = up-folder in
+      let (b, v) = up_folder in
       (suc b, (moved r e, ap (λ (a : ℕ). entry_of a turned) z ∙ there, v)))
-      (λ (z : j ≡ k → ⊥). let (b, v) = up-again s x.inside u in (suc b, (x, others j z ∙ y, v)))
+      (λ (z : j ≡ k → ⊥). let (b, v) = up_again s x.inside u in (suc b, (x, others j z ∙ y, v)))
       (eq_or_ne j k)
 
-  folder-again : (f : ℕ) → Stands f es → Stands f turned
+  folder_again : (f : ℕ) → Stands f es → Stands f turned
   unfolding moved
-  folder-again f (inl z) = inl z
-  folder-again f (inr (g, y, c)) =
+  folder_again f (inl z) = inl z
+  folder_again f (inr (g, y, c)) =
       ⊎_elim
       (λ (z : f ≡ k).
       let a : g ≡ e = some_same (sym y ∙ ap (λ (v : ℕ). entry_of v es) z ∙ q) in
@@ -576,9 +576,9 @@ module _ (es : List Entry) (w : Rooted es) (r : Rec) (k : ℕ) (e : Entry) (q : 
       (λ (z : f ≡ k → ⊥). inr (g, others f z ∙ y, c))
       (eq_or_ne f k)
 
-  move-rooted : Rooted turned
+  move_rooted : Rooted turned
   unfolding turned moved
-  move-rooted =
+  move_rooted =
       let n = makers-changed (moved r) holds k es in
       record {
         alone = rw n w.alone;
@@ -587,13 +587,13 @@ module _ (es : List Entry) (w : Rooted es) (r : Rec) (k : ℕ) (e : Entry) (q : 
             ⊎_elim
             (λ (z : j ≡ k).
             let a : x ≡ moved r e = some_same (sym y ∙ ap (λ (v : ℕ). entry_of v turned) z ∙ there) in
-            rw a (folder-again (folder_of r) st))
-            (λ (z : j ≡ k → ⊥). folder-again x.inside (w.stands j x (sym (others j z) ∙ y)))
+            rw a (folder_again (folder_of r) st))
+            (λ (z : j ≡ k → ⊥). folder_again x.inside (w.stands j x (sym (others j z) ∙ y)))
             (eq_or_ne j k);
         up = λ j x y.
             ⊎_elim
-            (λ (z : j ≡ k). let (s, u) = w.up k e q in rw z (up-again s k u))
-            (λ (z : j ≡ k → ⊥). let (s, u) = w.up j x (sym (others j z) ∙ y) in up-again s j u)
+            (λ (z : j ≡ k). let (s, u) = w.up k e q in rw z (up_again s k u))
+            (λ (z : j ≡ k → ⊥). let (s, u) = w.up j x (sym (others j z) ∙ y) in up_again s j u)
             (eq_or_ne j k);
       }
 
@@ -635,19 +635,19 @@ module _ (t : Tree) (r : Rec) (w : Rooted t.entries) (fresh : Has (self_of r) (m
       let (a, _) = then_fits (folder_stands (folder_of r) es) (free_label (holder_of root (folder_of r) (label_of r) es)) h in
       make_rooted es w (new_entry r) fresh proper (rw (ne_eqb (op r) 0 z)) (folder_stands_lem (folder_of r) es a)
 
-  taken-away : (o : Option Entry) → object ≡ o → judge_remove r es o ≡ fits → Rooted (changed removed (object_of r) es)
+  taken_away : (o : Option Entry) → object ≡ o → judge_remove r es o ≡ fits → Rooted (changed removed (object_of r) es)
   unfolding judge_remove es object rest
-  taken-away none q h = aside_fits_lem h
-  taken-away (some e) q h =
+  taken_away none q h = aside_fits_lem h
+  taken_away (some e) q h =
       ⊎_elim
       (λ c. aside_fits_lem (sym c.1 ∙ h))
-      (λ c. remove-rooted es w (object_of r) e q c.0)
+      (λ c. remove_rooted es w (object_of r) e q c.0)
       (cond_cases (eqb e.kind 1 && has_entries e.made es) (aside 16 e.made) (cond (unseen r e.contents || unseen r e.placing) (aside 17 e.made) fits))
 
-  put-elsewhere : (o : Option Entry) → object ≡ o → judge_move r es o ≡ fits → Rooted (changed (moved r) (object_of r) es)
+  put_elsewhere : (o : Option Entry) → object ≡ o → judge_move r es o ≡ fits → Rooted (changed (moved r) (object_of r) es)
   unfolding judge_move judge_place es object turned
-  put-elsewhere none q h = aside_fits_lem h
-  put-elsewhere (some e) q h =
+  put_elsewhere none q h = aside_fits_lem h
+  put_elsewhere (some e) q h =
       ⊎_elim
       (λ c. aside_fits_lem (sym c.1 ∙ h))
       (λ c.
@@ -658,7 +658,7 @@ module _ (t : Tree) (r : Rec) (w : Rooted t.entries) (fresh : Has (self_of r) (m
       (λ d.
       let m : e.made ≡ object_of r = (entry_made (object_of r) es e q).0 in
       let n : is_below (object_of r) (folder_of r) es ≡ false = rw m at d.0 in
-      move-rooted es w r (object_of r) e q (folder_stands_lem (folder_of r) es a) n)
+      move_rooted es w r (object_of r) e q (folder_stands_lem (folder_of r) es a) n)
       (cond_cases (is_below e.made (folder_of r) es) (aside 25 e.made) last))
       (cond_cases (unseen r e.placing) (aside 17 e.made) (and_then (folder_stands (folder_of r) es) (judge_place r es e)))
 
@@ -669,17 +669,17 @@ module _ (t : Tree) (r : Rec) (w : Rooted t.entries) (fresh : Has (self_of r) (m
       (λ (c : leb (op r) 2 ≡ true). rw c (made c z (rw c at h)))
       (λ (c : leb (op r) 2 ≡ false).
       ⊎_elim
-      (λ (d : eqb (op r) 3 ≡ true). rw (c, d) (kept-rooted es w (stored r) (λ e. refl) (λ e. refl) (λ e. refl) (object_of r)))
+      (λ (d : eqb (op r) 3 ≡ true). rw (c, d) (kept_rooted es w (stored r) (λ e. refl) (λ e. refl) (λ e. refl) (object_of r)))
       (λ (d : eqb (op r) 3 ≡ false).
       ⊎_elim
-      (λ (f : eqb (op r) 4 ≡ true). rw (c, d, f) (taken-away (entry_of (object_of r) t.entries) refl (rw (c, d, f) at h)))
+      (λ (f : eqb (op r) 4 ≡ true). rw (c, d, f) (taken_away (entry_of (object_of r) t.entries) refl (rw (c, d, f) at h)))
       (λ (f : eqb (op r) 4 ≡ false).
       ⊎_elim
-      (λ (g : eqb (op r) 5 ≡ true). rw (c, d, f, g) (kept-rooted es w (renamed r) (λ e. refl) (λ e. refl) (λ e. refl) (object_of r)))
+      (λ (g : eqb (op r) 5 ≡ true). rw (c, d, f, g) (kept_rooted es w (renamed r) (λ e. refl) (λ e. refl) (λ e. refl) (object_of r)))
       (λ (g : eqb (op r) 5 ≡ false).
       ⊎_elim
       (λ (i : eqb (op r) 6 ≡ true). rw (c, d, f, g, i) w)
-      (λ (i : eqb (op r) 6 ≡ false). rw (c, d, f, g, i) (put-elsewhere (entry_of (object_of r) t.entries) refl (rw (c, d, f, g, i) at h)))
+      (λ (i : eqb (op r) 6 ≡ false). rw (c, d, f, g, i) (put_elsewhere (entry_of (object_of r) t.entries) refl (rw (c, d, f, g, i) at h)))
       (bool_cases (eqb (op r) 6)))
       (bool_cases (eqb (op r) 5)))
       (bool_cases (eqb (op r) 4)))
@@ -726,6 +726,6 @@ below_exactly es w k f h = (
   λ p.
       let (s, v) = p in
       let (n, u) = up_from es w f h in
-      let no-root = unnamed root es w.rootless in
-      way_comes es (suc (length es)) s k f v (omega (arith, way_short es no-root s n k f v u, few_steps es no-root n f u, present_few es)),
+      let no_root = unnamed root es w.rootless in
+      way_comes es (suc (length es)) s k f v (omega (arith, way_short es no_root s n k f v u, few_steps es no_root n f u, present_few es)),
 )

@@ -85,25 +85,25 @@ abbrev pub Not17 : ℕ → Type 0
 Not17 n = n ≡ 17 → ⊥
 
 module _ (r : Rec) (ks : List ℕ) (s : HasSeen r ks) where
-  store-seen : (es : List Entry) → Among ks es → (o : Option Entry) → entry_of (object_of r) es ≡ o → Under Not17 (judge_store r o)
+  store_seen : (es : List Entry) → Among ks es → (o : Option Entry) → entry_of (object_of r) es ≡ o → Under Not17 (judge_store r o)
   unfolding judge_store
-  store-seen es a none q = λ e. omega arith
-  store-seen es a (some e) q =
+  store_seen es a none q = λ e. omega arith
+  store_seen es a (some e) q =
       let b = among_entry ks (object_of r) es e a q in
       rw (s e.contents b.0) (under_cond Not17 (eqb e.kind 1) (aside 14 e.made) fits (λ z. omega arith) tt)
 
-  remove-seen : (es : List Entry) → Among ks es → (o : Option Entry) → entry_of (object_of r) es ≡ o → Under Not17 (judge_remove r es o)
+  remove_seen : (es : List Entry) → Among ks es → (o : Option Entry) → entry_of (object_of r) es ≡ o → Under Not17 (judge_remove r es o)
   unfolding judge_remove
-  remove-seen es a none q = λ e. omega arith
-  remove-seen es a (some e) q =
+  remove_seen es a none q = λ e. omega arith
+  remove_seen es a (some e) q =
       let b = among_entry ks (object_of r) es e a q in
       rw (s e.contents b.0, s e.placing b.1)
       (under_cond Not17 (eqb e.kind 1 && has_entries e.made es) (aside 16 e.made) fits (λ z. omega arith) tt)
 
-  rename-seen : (es : List Entry) → Among ks es → (o : Option Entry) → entry_of (object_of r) es ≡ o → Under Not17 (judge_rename r es o)
+  rename_seen : (es : List Entry) → Among ks es → (o : Option Entry) → entry_of (object_of r) es ≡ o → Under Not17 (judge_rename r es o)
   unfolding judge_rename
-  rename-seen es a none q = λ e. omega arith
-  rename-seen es a (some e) q =
+  rename_seen es a none q = λ e. omega arith
+  rename_seen es a (some e) q =
       let b = among_entry ks (object_of r) es e a q in
       rw (s e.placing b.1) (under_free Not17 (λ z. omega arith) (holder_of e.made e.inside (label_of r) es))
 
@@ -116,15 +116,15 @@ module _ (r : Rec) (ks : List ℕ) (s : HasSeen r ks) where
       (under_then Not17 (folder_stands (folder_of r) es) (judge_place r es e) (under_stands Not17 (λ z. omega arith) (λ z. omega arith) (folder_of r) es)
       (under_place Not17 (λ z. omega arith) (λ z. omega arith) r es e))
 
-  pub seen-never-17 : (t : Tree) → Among ks t.entries → Under Not17 (judge r t)
-  seen-never-17 t a =
+  pub seen_never_17 : (t : Tree) → Among ks t.entries → Under Not17 (judge r t)
+  seen_never_17 t a =
       let es : List Entry = t.entries in
       let o : Option Entry = entry_of (object_of r) es in
       judged Not17 r t
       (under_map (OneOf 13 14 15) Not17 (λ n q e. ⊎_elim (λ z. omega arith) (⊎_elim (λ z. omega arith) (λ z. omega arith)) q) (judge_make r es) (make_reasons r es))
-      (store-seen es a o refl)
-      (remove-seen es a o refl)
-      (rename-seen es a o refl)
+      (store_seen es a o refl)
+      (remove_seen es a o refl)
+      (rename_seen es a o refl)
       (under_map (λ n. n ≡ 18) Not17 (λ n q e. omega arith) (judge_settle r t.asides) (settle_reasons r t.asides))
       (move_seen es a o refl)
 

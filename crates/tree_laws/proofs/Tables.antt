@@ -18,7 +18,7 @@ use Rattle.model.specs.Table.{identity_bytes, entry_row, entry_rows, aside_rows,
 use Rattle.log_laws.specs.Members.{Has as Member}
 use Rattle.log_laws.proofs.Members.{All, all_append}
 use Rattle.tree_laws.specs.Replayed.{makers, making, makes_fit, mapped, mapped_tree, undated, undated_tree, is_date_place, hide_from, hide_dates}
-use Rattle.tree_laws.proofs.Blind.{Telling, blind, length-map, present-map}
+use Rattle.tree_laws.proofs.Blind.{Telling, blind, length-map, present_map}
 use Rattle.tree_laws.proofs.Dates.{forgotten, kept}
 use Rattle.tree_laws.proofs.Steps.{cond_elim, effect_elim, step_elim, all_changed, all_present, makers-replay}
 use Rattle.tree_laws.proofs.Roots.{length-makers, present_few}
@@ -26,42 +26,42 @@ use Rattle.tree_laws.proofs.Roots.{length-makers, present_few}
 -- ---- hiding
 
 module _ (p : ℕ → Bool) where
-  pub hide-append : (i : ℕ) (a b : List ℕ) → hide_from p i (a ++ b) ≡ hide_from p i a ++ hide_from p (i + length a) b
+  pub hide_append : (i : ℕ) (a b : List ℕ) → hide_from p i (a ++ b) ≡ hide_from p i a ++ hide_from p (i + length a) b
   unfolding hide_from
-  hide-append i [] b = let e : i + 0 ≡ i = omega arith in rw e
-  hide-append i (x ∷ a) b =
+  hide_append i [] b = let e : i + 0 ≡ i = omega arith in rw e
+  hide_append i (x ∷ a) b =
       let e : i + suc (length a) ≡ suc i + length a = omega arith in
-      rw e (ap (λ (y : List ℕ). cond (p i) 0 x ∷ y) (hide-append (suc i) a b))
+      rw e (ap (λ (y : List ℕ). cond (p i) 0 x ∷ y) (hide_append (suc i) a b))
 
   -- bytes elsewhere stay
-  pub hide-keeps : (i : ℕ) (a : List ℕ) → ((j : ℕ) → j < length a → p (i + j) ≡ false) → hide_from p i a ≡ a
+  pub hide_keeps : (i : ℕ) (a : List ℕ) → ((j : ℕ) → j < length a → p (i + j) ≡ false) → hide_from p i a ≡ a
   unfolding hide_from
-  hide-keeps i [] h = refl
-  hide-keeps i (x ∷ a) h =
+  hide_keeps i [] h = refl
+  hide_keeps i (x ∷ a) h =
       let z : i + 0 ≡ i = omega arith in
       let e : p i ≡ false = rw z at (h 0 (omega arith)) in
-      rw e (ap (λ (y : List ℕ). x ∷ y) (hide-keeps (suc i) a (λ j k.
+      rw e (ap (λ (y : List ℕ). x ∷ y) (hide_keeps (suc i) a (λ j k.
       let s : i + suc j ≡ suc i + j = omega arith in
       rw s at (h (suc j) (omega arith)))))
 
   -- zeros stay
-  hide-zeros : (i n : ℕ) → hide_from p i (replicate n 0) ≡ replicate n 0
+  hide_zeros : (i n : ℕ) → hide_from p i (replicate n 0) ≡ replicate n 0
   unfolding hide_from
-  hide-zeros i zero = refl
-  hide-zeros i (suc n) = λ k. zero-both (p i) k ∷ hide-zeros (suc i) n k
+  hide_zeros i zero = refl
+  hide_zeros i (suc n) = λ k. zero_both (p i) k ∷ hide_zeros (suc i) n k
     where
-      zero-both : (b : Bool) → ◌≡◌ {A = ℕ} (cond b 0 0) 0
-      zero-both true = refl
-      zero-both false = refl
+      zero_both : (b : Bool) → ◌≡◌ {A = ℕ} (cond b 0 0) 0
+      zero_both true = refl
+      zero_both false = refl
 
   -- bytes hidden are zeros
-  pub hide-all : (i : ℕ) (a : List ℕ) → ((j : ℕ) → j < length a → p (i + j) ≡ true) → hide_from p i a ≡ replicate (length a) 0
+  pub hide_all : (i : ℕ) (a : List ℕ) → ((j : ℕ) → j < length a → p (i + j) ≡ true) → hide_from p i a ≡ replicate (length a) 0
   unfolding hide_from
-  hide-all i [] h = refl
-  hide-all i (x ∷ a) h =
+  hide_all i [] h = refl
+  hide_all i (x ∷ a) h =
       let z : i + 0 ≡ i = omega arith in
       let e : p i ≡ true = rw z at (h 0 (omega arith)) in
-      rw e (ap (λ (y : List ℕ). 0 ∷ y) (hide-all (suc i) a (λ j k.
+      rw e (ap (λ (y : List ℕ). 0 ∷ y) (hide_all (suc i) a (λ j k.
       let s : i + suc j ≡ suc i + j = omega arith in
       rw s at (h (suc j) (omega arith)))))
 
@@ -100,15 +100,15 @@ module _ (p : ℕ → Bool) (d m : Telling) (f : (e : Entry) → Filled e → Fi
   abbrev g : Entry → Entry
   g = blind d m
 
-  rows-hidden : (s : List Aside) (es : List Entry) (n : ℕ) → All Filled es → Hides p g s n es → hide_from p (4 + 72 * n) (entry_rows s es) ≡ entry_rows s (mapped g es)
+  rows_hidden : (s : List Aside) (es : List Entry) (n : ℕ) → All Filled es → Hides p g s n es → hide_from p (4 + 72 * n) (entry_rows s es) ≡ entry_rows s (mapped g es)
   unfolding entry_rows mapped blind hide_from
-  rows-hidden s [] n a h = refl
-  rows-hidden s (e ∷ es) n a h =
+  rows_hidden s [] n a h = refl
+  rows_hidden s (e ∷ es) n a h =
       let d : ℕ = cond (is_disputed e.made s) 1 0 in
       let w : 4 + 72 * n + length (entry_row d e) ≡ 4 + 72 * suc n = omega (arith, row-length d e a.0) in
-      hide-append p (4 + 72 * n) (entry_row d e) (entry_rows s es)
+      hide_append p (4 + 72 * n) (entry_row d e) (entry_rows s es)
       ∙ (λ k. h.0 k ++ hide_from p (w k) (entry_rows s es))
-      ∙ ap (λ (x : List ℕ). entry_row d (g e) ++ x) (rows-hidden s es (suc n) a.1 h.1)
+      ∙ ap (λ (x : List ℕ). entry_row d (g e) ++ x) (rows_hidden s es (suc n) a.1 h.1)
 
   filled-map : (es : List Entry) → All Filled es → All Filled (mapped g es)
   unfolding mapped
@@ -116,38 +116,38 @@ module _ (p : ℕ → Bool) (d m : Telling) (f : (e : Entry) → Filled e → Fi
   filled-map (e ∷ es) a = (f e a.0, filled-map es a.1)
 
   module _ (s : List Aside) (es : List Entry) (h : length es ≤ 512) (a : All Filled es) where
-    entries-hidden : Hides p g s 0 es → hide_from p 4 (padded 73728 (entry_rows s es)) ≡ padded 73728 (entry_rows s (mapped g es))
+    entries_hidden : Hides p g s 0 es → hide_from p 4 (padded 73728 (entry_rows s es)) ≡ padded 73728 (entry_rows s (mapped g es))
     unfolding padded
-    entries-hidden r =
+    entries_hidden r =
         let R : List ℕ = entry_rows s es in
         let e : length R ≡ length (entry_rows s (mapped g es)) =
         omega (arith, length_rows s es h a, length-map d m es, length_rows s (mapped g es) (omega (arith, length-map d m es)) (filled-map es a)) in
-        hide-append p 4 R (replicate (73728 - length R) 0)
-        ∙ (λ k. rows-hidden s es 0 a r k ++ hide-zeros p (4 + length R) (73728 - length R) k)
+        hide_append p 4 R (replicate (73728 - length R) 0)
+        ∙ (λ k. rows_hidden s es 0 a r k ++ hide_zeros p (4 + length R) (73728 - length R) k)
         ∙ ap (λ (n : ℕ). entry_rows s (mapped g es) ++ replicate (73728 - n) 0) e
 
-    length-entries : length (padded 73728 (entry_rows s es)) ≡ 73728
-    length-entries = length-padded 73728 (entry_rows s es) (omega (arith, length_rows s es h a))
+    length_entries : length (padded 73728 (entry_rows s es)) ≡ 73728
+    length_entries = length-padded 73728 (entry_rows s es) (omega (arith, length_rows s es h a))
 
   -- hidden at places of the rows of entries alone, a table is that of the tree so told
-  pub hidden-table : Within p → (t : Tree) → All Filled t.entries → length (present_ones t.entries) ≤ 512 → Hides p g t.asides 0 (present_ones t.entries)
+  pub hidden_table : Within p → (t : Tree) → All Filled t.entries → length (present_ones t.entries) ≤ 512 → Hides p g t.asides 0 (present_ones t.entries)
       → hide_from p 0 (table_bytes t) ≡ table_bytes (mapped_tree g t)
   unfolding table_bytes mapped_tree hide_from
-  hidden-table v t a h r =
+  hidden_table v t a h r =
       let s : List Aside = t.asides in
       let ps : List Entry = present_ones t.entries in
       let b : All Filled ps = all_present Filled t.entries a in
       let P : List ℕ = padded 73728 (entry_rows s ps) in
       let A : List ℕ = padded 12288 (aside_rows s) in
-      let u : mapped g ps ≡ present_ones (mapped g t.entries) = sym (present-map d m t.entries) in
+      let u : mapped g ps ≡ present_ones (mapped g t.entries) = sym (present_map d m t.entries) in
       let n : length ps ≡ length (present_ones (mapped g t.entries)) = sym (length-map d m ps) ∙ ap (λ (x : List Entry). length x) u in
-      let w : 4 + length P ≡ 73732 = omega (arith, length-entries s ps h b) in
+      let w : 4 + length P ≡ 73732 = omega (arith, length_entries s ps h b) in
       let q : hide_from p 4 (P ++ A) ≡ padded 73728 (entry_rows s (present_ones (mapped g t.entries))) ++ A =
-      hide-append p 4 P A
-      ∙ (λ k. entries-hidden s ps h b r k ++ hide_from p (w k) A)
-      ∙ (λ k. padded 73728 (entry_rows s (u k)) ++ hide-keeps p 73732 A (λ j _. v.behind (73732 + j) (omega arith)) k) in
-      hide-append p 0 (two (length ps) ++ two (length s)) (P ++ A)
-      ∙ (λ k. hide-keeps p 0 (two (length ps) ++ two (length s)) (λ j (z : j < 4). v.before (0 + j) (omega arith)) k ++ q k)
+      hide_append p 4 P A
+      ∙ (λ k. entries_hidden s ps h b r k ++ hide_from p (w k) A)
+      ∙ (λ k. padded 73728 (entry_rows s (u k)) ++ hide_keeps p 73732 A (λ j _. v.behind (73732 + j) (omega arith)) k) in
+      hide_append p 0 (two (length ps) ++ two (length s)) (P ++ A)
+      ∙ (λ k. hide_keeps p 0 (two (length ps) ++ two (length s)) (λ j (z : j < 4). v.before (0 + j) (omega arith)) k ++ q k)
       ∙ (λ k. two (n k) ++ (two (length s) ++ (padded 73728 (entry_rows s (present_ones (mapped g t.entries))) ++ A)))
 
 -- ---- dates
@@ -159,16 +159,16 @@ in_row n c h k =
     rw (le-leb 4 (4 + 72 * n + c) (omega arith), lt-ltb (4 + 72 * n + c) 73732 (omega arith), e)
 
 module _ (n : ℕ) (h : n < 512) where
-  before-date : (j : ℕ) → j < 20 → is_date_place (4 + 72 * n + j) ≡ false
-  before-date j k = in_row n j h (omega arith) ∙ rw (lt-leb 20 j k)
+  before_date : (j : ℕ) → j < 20 → is_date_place (4 + 72 * n + j) ≡ false
+  before_date j k = in_row n j h (omega arith) ∙ rw (lt-leb 20 j k)
 
-  at-date : (j : ℕ) → j < 4 → is_date_place (4 + 72 * n + 20 + j) ≡ true
-  at-date j k =
+  at_date : (j : ℕ) → j < 4 → is_date_place (4 + 72 * n + 20 + j) ≡ true
+  at_date j k =
       let e : 4 + 72 * n + 20 + j ≡ 4 + 72 * n + (20 + j) = omega arith in
       ap is_date_place e ∙ in_row n (20 + j) h (omega arith) ∙ rw (le-leb 20 (20 + j) (omega arith), le-leb (20 + j) 23 (omega arith))
 
-  behind-date : (j : ℕ) → j < 48 → is_date_place (4 + 72 * n + 20 + 4 + j) ≡ false
-  behind-date j k =
+  behind_date : (j : ℕ) → j < 48 → is_date_place (4 + 72 * n + 20 + 4 + j) ≡ false
+  behind_date j k =
       let e : 4 + 72 * n + 20 + 4 + j ≡ 4 + 72 * n + (24 + j) = omega arith in
       ap is_date_place e ∙ in_row n (24 + j) h (omega arith) ∙ rw (le-leb 20 (24 + j) (omega arith), lt-leb (24 + j) 23 (omega arith))
 
@@ -179,10 +179,10 @@ module _ (n : ℕ) (h : n < 512) where
       let f : List ℕ = (e.kind ∷ d ∷ 0 ∷ 0 ∷ []) ++ (identity_bytes e.made ++ (identity_bytes e.inside ++ (identity_bytes e.contents ++ identity_bytes e.placing))) in
       let t : List ℕ = e.label ++ e.mark in
       let w : length t ≡ 48 = omega (arith, length-append e.label e.mark) in
-      let a : hide_from is_date_place (i + 20) e.date ≡ replicate 4 0 = hide-all is_date_place (i + 20) e.date (λ j k. at-date j (omega arith)) ∙ rw p in
-      let b : hide_from is_date_place (i + 20 + length e.date) t ≡ t = rw p (hide-keeps is_date_place (i + 20 + 4) t (λ j k. behind-date j (omega arith))) in
-      hide-append is_date_place i f (e.date ++ t)
-      ∙ (λ k. hide-keeps is_date_place i f before-date k ++ hide-append is_date_place (i + 20) e.date t k)
+      let a : hide_from is_date_place (i + 20) e.date ≡ replicate 4 0 = hide_all is_date_place (i + 20) e.date (λ j k. at_date j (omega arith)) ∙ rw p in
+      let b : hide_from is_date_place (i + 20 + length e.date) t ≡ t = rw p (hide_keeps is_date_place (i + 20 + 4) t (λ j k. behind_date j (omega arith))) in
+      hide_append is_date_place i f (e.date ++ t)
+      ∙ (λ k. hide_keeps is_date_place i f before_date k ++ hide_append is_date_place (i + 20) e.date t k)
       ∙ (λ k. f ++ (a k ++ b k))
 
 rows_undated : (s : List Aside) (es : List Entry) (n : ℕ) → n + length es ≤ 512 → All Filled es → Hides is_date_place undated s n es
@@ -200,7 +200,7 @@ date_places =
 pub table_hidden : (t : Tree) → All Filled t.entries → length (present_ones t.entries) ≤ 512 → hide_dates (table_bytes t) ≡ table_bytes (undated_tree t)
 unfolding hide_dates undated_tree undated blind forgotten kept
 table_hidden t a h =
-    hidden-table is_date_place forgotten kept (λ e f. (refl, f.1, f.2)) date_places t a h
+    hidden_table is_date_place forgotten kept (λ e f. (refl, f.1, f.2)) date_places t a h
     (rows_undated t.asides (present_ones t.entries) 0 (omega arith) (all_present Filled t.entries a))
 
 -- ---- the entries of a log

@@ -30,7 +30,7 @@ use Rattle.tree_laws.proofs.Steps.{cond_elim, step_elim, effect_elim, all_change
 use Rattle.tree_laws.proofs.Identities.{lone_step}
 use Rattle.tree_laws.proofs.Labels.{Apart, apart-step, has_made, one_label}
 use Rattle.tree_laws.proofs.Roots.{no_entries, step_rooted}
-use Rattle.tree_laws.proofs.Marks.{Marks, judge-marks}
+use Rattle.tree_laws.proofs.Marks.{Marks, judge_marks}
 use Rattle.tree_laws.proofs.Trimming.{entry_present}
 
 -- ---- identities within a vector
@@ -107,43 +107,43 @@ named-at r at v h e =
     rw (p, q) (leb-true 1 n d, omega (arith, leb-true n (seen r u) f, h u low))
 
 module _ (r : Rec) (formed : well_formed r ≡ true) where
-  self-parts : (self_of r / 8 ≡ num r) × (self_of r % 8 ≡ unit r)
+  self_parts : (self_of r / 8 ≡ num r) × (self_of r % 8 ≡ unit r)
   unfolding self_of
-  self-parts = identity_parts (unit r) (num r) (well_unit r formed)
+  self_parts = identity_parts (unit r) (num r) (well_unit r formed)
 
   -- a vector that counts the record names it
-  self-named : (v : List ℕ) → num r ≤ get_or v (unit r) 0 → NamedIn v (self_of r)
-  self-named v h = rw (self-parts.0, self-parts.1) (omega (arith, well_own r formed), h)
+  self_named : (v : List ℕ) → num r ≤ get_or v (unit r) 0 → NamedIn v (self_of r)
+  self_named v h = rw (self_parts.0, self_parts.1) (omega (arith, well_own r formed), h)
 
   -- one that counts up to the record before does not
-  self-new : (v : List ℕ) → num r ≡ suc (get_or v (unit r) 0) → NamedIn v (self_of r) → ⊥
-  self-new v e h =
-      let k : num r ≤ get_or v (unit r) 0 = rw (self-parts.0, self-parts.1) at h.1 in
+  self_new : (v : List ℕ) → num r ≡ suc (get_or v (unit r) 0) → NamedIn v (self_of r) → ⊥
+  self_new v e h =
+      let k : num r ≤ get_or v (unit r) 0 = rw (self_parts.0, self_parts.1) at h.1 in
       omega arith
 
-  self-proper : self_of r ≡ root → ⊥
+  self_proper : self_of r ≡ root → ⊥
   unfolding self_of identity
-  self-proper q = omega (arith, well_own r formed)
+  self_proper q = omega (arith, well_own r formed)
 
-  folder-in : (v : List ℕ) → ((u : ℕ) → u < 8 → seen r u ≤ get_or v u 0) → NamedOrNone v (folder_of r)
+  folder_in : (v : List ℕ) → ((u : ℕ) → u < 8 → seen r u ≤ get_or v u 0) → NamedOrNone v (folder_of r)
   unfolding folder_fits unused folder_of
-  folder-in v h = go (bool_cases (uses_folder (op r))) (well_fields r formed).0
+  folder_in v h = go (bool_cases (uses_folder (op r))) (well_fields r formed).0
     where
       go : (uses_folder (op r) ≡ true) ⊎ (uses_folder (op r) ≡ false) → cond (uses_folder (op r)) (blank (part r 24 4) || names r 24) (blank (part r 24 4)) ≡ true → NamedOrNone v (identity_at r 24)
       go (inl c) e = ⊎_elim (λ b. inl (none-at r 24 b)) (λ b. inr (named-at r 24 v h b)) (or_true (blank (part r 24 4)) (names r 24) (rw c at e))
       go (inr c) e = inl (none-at r 24 (rw c at e))
 
-  date-real : is_date (word (date_bytes r) 0) (get_or (date_bytes r) 2 0) (get_or (date_bytes r) 3 0) ≡ true
+  date_real : is_date (word (date_bytes r) 0) (get_or (date_bytes r) 2 0) (get_or (date_bytes r) 3 0) ≡ true
   unfolding date_fits date_bytes
-  date-real = rw (word-part r 28 4 0 (omega arith), get_d_part r 28 4 2 (omega arith), get_d_part r 28 4 3 (omega arith)) (well_fields r formed).1
+  date_real = rw (word-part r 28 4 0 (omega arith), get_d_part r 28 4 2 (omega arith), get_d_part r 28 4 3 (omega arith)) (well_fields r formed).1
 
-  label_fits : uses_label (op r) ≡ true → is_label (label_of r) ≡ true
+  label_fits_lem : uses_label (op r) ≡ true → is_label (label_of r) ≡ true
   unfolding label_fits
-  label_fits u = rw u at (well_fields r formed).2
+  label_fits_lem u = rw u at (well_fields r formed).2
 
-  folder-unmarked : op r ≡ 1 → blank (mark_of r) ≡ true
+  folder_unmarked : op r ≡ 1 → blank (mark_of r) ≡ true
   unfolding mark_fits uses_mark unused mark_of
-  folder-unmarked o = rw o at (well_fields r formed).3
+  folder_unmarked o = rw o at (well_fields r formed).3
 
   date_long : length (date_bytes r) ≡ 4
   unfolding date_bytes
@@ -211,47 +211,47 @@ module _ (v w : List ℕ) (t : Tree) (r : Rec) (formed : well_formed r ≡ true)
   wide = sound_wider v w t f s
 
   self : NamedIn w (self_of r)
-  self = self-named r formed w counted
+  self = self_named r formed w counted
 
   folder : NamedOrNone w (folder_of r)
-  folder = none_wider v w f (folder_of r) (folder-in r formed v within)
+  folder = none_wider v w f (folder_of r) (folder_in r formed v within)
 
   no_entry : Has (self_of r) (makers t.entries) → ⊥
-  no_entry i = self-new r formed v next (own_in v t.entries s.entries_fit (self_of r) i)
+  no_entry i = self_new r formed v next (own_in v t.entries s.entries_fit (self_of r) i)
 
   no_aside : Has (self_of r) (whos t.asides) → ⊥
-  no_aside i = self-new r formed v next (who_in v t.asides s.asides_fit (self_of r) i)
+  no_aside i = self_new r formed v next (who_in v t.asides s.asides_fit (self_of r) i)
 
   root-step : Rooted (step t r).entries
-  root-step = step_rooted t r s.rooted no_entry (self-proper r formed) (λ z. omega (arith, (well_ops r formed).0))
+  root-step = step_rooted t r s.rooted no_entry (self_proper r formed) (λ z. omega (arith, (well_ops r formed).0))
 
-  new-fits : op r ≤ 2 → EntryFits w (new_entry r)
+  new_fits : op r ≤ 2 → EntryFits w (new_entry r)
   unfolding new_entry
-  new-fits o =
+  new_fits o =
       record {
         a_kind = o;
         own_named = self;
         folder_named = folder;
         contents_named = self;
         placing_named = self;
-        real_date = date-real r formed;
-        a_label = label_fits r formed (uses_label_lem (op r) (inl o));
-        unmarked = folder-unmarked r formed;
+        real_date = date_real r formed;
+        a_label = label_fits_lem r formed (uses_label_lem (op r) (inl o));
+        unmarked = folder_unmarked r formed;
         date_length = date_long r formed;
         label_length = label_long r formed;
         mark_length = mark_long r formed;
       }
 
-  stored-fits : op r ≡ 3 → judge r t ≡ fits → (e : Entry) → entry_of (object_of r) t.entries ≡ some e → EntryFits w e → EntryFits w (stored r e)
+  stored_fits : op r ≡ 3 → judge r t ≡ fits → (e : Entry) → entry_of (object_of r) t.entries ≡ some e → EntryFits w e → EntryFits w (stored r e)
   unfolding stored
-  stored-fits o h e q g =
+  stored_fits o h e q g =
       record {
         a_kind = g.a_kind;
         own_named = g.own_named;
         folder_named = g.folder_named;
         contents_named = self;
         placing_named = g.placing_named;
-        real_date = date-real r formed;
+        real_date = date_real r formed;
         a_label = g.a_label;
         unmarked = λ z. absurd (store_fits r e (ap (judge_store r) (sym q) ∙ sym (judge_store_lem r t o) ∙ h) z);
         date_length = date_long r formed;
@@ -259,9 +259,9 @@ module _ (v w : List ℕ) (t : Tree) (r : Rec) (formed : well_formed r ≡ true)
         mark_length = mark_long r formed;
       }
 
-  removed-fits : (e : Entry) → EntryFits w e → EntryFits w (removed e)
+  removed_fits : (e : Entry) → EntryFits w e → EntryFits w (removed e)
   unfolding removed
-  removed-fits e g =
+  removed_fits e g =
       record {
         a_kind = omega arith;
         own_named = g.own_named;
@@ -276,9 +276,9 @@ module _ (v w : List ℕ) (t : Tree) (r : Rec) (formed : well_formed r ≡ true)
         mark_length = g.mark_length;
       }
 
-  renamed-fits : op r ≡ 5 → (e : Entry) → EntryFits w e → EntryFits w (renamed r e)
+  renamed_fits : op r ≡ 5 → (e : Entry) → EntryFits w e → EntryFits w (renamed r e)
   unfolding renamed
-  renamed-fits o e g =
+  renamed_fits o e g =
       record {
         a_kind = g.a_kind;
         own_named = g.own_named;
@@ -286,16 +286,16 @@ module _ (v w : List ℕ) (t : Tree) (r : Rec) (formed : well_formed r ≡ true)
         contents_named = g.contents_named;
         placing_named = self;
         real_date = g.real_date;
-        a_label = label_fits r formed (uses_label_lem (op r) (inr (inl o)));
+        a_label = label_fits_lem r formed (uses_label_lem (op r) (inr (inl o)));
         unmarked = g.unmarked;
         date_length = g.date_length;
         label_length = label_long r formed;
         mark_length = g.mark_length;
       }
 
-  moved-fits : 6 < op r → (e : Entry) → EntryFits w e → EntryFits w (moved r e)
+  moved_fits : 6 < op r → (e : Entry) → EntryFits w e → EntryFits w (moved r e)
   unfolding moved
-  moved-fits o e g =
+  moved_fits o e g =
       record {
         a_kind = g.a_kind;
         own_named = g.own_named;
@@ -303,7 +303,7 @@ module _ (v w : List ℕ) (t : Tree) (r : Rec) (formed : well_formed r ≡ true)
         contents_named = g.contents_named;
         placing_named = self;
         real_date = g.real_date;
-        a_label = label_fits r formed (uses_label_lem (op r) (inr (inr (omega (arith, (well_ops r formed).1)))));
+        a_label = label_fits_lem r formed (uses_label_lem (op r) (inr (inr (omega (arith, (well_ops r formed).1)))));
         unmarked = g.unmarked;
         date_length = g.date_length;
         label_length = label_long r formed;
@@ -316,17 +316,17 @@ module _ (v w : List ℕ) (t : Tree) (r : Rec) (formed : well_formed r ≡ true)
       let a = wide.entries_fit in
       step_elim P t r
       (λ h. effect_elim P r t
-      (λ o. all_append (EntryFits w) t.entries (new_entry r ∷ []) a (new-fits o, tt))
-      (λ o. all_changed (EntryFits w) (stored r) (object_of r) t.entries (stored-fits o h) a)
-      (λ o. all_changed (EntryFits w) removed (object_of r) t.entries (λ e _. removed-fits e) a)
-      (λ o. all_changed (EntryFits w) (renamed r) (object_of r) t.entries (λ e _. renamed-fits o e) a)
+      (λ o. all_append (EntryFits w) t.entries (new_entry r ∷ []) a (new_fits o, tt))
+      (λ o. all_changed (EntryFits w) (stored r) (object_of r) t.entries (stored_fits o h) a)
+      (λ o. all_changed (EntryFits w) removed (object_of r) t.entries (λ e _. removed_fits e) a)
+      (λ o. all_changed (EntryFits w) (renamed r) (object_of r) t.entries (λ e _. renamed_fits o e) a)
       (λ o. a)
-      (λ o. all_changed (EntryFits w) (moved r) (object_of r) t.entries (λ e _. moved-fits o e) a))
+      (λ o. all_changed (EntryFits w) (moved r) (object_of r) t.entries (λ e _. moved_fits o e) a))
       (λ n k h. a)
 
   aside_fits_lem : (n k : ℕ) → judge r t ≡ aside n k → AsideFits w (record { who = self_of r; reason = n; marked = k; is_open = true })
   aside_fits_lem n k h =
-      let m : Marks (NamedIn w) (judge r t) = judge-marks (NamedIn w) r t (all_map (λ e g. g.own_named) t.entries wide.entries_fit) in
+      let m : Marks (NamedIn w) (judge r t) = judge_marks (NamedIn w) r t (all_map (λ e g. g.own_named) t.entries wide.entries_fit) in
       record { who_named = self; a_reason = rw h at (reason_range r t); mark_named = rw h at m }
 
   asides_step : All (AsideFits w) (step t r).asides
@@ -337,8 +337,8 @@ module _ (v w : List ℕ) (t : Tree) (r : Rec) (formed : well_formed r ≡ true)
       (λ h. effect_elim P r t (λ _. a) (λ _. a) (λ _. a) (λ _. a) (λ _. settled_fit w (object_of r) t.asides a) (λ _. a))
       (λ n k h. all_append (AsideFits w) t.asides (record { who = self_of r; reason = n; marked = k; is_open = true } ∷ []) a (aside_fits_lem n k h, tt))
 
-  pub sound-step : SoundTree w (step t r)
-  sound-step =
+  pub sound_step : SoundTree w (step t r)
+  sound_step =
       record {
         lone = lone_step t r no_entry no_aside s.lone;
         rooted = root-step;
@@ -353,7 +353,7 @@ pub sound_counted : (v : List ℕ) (t : Tree) (r : Rec) → length v ≡ 8 → w
 sound_counted v t r n formed next within s =
     let low = well_unit r formed in
     let own : get_or (set v (unit r) (num r)) (unit r) 0 ≡ num r = get_or-set_same v (unit r) (num r) 0 (omega arith) in
-    sound-step v (set v (unit r) (num r)) t r formed next within
+    sound_step v (set v (unit r) (num r)) t r formed next within
     (λ u h.
     ⊎_elim
     (λ (q : u ≡ unit r). rw q (omega arith))

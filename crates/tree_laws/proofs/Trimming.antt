@@ -15,7 +15,7 @@ use Rattle.model.specs.Table.{table_bytes}
 use Rattle.byte_slice.proofs.Numbers.{bool_cases, and_wrong, not_both}
 use Rattle.tree_laws.proofs.Steps.{step_elim, step_fits, step-aside, effect_elim, effect_make, effect_store, effect_remove, effect_rename, effect_settle, effect_move}
 use Rattle.tree_laws.proofs.Settling.{replay-append}
-use Rattle.tree_laws.proofs.Roots.{present_few, comes_way, way_comes, comes-few}
+use Rattle.tree_laws.proofs.Roots.{present_few, comes_way, way_comes, comes_few}
 
 -- ---- what is present
 
@@ -100,7 +100,7 @@ below_present k f l = comes_present (suc (length (present_ones l))) k f l ∙ sa
 
     same : (few ≡ true) ⊎ (few ≡ false) → (many ≡ true) ⊎ (many ≡ false) → few ≡ many
     same (inl a) b = a ∙ sym (more a)
-    same (inr a) (inl b) = absurd (not_both few (comes-few l k (suc (length l)) f b) a)
+    same (inr a) (inl b) = absurd (not_both few (comes_few l k (suc (length l)) f b) a)
     same (inr a) (inr b) = a ∙ sym b
 
 -- so does the judgement

@@ -10,7 +10,7 @@ use mathlib.Core.Option.{none, some}
 use mathlib.Core.List.{List, [], ◌∷◌}
 use lib.Dec.{eqb}
 use lib.ListN.{length}
-use borrow.Author.Tests.{eq-eqb, ne_eqb, not-true, not-false}
+use borrow.Author.Tests.{eq-eqb, ne_eqb, not-true, not_false}
 use Rattle.model.specs.Replay.{Entry, is_present, entry_of, comes_to, is_below}
 use Rattle.byte_slice.proofs.Numbers.{not_both}
 use Rattle.model.specs.Table.{entry_in}
@@ -32,17 +32,17 @@ unfolding is_below
 below_starts b n k f = rw (entries_length b 0 n, add-one n)
 
 module _ (b : List ℕ) (n k f at steps : ℕ) (inv : comes_to steps k at (entries_from b 0 n) ≡ is_below k f (entries_from b 0 n)) where
-  pub below-ends : steps ≤ 0 → false ≡ is_below k f (entries_from b 0 n)
+  pub below_ends : steps ≤ 0 → false ≡ is_below k f (entries_from b 0 n)
   unfolding comes_to
-  below-ends h = let z : steps ≡ 0 = omega arith in rw z at inv
+  below_ends h = let z : steps ≡ 0 = omega arith in rw z at inv
 
   -- the way has a step more
   more : 0 < steps → comes_to (suc (steps - 1)) k at (entries_from b 0 n) ≡ is_below k f (entries_from b 0 n)
   more h = let z : steps ≡ suc (steps - 1) = omega arith in rw z at inv
 
-  pub below-here : 0 < steps → at ≡ k → true ≡ is_below k f (entries_from b 0 n)
+  pub below_here : 0 < steps → at ≡ k → true ≡ is_below k f (entries_from b 0 n)
   unfolding comes_to
-  below-here h e = rw (eq-eqb at k e) at (more h)
+  below_here h e = rw (eq-eqb at k e) at (more h)
 
   module _ (h : 0 < steps) (other : at ≡ k → ⊥) where
     pub below_root : (register : List ℕ) (m : ℕ) → Holds b register n m → (s : Bool) → s ≡ is_identity at → not s ≡ true → false ≡ is_below k f (entries_from b 0 n)
@@ -50,13 +50,13 @@ module _ (b : List ℕ) (n k f at steps : ℕ) (inv : comes_to steps k at (entri
     below_root register m w s e g = rw (ne_eqb at k other, no_identity at (entries_from b 0 n) w.proper (sym e ∙ not-true s g)) at (more h)
 
     module _ (row : ℕ) (o : row_in b n row ≡ entry_of at (entries_from b 0 n)) where
-      pub below-absent : n ≤ row → false ≡ is_below k f (entries_from b 0 n)
+      pub below_absent : n ≤ row → false ≡ is_below k f (entries_from b 0 n)
       unfolding comes_to
-      below-absent g = rw (ne_eqb at k other, ← o, row-none b n row g) at (more h)
+      below_absent g = rw (ne_eqb at k other, ← o, row-none b n row g) at (more h)
 
-      pub below-goes : row < n → (up : ℕ) → up ≡ (entry_in b (4 + 72 * row)).inside → comes_to (steps - 1) k up (entries_from b 0 n) ≡ is_below k f (entries_from b 0 n)
+      pub below_goes : row < n → (up : ℕ) → up ≡ (entry_in b (4 + 72 * row)).inside → comes_to (steps - 1) k up (entries_from b 0 n) ≡ is_below k f (entries_from b 0 n)
       unfolding comes_to
-      below-goes g up e = rw e (rw (ne_eqb at k other, ← o, row_some b n row g) at (more h))
+      below_goes g up e = rw e (rw (ne_eqb at k other, ← o, row_some b n row g) at (more h))
 
 pub identity_in : (k : ℕ) (s : Bool) → s ≡ is_identity k → not s ≡ false → InRange k
-identity_in k s e g = identity-range k (sym e ∙ not-false s g)
+identity_in k s e g = identity-range k (sym e ∙ not_false s g)

@@ -8,7 +8,7 @@ use mathlib.Core.Logic.{◌⊎◌, inl, inr, ⊎_elim}
 use mathlib.Core.Bool.{Bool, true, false, not, ◌&&◌}
 use mathlib.Core.List.{List, [], ◌∷◌, ◌++◌}
 use lib.ListN.{get_or, length, set}
-use borrow.Author.Tests.{ne_eqb, not-true, not-false}
+use borrow.Author.Tests.{ne_eqb, not-true, not_false}
 use Rattle.model.specs.Replay.{Entry, Tree, is_present, is_in}
 use Rattle.byte_slice.proofs.Numbers.{eq_or_ne, and_wrong, not_both, lt_or_ge}
 use Rattle.tree_table.specs.Rows.{tree_in, InRange, AllProper}
@@ -16,7 +16,7 @@ use Rattle.tree_maps.specs.Keys.{is_identity, children_of, folder_at, OneEach}
 use Rattle.tree_maps.proofs.Counts.{identity-range, range-identity, folder_row, children_cons, one}
 use Rattle.tree_lookup.specs.Roles.{row_from, row_of, role_of, Absent, Lone, Home, Housed, Works, Holds}
 use Rattle.tree_lookup.proofs.Places.{absent_row, row-at, row_lone, row_more}
-use Rattle.tree_lookup.proofs.Working.{blank_entry, proper_at, role-row, role-no-row}
+use Rattle.tree_lookup.proofs.Working.{blank_entry, proper_at, role_row, role_no_row}
 
 -- what is no identity has no row
 pub no_row : (f : ℕ) (l : List Entry) → AllProper l → (InRange f → ⊥) → Absent f l
@@ -26,9 +26,9 @@ no_row f (e ∷ l) p h = (λ (z : e.made ≡ f). h (rw z at p.0.range), no_row f
 -- ---- places
 
 module _ (es : List Entry) (fit : AllProper es) where
-  pub place-folder : (f : ℕ) → Home f es → folder_at es (row_from f 0 es) ≡ f
+  pub place_folder : (f : ℕ) → Home f es → folder_at es (row_from f 0 es) ≡ f
   unfolding folder_at
-  place-folder f h =
+  place_folder f h =
       ⊎_elim
       (λ (z : f ≡ 0).
       let a : row_from f 0 es ≡ 0 = absent_row f 0 es (no_row f es fit (λ r. let l = r.low in omega arith)) in
@@ -114,11 +114,11 @@ module _ (b register : List ℕ) (n m : ℕ) (w : Holds b register n m) (f : ℕ
       sym (absent_row f 0 (tree_in b n m).entries (no_row f (tree_in b n m).entries w.proper (λ r. not_both (is_identity f) (range-identity f r) (sym e ∙ not-true s h))))
 
   module _ (role : ℕ) (e : role ≡ role_of f (tree_in b n m)) where
-    pub place-aside : n < role → 0 ≡ row_of f (tree_in b n m)
-    place-aside h = sym (role-no-row b register n m (tree_in b n m) w f role e (inr h))
+    pub place_aside : n < role → 0 ≡ row_of f (tree_in b n m)
+    place_aside h = sym (role_no_row b register n m (tree_in b n m) w f role e (inr h))
 
-    pub place-row : role ≤ n → role ≡ row_of f (tree_in b n m)
-    place-row h =
-        ⊎_elim (λ (z : 0 < role). sym (role-row b register n m (tree_in b n m) w f role e z h))
-        (λ (z : role ≤ 0). let y : role ≡ 0 = omega arith in y ∙ sym (role-no-row b register n m (tree_in b n m) w f role e (inl y)))
+    pub place_row : role ≤ n → role ≡ row_of f (tree_in b n m)
+    place_row h =
+        ⊎_elim (λ (z : 0 < role). sym (role_row b register n m (tree_in b n m) w f role e z h))
+        (λ (z : role ≤ 0). let y : role ≡ 0 = omega arith in y ∙ sym (role_no_row b register n m (tree_in b n m) w f role e (inl y)))
         (lt_or_ge 0 role)

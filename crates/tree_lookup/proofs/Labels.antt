@@ -9,7 +9,7 @@ use mathlib.Core.Bool.{Bool, true, false, not, ◌&&◌}
 use mathlib.Core.List.{List, [], ◌∷◌}
 use lib.Dec.{eqb}
 use lib.ListN.{get_or, take, drop}
-use borrow.Author.Tests.{eq-eqb, ne_eqb, eqb-true, le-leb, lt-leb, not-true, not-false}
+use borrow.Author.Tests.{eq-eqb, ne_eqb, eqb-true, le-leb, lt-leb, not-true, not_false}
 use Rattle.model.specs.Replay.{Entry, is_present, is_in, same_label, is_holder, holder_of}
 use Rattle.byte_slice.proofs.Numbers.{lt_or_ge, bool_cases, and_true, not_both, test_false}
 use Rattle.record_label.proofs.Same.{same_key}
@@ -21,7 +21,7 @@ use Rattle.hash_chains.proofs.Links.{found_none, found-next}
 use Rattle.tree_maps.specs.Keys.{hash_of, chain_of}
 use Rattle.tree_maps.proofs.Labels.{hash_key}
 use Rattle.tree_lookup.specs.Roles.{holds_at, earlier_of, Holds}
-use Rattle.tree_lookup.proofs.Working.{blank_entry, row-none, row_some, works-row}
+use Rattle.tree_lookup.proofs.Working.{blank_entry, row-none, row_some, works_row}
 
 -- ---- one row
 
@@ -38,26 +38,26 @@ module _ (b : List ℕ) (i k f : ℕ) (label : List ℕ) (t : Bool) (h : t ≡ i
   unfolding holds_at is_holder
   holds_not g = rw (← h, not-true t g)
 
-  pub holds-itself : (x : ℕ) → not t ≡ false → x ≡ (entry_in b (4 + 72 * i)).made → x ≡ k → false ≡ holds_at b k f label i
+  pub holds_itself : (x : ℕ) → not t ≡ false → x ≡ (entry_in b (4 + 72 * i)).made → x ≡ k → false ≡ holds_at b k f label i
   unfolding holds_at is_holder
-  holds-itself x g e y = rw (← h, not-false t g, eq-eqb (entry_in b (4 + 72 * i)).made k (sym e ∙ y))
+  holds_itself x g e y = rw (← h, not_false t g, eq-eqb (entry_in b (4 + 72 * i)).made k (sym e ∙ y))
 
   pub holds_same : (x : ℕ) (s : Bool) → not t ≡ false → x ≡ (entry_in b (4 + 72 * i)).made → (x ≡ k → ⊥) → s ≡ same_label (take (4 + 72 * i + 24 + 32 - (4 + 72 * i + 24)) (drop (4 + 72 * i + 24) b)) label → s ≡ holds_at b k f label i
   unfolding holds_at is_holder entry_in
-  holds_same x s g y z e = rw (← h, not-false t g, ne_eqb (entry_in b (4 + 72 * i)).made k (λ (w : (entry_in b (4 + 72 * i)).made ≡ k). z (y ∙ w))) (e ∙ rw (part_is b (4 + 72 * i + 24) 32))
+  holds_same x s g y z e = rw (← h, not_false t g, ne_eqb (entry_in b (4 + 72 * i)).made k (λ (w : (entry_in b (4 + 72 * i)).made ≡ k). z (y ∙ w))) (e ∙ rw (part_is b (4 + 72 * i + 24) 32))
 
 module _ (b : List ℕ) (k f : ℕ) (t : List ℕ) (row best : ℕ) where
-  pub earlier-not : best ≤ row → best ≡ earlier_of b k f t row best
+  pub earlier_not : best ≤ row → best ≡ earlier_of b k f t row best
   unfolding earlier_of
-  earlier-not h = rw (le-leb best row h)
+  earlier_not h = rw (le-leb best row h)
 
-  pub earlier-holds : row < best → (s : Bool) → s ≡ holds_at b k f t row → s ≡ true → row ≡ earlier_of b k f t row best
+  pub earlier_holds : row < best → (s : Bool) → s ≡ holds_at b k f t row → s ≡ true → row ≡ earlier_of b k f t row best
   unfolding earlier_of
-  earlier-holds h s e g = rw (lt-leb best row h, ← e, g)
+  earlier_holds h s e g = rw (lt-leb best row h, ← e, g)
 
-  pub earlier-free : row < best → (s : Bool) → s ≡ holds_at b k f t row → s ≡ false → best ≡ earlier_of b k f t row best
+  pub earlier_free : row < best → (s : Bool) → s ≡ holds_at b k f t row → s ≡ false → best ≡ earlier_of b k f t row best
   unfolding earlier_of
-  earlier-free h s e g = rw (lt-leb best row h, ← e, g)
+  earlier_free h s e g = rw (lt-leb best row h, ← e, g)
 
 -- ---- the rows from i on
 
@@ -78,10 +78,10 @@ module _ (b : List ℕ) (n k f : ℕ) (t : List ℕ) where
       rw (entries_step b j n (omega arith), d) at (skipped best fit free j (omega arith))
 
   -- the first row that holds the label, or none
-  first-holder : (best : ℕ) → best ≤ n → ((i : ℕ) → i < best → holds_at b k f t i ≡ false) → (best < n → holds_at b k f t best ≡ true)
+  first_holder : (best : ℕ) → best ≤ n → ((i : ℕ) → i < best → holds_at b k f t i ≡ false) → (best < n → holds_at b k f t best ≡ true)
       → row_in b n best ≡ holder_of k f t (entries_from b 0 n)
   unfolding holder_of holds_at
-  first-holder best fit free here =
+  first_holder best fit free here =
       let s = skipped best fit free best (omega arith) in
       ⊎_elim
       (λ (h : best < n).
@@ -108,22 +108,22 @@ module _ (b l : List ℕ) (n m : ℕ) (w : Holds b l n m) (k f : ℕ) (t : List 
       let (p, g) = and_true (is_in f x) (not (eqb x.made k) && same_label x.label t) e in
       let (_, q) = and_true (not (eqb x.made k)) (same_label x.label t) g in
       let (r, s) = and_true (is_present x) (eqb x.inside f) p in
-      let at : get_or (entries_from b 0 n) i blank_entry ≡ x = works-row b l n m (tree_in b n m) w i blank_entry h in
+      let at : get_or (entries_from b 0 n) i blank_entry ≡ x = works_row b l n m (tree_in b n m) w i blank_entry h in
       let y = w.keyed.kept i blank_entry h (rw at r) in
       let c : chain_of (get_or (entries_from b 0 n) i blank_entry) ≡ hash_of f t = rw (at, eqb-true x.inside f s) (hash_key f x.label t (same_key x.label t q)) in
       rw c at y
 
-  pub seek-starts : (h q : ℕ) → h ≡ hash_of f t → q ≡ first_of 4097 l h → q ≤ nodes_in 4097 l → Seeking b l n k f t n q
-  seek-starts h q e g y =
+  pub seek_starts : (h q : ℕ) → h ≡ hash_of f t → q ≡ first_of 4097 l h → q ≤ nodes_in 4097 l → Seeking b l n k f t n q
+  seek_starts h q e g y =
       record { node = y; within = omega arith; holds = λ z. absurd (omega arith); ahead = λ i z x. rw (g, e) (held i z x) }
 
   module _ (best q : ℕ) (s : Seeking b l n k f t best q) where
     pub seek-row : 0 < q → (row : ℕ) → row ≡ row_at 4097 l q → row < 1024
-    seek-row h row e = let a = w.rows_fit in omega (arith, w.keyed.rows q h s.node)
+    seek-row h row e = let a = w.rows_fit_lem in omega (arith, w.keyed.rows q h s.node)
 
-    pub seek-goes : 0 < q → (row best' q' : ℕ) → row ≡ row_at 4097 l q → best' ≡ earlier_of b k f t row best → q' ≡ behind 4097 l q → q' < q → Seeking b l n k f t best' q'
+    pub seek_goes : 0 < q → (row best' q' : ℕ) → row ≡ row_at 4097 l q → best' ≡ earlier_of b k f t row best → q' ≡ behind 4097 l q → q' < q → Seeking b l n k f t best' q'
     unfolding earlier_of
-    seek-goes h row best' q' r e g low =
+    seek_goes h row best' q' r e g low =
         let a = s.node in
         let c = s.within in
         let d = w.keyed.rows q h a in
@@ -162,4 +162,4 @@ module _ (b l : List ℕ) (n m : ℕ) (w : Holds b l n m) (k f : ℕ) (t : List 
     pub seek_ends : q ≤ 0 → row_in b n best ≡ holder_of k f t (entries_from b 0 n)
     seek_ends h =
         let z : q ≡ 0 = omega arith in
-        first-holder b n k f t best s.within (λ i g. test_false (holds_at b k f t i) (λ (y : holds_at b k f t i ≡ true). found_none 4097 l i (rw z at (s.ahead i g y)))) s.holds
+        first_holder b n k f t best s.within (λ i g. test_false (holds_at b k f t i) (λ (y : holds_at b k f t i ≡ true). found_none 4097 l i (rw z at (s.ahead i g y)))) s.holds

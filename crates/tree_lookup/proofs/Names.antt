@@ -14,7 +14,7 @@ use Rattle.byte_slice.proofs.Numbers.{eq_or_ne, lt_or_ge}
 use Rattle.model.specs.Table.{entry_in, aside_in}
 use Rattle.tree_table.specs.Rows.{entries_from, asides_from, tree_in, InRange}
 use Rattle.hash_chains.specs.Chains.{nodes_in, first_of, behind, row_at, Found}
-use Rattle.hash_chains.proofs.Links.{found_none, found-next, kept-nodes, kept-chains, kept-found, kept_rows, pushed-nodes, pushed-chains, pushed-new, pushed-found, pushed-rows}
+use Rattle.hash_chains.proofs.Links.{found_none, found-next, kept_nodes, kept_chains, kept-found, kept_rows, pushed_nodes, pushed_chains, pushed_new, pushed-found, pushed_rows}
 use Rattle.tree_maps.specs.Keys.{link_of, named, made_at}
 use Rattle.tree_maps.proofs.Counts.{link_low, made_row}
 use Rattle.tree_lookup.specs.Roles.{row_from, note_from, row_of, note_of, behind_rows, role_of, who_at, name_of, Role, HasRole, Named, Reads}
@@ -127,11 +127,11 @@ name_role t fit apart k h = go (row_from k 0 t.entries) (note_from k 0 t.asides)
 -- ---- what `name_at` is asked, over plain values
 
 module _ (b : List ℕ) (n m r : ℕ) (w : Role n m r) where
-  pub name-low : n < r → 1025 ≤ r
-  name-low h = ⊎_elim (λ (z : r ≤ n). absurd (omega arith)) (λ (z : 1024 < r). omega arith) w.within
+  pub name_low : n < r → 1025 ≤ r
+  name_low h = ⊎_elim (λ (z : r ≤ n). absurd (omega arith)) (λ (z : 1024 < r). omega arith) w.within
 
-  pub name-end : length b ≡ 86020 → m ≤ 1024 → n < r → 73732 + 12 * (r - 1025) + 3 < length b
-  name-end long fit h = let a = w.most in omega (arith, name-low h)
+  pub name_end : length b ≡ 86020 → m ≤ 1024 → n < r → 73732 + 12 * (r - 1025) + 3 < length b
+  name_end long fit h = let a = w.most in omega (arith, name_low h)
 
   pub name-entry : n ≤ 1024 → r ≤ n → (x : ℕ) → x ≡ (entry_in b (4 + 72 * (r - 1))).made → x ≡ name_of (tree_in b n m) r
   unfolding tree_in
@@ -149,7 +149,7 @@ module _ (b : List ℕ) (n m r : ℕ) (w : Role n m r) where
   unfolding tree_in aside_in
   name-aside h x e =
       let l = asides_from b 0 m in
-      let z = name-low h in
+      let z = name_low h in
       let a = w.most in
       let i : r - 1025 < m = omega arith in
       e
@@ -168,31 +168,31 @@ pub record Tracing (l : List ℕ) (t : Tree) (k q : ℕ) : Type 0 where
 module _ (b l : List ℕ) (n m : ℕ) (w : Reads b l n m) (k : ℕ) where
   entries_few : length (tree_in b n m).entries ≤ 1024
   unfolding tree_in
-  entries_few = let f = w.rows_fit in omega (arith, entries_length b 0 n)
+  entries_few = let f = w.rows_fit_lem in omega (arith, entries_length b 0 n)
 
-  pub trace-starts : InRange k → (h q : ℕ) → h ≡ link_of k → q ≡ first_of 0 l h → q ≤ nodes_in 0 l → Tracing l (tree_in b n m) k q
-  trace-starts u h q e g y = record { node = y; ahead = λ z. rw (g, e) (w.named.found k u z) }
+  pub trace_starts : InRange k → (h q : ℕ) → h ≡ link_of k → q ≡ first_of 0 l h → q ≤ nodes_in 0 l → Tracing l (tree_in b n m) k q
+  trace_starts u h q e g y = record { node = y; ahead = λ z. rw (g, e) (w.named.found k u z) }
 
   module _ (q : ℕ) (s : Tracing l (tree_in b n m) k q) where
-    pub trace-role : 0 < q → (role : ℕ) → role ≡ row_at 0 l q → Role n m role
+    pub trace_role : 0 < q → (role : ℕ) → role ≡ row_at 0 l q → Role n m role
     unfolding tree_in
-    trace-role h role e =
+    trace_role h role e =
         let t = tree_in b n m in
         let r = role_within t entries_few w.apart (row_at 0 l q) (w.named.roles q h s.node) in
         rw (← e, entries_length b 0 n, asides_length b 0 m) at r
 
-    pub trace-low : 0 < q → (role : ℕ) → role ≡ row_at 0 l q → role ≤ 2048
-    trace-low h role e = let f = w.notes_fit in omega (arith, (trace-role h role e).most)
+    pub trace_low : 0 < q → (role : ℕ) → role ≡ row_at 0 l q → role ≤ 2048
+    trace_low h role e = let f = w.notes_fit in omega (arith, (trace_role h role e).most)
 
-    pub trace-found : 0 < q → (role x : ℕ) → role ≡ row_at 0 l q → x ≡ name_of (tree_in b n m) role → x ≡ k → role ≡ role_of k (tree_in b n m)
-    trace-found h role x e g y =
+    pub trace_found : 0 < q → (role x : ℕ) → role ≡ row_at 0 l q → x ≡ name_of (tree_in b n m) role → x ≡ k → role ≡ role_of k (tree_in b n m)
+    trace_found h role x e g y =
         let t = tree_in b n m in
         let r = (w.named.roles q h s.node).1 in
         let z : name_of t (row_at 0 l q) ≡ k = rw (← e) (sym g ∙ y) in
         e ∙ sym (rw z at r)
 
-    pub trace-goes : 0 < q → (role x q' : ℕ) → role ≡ row_at 0 l q → x ≡ name_of (tree_in b n m) role → (x ≡ k → ⊥) → q' ≡ behind 0 l q → q' < q → Tracing l (tree_in b n m) k q'
-    trace-goes h role x q' e g y p low =
+    pub trace_goes : 0 < q → (role x q' : ℕ) → role ≡ row_at 0 l q → x ≡ name_of (tree_in b n m) role → (x ≡ k → ⊥) → q' ≡ behind 0 l q → q' < q → Tracing l (tree_in b n m) k q'
+    trace_goes h role x q' e g y p low =
         let t = tree_in b n m in
         let a = s.node in
         let fit = entries_few in
@@ -206,8 +206,8 @@ module _ (b l : List ℕ) (n m : ℕ) (w : Reads b l n m) (k : ℕ) where
               (found-next 0 l q (role_of k t) (s.ahead z));
         }
 
-    pub trace-ends : q ≤ 0 → 0 ≡ role_of k (tree_in b n m)
-    trace-ends h =
+    pub trace_ends : q ≤ 0 → 0 ≡ role_of k (tree_in b n m)
+    trace_ends h =
         let t = tree_in b n m in
         let z : q ≡ 0 = omega arith in
         ⊎_elim (λ (v : role_of k t ≡ 0). sym v) (λ (v : role_of k t ≡ 0 → ⊥). absurd (found_none 0 l (role_of k t) (rw z at (s.ahead v)))) (eq_or_ne (role_of k t) 0)
@@ -220,8 +220,8 @@ named-kept l m t w long same =
     let c = w.chains in
     let s : (i : ℕ) → 0 ≤ i → i < 0 + 4097 → get_or m i 0 ≡ get_or l i 0 = λ i _ h. same i (omega arith) in
     record {
-      chains = kept-chains 0 l m c s long;
-      count = kept-nodes 0 l m c s ∙ w.count;
+      chains = kept_chains 0 l m c s long;
+      count = kept_nodes 0 l m c s ∙ w.count;
       roles = kept_rows 0 l m c s (λ x. HasRole t x) w.roles;
       found = λ k u h. kept-found 0 l m c s (link_of k) (role_of k t) (link_low k) (w.found k u h);
     }
@@ -247,16 +247,16 @@ named_more l t u k role w room fresh new least is same name more =
     let h = link_of k in
     let low = link_low k in
     record {
-      chains = pushed-chains 0 l h role c room low;
-      count = pushed-nodes 0 l h role c room low ∙ omega (arith, w.count);
-      roles = pushed-rows 0 l h role c room low (λ x. HasRole u x) (least, rw is new)
+      chains = pushed_chains 0 l h role c room low;
+      count = pushed_nodes 0 l h role c room low ∙ omega (arith, w.count);
+      roles = pushed_rows 0 l h role c room low (λ x. HasRole u x) (least, rw is new)
           (λ q a b.
           let x = w.roles q a b in
           let r = row_at 0 l q in
           let other : name_of t r ≡ k → ⊥ = λ (z : name_of t r ≡ k). let y : role_of k t ≡ r = rw z at x.1 in omega (arith, x.0) in
           (x.0, rw (name r x, same (name_of t r) other) x.1));
       found = λ j v g.
-          ⊎_elim (λ (z : j ≡ k). rw (z, new) (pushed-new 0 l h role c room low))
+          ⊎_elim (λ (z : j ≡ k). rw (z, new) (pushed_new 0 l h role c room low))
           (λ (z : j ≡ k → ⊥).
           rw (same j z) (pushed-found 0 l h role c room low (link_of j) (role_of j t) (link_low j) (w.found j v (λ y. g (same j z ∙ y)))))
           (eq_or_ne j k);

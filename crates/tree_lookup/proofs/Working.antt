@@ -62,39 +62,39 @@ proper_at (e ∷ l) (suc i) d h p = proper_at l i d (omega arith) p.1
 -- ---- a working table shows its tree
 
 module _ (b register : List ℕ) (n m : ℕ) (t : Tree) (w : Works b register n m t) where
-  pub works-long : length b ≡ 86020
+  pub works_long : length b ≡ 86020
   unfolding work_bytes
-  works-long =
-      let f = w.rows_fit in
+  works_long =
+      let f = w.rows_fit_lem in
       let g = w.notes_fit in
       let p = w.rows in
       let q = w.notes in
       rw w.bytes (flagged-long [] t.entries t.asides w.proper (omega arith) (omega arith))
 
-  pub works-tree : tree_in b n m ≡ t
+  pub works_tree : tree_in b n m ≡ t
   unfolding work_bytes
-  works-tree =
-      let f = w.rows_fit in
+  works_tree =
+      let f = w.rows_fit_lem in
       let p = w.rows in
       rw (← w.rows, ← w.notes, w.bytes) (tree_back [] t w.proper (omega arith))
 
-  pub works-holds : Holds b register n m
-  works-holds = rw works-tree w
+  pub works_holds : Holds b register n m
+  works_holds = rw works_tree w
 
-  pub works-row : (i : ℕ) (d : Entry) → i < n → get_or t.entries i d ≡ entry_in b (4 + 72 * i)
+  pub works_row : (i : ℕ) (d : Entry) → i < n → get_or t.entries i d ≡ entry_in b (4 + 72 * i)
   unfolding tree_in
-  works-row i d h =
-      sym (ap (λ (x : Tree). get_or x.entries i d) works-tree) ∙ (rw (zero-add i) at (entries_at b 0 n i d h))
+  works_row i d h =
+      sym (ap (λ (x : Tree). get_or x.entries i d) works_tree) ∙ (rw (zero-add i) at (entries_at b 0 n i d h))
 
-  pub works-range : (i : ℕ) → i < n → InRange (entry_in b (4 + 72 * i)).made
-  works-range i h =
+  pub works_range : (i : ℕ) → i < n → InRange (entry_in b (4 + 72 * i)).made
+  works_range i h =
       let p = w.rows in
-      rw (← works-row i blank_entry h) (proper_at t.entries i blank_entry (omega arith) w.proper).range
+      rw (← works_row i blank_entry h) (proper_at t.entries i blank_entry (omega arith) w.proper).range
 
-  pub works-note : (i : ℕ) (d : Aside) → i < m → get_or t.asides i d ≡ aside_in b (73732 + 12 * i)
+  pub works_note : (i : ℕ) (d : Aside) → i < m → get_or t.asides i d ≡ aside_in b (73732 + 12 * i)
   unfolding tree_in
-  works-note i d h =
-      sym (ap (λ (x : Tree). get_or x.asides i d) works-tree) ∙ (rw (zero-add i) at (asides_at b 0 m i d h))
+  works_note i d h =
+      sym (ap (λ (x : Tree). get_or x.asides i d) works_tree) ∙ (rw (zero-add i) at (asides_at b 0 m i d h))
 
 -- ---- roles
 
@@ -115,21 +115,21 @@ row_low b register n m t w k = go (row_from k 0 t.entries) refl
         omega (arith, a.inside)
 
 module _ (b register : List ℕ) (n m : ℕ) (t : Tree) (w : Works b register n m t) (k role : ℕ) (e : role ≡ role_of k t) where
-  role-is : role ≡ row_of k t + behind_rows (note_of k t)
+  role_is : role ≡ row_of k t + behind_rows (note_of k t)
   unfolding role_of
-  role-is = e
+  role_is = e
 
-  pub role-row : 0 < role → role ≤ n → row_of k t ≡ role
-  role-row h g =
-      let f = w.rows_fit in
-      let q = role-is in
+  pub role_row : 0 < role → role ≤ n → row_of k t ≡ role
+  role_row h g =
+      let f = w.rows_fit_lem in
+      let q = role_is in
       ⊎_elim (λ (z : (note_of k t ≡ 0) × (behind_rows (note_of k t) ≡ 0)). omega (arith, z.1))
       (λ (z : (1 ≤ note_of k t) × (behind_rows (note_of k t) ≡ 1024 + note_of k t)). absurd (omega (arith, z.0, z.1)))
       (behind_cases (note_of k t))
 
-  pub role-no-row : (role ≡ 0) ⊎ (n < role) → row_of k t ≡ 0
-  role-no-row h =
-      let q = role-is in
+  pub role_no_row : (role ≡ 0) ⊎ (n < role) → row_of k t ≡ 0
+  role_no_row h =
+      let q = role_is in
       let l = row_low b register n m t w k in
       ⊎_elim (λ (z : row_of k t ≡ 0). z)
       (λ (z : note_of k t ≡ 0).
@@ -139,19 +139,19 @@ module _ (b register : List ℕ) (n m : ℕ) (t : Tree) (w : Works b register n 
       (behind_cases (note_of k t)))
       (w.apart k)
 
-  pub role-note : 1024 < role → note_of k t ≡ suc (role - 1025)
-  role-note h =
-      let q = role-is in
-      let f = w.rows_fit in
+  pub role_note : 1024 < role → note_of k t ≡ suc (role - 1025)
+  role_note h =
+      let q = role_is in
+      let f = w.rows_fit_lem in
       ⊎_elim
       (λ (y : (note_of k t ≡ 0) × (behind_rows (note_of k t) ≡ 0)). absurd (omega (arith, y.1, row_low b register n m t w k)))
       (λ (y : (1 ≤ note_of k t) × (behind_rows (note_of k t) ≡ 1024 + note_of k t)).
       ⊎_elim (λ (z : row_of k t ≡ 0). omega (arith, y.1)) (λ (z : note_of k t ≡ 0). absurd (omega (arith, y.0))) (w.apart k))
       (behind_cases (note_of k t))
 
-  pub role-no-note : role ≤ 1024 → note_of k t ≡ 0
-  role-no-note h =
-      let q = role-is in
+  pub role_no_note : role ≤ 1024 → note_of k t ≡ 0
+  role_no_note h =
+      let q = role_is in
       ⊎_elim (λ (y : (note_of k t ≡ 0) × (behind_rows (note_of k t) ≡ 0)). y.0)
       (λ (y : (1 ≤ note_of k t) × (behind_rows (note_of k t) ≡ 1024 + note_of k t)). absurd (omega (arith, y.1)))
       (behind_cases (note_of k t))
@@ -161,8 +161,8 @@ module _ (b register : List ℕ) (n m : ℕ) (t : Tree) (w : Works b register n 
 pub works_reads : (b register : List ℕ) (n m : ℕ) → Holds b register n m → Reads b register n m
 works_reads b register n m w =
     record {
-      long = works-long b register n m (tree_in b n m) w;
-      rows_fit = w.rows_fit;
+      long = works_long b register n m (tree_in b n m) w;
+      rows_fit_lem = w.rows_fit_lem;
       notes_fit = w.notes_fit;
       apart = w.apart;
       named = w.named;
@@ -204,10 +204,10 @@ module _ (b register : List ℕ) (n m : ℕ) (w : Holds b register n m) (k role 
   unfolding row_of tree_in
   nowhere h =
       row-none b n n (omega arith)
-      ∙ sym (no_entry k (entries_from b 0 n) (role-no-row b register n m (tree_in b n m) w k role e h))
+      ∙ sym (no_entry k (entries_from b 0 n) (role_no_row b register n m (tree_in b n m) w k role e h))
 
-  pub entry-no-role : role ≡ 0 → row_in b n n ≡ entry_of k (entries_from b 0 n)
-  entry-no-role h = nowhere (inl h)
+  pub entry_no_role : role ≡ 0 → row_in b n n ≡ entry_of k (entries_from b 0 n)
+  entry_no_role h = nowhere (inl h)
 
   pub entry-aside : n < role → row_in b n n ≡ entry_of k (entries_from b 0 n)
   entry-aside h = nowhere (inr h)
@@ -217,7 +217,7 @@ module _ (b register : List ℕ) (n m : ℕ) (w : Holds b register n m) (k role 
   found h g =
       let j = role - 1 in
       let p : role ≡ suc j = omega arith in
-      let r : row_from k 0 (entries_from b 0 n) ≡ suc j = role-row b register n m (tree_in b n m) w k role e (omega arith) g ∙ p in
+      let r : row_from k 0 (entries_from b 0 n) ≡ suc j = role_row b register n m (tree_in b n m) w k role e (omega arith) g ∙ p in
       entry_at k (entries_from b 0 n) j blank_entry w.lone r
       ∙ ap (λ (x : Entry). if_present x) (rw (zero-add j) at (entries_at b 0 n j blank_entry (omega arith)))
 

@@ -96,7 +96,7 @@ pub record Works (b register : List ℕ) (n m : ℕ) (t : Tree) : Type 0 where
   pub bytes : b ≡ work_bytes t
   pub rows : length t.entries ≡ n
   pub notes : length t.asides ≡ m
-  pub rows_fit : n ≤ 1024
+  pub rows_fit_lem : n ≤ 1024
   pub notes_fit : m ≤ 1024
   pub proper : AllProper t.entries
   pub lone : Lone t.entries
@@ -113,7 +113,7 @@ Holds b register n m = Works b register n m (tree_in b n m)
 -- what is asked of a table and a register in which the role of an identity is looked up
 pub record Reads (b register : List ℕ) (n m : ℕ) : Type 0 where
   pub long : length b ≡ 86020
-  pub rows_fit : n ≤ 1024
+  pub rows_fit_lem : n ≤ 1024
   pub notes_fit : m ≤ 1024
   pub apart : (k : ℕ) → (row_of k (tree_in b n m) ≡ 0) ⊎ (note_of k (tree_in b n m) ≡ 0)
   pub named : Named register (tree_in b n m)

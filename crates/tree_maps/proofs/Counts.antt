@@ -63,9 +63,9 @@ module _ (l : List ℕ) (p q : ℕ) (long : length l ≡ register_size) (low : p
       (λ (z : p ≡ q → ⊥). rw (ne_eqb p q z) (get_or-set_other l (8194 + p) (8194 + q) (get_or l (8194 + p) 0 + 1) 0 (λ e. z (omega arith)) ∙ omega arith))
       (eq_or_ne p q)
 
-  pub down-at : get_or (counted_down l p) (8194 + q) 0 ≡ get_or l (8194 + q) 0 - one (eqb p q)
+  pub down_at : get_or (counted_down l p) (8194 + q) 0 ≡ get_or l (8194 + q) 0 - one (eqb p q)
   unfolding counted_down
-  down-at =
+  down_at =
       ⊎_elim (λ (z : p ≡ q). rw (← z, eq-eqb p p refl) (get_or-set_same l (8194 + p) (get_or l (8194 + p) 0 - 1) 0 (omega arith)))
       (λ (z : p ≡ q → ⊥). rw (ne_eqb p q z) (get_or-set_other l (8194 + p) (8194 + q) (get_or l (8194 + p) 0 - 1) 0 (λ e. z (omega arith)) ∙ omega arith))
       (eq_or_ne p q)

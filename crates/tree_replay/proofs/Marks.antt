@@ -8,7 +8,7 @@ use borrow.Author.Tests.{ne_eqb}
 use Rattle.model.specs.Record.{Rec}
 use Rattle.model.specs.Replay.{Entry, Tree, Verdict, aside, judge}
 use Rattle.log_laws.proofs.Members.{All}
-use Rattle.tree_laws.proofs.Marks.{Marks, judge-marks}
+use Rattle.tree_laws.proofs.Marks.{Marks, judge_marks}
 use Rattle.tree_table.specs.Rows.{InRange, AllProper}
 use Rattle.tree_judge.specs.Judged.{verdict_of}
 
@@ -20,4 +20,4 @@ pub marked_fits : (r : Rec) (t : Tree) (n k : ℕ) → AllProper t.entries → v
 unfolding verdict_of
 marked_fits r t n k p e h =
     let q : aside n k ≡ judge r t = rw (ne_eqb n 0 h) at e in
-    subst (λ (v : Verdict). Marks InRange v) (sym q) (judge-marks InRange r t (in_range t.entries p))
+    subst (λ (v : Verdict). Marks InRange v) (sym q) (judge_marks InRange r t (in_range t.entries p))

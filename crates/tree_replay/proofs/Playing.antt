@@ -13,7 +13,7 @@ use Rattle.byte_slice.proofs.Parts.{part_is}
 use Rattle.tree_laws.proofs.Settling.{replay-append}
 use Rattle.tree_table.specs.Rows.{tree_in}
 use Rattle.tree_lookup.specs.Roles.{role_of, Works, Holds}
-use Rattle.tree_lookup.proofs.Working.{works-tree, works-holds}
+use Rattle.tree_lookup.proofs.Working.{works_tree, works_holds}
 use Rattle.tree_amend.specs.Effects.{Takes}
 use Rattle.log_check.specs.declared.Layout.{Layout}
 use Rattle.log_check.specs.Places.{offset_of, laid_at, Laid}
@@ -65,20 +65,20 @@ unfolding laid_at
 record_is k bytes i at o = part_is bytes at 80 ∙ rw o
 
 module _ (k : Layout) (bytes b₀ register₀ : List ℕ) (n₀ m₀ n : ℕ) (p : Playable (tree_in b₀ n₀ m₀) (laid_at k bytes) n) (w₀ : Holds b₀ register₀ n₀ m₀) (b register : List ℕ) (x y i : ℕ) (w : Works b register x y (replay_from (tree_in b₀ n₀ m₀) (listed (laid_at k bytes) 0 i))) where
-  pub turn-entries : i < n → n₀ + n ≤ 1024 → x < 1024
-  turn-entries h g =
+  pub turn_entries : i < n → n₀ + n ≤ 1024 → x < 1024
+  turn_entries h g =
       let c = w.rows in
       let d = w₀.rows in
       omega (arith, replay_entries (tree_in b₀ n₀ m₀) (laid_at k bytes) i)
 
-  pub turn-asides : i < n → m₀ + n ≤ 1024 → y < 1024
-  turn-asides h g =
+  pub turn_asides : i < n → m₀ + n ≤ 1024 → y < 1024
+  turn_asides h g =
       let c = w.notes in
       let d = w₀.notes in
       omega (arith, replay_asides (tree_in b₀ n₀ m₀) (laid_at k bytes) i)
 
-  pub turn-both : i < n → n₀ + m₀ + n ≤ 1536 → x + y < 1536
-  turn-both h g =
+  pub turn_both : i < n → n₀ + m₀ + n ≤ 1536 → x + y < 1536
+  turn_both h g =
       let c = w.rows in
       let d = w₀.rows in
       let e = w.notes in
@@ -86,27 +86,27 @@ module _ (k : Layout) (bytes b₀ register₀ : List ℕ) (n₀ m₀ n : ℕ) (p
       omega (arith, replay_both (tree_in b₀ n₀ m₀) (laid_at k bytes) i)
 
   pub turn_holds : Holds b register x y
-  turn_holds = works-holds b register x y (replay_from (tree_in b₀ n₀ m₀) (listed (laid_at k bytes) 0 i)) w
+  turn_holds = works_holds b register x y (replay_from (tree_in b₀ n₀ m₀) (listed (laid_at k bytes) 0 i)) w
 
   module _ (at : ℕ) (o : at ≡ offset_of k i) where
-    pub turn-takes : i < n → Takes (tree_in b x y) (take (at + 80 - at) (drop at bytes))
-    turn-takes h =
+    pub turn_takes : i < n → Takes (tree_in b x y) (take (at + 80 - at) (drop at bytes))
+    turn_takes h =
         let t = replay_from (tree_in b₀ n₀ m₀) (listed (laid_at k bytes) 0 i) in
-        rw (record_is k bytes i at o, works-tree b register x y t w)
+        rw (record_is k bytes i at o, works_tree b register x y t w)
         (record { asks = p.asks i h; own = p.own i h; fresh = replay-fresh (tree_in b₀ n₀ m₀) (laid_at k bytes) n p i i (omega arith) h })
 
-    pub turn-goes : (b' register' : List ℕ) (x' y' : ℕ) → Works b' register' x' y' (step (tree_in b x y) (take (at + 80 - at) (drop at bytes)))
+    pub turn_goes : (b' register' : List ℕ) (x' y' : ℕ) → Works b' register' x' y' (step (tree_in b x y) (take (at + 80 - at) (drop at bytes)))
         → Works b' register' x' y' (replay_from (tree_in b₀ n₀ m₀) (listed (laid_at k bytes) 0 (i + 1)))
-    turn-goes b' register' x' y' v =
+    turn_goes b' register' x' y' v =
         let t = replay_from (tree_in b₀ n₀ m₀) (listed (laid_at k bytes) 0 i) in
-        let u = rw (record_is k bytes i at o, works-tree b register x y t w) at v in
+        let u = rw (record_is k bytes i at o, works_tree b register x y t w) at v in
         rw (replay-next (tree_in b₀ n₀ m₀) (laid_at k bytes) i) u
 
     pub turn_inside : Laid k bytes n → i < n → at + 80 ≤ length bytes
     turn_inside l h = rw o (l.inside i h)
 
-  pub play-ends : i ≤ n → n ≤ i → Works b register x y (replay_from (tree_in b₀ n₀ m₀) (listed (laid_at k bytes) 0 n))
-  play-ends h g = let e : i ≡ n = omega arith in rw e at w
+  pub play_ends : i ≤ n → n ≤ i → Works b register x y (replay_from (tree_in b₀ n₀ m₀) (listed (laid_at k bytes) 0 n))
+  play_ends h g = let e : i ≡ n = omega arith in rw e at w
 
 pub play_starts : (k : Layout) (bytes b register : List ℕ) (n m : ℕ) → Holds b register n m → Works b register n m (replay_from (tree_in b n m) (listed (laid_at k bytes) 0 0))
 play_starts k bytes b register n m w = rw (replay-none (tree_in b n m) (laid_at k bytes)) w

@@ -13,7 +13,7 @@ use Rattle.model.specs.Replay.{Tree, fits, aside, empty_tree, judge, step, repla
 use Rattle.tree_table.specs.Rows.{tree_in}
 use Rattle.tree_maps.specs.Keys.{register_size}
 use Rattle.tree_lookup.specs.Roles.{Works}
-use Rattle.tree_lookup.proofs.Working.{works-tree}
+use Rattle.tree_lookup.proofs.Working.{works_tree}
 use Rattle.tree_judge.specs.Judged.{verdict_of}
 use Rattle.tree_amend.specs.Registers.{effect_on, aside_on}
 use Rattle.log_check.specs.declared.Layout.{Layout}
@@ -21,7 +21,7 @@ use Rattle.log_check.specs.declared.Layout.TheVariants.{Log}
 use Rattle.log_check.specs.Places.{offset_of, laid_at}
 use Rattle.log_check.specs.InOrder.{listed}
 use Rattle.log_check.proofs.Lists.{listed_more}
-use Rattle.log_check.proofs.Sound.{listed-records}
+use Rattle.log_check.proofs.Sound.{listed_records}
 use Rattle.tree_replay.specs.Registers.{verdict_on, step_on, replay_on}
 use Rattle.tree_replay.proofs.Fitting.{judged_fits}
 use Rattle.tree_replay.proofs.Playing.{record_is}
@@ -30,9 +30,9 @@ use Rattle.tree_replay.proofs.Sound.{empty_rows}
 -- ---- one record
 
 module _ (r : Rec) (t : Tree) (x k : ℕ) (e : verdict_of x k ≡ judge r t) (register l : List ℕ) where
-  pub acts-on : x ≡ 0 → l ≡ effect_on r t register → l ≡ step_on r t register
+  pub acts_on : x ≡ 0 → l ≡ effect_on r t register → l ≡ step_on r t register
   unfolding step_on verdict_on
-  acts-on h w =
+  acts_on h w =
       let q : fits ≡ judge r t = judged_fits r t x k e h in
       rw (← q) w
 
@@ -54,13 +54,13 @@ unfolding replay_on listed
 starts_on t l at = refl
 
 module _ (k : Layout) (bytes b₀ register₀ : List ℕ) (n₀ m₀ : ℕ) (b register : List ℕ) (x y i : ℕ) (w : Works b register x y (replay_from (tree_in b₀ n₀ m₀) (listed (laid_at k bytes) 0 i))) (v : register ≡ replay_on (tree_in b₀ n₀ m₀) register₀ (listed (laid_at k bytes) 0 i)) where
-  pub goes_on : (at : ℕ) → at ≡ offset_of k i → (l : List ℕ) → l ≡ step_on (take (at + 80 - at) (drop at bytes)) (tree_in b x y) register
+  pub goes_on_lem : (at : ℕ) → at ≡ offset_of k i → (l : List ℕ) → l ≡ step_on (take (at + 80 - at) (drop at bytes)) (tree_in b x y) register
       → l ≡ replay_on (tree_in b₀ n₀ m₀) register₀ (listed (laid_at k bytes) 0 (i + 1))
-  goes_on at o l s =
+  goes_on_lem at o l s =
       let rs = listed (laid_at k bytes) 0 i in
       let t = tree_in b₀ n₀ m₀ in
       rw (listed_more (laid_at k bytes) 0 i, zero-add i, on_append t register₀ rs (laid_at k bytes i), ← v)
-      (rw (record_is k bytes i at o, works-tree b register x y (replay_from t rs) w) at s)
+      (rw (record_is k bytes i at o, works_tree b register x y (replay_from t rs) w) at s)
 
   pub ends_on : (n : ℕ) → i ≤ n → n ≤ i → register ≡ replay_on (tree_in b₀ n₀ m₀) register₀ (listed (laid_at k bytes) 0 n)
   ends_on n h g = let e : i ≡ n = omega arith in rw e at v
@@ -69,4 +69,4 @@ module _ (k : Layout) (bytes b₀ register₀ : List ℕ) (n₀ m₀ : ℕ) (b r
 
 pub log_on : (log : List ℕ) (n : ℕ) → n ≡ length (records_of log) → (table register l : List ℕ) → register ≡ replicate register_size 0
     → l ≡ replay_on (tree_in table 0 0) register (listed (laid_at Log log) 0 n) → l ≡ replay_on empty_tree (replicate register_size 0) (records_of log)
-log_on log n c table register l e x = rw (empty_rows table, listed-records log n c, e) at x
+log_on log n c table register l e x = rw (empty_rows table, listed_records log n c, e) at x

@@ -29,12 +29,12 @@ use Rattle.tree_table.specs.Rows.{entries_from, asides_from, tree_in, InRange}
 use Rattle.tree_lookup.specs.Roles.{row_from, note_from, row_of, note_of, behind_rows, role_of, Named as Roles, Works, Holds}
 use Rattle.hash_chains.specs.Chains.{nodes_in, first_of, Chains}
 use Rattle.tree_maps.specs.Keys.{register_size, children_of, Keyed}
-use Rattle.tree_lookup.proofs.Working.{works-holds}
+use Rattle.tree_lookup.proofs.Working.{works_holds}
 use Rattle.tree_judge.specs.Judged.{Asks}
 use Rattle.log_check.specs.declared.Layout.TheVariants.{Log}
 use Rattle.log_check.specs.Places.{laid_at}
 use Rattle.log_check.specs.InOrder.{listed}
-use Rattle.log_check.proofs.Sound.{listed-records}
+use Rattle.log_check.proofs.Sound.{listed_records}
 use Rattle.tree_replay.specs.Playable.{Playable}
 
 -- ---- what a well-formed record names
@@ -183,7 +183,7 @@ start_works b register e f =
       bytes = e ∙ table-zeros 73728 12288;
       rows = refl;
       notes = refl;
-      rows_fit = omega arith;
+      rows_fit_lem = omega arith;
       notes_fit = omega arith;
       proper = tt;
       lone = tt;
@@ -201,7 +201,7 @@ unfolding tree_in empty_tree entries_from asides_from
 empty_rows b = refl
 
 pub start_holds : (b register : List ℕ) → b ≡ replicate 86020 0 → register ≡ replicate register_size 0 → Holds b register 0 0
-start_holds b register e f = works-holds b register 0 0 empty_tree (start_works b register e f)
+start_holds b register e f = works_holds b register 0 0 empty_tree (start_works b register e f)
 
 pub start_nodes : (register : List ℕ) (n : ℕ) → register ≡ replicate register_size 0 → n ≤ 512 → nodes_in 4097 register + n ≤ 1536
 start_nodes register n f h =
@@ -212,17 +212,17 @@ module _ (b : List ℕ) (n : ℕ) (c : n ≡ length (records_of b)) where
   pub few_records : n ≤ 512
   few_records = omega (arith, sound_few b)
 
-  pub log-room : 0 + n ≤ 1024
-  log-room = omega (arith, sound_few b)
+  pub log_room : 0 + n ≤ 1024
+  log_room = omega (arith, sound_few b)
 
-  pub log-both : 0 + 0 + n ≤ 1536
-  log-both = omega (arith, sound_few b)
+  pub log_both : 0 + 0 + n ≤ 1536
+  log_both = omega (arith, sound_few b)
 
-  pub log-playable : (table : List ℕ) → sound_log b ≡ true → Playable (tree_in table 0 0) (laid_at Log b) n
-  log-playable table s =
+  pub log_playable : (table : List ℕ) → sound_log b ≡ true → Playable (tree_in table 0 0) (laid_at Log b) n
+  log_playable table s =
       rw (empty_rows table)
-      (sound_playable (laid_at Log b) n (records_of b) (sym (listed-records b n c)) (sym c) (omega (arith, sound_few b)) (sound_records b s))
+      (sound_playable (laid_at Log b) n (records_of b) (sym (listed_records b n c)) (sym c) (omega (arith, sound_few b)) (sound_records b s))
 
-  pub log-replayed : (b' register' : List ℕ) (x y : ℕ) (table : List ℕ) → Works b' register' x y (replay_from (tree_in table 0 0) (listed (laid_at Log b) 0 n)) → Works b' register' x y (replay (records_of b))
+  pub log_replayed : (b' register' : List ℕ) (x y : ℕ) (table : List ℕ) → Works b' register' x y (replay_from (tree_in table 0 0) (listed (laid_at Log b) 0 n)) → Works b' register' x y (replay (records_of b))
   unfolding replay
-  log-replayed b' register' x y table w = rw (empty_rows table, listed-records b n c) at w
+  log_replayed b' register' x y table w = rw (empty_rows table, listed_records b n c) at w

@@ -113,15 +113,15 @@ module _ (b register : List ℕ) (n m : ℕ) (r : Rec) (x k : ℕ) (e : verdict_
   step-placed h = fits_placed r (tree_in b n m) (judged_fits r (tree_in b n m) x k e h)
 
   module _ (b' register' : List ℕ) (n' m' : ℕ) where
-    pub step-acts : x ≡ 0 → Works b' register' n' m' (effect r (tree_in b n m)) → Works b' register' n' m' (step (tree_in b n m) r)
+    pub step_acts : x ≡ 0 → Works b' register' n' m' (effect r (tree_in b n m)) → Works b' register' n' m' (step (tree_in b n m) r)
     unfolding step apply
-    step-acts h w =
+    step_acts h w =
         let q : fits ≡ judge r (tree_in b n m) = judged_fits r (tree_in b n m) x k e h in
         rw (← q) w
 
-    pub step-stands : (x ≡ 0 → ⊥) → Works b' register' n' m' (with_asides (tree_in b n m) (asides_from b 0 m ++ (new_aside (self_of r) x k ∷ [])))
+    pub step_stands : (x ≡ 0 → ⊥) → Works b' register' n' m' (with_asides (tree_in b n m) (asides_from b 0 m ++ (new_aside (self_of r) x k ∷ [])))
         → Works b' register' n' m' (step (tree_in b n m) r)
     unfolding step verdict_of apply with_asides new_aside tree_in
-    step-stands h w =
+    step_stands h w =
         let q : aside x k ≡ judge r (tree_in b n m) = rw (ne_eqb x 0 h) at e in
         rw (← q) w

@@ -81,29 +81,29 @@ module _ (r : Rec) (n : length r ≡ 80) where
       let g = put_last (head ++ (x ++ h)) (date_bytes r) e.label e.mark (mark_of r) 56 (omega (arith, date_length)) (mark_length ∙ sym z) in
       ap (λ (l : List ℕ). put_at l 56 (mark_of r)) f ∙ g
 
-  pub rename-entry : (d : ℕ) (e : Entry) → Proper e → renamed_row (entry_row d e) r ≡ entry_row d (renamed r e)
+  pub rename_entry : (d : ℕ) (e : Entry) → Proper e → renamed_row (entry_row d e) r ≡ entry_row d (renamed r e)
   unfolding renamed_row entry_row renamed identity_bytes
-  rename-entry d e p =
+  rename_entry d e p =
       let head : List ℕ = (e.kind ∷ d ∷ 0 ∷ 0 ∷ []) ++ (identity_bytes e.made ++ (identity_bytes e.inside ++ identity_bytes e.contents)) in
       let x : List ℕ = identity_bytes (self_of r) in
       let y = p.date_long in
       let w = p.label_long in
       put_two head (identity_bytes e.placing) e.date e.label e.mark x (label_of r) 16 24 refl refl (omega arith) (label_length ∙ sym w)
 
-  pub move-entry : (d : ℕ) (e : Entry) → Proper e → moved_row (entry_row d e) r ≡ entry_row d (moved r e)
+  pub move_entry : (d : ℕ) (e : Entry) → Proper e → moved_row (entry_row d e) r ≡ entry_row d (moved r e)
   unfolding moved_row entry_row renamed moved identity_bytes
-  move-entry d e p =
+  move_entry d e p =
       let head : List ℕ = (e.kind ∷ d ∷ 0 ∷ 0 ∷ []) ++ identity_bytes e.made in
       let tail : List ℕ = identity_bytes e.contents ++ (identity_bytes e.placing ++ (e.date ++ (e.label ++ e.mark))) in
       let x : List ℕ = identity_bytes (folder_of r) in
       let g : Entry = record { made = e.made; kind = e.kind; inside = folder_of r; label = e.label; contents = e.contents; date = e.date; mark = e.mark; placing = e.placing } in
       let q : Proper g = record { range = p.range; date_long = p.date_long; label_long = p.label_long; mark_long = p.mark_long } in
-      ap (λ (l : List ℕ). renamed_row l r) (put_field head (identity_bytes e.inside) tail x 8 refl refl) ∙ rename-entry d g q
+      ap (λ (l : List ℕ). renamed_row l r) (put_field head (identity_bytes e.inside) tail x 8 refl refl) ∙ rename_entry d g q
 
   -- a whole row, its fields written one after another
-  pub new-row : (row : List ℕ) → length row ≡ 72 → new_row row r ≡ entry_row 0 (new_entry r)
+  pub new_row_lem : (row : List ℕ) → length row ≡ 72 → new_row row r ≡ entry_row 0 (new_entry r)
   unfolding new_row entry_row new_entry identity_bytes
-  new-row row h =
+  new_row_lem row h =
       let head : List ℕ = op r ∷ 0 ∷ 0 ∷ 0 ∷ [] in
       let x : List ℕ = identity_bytes (self_of r) in
       let y : List ℕ = identity_bytes (folder_of r) in
@@ -118,17 +118,17 @@ module _ (r : Rec) (n : length r ≡ 80) where
       omega (arith, length-append (date_bytes r) (label_of r ++ mark_of r), length-append (label_of r) (mark_of r), date_length, label_length, mark_length) in
       rw (fields, p1, p2, p3, p4, p5) (put_whole row w k)
 
-  pub new-proper : InRange (self_of r) → Proper (new_entry r)
+  pub new_proper : InRange (self_of r) → Proper (new_entry r)
   unfolding new_entry
-  new-proper h = record { range = h; date_long = date_length; label_long = label_length; mark_long = mark_length }
+  new_proper h = record { range = h; date_long = date_length; label_long = label_length; mark_long = mark_length }
 
-  pub stored-proper : (e : Entry) → Proper e → Proper (stored r e)
+  pub stored_proper : (e : Entry) → Proper e → Proper (stored r e)
   unfolding stored
-  stored-proper e h = record { range = h.range; date_long = date_length; label_long = h.label_long; mark_long = mark_length }
+  stored_proper e h = record { range = h.range; date_long = date_length; label_long = h.label_long; mark_long = mark_length }
 
-  pub renamed-proper : (e : Entry) → Proper e → Proper (renamed r e)
+  pub renamed_proper : (e : Entry) → Proper e → Proper (renamed r e)
   unfolding renamed
-  renamed-proper e h = record { range = h.range; date_long = h.date_long; label_long = label_length; mark_long = h.mark_long }
+  renamed_proper e h = record { range = h.range; date_long = h.date_long; label_long = label_length; mark_long = h.mark_long }
 
 pub moved_proper : (r : Rec) → length r ≡ 80 → (e : Entry) → Proper e → Proper (moved r e)
 unfolding moved

@@ -71,11 +71,11 @@ module _ (a b c q : List ℕ) (ha : length a ≡ 4) (hb : length b ≡ 32) (hc :
   first_field : take 4 ((a ++ (b ++ c)) ++ q) ≡ a
   first_field = rw (append_assoc a (b ++ c) q) (take_at a ((b ++ c) ++ q) 4 ha)
 
-  second-field : take 32 (drop 4 ((a ++ (b ++ c)) ++ q)) ≡ b
-  second-field = rw (append_assoc a (b ++ c) q, drop_at a ((b ++ c) ++ q) 4 ha, append_assoc b c q) (take_at b (c ++ q) 32 hb)
+  second_field : take 32 (drop 4 ((a ++ (b ++ c)) ++ q)) ≡ b
+  second_field = rw (append_assoc a (b ++ c) q, drop_at a ((b ++ c) ++ q) 4 ha, append_assoc b c q) (take_at b (c ++ q) 32 hb)
 
-  third-field : take 16 (drop 36 ((a ++ (b ++ c)) ++ q)) ≡ c
-  third-field =
+  third_field : take 16 (drop 36 ((a ++ (b ++ c)) ++ q)) ≡ c
+  third_field =
       let n : length (a ++ b) ≡ 36 = omega (arith, length-append a b) in
       rw (← append_assoc a b c, append_assoc (a ++ b) c q, drop_at (a ++ b) (c ++ q) 36 n) (take_at c q 16 hc)
 
@@ -83,8 +83,8 @@ pub row_back : (d : ℕ) (e : Entry) (q : List ℕ) → Proper e → entry_in (e
 unfolding entry_in identity_at identity word entry_row identity_bytes part
 row_back d e q s =
     let x = first_field e.date e.label e.mark q s.date_long s.label_long s.mark_long in
-    let y = second-field e.date e.label e.mark q s.date_long s.label_long s.mark_long in
-    let z = third-field e.date e.label e.mark q s.date_long s.label_long s.mark_long in
+    let y = second_field e.date e.label e.mark q s.date_long s.label_long s.mark_long in
+    let z = third_field e.date e.label e.mark q s.date_long s.label_long s.mark_long in
     rw (x, y, z, identity_back e.made, identity_back e.inside, identity_back e.contents, identity_back e.placing)
 
 pub aside_back : (a : Aside) (q : List ℕ) → aside_in (aside_row a ++ q) 0 ≡ a

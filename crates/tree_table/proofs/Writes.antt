@@ -96,10 +96,10 @@ module _ (s : List Aside) (es : List Entry) (l : List Aside) (fit : AllProper es
         length-padded 12288 (aside_rows l) (omega (arith, aside_rows_length l)),
       )
 
-  in-entries : (at : ℕ) (x : List ℕ) → at + length x ≤ 73728
+  in_entries : (at : ℕ) (x : List ℕ) → at + length x ≤ 73728
       → put_at (flagged s es l) (4 + at) x ≡ head ++ (put_at (padded 73728 (entry_rows s es)) at x ++ padded 12288 (aside_rows l))
   unfolding flagged head
-  in-entries at x h =
+  in_entries at x h =
       put_in_back head (padded 73728 (entry_rows s es) ++ padded 12288 (aside_rows l)) at x
       ∙ ap (λ (y : List ℕ). head ++ y) (put_in_front (padded 73728 (entry_rows s es)) (padded 12288 (aside_rows l)) at x (omega (arith, rows_long)))
 
@@ -120,14 +120,14 @@ module _ (s : List Aside) (es : List Entry) (l : List Aside) (fit : AllProper es
       let R = entry_rows s es in
       let n = rows_length s es fit in
       let x = entry_row (flag_of s e) e in
-      in-entries (72 * length es) x (omega (arith, row-length (flag_of s e) e r))
+      in_entries (72 * length es) x (omega (arith, row-length (flag_of s e) e r))
       ∙ rw (← n, put-padded 73728 R x, entry_rows_append s es (e ∷ []), append-nil x)
 
   -- bytes in the place of bytes of the rows
   pub rows_written : (at : ℕ) (x : List ℕ) → at + length x ≤ length (entry_rows s es)
       → put_at (flagged s es l) (4 + at) x ≡ (0 ∷ 0 ∷ 0 ∷ 0 ∷ []) ++ (padded 73728 (put_at (entry_rows s es) at x) ++ padded 12288 (aside_rows l))
   unfolding head
-  rows_written at x h = in-entries at x (omega (arith, rows_length s es fit)) ∙ rw (put_in_padded 73728 (entry_rows s es) at x h)
+  rows_written at x h = in_entries at x (omega (arith, rows_length s es fit)) ∙ rw (put_in_padded 73728 (entry_rows s es) at x h)
 
   -- another row in the place of row i
   pub set-entry : (i : ℕ) (e : Entry) → i < length es → Proper e

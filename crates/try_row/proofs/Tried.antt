@@ -24,7 +24,7 @@ use Rattle.base_head.specs.Head.{headed}
 use Rattle.call_guard.specs.Opened.{Opening, opened, open_of}
 use Rattle.call_guard.proofs.Opening.{number_is, open_lent, open_row}
 use Rattle.state_tree.specs.Small.{Small}
-use Rattle.index_state.proofs.States.{table-few}
+use Rattle.index_state.proofs.States.{table_few}
 use Rattle.take_row.proofs.Begun.{row_short}
 use Rattle.try_row_report.specs.Listed.{Shown, noted, listed_count, listed}
 use Rattle.try_row_report.proofs.Told.{Counted, tree_shown, told}
@@ -32,22 +32,22 @@ use Rattle.try_row_report.proofs.Told.{Counted, tree_shown, told}
 -- ---- the lent buffers
 
 module _ (copy tree report : List ℕ) where
-  pub copy-wrong : (length copy ≡ 40960 → ⊥) → false ≡ trial_lent copy tree report
+  pub copy_wrong : (length copy ≡ 40960 → ⊥) → false ≡ trial_lent copy tree report
   unfolding trial_lent
-  copy-wrong h = rw (ne_eqb (length copy) 40960 h)
+  copy_wrong h = rw (ne_eqb (length copy) 40960 h)
 
   module _ (a : length copy ≡ 40960) where
-    pub tree-wrong : (length tree ≡ 86020 → ⊥) → false ≡ trial_lent copy tree report
+    pub tree_wrong : (length tree ≡ 86020 → ⊥) → false ≡ trial_lent copy tree report
     unfolding trial_lent
-    tree-wrong h = rw (eq-eqb (length copy) 40960 a, ne_eqb (length tree) 86020 h)
+    tree_wrong h = rw (eq-eqb (length copy) 40960 a, ne_eqb (length tree) 86020 h)
 
-    pub report-decides : length tree ≡ 86020 → eqb (length report) 4116 ≡ trial_lent copy tree report
+    pub report_decides : length tree ≡ 86020 → eqb (length report) 4116 ≡ trial_lent copy tree report
     unfolding trial_lent
-    report-decides h = rw (eq-eqb (length copy) 40960 a, eq-eqb (length tree) 86020 h)
+    report_decides h = rw (eq-eqb (length copy) 40960 a, eq-eqb (length tree) 86020 h)
 
-  pub all-lent : trial_lent copy tree report ≡ true → (length copy ≡ 40960) × (length tree ≡ 86020) × (length report ≡ 4116)
+  pub all_lent : trial_lent copy tree report ≡ true → (length copy ≡ 40960) × (length tree ≡ 86020) × (length report ≡ 4116)
   unfolding trial_lent
-  all-lent h =
+  all_lent h =
       let (a, b) = and_true (eqb (length copy) 40960) (eqb (length tree) 86020 && eqb (length report) 4116) h in
       let (c, d) = and_true (eqb (length tree) 86020) (eqb (length report) 4116) b in
       (eqb-true (length copy) 40960 a, eqb-true (length tree) 86020 c, eqb-true (length report) 4116 d)
@@ -64,21 +64,21 @@ pub copies : (log copy fresh : List ℕ) → length log ≡ 40960 → length fre
 copies log copy fresh n m e = e ∙ put_whole fresh log (n ∙ sym m)
 
 module _ (log copy : List ℕ) (is : copy ≡ log) where
-  pub copy-long : length log ≡ 40960 → length copy ≡ 40960
-  copy-long n = rw is n
+  pub copy_long : length log ≡ 40960 → length copy ≡ 40960
+  copy_long n = rw is n
 
-  pub copy-sound : (base : List ℕ) → sound_state log base ≡ true → sound_state copy base ≡ true
-  copy-sound base s = rw is s
+  pub copy_sound : (base : List ℕ) → sound_state log base ≡ true → sound_state copy base ≡ true
+  copy_sound base s = rw is s
 
-  pub copy-used : (used : ℕ) → used ≡ length (records_of log) → used ≡ length (records_of copy)
-  copy-used used u = rw is u
+  pub copy_used : (used : ℕ) → used ≡ length (records_of log) → used ≡ length (records_of copy)
+  copy_used used u = rw is u
 
-  pub copy-indexed : (base : List ℕ) (used : ℕ) (held places seens : List ℕ) → Indexed (base_vector base) (laid_at Log log) used (records_of log) held places seens
+  pub copy_indexed : (base : List ℕ) (used : ℕ) (held places seens : List ℕ) → Indexed (base_vector base) (laid_at Log log) used (records_of log) held places seens
       → Indexed (base_vector base) (laid_at Log copy) used (records_of copy) held places seens
-  copy-indexed base used held places seens i = rw is i
+  copy_indexed base used held places seens i = rw is i
 
-  pub copy-tried : (archive u : ℕ) (base row : List ℕ) (t : Tried) → t ≡ try_all archive u copy base row → t ≡ try_all archive u log base row
-  copy-tried archive u base row t q = rw is at q
+  pub copy_tried : (archive u : ℕ) (base row : List ℕ) (t : Tried) → t ≡ try_all archive u copy base row → t ≡ try_all archive u log base row
+  copy_tried archive u base row t q = rw is at q
 
 -- ---- the row tried
 
@@ -89,8 +89,8 @@ module _ (archive u : ℕ) (log base row copy : List ℕ) (k n : ℕ) (unit : u 
   pub tried-long : length copy ≡ 40960
   tried-long = good.long.0
 
-  pub tried-sound : sound_state copy base ≡ true
-  tried-sound = good.sound
+  pub tried_sound : sound_state copy base ≡ true
+  tried_sound = good.sound
 
 -- ---- the trees of the state and of the copy
 
@@ -98,8 +98,8 @@ module _ (log base held : List ℕ) (based : length base ≡ 43032) (sound : sou
   counted : Counted log base
   counted u h = rw is at (small.at u h)
 
-  pub tree-few : (b : List ℕ) → b ≡ table_bytes (tree_of log base) → word b 0 ≤ 1024
-  tree-few b e = rw e (table-few log base based sound counted)
+  pub tree_few : (b : List ℕ) → b ≡ table_bytes (tree_of log base) → word b 0 ≤ 1024
+  tree_few b e = rw e (table_few log base based sound counted)
 
   pub tree-shows : (b : List ℕ) → b ≡ table_bytes (tree_of log base) → length b ≡ 86020 → Shown b
   tree-shows b e n = tree_shown log base b based sound counted e n
@@ -124,9 +124,9 @@ all_reported log copy base held v tree report l k n based sound is small sound' 
 -- ---- the call
 
 module _ (archive u : ℕ) (log base row copy tree report : List ℕ) {n m k j used : ℕ} {v held : List ℕ} (e : opened n (headed m v k j) held used ≡ open_of u log base (trial_lent copy tree report) (row_fits (length row))) where
-  pub try-refused : (n ≡ 0 → ⊥) → trial n 0 copy tree report ≡ try_of archive u log base row copy tree report
+  pub try_refused : (n ≡ 0 → ⊥) → trial n 0 copy tree report ≡ try_of archive u log base row copy tree report
   unfolding try_of
-  try-refused z = rw (← number_is u log base (trial_lent copy tree report) (row_fits (length row)) e) (go n z)
+  try_refused z = rw (← number_is u log base (trial_lent copy tree report) (row_fits (length row)) e) (go n z)
     where
       go : (i : ℕ) → (i ≡ 0 → ⊥) → trial i 0 copy tree report ≡ or_untried i copy tree report (reported log base (try_all archive u log base row))
       go zero y = absurd (y refl)
@@ -137,17 +137,17 @@ module _ (archive u : ℕ) (log base row copy tree report : List ℕ) {n m k j u
   try_passes z t p o q = q ∙ ap (reported log base) p ∙ rw (← number_is u log base (trial_lent copy tree report) (row_fits (length row)) e, z)
 
 module _ (u : ℕ) (log base copy tree report : List ℕ) (i : ℕ) {n m k j used : ℕ} {v held : List ℕ} (e : opened n (headed m v k j) held used ≡ open_of u log base (trial_lent copy tree report) (row_fits i)) (z : n ≡ 0) where
-  pub try-short : i ≤ 44032
-  try-short = row_short i (open_row u log base (trial_lent copy tree report) (row_fits i) e z)
+  pub try_short : i ≤ 44032
+  try_short = row_short i (open_row u log base (trial_lent copy tree report) (row_fits i) e z)
 
   right : (length copy ≡ 40960) × (length tree ≡ 86020) × (length report ≡ 4116)
-  right = all-lent copy tree report (open_lent u log base (trial_lent copy tree report) (row_fits i) e z)
+  right = all_lent copy tree report (open_lent u log base (trial_lent copy tree report) (row_fits i) e z)
 
-  pub try-copy : length copy ≡ 40960
-  try-copy = right.0
+  pub try_copy : length copy ≡ 40960
+  try_copy = right.0
 
-  pub try-tree : length tree ≡ 86020
-  try-tree = right.1
+  pub try_tree : length tree ≡ 86020
+  try_tree = right.1
 
-  pub try-report : length report ≡ 4116
-  try-report = right.2
+  pub try_report : length report ≡ 4116
+  try_report = right.2

@@ -9,7 +9,7 @@ use mathlib.Core.List.{List, [], ◌∷◌, ◌++◌, append-nil, append_assoc}
 use lib.Dec.{eqb}
 use lib.ListN.{get_or, length, take, drop, set, replicate, length-append, length-set, length-replicate}
 use lib.Seq.{take-suc, take-append-le, set_split, get_or-set_same, length-take-le}
-use borrow.Author.Tests.{not-true, not-false, eq-eqb, ne_eqb}
+use borrow.Author.Tests.{not-true, not_false, eq-eqb, ne_eqb}
 use borrow.Rule.Slice.PartMut.{put_mid}
 use Rattle.model.specs.Bytes.{word, two, part, padded, put_at}
 use Rattle.model.specs.Vector.{vector_bytes}
@@ -60,10 +60,10 @@ module _ (b : List ℕ) (i : ℕ) {t : Bool} (e : t ≡ disputed_in b i) where
   unfolding noted
   notes_none z c l q = let d : disputed_in b i ≡ false = sym e ∙ not-true t z in rw (add-one i, d) q
 
-  pub notes-one : not t ≡ false → (c k n : ℕ) (l : List ℕ) → c ≤ i → i < n → n ≤ 1024 → length l ≡ 1024 → k ≡ (entry_in b (4 + 72 * i)).made → take c l ≡ noted b i → take (c + 1) (set l c k) ≡ noted b (i + 1)
+  pub notes_one : not t ≡ false → (c k n : ℕ) (l : List ℕ) → c ≤ i → i < n → n ≤ 1024 → length l ≡ 1024 → k ≡ (entry_in b (4 + 72 * i)).made → take c l ≡ noted b i → take (c + 1) (set l c k) ≡ noted b (i + 1)
   unfolding noted
-  notes-one z c k n l x y w h m q =
-      let d : disputed_in b i ≡ true = sym e ∙ not-false t z in
+  notes_one z c k n l x y w h m q =
+      let d : disputed_in b i ≡ true = sym e ∙ not_false t z in
       take-set l c k (omega arith) ∙ rw (add-one i, d, q, row_made b i k m)
 
 pub notes_all : (b l : List ℕ) (i n c : ℕ) → n ≡ word b 0 → i ≤ n → n ≤ i → take c l ≡ noted b i → take c l ≡ noted b (word b 0)
@@ -100,15 +100,15 @@ unfolding is_among
 among_none k l = refl
 
 module _ (k : ℕ) (l : List ℕ) (i count : ℕ) (h : i < count) (fits : count ≤ length l) where
-  pub among-found : get_or l i 0 ≡ k → true ≡ is_among k (take count l)
-  among-found e = sym (among_more k l (suc i) count (omega arith) (among_next k l i (omega arith) ∙ rw (eq-eqb (get_or l i 0) k e) (last (is_among k (take i l)))))
+  pub among_found : get_or l i 0 ≡ k → true ≡ is_among k (take count l)
+  among_found e = sym (among_more k l (suc i) count (omega arith) (among_next k l i (omega arith) ∙ rw (eq-eqb (get_or l i 0) k e) (last (is_among k (take i l)))))
     where
       last : (t : Bool) → (t || true) ≡ true
       last true = refl
       last false = refl
 
-  pub among-passes : (get_or l i 0 ≡ k → ⊥) → is_among k (take i l) ≡ false → is_among k (take (i + 1) l) ≡ false
-  among-passes e q = rw (add-one i, among_next k l i (omega arith), q, ne_eqb (get_or l i 0) k e)
+  pub among_passes : (get_or l i 0 ≡ k → ⊥) → is_among k (take i l) ≡ false → is_among k (take (i + 1) l) ≡ false
+  among_passes e q = rw (add-one i, among_next k l i (omega arith), q, ne_eqb (get_or l i 0) k e)
 
 pub among_ends : (k : ℕ) (l : List ℕ) (i count : ℕ) → i ≤ count → count ≤ i → is_among k (take i l) ≡ false → false ≡ is_among k (take count l)
 among_ends k l i count h g q = let e : i ≡ count = omega arith in sym (rw e at q)
@@ -120,9 +120,9 @@ module _ (b l : List ℕ) (i : ℕ) {t : Bool} (e : t ≡ disputed_in b i) where
   unfolding is_new_in
   not_new z = let d : disputed_in b i ≡ false = sym e ∙ not-true t z in rw d
 
-  pub new-by-notes : not t ≡ false → {k : ℕ} {a : Bool} → k ≡ (entry_in b (4 + 72 * i)).made → a ≡ is_among k l → not a ≡ is_new_in b l i
+  pub new_by_notes : not t ≡ false → {k : ℕ} {a : Bool} → k ≡ (entry_in b (4 + 72 * i)).made → a ≡ is_among k l → not a ≡ is_new_in b l i
   unfolding is_new_in
-  new-by-notes z {k} m q = let d : disputed_in b i ≡ true = sym e ∙ not-false t z in rw (d, q, row_made b i k m)
+  new_by_notes z {k} m q = let d : disputed_in b i ≡ true = sym e ∙ not_false t z in rw (d, q, row_made b i k m)
 
 four_bytes : (k : ℕ) → length (identity_bytes k) ≡ 4
 unfolding identity_bytes
@@ -150,23 +150,23 @@ unfolding listed_count
 count_first b f = refl
 
 module _ (b f : List ℕ) (i : ℕ) {t : Bool} (e : t ≡ is_new_in b f i) where
-  pub skips-count : not t ≡ true → {c : ℕ} → c ≡ listed_count b f i → c ≡ listed_count b f (i + 1)
+  pub skips_count : not t ≡ true → {c : ℕ} → c ≡ listed_count b f i → c ≡ listed_count b f (i + 1)
   unfolding listed_count
-  skips-count z q = let d : is_new_in b f i ≡ false = sym e ∙ not-true t z in rw (add-one i, d) q
+  skips_count z q = let d : is_new_in b f i ≡ false = sym e ∙ not-true t z in rw (add-one i, d) q
 
-  pub skips-list : not t ≡ true → {d : List ℕ} → d ≡ padded 4096 (listed b f i) → d ≡ padded 4096 (listed b f (i + 1))
+  pub skips_list : not t ≡ true → {d : List ℕ} → d ≡ padded 4096 (listed b f i) → d ≡ padded 4096 (listed b f (i + 1))
   unfolding listed
-  skips-list z q = let d : is_new_in b f i ≡ false = sym e ∙ not-true t z in rw (add-one i, d) q
+  skips_list z q = let d : is_new_in b f i ≡ false = sym e ∙ not-true t z in rw (add-one i, d) q
 
-  pub adds-count : not t ≡ false → {c : ℕ} → c ≡ listed_count b f i → c + 1 ≡ listed_count b f (i + 1)
+  pub adds_count : not t ≡ false → {c : ℕ} → c ≡ listed_count b f i → c + 1 ≡ listed_count b f (i + 1)
   unfolding listed_count
-  adds-count z q = let d : is_new_in b f i ≡ true = sym e ∙ not-false t z in rw (add-one i, d, q)
+  adds_count z q = let d : is_new_in b f i ≡ true = sym e ∙ not_false t z in rw (add-one i, d, q)
 
-  pub adds-list : not t ≡ false → {c k : ℕ} {d o : List ℕ} → c ≡ listed_count b f i → k ≡ (entry_in b (4 + 72 * i)).made → d ≡ padded 4096 (listed b f i) → o ≡ put_at d (4 * c) (identity_bytes k)
+  pub adds_list : not t ≡ false → {c k : ℕ} {d o : List ℕ} → c ≡ listed_count b f i → k ≡ (entry_in b (4 + 72 * i)).made → d ≡ padded 4096 (listed b f i) → o ≡ put_at d (4 * c) (identity_bytes k)
       → o ≡ padded 4096 (listed b f (i + 1))
   unfolding listed
-  adds-list z {c} {k} {d} {o} q m p r =
-      let n : is_new_in b f i ≡ true = sym e ∙ not-false t z in
+  adds_list z {c} {k} {d} {o} q m p r =
+      let n : is_new_in b f i ≡ true = sym e ∙ not_false t z in
       let l : 4 * c ≡ length (listed b f i) = omega (arith, length-listed b f i) in
       r ∙ rw (p, l, row_made b i k m, add-one i, n) (put-padded 4096 (listed b f i) (identity_bytes (made_in b i)))
 

@@ -25,7 +25,7 @@ use Rattle.tree_table.specs.Rows.{AllProper, flag_of, entries_from}
 use Rattle.tree_table.proofs.Rows.{rows_length, entries_back}
 use Rattle.tree_table.proofs.Writes.{rows_part}
 use Rattle.tree_lookup.proofs.Working.{proper_at, entries_at}
-use Rattle.index_state.proofs.States.{shown_few, state-proper}
+use Rattle.index_state.proofs.States.{shown_few, state_proper}
 use Rattle.try_row_report.specs.Listed.{disputed_in, made_in, Shown, noted, is_among, is_new_in, listed_count, listed}
 use Rattle.try_row_report.proofs.Listing.{among_append}
 
@@ -37,33 +37,33 @@ or_right false = refl
 
 module _ (b : List ℕ) where
   -- an identity that is noted is that of a disputed entry
-  noted-from : (n k : ℕ) → is_among k (noted b n) ≡ true → (i : ℕ) × (i < n) × (disputed_in b i ≡ true) × (made_in b i ≡ k)
+  noted_from : (n k : ℕ) → is_among k (noted b n) ≡ true → (i : ℕ) × (i < n) × (disputed_in b i ≡ true) × (made_in b i ≡ k)
   unfolding noted is_among
-  noted-from zero k h = absurd (false≢true h)
-  noted-from (suc n) k h =
+  noted_from zero k h = absurd (false≢true h)
+  noted_from (suc n) k h =
       ⊎_elim
       (λ (d : disputed_in b n ≡ true).
       ⊎_elim
-      (λ (x : is_among k (noted b n) ≡ true). let (i, l, g, q) = noted-from n k x in (i, omega arith, g, q))
+      (λ (x : is_among k (noted b n) ≡ true). let (i, l, g, q) = noted_from n k x in (i, omega arith, g, q))
       (λ (x : (eqb (made_in b n) k || false) ≡ true).
       ⊎_elim
       (λ (y : eqb (made_in b n) k ≡ true). (n, omega arith, d, eqb-true (made_in b n) k y))
       (λ (y : false ≡ true). absurd (false≢true y))
       (or_true (eqb (made_in b n) k) false x))
       (or_true (is_among k (noted b n)) (eqb (made_in b n) k || false) (sym (among_append k (noted b n) (made_in b n ∷ [])) ∙ (rw d at h))))
-      (λ (d : disputed_in b n ≡ false). let (i, l, g, q) = noted-from n k (rw d at h) in (i, omega arith, g, q))
+      (λ (d : disputed_in b n ≡ false). let (i, l, g, q) = noted_from n k (rw d at h) in (i, omega arith, g, q))
       (bool_cases (disputed_in b n))
 
   -- and that of every disputed entry is noted
-  noted-to : (n i : ℕ) → i < n → disputed_in b i ≡ true → is_among (made_in b i) (noted b n) ≡ true
+  noted_to : (n i : ℕ) → i < n → disputed_in b i ≡ true → is_among (made_in b i) (noted b n) ≡ true
   unfolding noted is_among
-  noted-to zero i h d = absurd (omega arith)
-  noted-to (suc n) i h d =
+  noted_to zero i h d = absurd (omega arith)
+  noted_to (suc n) i h d =
       ⊎_elim
       (λ (x : i < n).
       ⊎_elim
-      (λ (g : disputed_in b n ≡ true). rw (g, among_append (made_in b i) (noted b n) (made_in b n ∷ []), noted-to n i x d))
-      (λ (g : disputed_in b n ≡ false). rw g (noted-to n i x d))
+      (λ (g : disputed_in b n ≡ true). rw (g, among_append (made_in b i) (noted b n) (made_in b n ∷ []), noted_to n i x d))
+      (λ (g : disputed_in b n ≡ false). rw g (noted_to n i x d))
       (bool_cases (disputed_in b n)))
       (λ (x : n ≤ i).
       let q : i ≡ n = omega arith in
@@ -141,8 +141,8 @@ module _ (t : Tree) (a : AllProper (present_ones t.entries)) where
         let g : get_or (part (table_bytes t) (4 + 72 * i) 72) 1 0 ≡ get_or (table_bytes t) (4 + 72 * i + 1) 0 = get_d_part (table_bytes t) (4 + 72 * i) 72 1 (omega arith) in
         rw (← n, ← g, row, flag_of_lem (flag_of t.asides (get_or es i none)) (get_or es i none)) (flag_true (is_disputed (get_or es i none).made t.asides))
 
-  pub table-shown : (b : List ℕ) → b ≡ table_bytes t → length b ≡ 86020 → length es ≤ 1024 → Shown b
-  table-shown b is long few =
+  pub table_shown : (b : List ℕ) → b ≡ table_bytes t → length b ≡ 86020 → length es ≤ 1024 → Shown b
+  table_shown b is long few =
       record {
         long = long;
         few = rw is (omega (arith, count));
@@ -156,19 +156,19 @@ module _ (t : Tree) (a : AllProper (present_ones t.entries)) where
   abbrev notes : List ℕ
   notes = noted (table_bytes t) (word (table_bytes t) 0)
 
-  noted-exact : (k : ℕ) → is_among k notes ≡ has_disputed k t
-  noted-exact k =
+  noted_exact : (k : ℕ) → is_among k notes ≡ has_disputed k t
+  noted_exact k =
       ⊎_elim
       (λ (h : has_disputed k t ≡ true).
       let (e, d, m) = disputed_has k t h in
       let (i, l, q) = at_has (present_ones t.entries) e d.there in
       let p : made_in (table_bytes t) i ≡ k = made_is i l ∙ ap (λ (x : Entry). x.made) q ∙ m in
       let g : disputed_in (table_bytes t) i ≡ true = disputed_is i l ∙ ap (λ (x : Entry). is_disputed x.made t.asides) q ∙ d.disputed in
-      rw h (rw p at (noted-to (table_bytes t) (word (table_bytes t) 0) i (omega (arith, count)) g)))
+      rw h (rw p at (noted_to (table_bytes t) (word (table_bytes t) 0) i (omega (arith, count)) g)))
       (λ (h : has_disputed k t ≡ false).
       ⊎_elim
       (λ (z : is_among k (noted (table_bytes t) (word (table_bytes t) 0)) ≡ true).
-      let (i, l, g, q) = noted-from (table_bytes t) (word (table_bytes t) 0) k z in
+      let (i, l, g, q) = noted_from (table_bytes t) (word (table_bytes t) 0) k z in
       let n : i < length (present_ones t.entries) = omega (arith, count) in
       absurd (true≢false (sym (has_disputed_lem k t (get_or (present_ones t.entries) i none) (record { there = has_at (present_ones t.entries) i n; disputed = sym (disputed_is i n) ∙ g }) (sym (made_is i n) ∙ q)) ∙ h)))
       (λ (z : is_among k (noted (table_bytes t) (word (table_bytes t) 0)) ≡ false). z ∙ sym h)
@@ -213,7 +213,7 @@ module _ (t t' : Tree) (a : AllProper (present_ones t.entries)) (a' : AllProper 
 
   new_is : (i : ℕ) → i < length es' → is_new_in (table_bytes t') before i ≡ (is_disputed (get_or es' i none).made t'.asides && not (has_disputed (get_or es' i none).made t))
   unfolding is_new_in
-  new_is i h = rw (disputed_is t' a' i h, made_is t' a' i h, noted-exact t a (get_or (present_ones t'.entries) i none).made)
+  new_is i h = rw (disputed_is t' a' i h, made_is t' a' i h, noted_exact t a (get_or (present_ones t'.entries) i none).made)
 
   listed_is : (n : ℕ) → n ≤ length es' → listed (table_bytes t') before n ≡ made_bytes (newly_disputed t t' (take n es'))
   unfolding listed newly_disputed made_bytes
@@ -248,7 +248,7 @@ abbrev pub Counted : List ℕ → List ℕ → Type 0
 Counted log base = (u : ℕ) → u < 8 → get_or (held_on log base) u 0 < 65536
 
 pub tree_shown : (log base b : List ℕ) → length base ≡ 43032 → sound_state log base ≡ true → Counted log base → b ≡ table_bytes (tree_of log base) → length b ≡ 86020 → Shown b
-tree_shown log base b long sound small is n = table-shown (tree_of log base) (state-proper log base long sound small) b is n (shown_few log base long sound)
+tree_shown log base b long sound small is n = table_shown (tree_of log base) (state_proper log base long sound small) b is n (shown_few log base long sound)
 
 module _ (log copy base : List ℕ) (long : length base ≡ 43032) (sound : sound_state log base ≡ true) (sound' : sound_state copy base ≡ true) (small : Counted log base) (small' : Counted copy base) where
   pub told : (k n : ℕ) (v l b r : List ℕ) → b ≡ table_bytes (tree_of copy base) → l ≡ noted (table_bytes (tree_of log base)) (word (table_bytes (tree_of log base)) 0) → v ≡ held_on copy base
@@ -256,6 +256,6 @@ module _ (log copy base : List ℕ) (long : length base ≡ 43032) (sound : soun
       → r ≡ report_bytes (tried k n copy) (held_on copy base) (tree_of log base) (tree_of copy base)
   unfolding report_bytes
   told k n v l b r is p q e =
-      let a = state-proper log base long sound small in
-      let a' = state-proper copy base long sound' small' in
+      let a = state_proper log base long sound small in
+      let a' = state_proper copy base long sound' small' in
       e ∙ rw (is, p, q, list_is (tree_of log base) (tree_of copy base) a a', count_is (tree_of log base) (tree_of copy base) a a')

@@ -51,10 +51,10 @@ answer_by_distances a b = rw (covers_test a b, covers_test b a)
 -- ---- what the loop of `lacks` is asked, over plain values
 
 module _ (a b : List ℕ) (u s m : ℕ) where
-  pub lacks-next : s ≡ lacks_to a b u → m ≡ get_or b u 0 - get_or a u 0 → s + m ≡ lacks_to a b (u + 1)
+  pub lacks_next : s ≡ lacks_to a b u → m ≡ get_or b u 0 - get_or a u 0 → s + m ≡ lacks_to a b (u + 1)
   unfolding lacks_to
-  lacks-next e f = rw (add-one, e, f)
+  lacks_next e f = rw (add-one, e, f)
 
-  pub lacks-ends : u ≤ 8 → 8 ≤ u → s ≡ lacks_to a b u → s ≡ lacks_of a b
+  pub lacks_ends : u ≤ 8 → 8 ≤ u → s ≡ lacks_to a b u → s ≡ lacks_of a b
   unfolding lacks_of
-  lacks-ends h k e = let n : u ≡ 8 = omega arith in (rw n at e)
+  lacks_ends h k e = let n : u ≡ 8 = omega arith in (rw n at e)

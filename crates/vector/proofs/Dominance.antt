@@ -69,6 +69,6 @@ module _ (a b : List ℕ) (u : ℕ) (g : Bool) where
   unfolding covers_to
   covers-next e = rw (add-one, e)
 
-  pub covers-ends : u ≤ 8 → 8 ≤ u → g ≡ covers_to a b u → g ≡ covers a b
+  pub covers_ends : u ≤ 8 → 8 ≤ u → g ≡ covers_to a b u → g ≡ covers a b
   unfolding covers
-  covers-ends h k e = let n : u ≡ 8 = omega arith in (rw n at e)
+  covers_ends h k e = let n : u ≡ 8 = omega arith in (rw n at e)

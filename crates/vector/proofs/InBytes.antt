@@ -125,9 +125,9 @@ count_bytes_back b at (suc n) k h s =
     rw (count_bytes_back b at n (omega arith) h s, vector_at_get_d b at n (omega arith), two-word b (at + 2 * n) (s (at + 2 * n)) (omega arith), e)
     (sym (part_split b at (2 * n) 2))
 
-pub vector_bytes_back : (b : List ℕ) (at : ℕ) → at + 16 ≤ length b → ((j : ℕ) → get_or b j 0 < 256) → vector_bytes (vector_at b at) ≡ part b at 16
+pub vector_bytes_back_lem : (b : List ℕ) (at : ℕ) → at + 16 ≤ length b → ((j : ℕ) → get_or b j 0 < 256) → vector_bytes (vector_at b at) ≡ part b at 16
 unfolding vector_bytes
-vector_bytes_back b at h s = count_bytes_back b at 8 (omega arith) h s
+vector_bytes_back_lem b at h s = count_bytes_back b at 8 (omega arith) h s
 
 -- ---- what the loop of `put_vector` is asked
 

@@ -15,9 +15,9 @@ abbrev pub answer : Bool → Bool → ℕ
 answer g l = cond g (cond l 0 1) (cond l 2 3)
 
 module _ (a b : List ℕ) where
-  pub answer-is : (g l : Bool) → covers a b ≡ g → covers b a ≡ l → compare_of a b ≡ answer g l
+  pub answer_is : (g l : Bool) → covers a b ≡ g → covers b a ≡ l → compare_of a b ≡ answer g l
   unfolding compare_of
-  answer-is g l p q = rw (p, q)
+  answer_is g l p q = rw (p, q)
 
 -- from the two numbers, as the code has them
 pub told : (a b : List ℕ) (n f s : ℕ) → f ≡ lacks_of a b → s ≡ lacks_of b a → n ≡ answer (eqb f 0) (eqb s 0) → compared n f s ≡ comparison_of a b
@@ -25,17 +25,17 @@ unfolding comparison_of
 told a b n f s p q e = rw (answer_by_distances a b, e, p, q)
 
 module _ (f s : ℕ) where
-  pub neither-lacks : f ≡ 0 → s ≡ 0 → 0 ≡ answer (eqb f 0) (eqb s 0)
-  neither-lacks p q = rw (p, q)
+  pub neither_lacks : f ≡ 0 → s ≡ 0 → 0 ≡ answer (eqb f 0) (eqb s 0)
+  neither_lacks p q = rw (p, q)
 
-  pub second-lacks : f ≡ 0 → (s ≡ 0 → ⊥) → 1 ≡ answer (eqb f 0) (eqb s 0)
-  second-lacks p q = rw (p, ne_eqb s 0 q)
+  pub second_lacks : f ≡ 0 → (s ≡ 0 → ⊥) → 1 ≡ answer (eqb f 0) (eqb s 0)
+  second_lacks p q = rw (p, ne_eqb s 0 q)
 
-  pub first-lacks : (f ≡ 0 → ⊥) → s ≡ 0 → 2 ≡ answer (eqb f 0) (eqb s 0)
-  first-lacks p q = rw (ne_eqb f 0 p, q)
+  pub first_lacks : (f ≡ 0 → ⊥) → s ≡ 0 → 2 ≡ answer (eqb f 0) (eqb s 0)
+  first_lacks p q = rw (ne_eqb f 0 p, q)
 
-  pub both-lack : (f ≡ 0 → ⊥) → (s ≡ 0 → ⊥) → 3 ≡ answer (eqb f 0) (eqb s 0)
-  both-lack p q = rw (ne_eqb f 0 p, ne_eqb s 0 q)
+  pub both_lack : (f ≡ 0 → ⊥) → (s ≡ 0 → ⊥) → 3 ≡ answer (eqb f 0) (eqb s 0)
+  both_lack p q = rw (ne_eqb f 0 p, ne_eqb s 0 q)
 
 -- an answer tells both tests
 read_0 : (g l : Bool) → answer g l ≡ 0 → (g ≡ true) × (l ≡ true)
@@ -63,18 +63,18 @@ read_3 false true e = absurd (omega arith)
 read_3 false false e = (refl, refl)
 
 module _ (a b : List ℕ) where
-  pub said-0 : compare_of a b ≡ 0 → (covers a b ≡ true) × (covers b a ≡ true)
+  pub said_0 : compare_of a b ≡ 0 → (covers a b ≡ true) × (covers b a ≡ true)
   unfolding compare_of
-  said-0 e = read_0 (covers a b) (covers b a) e
+  said_0 e = read_0 (covers a b) (covers b a) e
 
-  pub said-1 : compare_of a b ≡ 1 → (covers a b ≡ true) × (covers b a ≡ false)
+  pub said_1 : compare_of a b ≡ 1 → (covers a b ≡ true) × (covers b a ≡ false)
   unfolding compare_of
-  said-1 e = read_1 (covers a b) (covers b a) e
+  said_1 e = read_1 (covers a b) (covers b a) e
 
-  pub said-2 : compare_of a b ≡ 2 → (covers a b ≡ false) × (covers b a ≡ true)
+  pub said_2 : compare_of a b ≡ 2 → (covers a b ≡ false) × (covers b a ≡ true)
   unfolding compare_of
-  said-2 e = read_2 (covers a b) (covers b a) e
+  said_2 e = read_2 (covers a b) (covers b a) e
 
-  pub said-3 : compare_of a b ≡ 3 → (covers a b ≡ false) × (covers b a ≡ false)
+  pub said_3 : compare_of a b ≡ 3 → (covers a b ≡ false) × (covers b a ≡ false)
   unfolding compare_of
-  said-3 e = read_3 (covers a b) (covers b a) e
+  said_3 e = read_3 (covers a b) (covers b a) e

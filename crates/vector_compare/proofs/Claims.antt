@@ -14,50 +14,50 @@ use Rattle.vector.proofs.Dominance.{covers_at, all_covers, covers_refl, covers_t
 use Rattle.vector.proofs.Distances.{covers_exactly, answer_by_distances}
 use Rattle.vector_compare.specs.Raised.{raised}
 use Rattle.vector_compare.specs.Ties.{Ties}
-use Rattle.vector_compare.proofs.Answers.{answer, answer-is, neither-lacks, second-lacks, first-lacks, both-lack, said-0, said-1, said-2, said-3}
+use Rattle.vector_compare.proofs.Answers.{answer, answer_is, neither_lacks, second_lacks, first_lacks, both_lack, said_0, said_1, said_2, said_3}
 
 -- ---- exchanged arguments exchange 1 and 2, and keep 0 and 3
 
 module _ (a b : List ℕ) where
-  pub identical-exchanged : compare_of a b ≡ 0 → compare_of b a ≡ 0
-  identical-exchanged e = let (p, q) = said-0 a b e in answer-is b a true true q p
+  pub identical_exchanged : compare_of a b ≡ 0 → compare_of b a ≡ 0
+  identical_exchanged e = let (p, q) = said_0 a b e in answer_is b a true true q p
 
-  pub first-exchanged : compare_of a b ≡ 1 → compare_of b a ≡ 2
-  first-exchanged e = let (p, q) = said-1 a b e in answer-is b a false true q p
+  pub first_exchanged : compare_of a b ≡ 1 → compare_of b a ≡ 2
+  first_exchanged e = let (p, q) = said_1 a b e in answer_is b a false true q p
 
-  pub second-exchanged : compare_of a b ≡ 2 → compare_of b a ≡ 1
-  second-exchanged e = let (p, q) = said-2 a b e in answer-is b a true false q p
+  pub second_exchanged : compare_of a b ≡ 2 → compare_of b a ≡ 1
+  second_exchanged e = let (p, q) = said_2 a b e in answer_is b a true false q p
 
-  pub ahead-exchanged : compare_of a b ≡ 3 → compare_of b a ≡ 3
-  ahead-exchanged e = let (p, q) = said-3 a b e in answer-is b a false false q p
+  pub ahead_exchanged : compare_of a b ≡ 3 → compare_of b a ≡ 3
+  ahead_exchanged e = let (p, q) = said_3 a b e in answer_is b a false false q p
 
 -- ---- 0 exactly for equal vectors
 
 pub identical_equal : (a b : List ℕ) → length a ≡ 8 → length b ≡ 8 → compare_of a b ≡ 0 → a ≡ b
-identical_equal a b m n e = let (p, q) = said-0 a b e in covers_antisym a b m n p q
+identical_equal a b m n e = let (p, q) = said_0 a b e in covers_antisym a b m n p q
 
 pub equal_identical : (a b : List ℕ) → a ≡ b → compare_of a b ≡ 0
-equal_identical a b e = rw e (answer-is b b true true (covers_refl b) (covers_refl b))
+equal_identical a b e = rw e (answer_is b b true true (covers_refl b) (covers_refl b))
 
 -- ---- 1 exactly if every count is at least the other's and the vectors differ
 
 pub dominates_means : (a b : List ℕ) → compare_of a b ≡ 1 → ((u : ℕ) → u < 8 → get_or b u 0 ≤ get_or a u 0) × (a ≡ b → ⊥)
 dominates_means a b e =
-    let (p, q) = said-1 a b e in
+    let (p, q) = said_1 a b e in
     (covers_at a b p, λ (f : a ≡ b). not_both (covers b a) (rw f (covers_refl b)) q)
 
 pub dominates_if : (a b : List ℕ) → length a ≡ 8 → length b ≡ 8 → ((u : ℕ) → u < 8 → get_or b u 0 ≤ get_or a u 0) → (a ≡ b → ⊥) → compare_of a b ≡ 1
 dominates_if a b m n h k =
     let p = all_covers a b h in
-    answer-is a b true false p (test_false (covers b a) (λ q. k (covers_antisym a b m n p q)))
+    answer_is a b true false p (test_false (covers b a) (λ q. k (covers_antisym a b m n p q)))
 
 -- ---- dominance is transitive
 
 pub dominance_transitive : (a b c : List ℕ) → compare_of a b ≡ 1 → compare_of b c ≡ 1 → compare_of a c ≡ 1
 dominance_transitive a b c e f =
-    let (p, q) = said-1 a b e in
-    let (r, s) = said-1 b c f in
-    answer-is a c true false (covers_trans a b c p r) (test_false (covers c a) (λ t. not_both (covers c b) (covers_trans c a b t p) s))
+    let (p, q) = said_1 a b e in
+    let (r, s) = said_1 b c f in
+    answer_is a c true false (covers_trans a b c p r) (test_false (covers c a) (λ t. not_both (covers c b) (covers_trans c a b t p) s))
 
 -- ---- vectors that start at 1 answer as those that start at 0
 
@@ -86,8 +86,8 @@ start_irrelevant a b m n = rw (covers-raised a b m n, covers-raised b a n m)
 -- ---- how far behind
 
 module _ (n f s : ℕ) where
-  ties-0 : n ≡ 0 → f ≡ 0 → s ≡ 0 → Ties (compared n f s)
-  ties-0 e p q =
+  ties_0 : n ≡ 0 → f ≡ 0 → s ≡ 0 → Ties (compared n f s)
+  ties_0 e p q =
       record {
         identical = (λ _. (p, q), λ _. e);
         first_dominates = (λ d. absurd (omega arith), λ x. absurd (x.1 q));
@@ -95,8 +95,8 @@ module _ (n f s : ℕ) where
         both_ahead = (λ d. absurd (omega arith), λ x. absurd (x.0 p));
       }
 
-  ties-1 : n ≡ 1 → f ≡ 0 → (s ≡ 0 → ⊥) → Ties (compared n f s)
-  ties-1 e p q =
+  ties_1 : n ≡ 1 → f ≡ 0 → (s ≡ 0 → ⊥) → Ties (compared n f s)
+  ties_1 e p q =
       record {
         identical = (λ d. absurd (omega arith), λ x. absurd (q x.1));
         first_dominates = (λ _. (p, q), λ _. e);
@@ -104,8 +104,8 @@ module _ (n f s : ℕ) where
         both_ahead = (λ d. absurd (omega arith), λ x. absurd (x.0 p));
       }
 
-  ties-2 : n ≡ 2 → (f ≡ 0 → ⊥) → s ≡ 0 → Ties (compared n f s)
-  ties-2 e p q =
+  ties_2 : n ≡ 2 → (f ≡ 0 → ⊥) → s ≡ 0 → Ties (compared n f s)
+  ties_2 e p q =
       record {
         identical = (λ d. absurd (omega arith), λ x. absurd (p x.0));
         first_dominates = (λ d. absurd (omega arith), λ x. absurd (x.1 q));
@@ -113,8 +113,8 @@ module _ (n f s : ℕ) where
         both_ahead = (λ d. absurd (omega arith), λ x. absurd (x.1 q));
       }
 
-  ties-3 : n ≡ 3 → (f ≡ 0 → ⊥) → (s ≡ 0 → ⊥) → Ties (compared n f s)
-  ties-3 e p q =
+  ties_3 : n ≡ 3 → (f ≡ 0 → ⊥) → (s ≡ 0 → ⊥) → Ties (compared n f s)
+  ties_3 e p q =
       record {
         identical = (λ d. absurd (omega arith), λ x. absurd (p x.0));
         first_dominates = (λ d. absurd (omega arith), λ x. absurd (p x.0));
@@ -125,8 +125,8 @@ module _ (n f s : ℕ) where
   ties : n ≡ answer (eqb f 0) (eqb s 0) → Ties (compared n f s)
   ties e =
       ⊎_elim
-      (λ (p : f ≡ 0). ⊎_elim (λ q. ties-0 (e ∙ sym (neither-lacks f s p q)) p q) (λ q. ties-1 (e ∙ sym (second-lacks f s p q)) p q) (eq_or_ne s 0))
-      (λ (p : f ≡ 0 → ⊥). ⊎_elim (λ q. ties-2 (e ∙ sym (first-lacks f s p q)) p q) (λ q. ties-3 (e ∙ sym (both-lack f s p q)) p q) (eq_or_ne s 0))
+      (λ (p : f ≡ 0). ⊎_elim (λ q. ties_0 (e ∙ sym (neither_lacks f s p q)) p q) (λ q. ties_1 (e ∙ sym (second_lacks f s p q)) p q) (eq_or_ne s 0))
+      (λ (p : f ≡ 0 → ⊥). ⊎_elim (λ q. ties_2 (e ∙ sym (first_lacks f s p q)) p q) (λ q. ties_3 (e ∙ sym (both_lack f s p q)) p q) (eq_or_ne s 0))
       (eq_or_ne f 0)
 
 -- the answer is 0, 1, 2 or 3 exactly by which of the two numbers are 0

@@ -8,7 +8,7 @@ use mathlib.Core.Bool.{Bool, true, false, not}
 use mathlib.Core.List.{List}
 use lib.Dec.{eqb}
 use lib.ListN.{length, replicate}
-use borrow.Author.Tests.{not-true, not-false}
+use borrow.Author.Tests.{not-true, not_false}
 use Rattle.model.specs.Bytes.{blank, padded}
 use Rattle.model.specs.Vector.{covers}
 use Rattle.model.specs.Log.{vector_of, no_counts, vector_on, records_of, sound_log_on, sound_log}
@@ -22,7 +22,7 @@ use Rattle.log_laws.proofs.Counts.{no_counts_lem}
 use Rattle.log_laws.proofs.Tests.{vector_on-none}
 use Rattle.base_head.specs.Head.{headed}
 use Rattle.call_guard.specs.Opened.{opened, open_of}
-use Rattle.call_guard.proofs.Opening.{open-sound, open-held, open-folded, call-refused, call_passes}
+use Rattle.call_guard.proofs.Opening.{open_sound, open_held, open_folded, call_refused, call_passes}
 
 -- ---- a vector of zeros
 
@@ -30,7 +30,7 @@ use Rattle.call_guard.proofs.Opening.{open-sound, open-held, open-folded, call-r
 pub zeros_cover : (z v : List ℕ) (t : Bool) → z ≡ replicate 8 0 → length v ≡ 8 → t ≡ covers z v → t ≡ blank v
 zeros_cover z v t e n c =
     ⊎_elim
-    (λ (d : covers z v ≡ true). c ∙ (d ∙ sym (eq-blank v 8 (zeros-only v n (rw e at d)))))
+    (λ (d : covers z v ≡ true). c ∙ (d ∙ sym (eq-blank v 8 (zeros_only v n (rw e at d)))))
     (λ (d : covers z v ≡ false).
     ⊎_elim
     (λ (b : blank v ≡ true).
@@ -40,43 +40,43 @@ zeros_cover z v t e n c =
     (bool_cases (blank v)))
     (bool_cases (covers z v))
   where
-    zeros-only : (v : List ℕ) → length v ≡ 8 → covers (replicate 8 0) v ≡ true → v ≡ replicate 8 0
-    zeros-only v n d = sym (covers_antisym no_counts v refl n d (all_covers v no_counts (λ u h. omega (arith, no_counts_lem u))))
+    zeros_only : (v : List ℕ) → length v ≡ 8 → covers (replicate 8 0) v ≡ true → v ≡ replicate 8 0
+    zeros_only v n d = sym (covers_antisym no_counts v refl n d (all_covers v no_counts (λ u h. omega (arith, no_counts_lem u))))
 
 -- ---- the ways out
 
 module _ (a u : ℕ) (log base lent : List ℕ) {n m k j : ℕ} {folded held : List ℕ} {used : ℕ} (e : opened n (headed m folded k j) held used ≡ open_of u log base (eqb (length lent) 44032) true) where
-  pub write-refused : (n ≡ 0 → ⊥) → outcome n 0 log lent 0 ≡ write_of a u log base lent
+  pub write_refused : (n ≡ 0 → ⊥) → outcome n 0 log lent 0 ≡ write_of a u log base lent
   unfolding write_of
-  write-refused h = call-refused u log base lent (eqb (length lent) 44032) e (written a u log base lent) h
+  write_refused h = call_refused u log base lent (eqb (length lent) 44032) e (written a u log base lent) h
 
   module _ (z : n ≡ 0) (t : Bool) (c : t ≡ blank folded) where
     told : folded ≡ base_vector base
-    told = open-folded u log base (eqb (length lent) 44032) true e z
+    told = open_folded u log base (eqb (length lent) 44032) true e z
 
     none : blank (base_vector base) ≡ t
     none = sym (rw told at c)
 
-    pub write-folded : not t ≡ true → outcome 29 0 log lent 0 ≡ write_of a u log base lent
+    pub write_folded : not t ≡ true → outcome 29 0 log lent 0 ≡ write_of a u log base lent
     unfolding write_of written
-    write-folded h =
+    write_folded h =
         let d : outcome 29 0 log lent 0 ≡ written a u log base lent = rw (none, not-true t h) in
         d ∙ call_passes u log base lent (eqb (length lent) 44032) e (written a u log base lent) z
 
     module _ (g : not t ≡ false) where
       -- no record is folded
       whole : length folded ≡ 8 → base_vector base ≡ no_counts
-      whole l = sym told ∙ (rw l at (blank-eq folded (sym c ∙ not-false t g)))
+      whole l = sym told ∙ (rw l at (blank-eq folded (sym c ∙ not_false t g)))
 
       pub whole_sound : length folded ≡ 8 → sound_log log ≡ true
       unfolding sound_log
-      whole_sound l = rw (whole l) at (open-sound u log base (eqb (length lent) 44032) true e z)
+      whole_sound l = rw (whole l) at (open_sound u log base (eqb (length lent) 44032) true e z)
 
       pub whole-held : length folded ≡ 8 → held ≡ vector_of (records_of log)
-      whole-held l = open-held u log base (eqb (length lent) 44032) true e z ∙ rw (whole l) (vector_on-none (records_of log))
+      whole-held l = open_held u log base (eqb (length lent) 44032) true e z ∙ rw (whole l) (vector_on-none (records_of log))
 
-      pub all-written : (i : ℕ) (o : List ℕ) → o ≡ padded 44032 (file_of a u (records_of log)) → i ≡ block_count (length (records_of log)) → outcome 0 0 log o i ≡ write_of a u log base lent
+      pub all_written : (i : ℕ) (o : List ℕ) → o ≡ padded 44032 (file_of a u (records_of log)) → i ≡ block_count (length (records_of log)) → outcome 0 0 log o i ≡ write_of a u log base lent
       unfolding write_of written
-      all-written i o p q =
-          let d : outcome 0 0 log o i ≡ written a u log base lent = rw (p, q, none, not-false t g) in
+      all_written i o p q =
+          let d : outcome 0 0 log o i ≡ written a u log base lent = rw (p, q, none, not_false t g) in
           d ∙ call_passes u log base lent (eqb (length lent) 44032) e (written a u log base lent) z

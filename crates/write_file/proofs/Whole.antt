@@ -15,7 +15,7 @@ use Rattle.model.specs.File.{block_count, file_block, file_to, file_of}
 use Rattle.byte_slice.proofs.PutAt.{mid_put, put_grows}
 use Rattle.block_laws.proofs.Fields.{Sized}
 use Rattle.encoding_laws.proofs.Logs.{sound_proper, proper_sized, sound_records, sound_few}
-use Rattle.encoding_laws.proofs.Files.{few_blocks, length-fileBlock, length-fileTo}
+use Rattle.encoding_laws.proofs.Files.{few_blocks, length-file_block, length-file_to}
 
 -- ---- how many blocks
 
@@ -50,14 +50,14 @@ module _ (a u : ℕ) (b d : List ℕ) (long : length b ≡ 40960) (sound : sound
   sized = proper_sized (records_of b) (sound_proper (records_of b) (sound_records b sound))
 
   -- one block more
-  pub goes_on : (k n : ℕ) {e s o : List ℕ} → o ≡ put_at e (512 * k) s → s ≡ file_block a u (records_of b) k → e ≡ file_to a u (records_of b) k ++ drop (512 * k) d → k < n → n ≤ 86
+  pub goes_on_lem : (k n : ℕ) {e s o : List ℕ} → o ≡ put_at e (512 * k) s → s ≡ file_block a u (records_of b) k → e ≡ file_to a u (records_of b) k ++ drop (512 * k) d → k < n → n ≤ 86
       → o ≡ file_to a u (records_of b) (k + 1) ++ drop (512 * (k + 1)) d
   unfolding file_to
-  goes_on k n r q p h g =
+  goes_on_lem k n r q p h g =
       let f = file_to a u (records_of b) k in
       let w = file_block a u (records_of b) k in
-      let lf : length f ≡ 512 * k = length-fileTo a u (records_of b) sized k in
-      let lw : length (f ++ w) ≡ 512 * (k + 1) = omega (arith, length-append f w, length-fileBlock a u (records_of b) sized k) in
+      let lf : length f ≡ 512 * k = length-file_to a u (records_of b) sized k in
+      let lw : length (f ++ w) ≡ 512 * (k + 1) = omega (arith, length-append f w, length-file_block a u (records_of b) sized k) in
       let x : put_at (f ++ drop (512 * k) d) (512 * k) w ≡ (f ++ w) ++ drop (512 * (k + 1)) d = rw (lf, lw) at (put_grows d f w (omega arith)) in
       r ∙ rw (p, q, x, add-one k)
 
@@ -70,7 +70,7 @@ module _ (a u : ℕ) (b d : List ℕ) (long : length b ≡ 40960) (sound : sound
       let z : List ℕ = replicate (44032 - 512 * n) 0 in
       let kn : k ≡ n = omega arith in
       let nc : n ≡ block_count (length (records_of b)) = all_counted b used n v c in
-      let lf : length f ≡ 512 * n = length-fileTo a u (records_of b) sized n in
+      let lf : length f ≡ 512 * n = length-file_to a u (records_of b) sized n in
       let lz : length (f ++ z) ≡ length d = omega (arith, length-append f z, length-replicate {A = ℕ} (44032 - 512 * n) 0) in
       let x : put_at (f ++ drop (512 * n) d) (512 * n) z ≡ f ++ z = (rw (lf, lz) at (put_grows d f z (omega arith))) ∙ rw (drop-length d, append-nil) in
       q ∙ rw (p, kn, x, ← nc, lf)

@@ -1,5 +1,5 @@
 -- The same behind the records held, whose tree is laid in a work memory of zeros by a register of zeros.
-use Rattle.tree_lookup.proofs.Working.{works-holds}
+use Rattle.tree_lookup.proofs.Working.{works_holds}
 use Rattle.act.proofs.Acting.{reason_laid, laid}
 use borrow.Author.Rules.{rules}
 use Rattle.act.proofs.reason_behind.Statement.{statement}
@@ -9,7 +9,7 @@ replay-state-requires : tie.Need-replay-state-requires
 replay-state-requires c κs = (search, search, search, search, search, search, search, search, search)
 
 reason-on-requires : tie.Need-reason-on-requires
-reason-on-requires c κs = (search, search (works-holds))
+reason-on-requires c κs = (search, search (works_holds))
 
 returns : tie.Need-returns
 returns c = (search (reason_laid), search (laid))

@@ -1,14 +1,14 @@
 -- The same of the label field of a record, by its operation: a label that is not used is zero, else 7.
-use Rattle.act_label.proofs.Label.{label-used, bytes-unused, zeros-unused}
+use Rattle.act_label.proofs.Label.{label_used, bytes_unused, zeros-unused}
 use borrow.Author.Rules.{rules}
 use Rattle.act_label.proofs.field_number.Statement.{statement}
 use Rattle.act_label.proofs.field_number.Tie as tie
 
 returns : tie.Need-returns
-returns c = search (label-used)
+returns c = search (label_used)
 
 returns-2 : tie.Need-returns-2
-returns-2 c = search (bytes-unused)
+returns-2 c = search (bytes_unused)
 
 returns-3 : tie.Need-returns-3
 returns-3 c = search (zeros-unused)

@@ -2,7 +2,7 @@
 use Prim.Native.Nat.{◌≤◌, ◌-◌}
 use mathlib.Core.Path.{◌≡◌, refl}
 use Rattle.act_label.specs.Label.{stand_to, plain_to}
-use Rattle.act_label.proofs.Bytes.{stand-next, plain-next, all-stand, some-stroke, other_byte}
+use Rattle.act_label.proofs.Bytes.{stand_next, plain_next, all_stand, some_stroke, other_byte}
 use borrow.Author.Rules.{rules}
 use native.Mathlib.Omega.{arith}
 use Rattle.act_label.proofs.text_number.Statement.{statement}
@@ -19,13 +19,13 @@ unfolding stand_to plain_to
 loop-holds c = (omega arith, refl, refl)
 
 loop-again : tie.Need-loop-preserved invariant-loop decreases-loop
-loop-again c = (omega arith, search (stand-next), search (plain-next))
+loop-again c = (omega arith, search (stand_next), search (plain_next))
 
 returns : tie.Need-returns invariant-loop decreases-loop
-returns c = search (all-stand)
+returns c = search (all_stand)
 
 returns-2 : tie.Need-returns-2 invariant-loop decreases-loop
-returns-2 c = search (some-stroke)
+returns-2 c = search (some_stroke)
 
 returns-3 : tie.Need-returns-3 invariant-loop decreases-loop
 returns-3 c = search (other_byte)

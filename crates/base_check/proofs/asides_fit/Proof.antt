@@ -3,7 +3,7 @@ use Prim.Native.Nat.{◌≤◌, ◌-◌}
 use mathlib.Core.Path.{◌≡◌}
 use Rattle.model.specs.Log.{all_to}
 use Rattle.base_model.specs.Base.{aside_row_fits}
-use Rattle.base_check.proofs.Checks.{asides-start, asides-next, asides-end}
+use Rattle.base_check.proofs.Checks.{asides_start, asides_next, asides_end}
 use borrow.Author.Rules.{rules}
 use native.Mathlib.Omega.{arith}
 use Rattle.base_check.proofs.asides_fit.Statement.{statement}
@@ -16,13 +16,13 @@ abbrev decreases-loop : tie.decreases-loop
 decreases-loop base v m all₀ i₀ all i = m - i
 
 loop-holds : tie.Need-loop-init invariant-loop decreases-loop
-loop-holds c = (omega arith, search (asides-start))
+loop-holds c = (omega arith, search (asides_start))
 
 loop-again : tie.Need-loop-preserved invariant-loop decreases-loop
-loop-again c = (omega arith, search (asides-next))
+loop-again c = (omega arith, search (asides_next))
 
 returns : tie.Need-returns invariant-loop decreases-loop
-returns c = search (asides-end)
+returns c = search (asides_end)
 
 pub asides-fit-spec : {M : Type 1} → statement M
 asides-fit-spec =

@@ -1,17 +1,17 @@
 -- The base is sound.
-use Rattle.base_check.proofs.Checks.{no-head, many-entries, many-asides, no_rows, whole}
+use Rattle.base_check.proofs.Checks.{no_head_lem, many_entries, many_asides, no_rows, whole}
 use borrow.Author.Rules.{rules}
 use Rattle.base_check.proofs.check_base.Statement.{statement}
 use Rattle.base_check.proofs.check_base.Tie as tie
 
 returns : tie.Need-returns
-returns c = search (no-head)
+returns c = search (no_head_lem)
 
 returns-2 : tie.Need-returns-2
-returns-2 c = search (many-entries)
+returns-2 c = search (many_entries)
 
 returns-3 : tie.Need-returns-3
-returns-3 c = search (many-asides)
+returns-3 c = search (many_asides)
 
 returns-4 : tie.Need-returns-4
 returns-4 c = search (no_rows)

@@ -3,7 +3,7 @@ use Prim.Native.Nat.{◌≤◌, ◌-◌}
 use mathlib.Core.Path.{◌≡◌}
 use Rattle.model.specs.Log.{all_to}
 use Rattle.base_model.specs.Base.{entry_row_fits}
-use Rattle.base_check.proofs.Checks.{entries-start, entries_next, entries_end}
+use Rattle.base_check.proofs.Checks.{entries_start, entries_next, entries_end}
 use borrow.Author.Rules.{rules}
 use native.Mathlib.Omega.{arith}
 use Rattle.base_check.proofs.entries_fit.Statement.{statement}
@@ -16,7 +16,7 @@ abbrev decreases-loop : tie.decreases-loop
 decreases-loop base v n all₀ i₀ all i = n - i
 
 loop-holds : tie.Need-loop-init invariant-loop decreases-loop
-loop-holds c = (omega arith, search (entries-start))
+loop-holds c = (omega arith, search (entries_start))
 
 loop-again : tie.Need-loop-preserved invariant-loop decreases-loop
 loop-again c = (omega arith, search (entries_next))

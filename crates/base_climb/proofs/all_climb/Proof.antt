@@ -1,11 +1,11 @@
 -- From each of the first n rows the top is reached by at most n steps.
-use Rattle.base_climb.proofs.Climbing.{known-none}
+use Rattle.base_climb.proofs.Climbing.{known_none}
 use borrow.Author.Rules.{rules}
 use Rattle.base_climb.proofs.all_climb.Statement.{statement}
 use Rattle.base_climb.proofs.all_climb.Tie as tie
 
 rows-climb-requires : tie.Need-rows-climb-requires
-rows-climb-requires c κs = (search rules, search rules, search (known-none))
+rows-climb-requires c κs = (search rules, search rules, search (known_none))
 
 pub all-climb-spec : {M : Type 1} → statement M
 all-climb-spec =

@@ -2,7 +2,7 @@
 use Prim.Native.Nat.{◌≤◌, ◌<◌}
 use lib.ListN.{get_or}
 use Rattle.base_climb.specs.Climb.{Exact, Known}
-use Rattle.base_climb.proofs.Climbing.{known_more, row_some, row_low, row-exact}
+use Rattle.base_climb.proofs.Climbing.{known_more, row_some, row_low, row_exact}
 use borrow.Author.Rules.{rules}
 use native.Mathlib.Omega.{arith}
 use Rattle.base_climb.proofs.mark.Statement.{statement}
@@ -21,7 +21,7 @@ sub_row : tie.Need-overflow-sub-row invariant-loop decreases-loop
 sub_row c = search (row_some)
 
 loop-again : tie.Need-loop-preserved invariant-loop decreases-loop
-loop-again c = (search (row_low), omega arith, search (known_more), search (row-exact))
+loop-again c = (search (row_low), omega arith, search (known_more), search (row_exact))
 
 pub mark_spec : {M : Type 1} → statement M
 mark_spec =

@@ -4,7 +4,7 @@ use mathlib.Core.Path.{◌≡◌}
 use mathlib.Core.Bool.{true}
 use Rattle.model.specs.Log.{all_to}
 use Rattle.base_climb.specs.Climb.{climbs_from, Known}
-use Rattle.base_climb.proofs.Climbing.{all_start, all-lost, all-goes, all_end, away-exact}
+use Rattle.base_climb.proofs.Climbing.{all_start, all_lost, all_goes, all_end, away_exact}
 use borrow.Author.Rules.{rules}
 use native.Mathlib.Omega.{arith}
 use Rattle.base_climb.proofs.rows_climb.Statement.{statement}
@@ -20,13 +20,13 @@ loop-holds : tie.Need-loop-init invariant-loop decreases-loop
 loop-holds c = (omega arith, search (all_start), search rules)
 
 returns : tie.Need-returns invariant-loop decreases-loop
-returns c = search (all-lost)
+returns c = search (all_lost)
 
 mark-requires : tie.Need-mark-requires invariant-loop decreases-loop
-mark-requires c κs = (search rules, omega arith, omega arith, search rules, search (away-exact))
+mark-requires c κs = (search rules, omega arith, omega arith, search rules, search (away_exact))
 
 loop-again : tie.Need-loop-preserved invariant-loop decreases-loop
-loop-again c = (omega arith, search (all-goes), search rules)
+loop-again c = (omega arith, search (all_goes), search rules)
 
 returns-2 : tie.Need-returns-2 invariant-loop decreases-loop
 returns-2 c = search (all_end)

@@ -2,7 +2,7 @@
 use Prim.Native.Nat.{◌≤◌, ◌-◌}
 use mathlib.Core.Path.{◌≡◌}
 use Rattle.model.specs.Log.{all_to}
-use Rattle.base_head.proofs.Listed.{passes, units_start, units-next, units-end}
+use Rattle.base_head.proofs.Listed.{passes, units_start, units_next, units_end}
 use borrow.Author.Rules.{rules}
 use native.Mathlib.Omega.{arith}
 use Rattle.base_head.proofs.lists_all.Statement.{statement}
@@ -18,10 +18,10 @@ loop-holds : tie.Need-loop-init invariant-loop decreases-loop
 loop-holds c = (omega arith, search (units_start))
 
 loop-again : tie.Need-loop-preserved invariant-loop decreases-loop
-loop-again c = (omega arith, search (units-next))
+loop-again c = (omega arith, search (units_next))
 
 returns : tie.Need-returns invariant-loop decreases-loop
-returns c = search (units-end)
+returns c = search (units_end)
 
 pub lists-all-spec : {M : Type 1} → statement M
 lists-all-spec =

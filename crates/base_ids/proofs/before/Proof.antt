@@ -1,5 +1,5 @@
 -- Of the first i identities the last that is k, and one; 0 for none.
-use Rattle.base_ids.proofs.Ids.{Seeks, seek-starts, seek-low, seek-goes, seek_found, seek_ends}
+use Rattle.base_ids.proofs.Ids.{Seeks, seek_starts, seek_low, seek_goes, seek_found, seek_ends}
 use borrow.Author.Rules.{rules}
 use native.Mathlib.Omega.{arith}
 use Rattle.base_ids.proofs.before.Statement.{statement}
@@ -12,16 +12,16 @@ abbrev decreases-loop : tie.decreases-loop
 decreases-loop base n k heads next i h q₀ q = q
 
 loop-holds : tie.Need-loop-init invariant-loop decreases-loop
-loop-holds c = search (seek-starts)
+loop-holds c = search (seek_starts)
 
 returns : tie.Need-returns invariant-loop decreases-loop
 returns c = (search (seek_found), omega arith)
 
 loop-less : tie.Need-loop-smaller invariant-loop decreases-loop
-loop-less c = search (seek-low)
+loop-less c = search (seek_low)
 
 loop-again : tie.Need-loop-preserved invariant-loop decreases-loop
-loop-again c = search (seek-goes)
+loop-again c = search (seek_goes)
 
 returns-2 : tie.Need-returns-2 invariant-loop decreases-loop
 returns-2 c = (search (seek_ends), omega arith)

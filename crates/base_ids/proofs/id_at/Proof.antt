@@ -1,11 +1,11 @@
 -- Of n entries, and asides behind them, the i-th identity.
-use Rattle.base_ids.proofs.Ids.{id-entry, id_aside}
+use Rattle.base_ids.proofs.Ids.{id_entry, id_aside}
 use borrow.Author.Rules.{rules}
 use Rattle.base_ids.proofs.id_at.Statement.{statement}
 use Rattle.base_ids.proofs.id_at.Tie as tie
 
 returns : tie.Need-returns
-returns c = search (id-entry)
+returns c = search (id_entry)
 
 returns-2 : tie.Need-returns-2
 returns-2 c = search (id_aside)

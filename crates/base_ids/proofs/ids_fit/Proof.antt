@@ -1,5 +1,5 @@
 -- No identity twice over n entries and m asides, and each entry reaches the root through folders.
-use Rattle.base_ids.proofs.Ids.{ids-none, ids-start}
+use Rattle.base_ids.proofs.Ids.{ids_none, ids_start}
 use Rattle.base_ids.proofs.Rooted.{ids_are}
 use native.Mathlib.Omega.{arith}
 use borrow.Author.Rules.{rules}
@@ -7,7 +7,7 @@ use Rattle.base_ids.proofs.ids_fit.Statement.{statement}
 use Rattle.base_ids.proofs.ids_fit.Tie as tie
 
 link-ids-requires : tie.Need-link-ids-requires
-link-ids-requires c κs = (search rules, omega arith, omega arith, omega arith, search (ids-none), search (ids-start))
+link-ids-requires c κs = (search rules, omega arith, omega arith, omega arith, search (ids_none), search (ids_start))
 
 link-ids-requires-2 : tie.Need-link-ids-requires-2
 link-ids-requires-2 c κs = (search rules, omega arith, omega arith, omega arith, search rules, search rules)

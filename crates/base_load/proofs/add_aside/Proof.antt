@@ -1,20 +1,20 @@
 -- One aside more: its row and its role.
-use Rattle.base_load.proofs.Roles.{aside-loaded, note-noted, note-end, note-source-end, note-role, note-chains, note-room}
+use Rattle.base_load.proofs.Roles.{aside-loaded, note_noted, note_end, note_source_end, note_role, note_chains, note_room}
 use borrow.Author.Rules.{rules}
 use Rattle.base_load.proofs.add_aside.Statement.{statement}
 use Rattle.base_load.proofs.add_aside.Tie as tie
 
 part-load-aside-end : tie.Need-slice-bounds-load-aside-end
-part-load-aside-end c = search (note-end)
+part-load-aside-end c = search (note_end)
 
 part-load-aside-end-2 : tie.Need-slice-bounds-load-aside-end-2
-part-load-aside-end-2 c = search (note-source-end)
+part-load-aside-end-2 c = search (note_source_end)
 
 load-aside-requires : tie.Need-load-aside-requires
-load-aside-requires c κs = (search rules, search rules, search (note-noted))
+load-aside-requires c κs = (search rules, search rules, search (note_noted))
 
 name-requires : tie.Need-name-requires
-name-requires c κs = (search (note-chains), search (note-room), search (note-role))
+name-requires c κs = (search (note_chains), search (note_room), search (note_role))
 
 returns : tie.Need-returns
 returns c = search (aside-loaded)

@@ -1,20 +1,20 @@
 -- The label of entry i.
-use Rattle.base_load.proofs.Entering.{label-entered, label-room, label-chains, label-named, label-end, label-row, label-place, label-wide, label-count}
+use Rattle.base_load.proofs.Entering.{label_entered, label_room, label_chains, label_named, label_end, label_row, label_place, label_wide, label_count}
 use borrow.Author.Rules.{rules}
 use Rattle.base_load.proofs.enter_label.Statement.{statement}
 use Rattle.base_load.proofs.enter_label.Tie as tie
 
 place-in-requires : tie.Need-place-in-requires
-place-in-requires c κs = (search, search, search (label-named), search)
+place-in-requires c κs = (search, search, search (label_named), search)
 
 part-enter-end : tie.Need-slice-bounds-enter-end
-part-enter-end c = search (label-end)
+part-enter-end c = search (label_end)
 
 enter-requires : tie.Need-enter-requires
-enter-requires c κs = (search (label-chains), search (label-wide), search (label-place), search (label-count), search (label-room), search rules, search (label-row))
+enter-requires c κs = (search (label_chains), search (label_wide), search (label_place), search (label_count), search (label_room), search rules, search (label_row))
 
 returns : tie.Need-returns
-returns c = search (label-entered)
+returns c = search (label_entered)
 
 pub enter-label-spec : {M : Type 1} → statement M
 enter-label-spec =

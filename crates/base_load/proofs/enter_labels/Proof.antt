@@ -3,7 +3,7 @@ use Prim.Native.Nat.{◌≤◌, ◌-◌}
 use mathlib.Core.Path.{◌≡◌, refl}
 use lib.ListN.{length}
 use Rattle.base_load.specs.Loading.{Entering}
-use Rattle.base_load.proofs.Entering.{loaded, loaded-nodes}
+use Rattle.base_load.proofs.Entering.{loaded, loaded_nodes}
 use borrow.Author.Rules.{rules}
 use native.Mathlib.Omega.{arith}
 use Rattle.base_load.proofs.enter_labels.Statement.{statement}
@@ -25,7 +25,7 @@ loop-again : tie.Need-loop-preserved invariant-loop decreases-loop
 loop-again c = (omega arith, search rules, search)
 
 returns : tie.Need-returns invariant-loop decreases-loop
-returns c = (search (loaded), search (loaded-nodes))
+returns c = (search (loaded), search (loaded_nodes))
 
 pub enter-labels-spec : {M : Type 1} → statement M
 enter-labels-spec =

@@ -1,5 +1,5 @@
 -- The row of an entry, from the 72 bytes that a base has for it.
-use Rattle.base_load.proofs.Rows.{own_low, folder_low, contents-low, placing-low}
+use Rattle.base_load.proofs.Rows.{own_low, folder_low, contents_low, placing_low}
 use Rattle.base_load.specs.Loading.{loaded_row}
 use Rattle.model.specs.Bytes.{part}
 use borrow.Author.Rules.{rules}
@@ -13,10 +13,10 @@ put-identity-requires-2 : tie.Need-put-identity-requires-2
 put-identity-requires-2 c κs = search (rules, folder_low)
 
 put-identity-requires-3 : tie.Need-put-identity-requires-3
-put-identity-requires-3 c κs = search (rules, contents-low)
+put-identity-requires-3 c κs = search (rules, contents_low)
 
 put-identity-requires-4 : tie.Need-put-identity-requires-4
-put-identity-requires-4 c κs = search (rules, placing-low)
+put-identity-requires-4 c κs = search (rules, placing_low)
 
 returns : tie.Need-returns
 unfolding loaded_row part

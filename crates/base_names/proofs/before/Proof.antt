@@ -1,5 +1,5 @@
 -- Of the rows before row i, in the chain h, the last that has its label in its folder, and one; 0 for none.
-use Rattle.base_names.proofs.Names.{Seeks, seek-starts, seek-low, seek-goes, seek_found, seek_ends}
+use Rattle.base_names.proofs.Names.{Seeks, seek_starts, seek_low, seek_goes, seek_found, seek_ends}
 use borrow.Author.Rules.{rules}
 use Rattle.base_names.proofs.before.Statement.{statement}
 use Rattle.base_names.proofs.before.Tie as tie
@@ -11,16 +11,16 @@ abbrev decreases-loop : tie.decreases-loop
 decreases-loop base h heads next i q₀ q = q
 
 loop-holds : tie.Need-loop-init invariant-loop decreases-loop
-loop-holds c = search (seek-starts)
+loop-holds c = search (seek_starts)
 
 returns : tie.Need-returns invariant-loop decreases-loop
 returns c = search (seek_found)
 
 loop-less : tie.Need-loop-smaller invariant-loop decreases-loop
-loop-less c = search (seek-low)
+loop-less c = search (seek_low)
 
 loop-again : tie.Need-loop-preserved invariant-loop decreases-loop
-loop-again c = search (seek-goes)
+loop-again c = search (seek_goes)
 
 returns-2 : tie.Need-returns-2 invariant-loop decreases-loop
 returns-2 c = search (seek_ends)

@@ -1,11 +1,11 @@
 -- The row of an aside.
-use Rattle.base_rows.proofs.Tests.{aside-is}
+use Rattle.base_rows.proofs.Tests.{aside_is}
 use borrow.Author.Rules.{rules}
 use Rattle.base_rows.proofs.aside_fits.Statement.{statement}
 use Rattle.base_rows.proofs.aside_fits.Tie as tie
 
 returns : tie.Need-returns
-returns c = search (aside-is)
+returns c = search (aside_is)
 
 pub aside-fits-spec : {M : Type 1} → statement M
 aside-fits-spec =

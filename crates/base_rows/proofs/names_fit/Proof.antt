@@ -1,11 +1,11 @@
 -- Identity, folder, last contents record, last place record.
-use Rattle.base_rows.proofs.Tests.{names-are}
+use Rattle.base_rows.proofs.Tests.{names_are}
 use borrow.Author.Rules.{rules}
 use Rattle.base_rows.proofs.names_fit.Statement.{statement}
 use Rattle.base_rows.proofs.names_fit.Tie as tie
 
 returns : tie.Need-returns
-returns c = search (names-are)
+returns c = search (names_are)
 
 pub names-fit-spec : {M : Type 1} → statement M
 names-fit-spec =

@@ -1,5 +1,5 @@
 -- Zeros, or a named identity.
-use Rattle.base_rows.proofs.Tests.{none_named, one-named}
+use Rattle.base_rows.proofs.Tests.{none_named, one_named}
 use borrow.Author.Rules.{rules}
 use Rattle.base_rows.proofs.names_or_none.Statement.{statement}
 use Rattle.base_rows.proofs.names_or_none.Tie as tie
@@ -8,7 +8,7 @@ returns : tie.Need-returns
 returns c = search (none_named)
 
 returns-2 : tie.Need-returns-2
-returns-2 c = search (one-named)
+returns-2 c = search (one_named)
 
 pub names-or-none-spec : {M : Type 1} → statement M
 names-or-none-spec = tie.close

@@ -1,5 +1,5 @@
 -- The stored sums are those of the words before them.
-use Rattle.block_read.proofs.Checks.{first_off, second-decides}
+use Rattle.block_read.proofs.Checks.{first_off, second_decides}
 use borrow.Author.Rules.{rules}
 use Rattle.block_read.proofs.sums_hold.Statement.{statement}
 use Rattle.block_read.proofs.sums_hold.Tie as tie
@@ -8,7 +8,7 @@ returns : tie.Need-returns
 returns c = search (first_off)
 
 returns-2 : tie.Need-returns-2
-returns-2 c = search (second-decides)
+returns-2 c = search (second_decides)
 
 pub sums-hold-spec : {M : Type 1} → statement M
 sums-hold-spec =

@@ -3,7 +3,7 @@ use Prim.Native.Nat.{◌+◌, ◌-◌, ◌≤◌}
 use mathlib.Core.Path.{◌≡◌}
 use lib.ListN.{length, length-set}
 use Rattle.block_sums.specs.Weights.{Weights}
-use Rattle.block_sums.proofs.Totals.{no_weights, next-weight, all-weights}
+use Rattle.block_sums.proofs.Totals.{no_weights, next_weight, all_weights}
 use borrow.Author.Rules.{rules}
 use native.Mathlib.Omega.{arith}
 use Rattle.block_sums.proofs.weights.Statement.{statement}
@@ -19,10 +19,10 @@ loop-holds : tie.Need-loop-init invariant-loop decreases-loop
 loop-holds c = (omega arith, omega arith, search rules, no_weights _)
 
 loop-again : tie.Need-loop-preserved invariant-loop decreases-loop
-loop-again c = (omega arith, omega arith, simp length-set c.before.loop.invariant.2, search (next-weight))
+loop-again c = (omega arith, omega arith, simp length-set c.before.loop.invariant.2, search (next_weight))
 
 returns : tie.Need-returns invariant-loop decreases-loop
-returns c = search (all-weights)
+returns c = search (all_weights)
 
 pub weights-spec : {M : Type 1} → statement M
 weights-spec =

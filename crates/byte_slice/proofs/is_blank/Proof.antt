@@ -3,7 +3,7 @@ use Prim.Native.Nat.{◌≤◌, ◌-◌}
 use mathlib.Core.Path.{◌≡◌, refl}
 use lib.ListN.{length, drop}
 use Rattle.model.specs.Bytes.{blank}
-use Rattle.byte_slice.proofs.Compare.{blank-next, blank-differs, blank-end}
+use Rattle.byte_slice.proofs.Compare.{blank-next, blank-differs, blank_end}
 use borrow.Author.Rules.{rules}
 use native.Mathlib.Omega.{arith}
 use Rattle.byte_slice.proofs.is_blank.Statement.{statement}
@@ -25,7 +25,7 @@ loop-again : tie.Need-loop-preserved invariant-loop decreases-loop
 loop-again c = (omega arith, search (blank-next))
 
 returns-2 : tie.Need-returns-2 invariant-loop decreases-loop
-returns-2 c = search (blank-end)
+returns-2 c = search (blank_end)
 
 pub is-blank-spec : {M : Type 1} → statement M
 is-blank-spec =

@@ -3,7 +3,7 @@ use Prim.Native.Nat.{◌≤◌, ◌-◌, ◌+◌}
 use mathlib.Core.Path.{◌≡◌, refl}
 use lib.ListN.{length}
 use Rattle.model.specs.Bytes.{put_at, part}
-use Rattle.byte_slice.proofs.Sixteens.{move_none, move-room, move-next, move-more}
+use Rattle.byte_slice.proofs.Sixteens.{move_none, move_room, move_next, move_more}
 use borrow.Author.Rules.{rules}
 use native.Mathlib.Omega.{arith}
 use Rattle.byte_slice.proofs.move_up.Statement.{statement}
@@ -19,13 +19,13 @@ loop-holds : tie.Need-loop-init invariant-loop decreases-loop
 loop-holds c = (omega arith, omega arith, refl, search (move_none))
 
 put-run-requires : tie.Need-put-run-requires invariant-loop decreases-loop
-put-run-requires c κs = search (move-room)
+put-run-requires c κs = search (move_room)
 
 loop-again : tie.Need-loop-preserved invariant-loop decreases-loop
-loop-again c = (omega arith, omega arith, search rules, search (move-next))
+loop-again c = (omega arith, omega arith, search rules, search (move_next))
 
 returns : tie.Need-returns invariant-loop decreases-loop
-returns c = search (move-more)
+returns c = search (move_more)
 
 pub move_up_spec : {M : Type 1} → statement M
 move_up_spec =

@@ -3,7 +3,7 @@ use Prim.Native.Nat.{◌≤◌, ◌-◌}
 use mathlib.Core.Path.{◌≡◌, refl}
 use lib.ListN.{length, take}
 use Rattle.model.specs.Bytes.{put_at}
-use Rattle.byte_slice.proofs.Sixteens.{put-none, put-room, put_next, put-end}
+use Rattle.byte_slice.proofs.Sixteens.{put-none, put_room, put_next, put_end}
 use borrow.Author.Rules.{rules}
 use native.Mathlib.Omega.{arith}
 use Rattle.byte_slice.proofs.put.Statement.{statement}
@@ -19,13 +19,13 @@ loop-holds : tie.Need-loop-init invariant-loop decreases-loop
 loop-holds c = (omega arith, refl, search (put-none))
 
 put-run-requires : tie.Need-put-run-requires invariant-loop decreases-loop
-put-run-requires c κs = search (put-room)
+put-run-requires c κs = search (put_room)
 
 loop-again : tie.Need-loop-preserved invariant-loop decreases-loop
 loop-again c = (omega arith, search rules, search (put_next))
 
 returns : tie.Need-returns invariant-loop decreases-loop
-returns c = search (put-end)
+returns c = search (put_end)
 
 pub put_spec : {M : Type 1} → statement M
 put_spec =

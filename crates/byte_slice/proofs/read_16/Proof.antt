@@ -3,7 +3,7 @@ use Prim.Native.Nat.{◌≤◌, ◌-◌}
 use mathlib.Core.Path.{◌≡◌, refl}
 use lib.ListN.{length, take, length-set}
 use Rattle.model.specs.Bytes.{part}
-use Rattle.byte_slice.proofs.Sixteens.{read_next, read-end}
+use Rattle.byte_slice.proofs.Sixteens.{read_next, read_end}
 use borrow.Author.Rules.{rules}
 use native.Mathlib.Omega.{arith}
 use Rattle.byte_slice.proofs.read_16.Statement.{statement}
@@ -23,7 +23,7 @@ loop-again : tie.Need-loop-preserved invariant-loop decreases-loop
 loop-again c = (omega arith, simp length-set c.before.before.loop.invariant.1, search (read_next))
 
 returns : tie.Need-returns invariant-loop decreases-loop
-returns c = search (read-end)
+returns c = search (read_end)
 
 pub read-16-spec : {M : Type 1} → statement M
 read-16-spec =

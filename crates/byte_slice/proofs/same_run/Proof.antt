@@ -2,7 +2,7 @@
 use Prim.Native.Nat.{◌≤◌, ◌-◌}
 use mathlib.Core.Path.{◌≡◌, refl}
 use Rattle.model.specs.Bytes.{same_bytes, part}
-use Rattle.byte_slice.proofs.Compare.{same-run-next, same-run-end}
+use Rattle.byte_slice.proofs.Compare.{same_run_next, same_run_end}
 use borrow.Author.Rules.{rules}
 use native.Mathlib.Omega.{arith}
 use Rattle.byte_slice.proofs.same_run.Statement.{statement}
@@ -19,10 +19,10 @@ unfolding same_bytes part
 loop-holds c = (omega arith, refl)
 
 loop-again : tie.Need-loop-preserved invariant-loop decreases-loop
-loop-again c = (omega arith, search (same-run-next))
+loop-again c = (omega arith, search (same_run_next))
 
 returns : tie.Need-returns invariant-loop decreases-loop
-returns c = search (same-run-end)
+returns c = search (same_run_end)
 
 pub same-run-spec : {M : Type 1} → statement M
 same-run-spec =

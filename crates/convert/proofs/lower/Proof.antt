@@ -1,6 +1,6 @@
 -- An SAB2 file without a fault and without folded records becomes an SAB1 file; the count of its blocks is returned.
-use Rattle.sab2_check.proofs.Behind.{first_block, front, part-order, few-left, behind-length}
-use Rattle.convert.proofs.Lowered.{lowered-few, lowered-inside, lowered-room, lowered-many, lowered-fits, lowered-blocks, lowered}
+use Rattle.sab2_check.proofs.Behind.{first_block, front, part_order, few_left, behind-length}
+use Rattle.convert.proofs.Lowered.{lowered_few, lowered_inside, lowered_room, lowered_many, lowered_fits, lowered_blocks, lowered}
 use borrow.Author.Rules.{rules}
 use Rattle.convert.proofs.lower.Statement.{statement}
 use Rattle.convert.proofs.lower.Tie as tie
@@ -18,37 +18,37 @@ row-blocks-requires : tie.Need-row-blocks-requires
 row-blocks-requires c κs = search (first_block)
 
 sub-records-counted : tie.Need-overflow-sub-records-counted
-sub-records-counted c = search (part-order)
+sub-records-counted c = search (part_order)
 
 part-records-counted-start : tie.Need-slice-bounds-records-counted-start
-part-records-counted-start c = search (part-order)
+part-records-counted-start c = search (part_order)
 
 sub-records-counted-2 : tie.Need-overflow-sub-records-counted-2
 sub-records-counted-2 c = search (front)
 
 records-counted-requires : tie.Need-records-counted-requires
-records-counted-requires c κs = (search (behind-length), search (few-left))
+records-counted-requires c κs = (search (behind-length), search (few_left))
 
 block-count-requires : tie.Need-block-count-requires
-block-count-requires c κs = search (lowered-few)
+block-count-requires c κs = search (lowered_few)
 
 sub-recast : tie.Need-overflow-sub-recast
-sub-recast c = search (part-order)
+sub-recast c = search (part_order)
 
 part-recast-start : tie.Need-slice-bounds-recast-start
-part-recast-start c = search (part-order)
+part-recast-start c = search (part_order)
 
 recast-requires : tie.Need-recast-requires
-recast-requires c κs = (search rules, search (lowered-few), search (lowered-inside), search rules, search rules, search rules, search (lowered-room))
+recast-requires c κs = (search rules, search (lowered_few), search (lowered_inside), search rules, search rules, search rules, search (lowered_room))
 
 clear-behind-requires : tie.Need-clear-behind-requires
-clear-behind-requires c κs = (search rules, search (lowered-many))
+clear-behind-requires c κs = (search rules, search (lowered_many))
 
 cast-result : tie.Need-overflow-cast-result
-cast-result c = search (lowered-fits)
+cast-result c = search (lowered_fits)
 
 returns : tie.Need-returns
-returns c = (search (lowered-blocks), search (lowered))
+returns c = (search (lowered_blocks), search (lowered))
 
 pub lower_spec : {M : Type 1} → statement M
 lower_spec =

@@ -1,5 +1,5 @@
 -- An SAB1 file without a fault becomes an SAB2 file; the count of its blocks is returned.
-use Rattle.convert.proofs.Raised.{whole, few, first, total-few, raised-vector, raised_as}
+use Rattle.convert.proofs.Raised.{whole, few, first, total_few, raised_vector, raised_as}
 use borrow.Author.Rules.{rules}
 use Rattle.convert.proofs.raise.Statement.{statement}
 use Rattle.convert.proofs.raise.Tie as tie
@@ -17,7 +17,7 @@ records-counted-requires : tie.Need-records-counted-requires
 records-counted-requires c κs = (search (whole), search (few))
 
 write-raised-requires : tie.Need-write-raised-requires
-write-raised-requires c κs = (search rules, search rules, search (total-few), search (raised-vector), search rules)
+write-raised-requires c κs = (search rules, search rules, search (total_few), search (raised_vector), search rules)
 
 returns : tie.Need-returns
 returns c = (search rules, search (raised_as))

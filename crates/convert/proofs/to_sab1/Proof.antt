@@ -1,15 +1,15 @@
 -- An SAB2 file without folded records becomes an SAB1 file of the same archive and unit in the lent bytes, with zeros behind
 -- the last block; its list is lost.
-use Rattle.convert.proofs.Lowered.{back-length, back-refused, none_faulty, base_kept}
+use Rattle.convert.proofs.Lowered.{back_length, back_refused, none_faulty, base_kept}
 use borrow.Author.Rules.{rules}
 use Rattle.convert.proofs.to_sab1.Statement.{statement}
 use Rattle.convert.proofs.to_sab1.Tie as tie
 
 returns : tie.Need-returns
-returns c = search (back-length)
+returns c = search (back_length)
 
 returns-2 : tie.Need-returns-2
-returns-2 c = search (back-refused)
+returns-2 c = search (back_refused)
 
 back-requires : tie.Need-back-requires
 back-requires c κs = (search (none_faulty), search (base_kept), search rules, search rules)

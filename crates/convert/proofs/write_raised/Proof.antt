@@ -1,14 +1,14 @@
 -- The row of an empty base, then the records of an SAB1 file without a fault, then zeros; the count of blocks is returned.
-use Rattle.convert.proofs.Raised.{total_inside, blocks-enough, raised-blocks, raised}
+use Rattle.convert.proofs.Raised.{total_inside, blocks_enough, raised_blocks, raised}
 use borrow.Author.Rules.{rules}
 use Rattle.convert.proofs.write_raised.Statement.{statement}
 use Rattle.convert.proofs.write_raised.Tie as tie
 
 recast-requires : tie.Need-recast-requires
-recast-requires c κs = (search rules, search rules, search (total_inside), search (blocks-enough), search rules, search rules, search rules)
+recast-requires c κs = (search rules, search rules, search (total_inside), search (blocks_enough), search rules, search rules, search rules)
 
 returns : tie.Need-returns
-returns c = (search (raised-blocks), search (raised))
+returns c = (search (raised_blocks), search (raised))
 
 pub write-raised-spec : {M : Type 1} → statement M
 write-raised-spec =

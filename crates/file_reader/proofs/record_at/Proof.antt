@@ -1,11 +1,11 @@
 -- Record i of a file, or zeros where the file has no such place.
 use borrow.Author.Rules.{rules}
-use Rattle.file_reader.proofs.Laws.{too-high, too_short, copied}
+use Rattle.file_reader.proofs.Laws.{too_high, too_short, copied}
 use Rattle.file_reader.proofs.record_at.Statement.{statement}
 use Rattle.file_reader.proofs.record_at.Tie as tie
 
 returns : tie.Need-returns
-returns c = search (too-high)
+returns c = search (too_high)
 
 returns-2 : tie.Need-returns-2
 returns-2 c = search (too_short)

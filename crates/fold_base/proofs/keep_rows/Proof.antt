@@ -3,7 +3,7 @@ use mathlib.Core.Path.{refl}
 use lib.ListN.{length}
 use Rattle.model.specs.Bytes.{put_at}
 use Rattle.tree_finish.specs.Finishing.{kept_to, present_to}
-use Rattle.fold_base.proofs.Keeping.{keeps_start, counts_start, keeps-none, keeps-as, keeps-one, keeps-fit, keeps-row, keeps-end, counts_end, counts_few}
+use Rattle.fold_base.proofs.Keeping.{keeps_start, counts_start, keeps-none, keeps_as, keeps_one, keeps_fit, keeps-row, keeps_end, counts_end, counts_few}
 use Prim.Native.Nat.{◌-◌, ◌≤◌}
 use mathlib.Core.Path.{◌≡◌}
 use native.Mathlib.Omega.{arith}
@@ -21,16 +21,16 @@ loop-holds : tie.Need-loop-init invariant-loop decreases-loop
 loop-holds c = (omega arith, omega arith, refl, search (counts_start), search (keeps_start))
 
 loop-again : tie.Need-loop-preserved invariant-loop decreases-loop
-loop-again c = (omega arith, omega arith, omega arith, search (keeps-none), search (keeps-as))
+loop-again c = (omega arith, omega arith, omega arith, search (keeps-none), search (keeps_as))
 
 put-requires : tie.Need-put-requires invariant-loop decreases-loop
-put-requires c κs = search (keeps-fit)
+put-requires c κs = search (keeps_fit)
 
 loop-again-2 : tie.Need-loop-preserved-2 invariant-loop decreases-loop
-loop-again-2 c = (omega arith, omega arith, omega arith, search (keeps-one), search (keeps-row))
+loop-again-2 c = (omega arith, omega arith, omega arith, search (keeps_one), search (keeps-row))
 
 returns : tie.Need-returns invariant-loop decreases-loop
-returns c = ((search (counts_end), search (counts_few)), search (keeps-end))
+returns c = ((search (counts_end), search (counts_few)), search (keeps_end))
 
 pub keep-rows-spec : {M : Type 1} → statement M
 keep-rows-spec =

@@ -1,12 +1,12 @@
 -- The base of the tree that a working table holds.
-use Rattle.fold_base.proofs.Laid.{room-shown, base_written}
+use Rattle.fold_base.proofs.Laid.{room_shown, base_written}
 use Prim.Native.Nat.{◌-◌}
 use borrow.Author.Rules.{rules}
 use Rattle.fold_base.proofs.write_base.Statement.{statement}
 use Rattle.fold_base.proofs.write_base.Tie as tie
 
 keep-rows-requires : tie.Need-keep-rows-requires
-keep-rows-requires c κs = (search rules, search rules, search rules, search (room-shown))
+keep-rows-requires c κs = (search rules, search rules, search rules, search (room_shown))
 
 returns : tie.Need-returns
 returns c = search (base_written)

@@ -1,6 +1,6 @@
 -- Of each unit the least count in the held vector and in the rows of the listed units.
 use mathlib.Core.Path.{refl}
-use Rattle.fold_heard.proofs.Lowest.{least-skips, least-lowers, least_ends}
+use Rattle.fold_heard.proofs.Lowest.{least_skips, least_lowers, least_ends}
 use Rattle.fold_heard.specs.Rows.{least_to}
 use Prim.Native.Nat.{◌-◌, ◌≤◌}
 use mathlib.Core.Path.{◌≡◌}
@@ -20,10 +20,10 @@ unfolding least_to
 loop-holds c = (omega arith, refl)
 
 loop-again : tie.Need-loop-preserved invariant-loop decreases-loop
-loop-again c = (omega arith, search (least-skips))
+loop-again c = (omega arith, search (least_skips))
 
 loop-again-2 : tie.Need-loop-preserved-2 invariant-loop decreases-loop
-loop-again-2 c = (omega arith, search (least-lowers))
+loop-again-2 c = (omega arith, search (least_lowers))
 
 returns : tie.Need-returns invariant-loop decreases-loop
 returns c = search (least_ends)

@@ -1,8 +1,8 @@
 -- How many records from the first on a vector counts.
 use lib.ListN.{drop}
 use Rattle.model.specs.Log.{records_of}
-use Rattle.fold_heard.proofs.Lowest.{run_starts, run-stops, run-goes-on, run_ends}
-use Rattle.fold_heard.proofs.Records.{unit-lent, few_used}
+use Rattle.fold_heard.proofs.Lowest.{run_starts, run_stops, run_goes_on, run_ends}
+use Rattle.fold_heard.proofs.Records.{unit_lent, few_used}
 use Rattle.fold_heard.specs.Rows.{run_within}
 use Prim.Native.Nat.{◌+◌, ◌-◌, ◌≤◌}
 use mathlib.Core.Path.{◌≡◌}
@@ -21,13 +21,13 @@ loop-holds : tie.Need-loop-init invariant-loop decreases-loop
 loop-holds c = (omega arith, search (few_used), search (run_starts))
 
 counts-requires : tie.Need-counts-requires invariant-loop decreases-loop
-counts-requires c κs = (search rules, search (unit-lent))
+counts-requires c κs = (search rules, search (unit_lent))
 
 returns : tie.Need-returns invariant-loop decreases-loop
-returns c = (search (run-stops), omega arith)
+returns c = (search (run_stops), omega arith)
 
 loop-again : tie.Need-loop-preserved invariant-loop decreases-loop
-loop-again c = (omega arith, omega arith, search (run-goes-on))
+loop-again c = (omega arith, omega arith, search (run_goes_on))
 
 returns-2 : tie.Need-returns-2 invariant-loop decreases-loop
 returns-2 c = (search (run_ends), omega arith)

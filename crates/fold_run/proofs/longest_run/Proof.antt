@@ -11,8 +11,8 @@ use Rattle.log_check.specs.Places.{laid_at}
 use Rattle.log_check.specs.InOrder.{listed}
 use Rattle.call_model.specs.Fold.{longest}
 use Rattle.fold_count_laws.specs.Counted.{present_count}
-use Rattle.tree_replay.proofs.Playing.{turn-entries, turn-asides, turn-both, turn_holds, turn-takes, turn-goes, turn_inside, play_starts}
-use Rattle.fold_run.proofs.Runs.{run_none, best_none, run_few, run-next, best-next, works-end, best-ends, best-within}
+use Rattle.tree_replay.proofs.Playing.{turn_entries, turn_asides, turn_both, turn_holds, turn_takes, turn_goes, turn_inside, play_starts}
+use Rattle.fold_run.proofs.Runs.{run_none, best_none, run_few, run-next, best_next, works_end, best_ends, best_within}
 use Prim.Native.Nat.{◌+◌, ◌-◌, ◌≤◌}
 use mathlib.Core.Path.{◌≡◌}
 use native.Mathlib.Omega.{arith}
@@ -45,16 +45,16 @@ part-step-end : tie.Need-slice-bounds-step-end invariant-loop decreases-loop
 part-step-end c = search (turn_inside)
 
 step-requires : tie.Need-step-requires invariant-loop decreases-loop
-step-requires c κs = (search (turn-takes), search (turn_holds), search (turn-entries), search (turn-asides), search (turn-both), omega arith)
+step-requires c κs = (search (turn_takes), search (turn_holds), search (turn_entries), search (turn_asides), search (turn_both), omega arith)
 
 count-after-requires : tie.Need-count-after-requires invariant-loop decreases-loop
 count-after-requires c κs = search (run_few)
 
 loop-again : tie.Need-loop-preserved invariant-loop decreases-loop
-loop-again c = (omega arith, search rules, search rules, omega arith, search (turn-goes), search (run-next), search (best-next))
+loop-again c = (omega arith, search rules, search rules, omega arith, search (turn_goes), search (run-next), search (best_next))
 
 returns : tie.Need-returns invariant-loop decreases-loop
-returns c = ((search (best-ends), search (best-within)), search (works-end))
+returns c = ((search (best_ends), search (best_within)), search (works_end))
 
 pub longest-run-spec : {M : Type 1} → statement M
 longest-run-spec =

@@ -1,5 +1,5 @@
 -- The first six or fewer records that a vector lacks are laid one behind another; their count is returned.
-use Rattle.hand_out_pick.proofs.Gathered.{gathered, unit-lent, starts_long, starts_few, starts_laid, skips-count, skips-laid, adds-count, adds-laid, full-count, full-laid, ends-count, ends-laid}
+use Rattle.hand_out_pick.proofs.Gathered.{gathered, unit_lent, starts_long, starts_few, starts_laid, skips_count, skips_laid, adds_count, adds_laid, full_count, full_laid, ends_count, ends_laid}
 use Rattle.model.specs.Log.{lacking}
 use Rattle.model.specs.Bytes.{padded, joined}
 use lib.ListN.{length}
@@ -22,19 +22,19 @@ unfolding gathered lacking
 loop-holds c = (omega arith, search (starts_few), omega arith, refl, search (starts_long), refl, search (starts_laid))
 
 returns : tie.Need-returns invariant-loop decreases-loop
-returns c = (search (full-count), search (full-laid))
+returns c = (search (full_count), search (full_laid))
 
 lacks-requires : tie.Need-lacks-requires invariant-loop decreases-loop
-lacks-requires c κs = (search rules, search (unit-lent))
+lacks-requires c κs = (search rules, search (unit_lent))
 
 loop-again : tie.Need-loop-preserved invariant-loop decreases-loop
-loop-again c = (omega arith, omega arith, omega arith, omega arith, omega arith, search (skips-count), search (skips-laid))
+loop-again c = (omega arith, omega arith, omega arith, omega arith, omega arith, search (skips_count), search (skips_laid))
 
 loop-again-2 : tie.Need-loop-preserved-2 invariant-loop decreases-loop
-loop-again-2 c = (omega arith, omega arith, omega arith, omega arith, omega arith, search (adds-count), search (adds-laid))
+loop-again-2 c = (omega arith, omega arith, omega arith, omega arith, omega arith, search (adds_count), search (adds_laid))
 
 returns-2 : tie.Need-returns-2 invariant-loop decreases-loop
-returns-2 c = (search (ends-count), search (ends-laid))
+returns-2 c = (search (ends_count), search (ends_laid))
 
 pub gather-spec : {M : Type 1} → statement M
 gather-spec =

@@ -1,5 +1,5 @@
 -- All records that a vector lacks are laid one behind another; their count is returned.
-use Rattle.hand_out_pick.proofs.Gathered.{gathered, unit-lent, starts_log, starts_few, starts_laid, skips-count, skips-laid, adds-count, adds-laid, whole-count, whole-laid}
+use Rattle.hand_out_pick.proofs.Gathered.{gathered, unit_lent, starts_log, starts_few, starts_laid, skips_count, skips_laid, adds_count, adds_laid, whole-count, whole_laid}
 use Rattle.model.specs.Log.{lacking}
 use Rattle.model.specs.Bytes.{padded, joined}
 use lib.ListN.{length}
@@ -21,16 +21,16 @@ unfolding gathered lacking
 loop-holds c = (omega arith, search (starts_few), omega arith, search (starts_log), refl, refl, search (starts_laid))
 
 lacks-requires : tie.Need-lacks-requires invariant-loop decreases-loop
-lacks-requires c κs = (search rules, search (unit-lent))
+lacks-requires c κs = (search rules, search (unit_lent))
 
 loop-again : tie.Need-loop-preserved invariant-loop decreases-loop
-loop-again c = (omega arith, omega arith, omega arith, omega arith, omega arith, search (skips-count), search (skips-laid))
+loop-again c = (omega arith, omega arith, omega arith, omega arith, omega arith, search (skips_count), search (skips_laid))
 
 loop-again-2 : tie.Need-loop-preserved-2 invariant-loop decreases-loop
-loop-again-2 c = (omega arith, omega arith, omega arith, omega arith, omega arith, search (adds-count), search (adds-laid))
+loop-again-2 c = (omega arith, omega arith, omega arith, omega arith, omega arith, search (adds_count), search (adds_laid))
 
 returns : tie.Need-returns invariant-loop decreases-loop
-returns c = ((search (whole-count), omega arith), search (whole-laid))
+returns c = ((search (whole-count), omega arith), search (whole_laid))
 
 pub gather-all-spec : {M : Type 1} → statement M
 gather-all-spec =

@@ -1,6 +1,6 @@
 -- The records are gathered in the row itself, block after block is written before them, then zeros; the count of blocks is
 -- returned.
-use Rattle.hand_out_row.proofs.Written.{few, begun, all_counted, still-lies, goes_on, ends}
+use Rattle.hand_out_row.proofs.Written.{few, begun, all_counted, still_lies, goes_on_lem, ends}
 use Rattle.model.specs.Bytes.{padded, joined}
 use Rattle.model.specs.Log.{records_of, lacking}
 use Rattle.row_model.specs.Row.{row_to}
@@ -29,7 +29,7 @@ row-block-requires c κs =
     let at = inside.before in
     let pre = at.before.before.before.before.before.before.before.before.requires in
     let inv = at.loop.invariant in
-    (search rules, search rules, still-lies _ _ _ _ pre.1 _ _ _ inv.3 _ _ inv.4 inv.5 inside.loop-test.true inv.1, search rules, search rules, search (begun))
+    (search rules, search rules, still_lies _ _ _ _ pre.1 _ _ _ inv.3 _ _ inv.4 inv.5 inside.loop-test.true inv.1, search rules, search rules, search (begun))
 
 loop-again : tie.Need-loop-preserved invariant-loop decreases-loop
 loop-again c =
@@ -39,7 +39,7 @@ loop-again c =
     let at = inside.before in
     let pre = at.before.before.before.before.before.before.before.before.requires in
     let inv = at.loop.invariant in
-    (omega arith, search rules, search rules, inv.3, inv.4, goes_on _ _ _ _ pre.1 _ _ _ inv.3 _ _ write.write-at.ensures block.row_block.ensures inv.5 inside.loop-test.true inv.1)
+    (omega arith, search rules, search rules, inv.3, inv.4, goes_on_lem _ _ _ _ pre.1 _ _ _ inv.3 _ _ write.write-at.ensures block.row_block.ensures inv.5 inside.loop-test.true inv.1)
 
 returns : tie.Need-returns invariant-loop decreases-loop
 returns c =

@@ -1,17 +1,17 @@
 -- The vector of a lent state is written into 16 lent bytes.
-use Rattle.call_guard.proofs.Opening.{call-refused}
+use Rattle.call_guard.proofs.Opening.{call_refused}
 use Rattle.held_vector.specs.Held.{held_of}
-use Rattle.held_vector.proofs.Counts.{vector-fits, few_used, counted}
+use Rattle.held_vector.proofs.Counts.{vector_fits, few_used, counted}
 use borrow.Author.Rules.{rules}
 use Rattle.held_vector.proofs.held_vector.Statement.{statement}
 use Rattle.held_vector.proofs.held_vector.Tie as tie
 
 returns : tie.Need-returns
 unfolding held_of
-returns c = search (call-refused)
+returns c = search (call_refused)
 
 put-vector-requires : tie.Need-put-vector-requires
-put-vector-requires c κs = search (vector-fits, rules)
+put-vector-requires c κs = search (vector_fits, rules)
 
 cast-t12 : tie.Need-overflow-cast-t12
 cast-t12 c = record { fits = search (few_used) }

@@ -4,7 +4,7 @@ use mathlib.Core.Path.{◌≡◌, refl}
 use lib.ListN.{length, drop}
 use Rattle.model.specs.Replay.{label_key}
 use Rattle.index_model.specs.Index.{comes_before}
-use Rattle.index_find.proofs.Texts.{before-short, before-differs, before-next, before-end}
+use Rattle.index_find.proofs.Texts.{before_short, before-differs, before-next, before_end}
 use borrow.Author.Rules.{rules}
 use native.Mathlib.Omega.{arith}
 use Rattle.index_find.proofs.comes_before.Statement.{statement}
@@ -20,7 +20,7 @@ loop-holds : tie.Need-loop-init invariant-loop decreases-loop
 loop-holds c = (omega arith, omega arith, refl)
 
 returns : tie.Need-returns invariant-loop decreases-loop
-returns c = search (before-short)
+returns c = search (before_short)
 
 returns-2 : tie.Need-returns-2 invariant-loop decreases-loop
 returns-2 c = search (before-differs)
@@ -35,7 +35,7 @@ loop-again c =
     )
 
 returns-3 : tie.Need-returns-3 invariant-loop decreases-loop
-returns-3 c = search (before-end)
+returns-3 c = search (before_end)
 
 pub comes-before-spec : {M : Type 1} → statement M
 comes-before-spec =

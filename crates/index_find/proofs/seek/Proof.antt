@@ -1,6 +1,6 @@
 -- The first of n rows that does not come before a label in the folder of a key, by halving.
 use mathlib.Core.Logic.{⊎_elim}
-use Rattle.index_laws.proofs.Halving.{seek-stops, seek-done, seek-up, seek-down}
+use Rattle.index_laws.proofs.Halving.{seek_stops, seek-done, seek_up, seek_down}
 use Rattle.index_model.specs.Index.{halve, row_before}
 use mathlib.Core.Path.{◌≡◌, refl}
 use Prim.Native.Nat.{◌≤◌, ◌-◌}
@@ -19,7 +19,7 @@ loop-holds : tie.Need-loop-init invariant-loop decreases-loop
 loop-holds c = (omega arith, omega arith, omega arith, refl)
 
 returns : tie.Need-returns invariant-loop decreases-loop
-returns c = (search (seek-stops), omega arith)
+returns c = (search (seek_stops), omega arith)
 
 loop-less : tie.Need-loop-smaller invariant-loop decreases-loop
 loop-less c = omega arith
@@ -29,7 +29,7 @@ loop-again c = (
   omega arith,
   ⊎_elim (λ w. omega arith) (λ w. omega arith) c.if2.branch,
   ⊎_elim (λ w. omega arith) (λ w. omega arith) c.if2.branch,
-  ⊎_elim (λ w. search (seek-up)) (λ w. search (seek-down)) c.if2.branch,
+  ⊎_elim (λ w. search (seek_up)) (λ w. search (seek_down)) c.if2.branch,
 )
 
 returns-2 : tie.Need-returns-2 invariant-loop decreases-loop

@@ -1,18 +1,18 @@
 -- The lent index becomes that of the lent state, and the memory to work in the table of its tree.
-use Rattle.call_guard.proofs.Opening.{open-long, open-based, open-state, open-used, open-held, open-entries, open-asides}
-use Rattle.index_log.proofs.Indexing.{not-indexed, work_left, index-there, work-there, indexed, work-filled}
+use Rattle.call_guard.proofs.Opening.{open_long, open_based, open_state, open_used, open_held, open_entries, open_asides}
+use Rattle.index_log.proofs.Indexing.{not_indexed, work_left_lem, index_there, work_there, indexed, work_filled}
 use borrow.Author.Rules.{rules}
 use Rattle.index_log.proofs.index_log.Statement.{statement}
 use Rattle.index_log.proofs.index_log.Tie as tie
 
 returns : tie.Need-returns
-returns c = (search (not-indexed), search (work_left))
+returns c = (search (not_indexed), search (work_left_lem))
 
 lay-index-requires : tie.Need-lay-index-requires
-lay-index-requires c κs = (search (open-long), search (open-based), search (open-state), search (open-used), search (open-held), search (open-entries), search (open-asides), search (index-there), search (work-there))
+lay-index-requires c κs = (search (open_long), search (open_based), search (open_state), search (open_used), search (open_held), search (open_entries), search (open_asides), search (index_there), search (work_there))
 
 returns-2 : tie.Need-returns-2
-returns-2 c = (search (indexed), search (work-filled))
+returns-2 c = (search (indexed), search (work_filled))
 
 pub index-log-spec : {M : Type 1} → statement M
 index-log-spec =

@@ -1,7 +1,7 @@
 -- The first n rows of a table in order, the last row first.
 use Rattle.index_model.specs.Index.{index_places}
 use Rattle.index_laws.specs.Copied.{ordered_rows}
-use Rattle.index_laws.proofs.Fresh.{order-next}
+use Rattle.index_laws.proofs.Fresh.{order_next}
 use Rattle.index_make.proofs.Ordering.{order_none, order_low, order_end}
 use lib.ListN.{length, take}
 use mathlib.Core.Path.{◌≡◌}
@@ -30,7 +30,7 @@ loop-less : tie.Need-loop-smaller invariant-loop decreases-loop
 loop-less c = omega arith
 
 loop-again : tie.Need-loop-preserved invariant-loop decreases-loop
-loop-again c = (omega arith, search rules, search (order-next))
+loop-again c = (omega arith, search rules, search (order_next))
 
 returns : tie.Need-returns invariant-loop decreases-loop
 returns c = (search (order_end), search rules)

@@ -1,5 +1,5 @@
 -- Where a row goes among the first k of an order, by halving.
-use Rattle.index_laws.proofs.Halving.{seek-stops, seek-done, seek-up, seek-down}
+use Rattle.index_laws.proofs.Halving.{seek_stops, seek-done, seek_up, seek_down}
 use Rattle.index_model.specs.Index.{halve}
 use Rattle.index_laws.specs.Copied.{order_before}
 use mathlib.Core.Logic.{⊎_elim}
@@ -21,7 +21,7 @@ loop-holds : tie.Need-loop-init invariant-loop decreases-loop
 loop-holds c = (omega arith, omega arith, omega arith, refl)
 
 returns : tie.Need-returns invariant-loop decreases-loop
-returns c = (search (seek-stops), omega arith)
+returns c = (search (seek_stops), omega arith)
 
 row-before-requires : tie.Need-row-before-requires invariant-loop decreases-loop
 row-before-requires c κs = (search rules, search (mid_low))
@@ -34,7 +34,7 @@ loop-again c = (
   omega arith,
   ⊎_elim (λ w. omega arith) (λ w. omega arith) c.if2.branch,
   ⊎_elim (λ w. omega arith) (λ w. omega arith) c.if2.branch,
-  ⊎_elim (λ w. search (seek-up, order_key)) (λ w. search (seek-down, order_key)) c.if2.branch,
+  ⊎_elim (λ w. search (seek_up, order_key)) (λ w. search (seek_down, order_key)) c.if2.branch,
 )
 
 returns-2 : tie.Need-returns-2 invariant-loop decreases-loop

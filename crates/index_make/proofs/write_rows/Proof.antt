@@ -1,7 +1,7 @@
 -- Rows of an index are written for the first n rows of an order.
 use Rattle.index_laws.specs.Copied.{copied_rows}
 use Rattle.model.specs.Bytes.{put_at}
-use Rattle.index_make.proofs.Writing.{write-none, write-next, write-end}
+use Rattle.index_make.proofs.Writing.{write_none, write_next, write_end}
 use Rattle.index_make.proofs.Ordering.{next_low}
 use lib.ListN.{length, take}
 use mathlib.Core.Path.{◌≡◌, refl}
@@ -18,7 +18,7 @@ abbrev decreases-loop : tie.decreases-loop
 decreases-loop table order n index₀ j₀ index j = n - j
 
 loop-holds : tie.Need-loop-init invariant-loop decreases-loop
-loop-holds c = (omega arith, refl, search (write-none))
+loop-holds c = (omega arith, refl, search (write_none))
 
 copy-row-requires : tie.Need-copy-row-requires invariant-loop decreases-loop
 copy-row-requires c κs = (search rules, search (next_low), search rules, search rules)
@@ -27,10 +27,10 @@ loop-less : tie.Need-loop-smaller invariant-loop decreases-loop
 loop-less c = omega arith
 
 loop-again : tie.Need-loop-preserved invariant-loop decreases-loop
-loop-again c = (omega arith, search rules, search (write-next))
+loop-again c = (omega arith, search rules, search (write_next))
 
 returns : tie.Need-returns invariant-loop decreases-loop
-returns c = search (write-end)
+returns c = search (write_end)
 
 pub write-rows-spec : {M : Type 1} → statement M
 write-rows-spec =

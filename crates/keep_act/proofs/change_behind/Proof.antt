@@ -1,5 +1,5 @@
 -- The same behind the records held, whose tree is laid in a work memory of zeros by a register of zeros.
-use Rattle.tree_lookup.proofs.Working.{works-holds}
+use Rattle.tree_lookup.proofs.Working.{works_holds}
 use Rattle.act.proofs.Acting.{reason_laid, laid}
 use Rattle.keep_act.proofs.Acted.{laid_within, index_laid}
 use borrow.Author.Rules.{rules}
@@ -10,7 +10,7 @@ replay-state-requires : tie.Need-replay-state-requires
 replay-state-requires c κs = (search, search, search, search, search, search, search, search, search)
 
 change-on-requires : tie.Need-change-on-requires
-change-on-requires c κs = (search, search, search (works-holds), search (laid_within), search)
+change-on-requires c κs = (search, search, search (works_holds), search (laid_within), search)
 
 returns : tie.Need-returns
 returns c = (search (reason_laid), (search (index_laid), search (laid)))

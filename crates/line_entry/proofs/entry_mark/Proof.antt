@@ -1,25 +1,25 @@
 -- An entry line from its mark on.
 use Rattle.model.specs.Bytes.{part}
-use Rattle.line_entry.proofs.Entries.{mark-has-room, disputed-has-room, feed-has-room, wrote-entry-mark}
+use Rattle.line_entry.proofs.Entries.{mark_has_room, disputed_has_room, feed_has_room, wrote_entry_mark}
 use borrow.Author.Rules.{rules}
 use Rattle.line_entry.proofs.entry_mark.Statement.{statement}
 use Rattle.line_entry.proofs.entry_mark.Tie as tie
 
 put-mark-requires : tie.Need-put-mark-requires
 unfolding part
-put-mark-requires c κs = search (mark-has-room)
+put-mark-requires c κs = search (mark_has_room)
 
 put-disputed-requires : tie.Need-put-disputed-requires
 unfolding part
-put-disputed-requires c κs = search (disputed-has-room)
+put-disputed-requires c κs = search (disputed_has_room)
 
 put-byte-requires : tie.Need-put-byte-requires
 unfolding part
-put-byte-requires c κs = search (feed-has-room)
+put-byte-requires c κs = search (feed_has_room)
 
 returns : tie.Need-returns
 unfolding part
-returns c = search (wrote-entry-mark)
+returns c = search (wrote_entry_mark)
 
 pub entry-mark-spec : {M : Type 1} → statement M
 entry-mark-spec =

@@ -1,5 +1,5 @@
 -- The word `disputed`, where it is so.
-use Rattle.line_entry.proofs.Words.{disputed_fits, wrote-disputed, wrote_agreed}
+use Rattle.line_entry.proofs.Words.{disputed_fits, wrote_disputed, wrote_agreed}
 use borrow.Author.Rules.{rules}
 use Rattle.line_entry.proofs.put_disputed.Statement.{statement}
 use Rattle.line_entry.proofs.put_disputed.Tie as tie
@@ -8,7 +8,7 @@ put-word-requires : tie.Need-put-word-requires
 put-word-requires c κs = search (disputed_fits)
 
 returns : tie.Need-returns
-returns c = search (wrote-disputed)
+returns c = search (wrote_disputed)
 
 returns-2 : tie.Need-returns-2
 returns-2 c = search (wrote_agreed)

@@ -1,5 +1,5 @@
 -- The counts of a vector.
-use Rattle.line_head.proofs.Counts.{next-count-fits, wrote-next-count, wrote_all_counts}
+use Rattle.line_head.proofs.Counts.{next_count_fits, wrote_next_count, wrote_all_counts}
 use Rattle.line_text.specs.Written.{Wrote}
 use Rattle.line_text.proofs.Written.{wrote_none}
 use Rattle.model.specs.Listing.{counts_text}
@@ -22,10 +22,10 @@ unfolding counts_text
 loop-holds c = (omega arith, refl, search (wrote_none))
 
 put-count-requires : tie.Need-put-count-requires invariant-loop decreases-loop
-put-count-requires c κs = search (next-count-fits, rules)
+put-count-requires c κs = search (next_count_fits, rules)
 
 loop-again : tie.Need-loop-preserved invariant-loop decreases-loop
-loop-again c = (omega arith, omega arith, search (wrote-next-count, rules))
+loop-again c = (omega arith, omega arith, search (wrote_next_count, rules))
 
 returns : tie.Need-returns invariant-loop decreases-loop
 returns c = search (wrote_all_counts, rules)

@@ -5,7 +5,7 @@ use lib.ListN.{length, take}
 use Rattle.model.specs.Listing.{escaped}
 use Rattle.line_text.specs.Written.{Wrote}
 use Rattle.line_quote.proofs.Labels.{escaped-append}
-use Rattle.line_text.proofs.Written.{wrote_none, text-room, wrote-next, wrote_all}
+use Rattle.line_text.proofs.Written.{wrote_none, text_room, wrote_next, wrote_all}
 use borrow.Author.Rules.{rules}
 use native.Mathlib.Omega.{arith}
 use Rattle.line_quote.proofs.put_escaped.Statement.{statement}
@@ -25,7 +25,7 @@ put-escaped-byte-requires : tie.Need-put-escaped-byte-requires invariant-loop de
 put-escaped-byte-requires c κs =
     let a = c.before.before.before.before.before.before.args in
     let l = c.before.before.before.loop in
-    omega (arith, text-room escaped escaped-append a.t.now l.i (omega arith))
+    omega (arith, text_room escaped escaped-append a.t.now l.i (omega arith))
 
 loop-again : tie.Need-loop-preserved invariant-loop decreases-loop
 loop-again c =
@@ -34,7 +34,7 @@ loop-again c =
     let k = c.before.before.put-escaped-byte in (
       omega arith,
       omega arith,
-      wrote-next escaped escaped-append a.out.now l.out k.new.0 a.t.now a.at l.m k.result l.i c.before.before.before.before.before.before.before.before.before.requires (omega arith) l.invariant.2 k.ensures,
+      wrote_next escaped escaped-append a.out.now l.out k.new.0 a.t.now a.at l.m k.result l.i c.before.before.before.before.before.before.before.before.before.requires (omega arith) l.invariant.2 k.ensures,
     )
 
 returns : tie.Need-returns invariant-loop decreases-loop

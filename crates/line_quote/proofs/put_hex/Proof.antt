@@ -5,7 +5,7 @@ use lib.ListN.{length, take}
 use Rattle.model.specs.Listing.{hex_text}
 use Rattle.line_text.specs.Written.{Wrote}
 use Rattle.line_quote.proofs.Hex.{hex_append}
-use Rattle.line_text.proofs.Written.{wrote_none, text-room, wrote-next, wrote_all}
+use Rattle.line_text.proofs.Written.{wrote_none, text_room, wrote_next, wrote_all}
 use borrow.Author.Rules.{rules}
 use native.Mathlib.Omega.{arith}
 use Rattle.line_quote.proofs.put_hex.Statement.{statement}
@@ -26,7 +26,7 @@ unfolding hex_text
 put-hex-byte-requires c κs =
     let a = c.before.before.before.before.before.before.args in
     let l = c.before.before.before.loop in
-    omega (arith, text-room hex_text hex_append a.b.now l.i (omega arith))
+    omega (arith, text_room hex_text hex_append a.b.now l.i (omega arith))
 
 loop-again : tie.Need-loop-preserved invariant-loop decreases-loop
 loop-again c =
@@ -35,7 +35,7 @@ loop-again c =
     let k = c.before.before.put-hex-byte in (
       omega arith,
       omega arith,
-      wrote-next hex_text hex_append a.out.now l.out k.new.0 a.b.now a.at l.m k.result l.i c.before.before.before.before.before.before.before.before.before.requires (omega arith) l.invariant.2 k.ensures,
+      wrote_next hex_text hex_append a.out.now l.out k.new.0 a.b.now a.at l.m k.result l.i c.before.before.before.before.before.before.before.before.before.requires (omega arith) l.invariant.2 k.ensures,
     )
 
 returns : tie.Need-returns invariant-loop decreases-loop

@@ -1,5 +1,5 @@
 -- A label is written between quotes.
-use Rattle.line_quote.proofs.Labels.{first_quote_fits, text_fits, quote-fits, wrote-label}
+use Rattle.line_quote.proofs.Labels.{first_quote_fits, text_fits, quote_fits, wrote_label}
 use borrow.Author.Rules.{rules}
 use Rattle.line_quote.proofs.put_label.Statement.{statement}
 use Rattle.line_quote.proofs.put_label.Tie as tie
@@ -11,10 +11,10 @@ put-escaped-requires : tie.Need-put-escaped-requires
 put-escaped-requires c κs = search (text_fits)
 
 put-byte-requires-2 : tie.Need-put-byte-requires-2
-put-byte-requires-2 c κs = search (quote-fits)
+put-byte-requires-2 c κs = search (quote_fits)
 
 returns : tie.Need-returns
-returns c = search (wrote-label)
+returns c = search (wrote_label)
 
 pub put-label-spec : {M : Type 1} → statement M
 put-label-spec =

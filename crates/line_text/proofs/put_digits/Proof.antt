@@ -6,7 +6,7 @@ use lib.Seq.{take-length, drop-length}
 use Rattle.model.specs.Bytes.{put_at}
 use Rattle.model.specs.Listing.{decimal}
 use Rattle.byte_slice.proofs.PutAt.{put-nil}
-use Rattle.line_text.proofs.Decimal.{last-digit, digits-before, digit_put}
+use Rattle.line_text.proofs.Decimal.{last_digit, digits_before, digit_put}
 use borrow.Author.Rules.{rules}
 use native.Mathlib.Omega.{arith}
 use Rattle.line_text.proofs.put_digits.Statement.{statement}
@@ -45,8 +45,8 @@ loop-again c =
       omega arith,
       omega arith,
       simp length-set l.invariant.2,
-      digits-before D l.left l.i l.invariant.0 pos l.invariant.1 e,
-      digit_put a.out.now l.out D a.at l.i c.digit.result pos l.invariant.1 (omega arith) l.invariant.4 (c.digit.ensures ∙ sym (last-digit D l.left l.i l.invariant.0 pos l.invariant.1 e)),
+      digits_before D l.left l.i l.invariant.0 pos l.invariant.1 e,
+      digit_put a.out.now l.out D a.at l.i c.digit.result pos l.invariant.1 (omega arith) l.invariant.4 (c.digit.ensures ∙ sym (last_digit D l.left l.i l.invariant.0 pos l.invariant.1 e)),
     )
 
 returns : tie.Need-returns invariant-loop decreases-loop

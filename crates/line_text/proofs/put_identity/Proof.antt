@@ -1,5 +1,5 @@
 -- The identity in four bytes is written as unit.number.
-use Rattle.line_text.proofs.Lines.{unit_fits, dot-fits, number_fits, wrote-identity}
+use Rattle.line_text.proofs.Lines.{unit_fits, dot_fits, number_fits, wrote_identity}
 use borrow.Author.Rules.{rules}
 use Rattle.line_text.proofs.put_identity.Statement.{statement}
 use Rattle.line_text.proofs.put_identity.Tie as tie
@@ -8,13 +8,13 @@ put-decimal-requires : tie.Need-put-decimal-requires
 put-decimal-requires c κs = search (unit_fits)
 
 put-byte-requires : tie.Need-put-byte-requires
-put-byte-requires c κs = search (dot-fits)
+put-byte-requires c κs = search (dot_fits)
 
 put-decimal-requires-2 : tie.Need-put-decimal-requires-2
 put-decimal-requires-2 c κs = search (number_fits)
 
 returns : tie.Need-returns
-returns c = search (wrote-identity)
+returns c = search (wrote_identity)
 
 pub put-identity-spec : {M : Type 1} → statement M
 put-identity-spec =

@@ -1,5 +1,5 @@
 -- The first n aside lines.
-use Rattle.line_tree.proofs.Turns.{aside-line-fits, wrote-next-aside, wrote_all_asides}
+use Rattle.line_tree.proofs.Turns.{aside_line_fits, wrote_next_aside, wrote_all_asides}
 use Rattle.model.specs.Listing.{aside_lines}
 use Rattle.line_text.specs.Written.{Wrote}
 use Rattle.line_text.proofs.Written.{wrote_none}
@@ -22,10 +22,10 @@ unfolding aside_lines
 loop-holds c = (omega arith, refl, search (wrote_none))
 
 aside-line-requires : tie.Need-aside-line-requires invariant-loop decreases-loop
-aside-line-requires c κs = (search rules, search (aside-line-fits))
+aside-line-requires c κs = (search rules, search (aside_line_fits))
 
 loop-again : tie.Need-loop-preserved invariant-loop decreases-loop
-loop-again c = (omega arith, omega arith, search (wrote-next-aside))
+loop-again c = (omega arith, omega arith, search (wrote_next_aside))
 
 returns : tie.Need-returns invariant-loop decreases-loop
 returns c = search (wrote_all_asides)

@@ -1,5 +1,5 @@
 -- The first n entry lines.
-use Rattle.line_tree.proofs.Turns.{entry-line-fits, wrote-next-entry, wrote_all_entries}
+use Rattle.line_tree.proofs.Turns.{entry_line_fits, wrote_next_entry, wrote_all_entries}
 use Rattle.model.specs.Listing.{entry_lines}
 use Rattle.line_text.specs.Written.{Wrote}
 use Rattle.line_text.proofs.Written.{wrote_none}
@@ -22,10 +22,10 @@ unfolding entry_lines
 loop-holds c = (omega arith, refl, search (wrote_none))
 
 entry-line-requires : tie.Need-entry-line-requires invariant-loop decreases-loop
-entry-line-requires c κs = (search rules, search (entry-line-fits))
+entry-line-requires c κs = (search rules, search (entry_line_fits))
 
 loop-again : tie.Need-loop-preserved invariant-loop decreases-loop
-loop-again c = (omega arith, omega arith, search (wrote-next-entry))
+loop-again c = (omega arith, omega arith, search (wrote_next_entry))
 
 returns : tie.Need-returns invariant-loop decreases-loop
 returns c = search (wrote_all_entries)

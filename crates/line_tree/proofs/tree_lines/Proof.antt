@@ -1,5 +1,5 @@
 -- The entries by rank of their makers, then the asides by rank.
-use Rattle.line_tree.proofs.Turns.{entries_fit, asides_fit, wrote-tree}
+use Rattle.line_tree.proofs.Turns.{entries_fit, asides_fit, wrote_tree}
 use native.Mathlib.Omega.{arith}
 use borrow.Author.Rules.{rules}
 use Rattle.line_tree.proofs.tree_lines.Statement.{statement}
@@ -12,7 +12,7 @@ aside-lines-requires : tie.Need-aside-lines-requires
 aside-lines-requires c κs = (search rules, omega arith, search (asides_fit))
 
 returns : tie.Need-returns
-returns c = search (wrote-tree)
+returns c = search (wrote_tree)
 
 pub tree-lines-spec : {M : Type 1} → statement M
 tree-lines-spec =

@@ -1,13 +1,13 @@
 -- The first of 8 and 9 that holds of a well-formed record beside those held, or 0.
-use Rattle.log_admit.proofs.Faults.{placed_within, unit-small, join-number, join-above, join-quick, join-open, join-none}
+use Rattle.log_admit.proofs.Faults.{placed_within, unit_small, join_number, join_above, join_quick, join_open, join_none}
 use borrow.Author.Rules.{rules}
 use Rattle.log_admit.proofs.join_fault.Statement.{statement}
 use Rattle.log_admit.proofs.join_fault.Tie as tie
 
-ruleset ways = (join-number, join-above, join-quick, join-open, join-none)
+ruleset ways = (join_number, join_above, join_quick, join_open, join_none)
 
 element-copy-out-is-next : tie.Need-element-copy-out-is-next
-element-copy-out-is-next c = search (unit-small)
+element-copy-out-is-next c = search (unit_small)
 
 returns : tie.Need-returns
 returns c = search ways

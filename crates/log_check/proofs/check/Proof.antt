@@ -1,11 +1,11 @@
 -- A log is checked: sound or not, how many records it has, and the base vector with them counted, zeros if one has a fault.
-use Rattle.log_check.proofs.Sound.{checked-sound, checked-used, checked-held}
+use Rattle.log_check.proofs.Sound.{checked_sound, checked_used, checked-held}
 use borrow.Author.Rules.{rules}
 use Rattle.log_check.proofs.check.Statement.{statement}
 use Rattle.log_check.proofs.check.Tie as tie
 
 returns : tie.Need-returns
-returns c = (search (checked-sound), search (checked-used), search (checked-held))
+returns c = (search (checked_sound), search (checked_used), search (checked-held))
 
 pub check-spec : {M : Type 1} → statement M
 check-spec =

@@ -5,7 +5,7 @@ use mathlib.Core.Path.{◌≡◌}
 use lib.ListN.{length, replicate}
 use Rattle.log_check.specs.Places.{laid_at}
 use Rattle.log_check.specs.InOrder.{first_fault, scan_from, scan_of}
-use Rattle.log_check.proofs.Scans.{Passed, passed_none, passed-placed, passed-spare, left-none, left-ends, laid_inside, scan-stops, scan-left, scan-more, scan-first, scan-passed, scan-ends}
+use Rattle.log_check.proofs.Scans.{Passed, passed_none, passed_placed, passed_spare, left-none, left_ends, laid_inside, scan_stops, scan_left, scan_more, scan_first, scan_passed, scan_ends}
 use borrow.Author.Rules.{rules}
 use native.Mathlib.Omega.{arith}
 use Rattle.log_check.proofs.scan.Statement.{statement}
@@ -31,18 +31,18 @@ part-admit-end : tie.Need-slice-bounds-admit-end invariant-loop decreases-loop
 part-admit-end c = search (laid_inside)
 
 admit-requires : tie.Need-admit-requires invariant-loop decreases-loop
-admit-requires c κs = (search rules, search rules, search rules, search rules, search (passed-placed), search (passed-spare))
+admit-requires c κs = (search rules, search rules, search rules, search rules, search (passed_placed), search (passed_spare))
 
 returns : tie.Need-returns invariant-loop decreases-loop
-returns c = (search (scan-left), search (scan-stops))
+returns c = (search (scan_left), search (scan_stops))
 
 loop-again : tie.Need-loop-preserved invariant-loop decreases-loop
 loop-again c =
     let passed = c.before.before.before.before.before.before.before.before.before.before.before.before.before.loop.invariant.6 in
-    (omega arith, search rules, search rules, search rules, search (scan-first), search (scan-more), search (scan-passed, passed))
+    (omega arith, search rules, search rules, search rules, search (scan_first), search (scan_more), search (scan_passed, passed))
 
 returns-2 : tie.Need-returns-2 invariant-loop decreases-loop
-returns-2 c = (search (left-ends), search (scan-ends))
+returns-2 c = (search (left_ends), search (scan_ends))
 
 pub scan-spec : {M : Type 1} → statement M
 scan-spec =

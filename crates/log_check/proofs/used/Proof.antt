@@ -3,7 +3,7 @@ use Prim.Native.Nat.{◌≤◌, ◌+◌, ◌-◌, ◌*◌}
 use mathlib.Core.Path.{◌≡◌}
 use lib.ListN.{length, drop}
 use Rattle.model.specs.Log.{records_in, records_of}
-use Rattle.log_check.proofs.Sound.{used-none, used-stops, used_next, used-ends}
+use Rattle.log_check.proofs.Sound.{used_none, used_stops, used_next, used_ends}
 use borrow.Author.Rules.{rules}
 use native.Mathlib.Omega.{arith}
 use Rattle.log_check.proofs.used.Statement.{statement}
@@ -16,16 +16,16 @@ abbrev decreases-loop : tie.decreases-loop
 decreases-loop log i₀ i = 512 - i
 
 loop-holds : tie.Need-loop-init invariant-loop decreases-loop
-loop-holds c = (omega arith, search (used-none))
+loop-holds c = (omega arith, search (used_none))
 
 returns : tie.Need-returns invariant-loop decreases-loop
-returns c = (search (used-stops), omega arith)
+returns c = (search (used_stops), omega arith)
 
 loop-again : tie.Need-loop-preserved invariant-loop decreases-loop
 loop-again c = (omega arith, search (used_next))
 
 returns-2 : tie.Need-returns-2 invariant-loop decreases-loop
-returns-2 c = (search (used-ends), omega arith)
+returns-2 c = (search (used_ends), omega arith)
 
 pub used-spec : {M : Type 1} → statement M
 used-spec =

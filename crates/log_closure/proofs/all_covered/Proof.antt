@@ -6,7 +6,7 @@ use native.Mathlib.Omega.{arith}
 use borrow.Author.Rules.{rules}
 use Rattle.model.specs.Log.{all_to}
 use Rattle.log_closure.specs.Tables.{unit_closed}
-use Rattle.log_closure.proofs.Closed.{units-next, unit-open, units-all}
+use Rattle.log_closure.proofs.Closed.{units_next, unit_open, units_all}
 use Rattle.log_closure.proofs.all_covered.Statement.{statement}
 use Rattle.log_closure.proofs.all_covered.Tie as tie
 
@@ -21,13 +21,13 @@ unfolding all_to
 loop-holds c = (omega arith, refl)
 
 returns : tie.Need-returns invariant-loop decreases-loop
-returns c = search (unit-open)
+returns c = search (unit_open)
 
 loop-again : tie.Need-loop-preserved invariant-loop decreases-loop
-loop-again c = (omega arith, search (units-next))
+loop-again c = (omega arith, search (units_next))
 
 returns-2 : tie.Need-returns-2 invariant-loop decreases-loop
-returns-2 c = search (units-all)
+returns-2 c = search (units_all)
 
 pub all-covered-spec : {M : Type 1} → statement M
 all-covered-spec =

@@ -5,7 +5,7 @@ use mathlib.Core.Bool.{true}
 use Rattle.model.specs.Vector.{covers_to}
 use Rattle.model.specs.Log.{all_to}
 use Rattle.log_closure.specs.Tables.{row_at, unit_closed}
-use Rattle.log_closure.proofs.Closed.{few-seen, place_inside, row_next, none_counted, none_above, one-above, all_closed}
+use Rattle.log_closure.proofs.Closed.{few_seen, place_inside, row_next, none_counted, none_above, one_above, all_closed}
 use borrow.Author.Rules.{rules}
 use native.Mathlib.Omega.{arith}
 use Rattle.log_closure.proofs.is_closed.Statement.{statement}
@@ -31,7 +31,7 @@ units-again : tie.Need-units-preserved invariant-loop decreases-loop invariant-u
 units-again c = (omega arith, search rules, search (none_counted))
 
 position-requires : tie.Need-position-requires invariant-loop decreases-loop invariant-units decreases-units
-position-requires c κs = (search rules, search rules, omega arith, search (few-seen))
+position-requires c κs = (search rules, search rules, omega arith, search (few_seen))
 
 loop-holds : tie.Need-loop-init invariant-loop decreases-loop invariant-units decreases-units
 unfolding covers_to
@@ -47,7 +47,7 @@ returns : tie.Need-returns invariant-loop decreases-loop invariant-units decreas
 returns c = search (all_closed)
 
 returns-2 : tie.Need-returns-2 invariant-loop decreases-loop invariant-units decreases-units
-returns-2 c = search (one-above)
+returns-2 c = search (one_above)
 
 pub is-closed-spec : {M : Type 1} → statement M
 is-closed-spec =

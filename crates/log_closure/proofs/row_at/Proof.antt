@@ -1,11 +1,11 @@
 -- What the record at a position has seen.
-use Rattle.log_closure.proofs.Closed.{row-flat}
+use Rattle.log_closure.proofs.Closed.{row_flat}
 use borrow.Author.Rules.{rules}
 use Rattle.log_closure.proofs.row_at.Statement.{statement}
 use Rattle.log_closure.proofs.row_at.Tie as tie
 
 returns : tie.Need-returns
-returns c = search (row-flat)
+returns c = search (row_flat)
 
 pub row-at-spec : {M : Type 1} → statement M
 row-at-spec =

@@ -2,7 +2,7 @@
 use Prim.Native.Nat.{◌≤◌}
 use mathlib.Core.Path.{◌≡◌, refl}
 use lib.ListN.{length}
-use Rattle.log_insert.proofs.Merged.{Merging, merging-starts, merging-next, merging-ends}
+use Rattle.log_insert.proofs.Merged.{Merging, merging_starts, merging_next, merging_ends}
 use borrow.Author.Rules.{rules}
 use native.Mathlib.Omega.{arith}
 use Rattle.log_insert.proofs.insert_records.Statement.{statement}
@@ -15,7 +15,7 @@ abbrev decreases-loop : tie.decreases-loop
 decreases-loop log₀ n recs k end₀ left₀ log end left = left
 
 loop-holds : tie.Need-loop-init invariant-loop decreases-loop
-loop-holds c = (omega arith, omega arith, refl, search (merging-starts))
+loop-holds c = (omega arith, omega arith, refl, search (merging_starts))
 
 loop-again : tie.Need-loop-preserved invariant-loop decreases-loop
 loop-again c =
@@ -29,11 +29,11 @@ loop-again c =
       search rules,
       omega arith,
       search rules,
-      merging-next _ _ _ _ pre.0 pre.1 pre.2 pre.3 pre.5 _ _ _ inv.3 inv.2 inv.0 inv.1 (search rules) _ _ rank.rank-of.ensures.0 place.place-behind.ensures.0 _ _ move.move_up.ensures put.put.ensures pre.4,
+      merging_next _ _ _ _ pre.0 pre.1 pre.2 pre.3 pre.5 _ _ _ inv.3 inv.2 inv.0 inv.1 (search rules) _ _ rank.rank-of.ensures.0 place.place-behind.ensures.0 _ _ move.move_up.ensures put.put.ensures pre.4,
     )
 
 returns : tie.Need-returns invariant-loop decreases-loop
-returns c = search (merging-ends)
+returns c = search (merging_ends)
 
 pub insert-records-spec : {M : Type 1} → statement M
 insert-records-spec =

@@ -4,7 +4,7 @@ use mathlib.Core.Path.{◌≡◌, refl}
 use Rattle.log_check.specs.declared.Layout.TheVariants.{Log}
 use Rattle.log_check.specs.Places.{laid_at}
 use Rattle.log_insert.specs.Where.{place_behind}
-use Rattle.log_insert.proofs.Ranked.{behind-stops, behind-next, behind-none}
+use Rattle.log_insert.proofs.Ranked.{behind_stops, behind-next, behind-none}
 use borrow.Author.Rules.{rules}
 use native.Mathlib.Omega.{arith}
 use Rattle.log_insert.proofs.place_behind.Statement.{statement}
@@ -20,7 +20,7 @@ loop-holds : tie.Need-loop-init invariant-loop decreases-loop
 loop-holds c = (omega arith, refl)
 
 returns : tie.Need-returns invariant-loop decreases-loop
-returns c = (search (behind-stops), search rules)
+returns c = (search (behind_stops), search rules)
 
 loop-again : tie.Need-loop-preserved invariant-loop decreases-loop
 loop-again c = (omega arith, search (behind-next))

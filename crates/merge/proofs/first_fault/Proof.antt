@@ -1,7 +1,7 @@
 -- Every check of the first file; where it has no fault, the table has the positions of its records.
 use Prim.Native.Nat.{ℕ}
 use mathlib.Core.Path.{◌≡◌}
-use Rattle.read_file_check.proofs.Checks.{whole, some_block, few_blocks, not-whole, whole-checked}
+use Rattle.read_file_check.proofs.Checks.{whole, some_block, few_blocks, not_whole, whole-checked}
 use Rattle.merge.proofs.Calls.{positions}
 use native.Mathlib.Omega.{arith}
 use borrow.Author.Rules.{rules}
@@ -9,7 +9,7 @@ use Rattle.merge.proofs.first_fault.Statement.{statement}
 use Rattle.merge.proofs.first_fault.Tie as tie
 
 returns : tie.Need-returns
-returns c = (search (not-whole), λ (z : ◌≡◌ {A = ℕ} 2 0). absurd (omega arith))
+returns c = (search (not_whole), λ (z : ◌≡◌ {A = ℕ} 2 0). absurd (omega arith))
 
 file-fault-into-requires : tie.Need-file-fault-into-requires
 file-fault-into-requires c κs = (search (whole), search (some_block), search (few_blocks), search rules, search rules)

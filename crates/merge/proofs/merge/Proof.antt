@@ -1,17 +1,17 @@
 -- Two files become one of all their records, in the lent file, by way of a lent log whose old bytes are not judged.
-use Rattle.merge.proofs.Calls.{right_is, log-wrong, lent-wrong, first-refused, second_refused_lem, both-joined}
+use Rattle.merge.proofs.Calls.{right_is, log_wrong, lent_wrong, first_refused, second_refused_lem, both_joined}
 use borrow.Author.Rules.{rules}
 use Rattle.merge.proofs.merge.Statement.{statement}
 use Rattle.merge.proofs.merge.Tie as tie
 
 returns : tie.Need-returns
-returns c = search (log-wrong)
+returns c = search (log_wrong)
 
 returns-2 : tie.Need-returns-2
-returns-2 c = search (lent-wrong)
+returns-2 c = search (lent_wrong)
 
 returns-3 : tie.Need-returns-3
-returns-3 c = search (first-refused)
+returns-3 c = search (first_refused)
 
 returns-4 : tie.Need-returns-4
 returns-4 c = search (second_refused_lem)
@@ -31,7 +31,7 @@ merge-checked-requires c κs =
     )
 
 returns-5 : tie.Need-returns-5
-returns-5 c = search (both-joined)
+returns-5 c = search (both_joined)
 
 pub merge-spec : {M : Type 1} → statement M
 merge-spec =

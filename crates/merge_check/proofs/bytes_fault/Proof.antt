@@ -8,7 +8,7 @@ use Rattle.log_check.specs.Places.{laid_at}
 use Rattle.log_check.specs.InOrder.{listed}
 use Rattle.log_check.proofs.Scans.{laid_inside}
 use Rattle.model.specs.Merge.{bytes_fault}
-use Rattle.merge_check.proofs.Loops.{lent-formed, bytes-stop, bytes_next, bytes-end}
+use Rattle.merge_check.proofs.Loops.{lent_formed, bytes_stop, bytes_next, bytes_end}
 use borrow.Author.Rules.{rules}
 use native.Mathlib.Omega.{arith}
 use Rattle.merge_check.proofs.bytes_fault.Statement.{statement}
@@ -27,16 +27,16 @@ part-clashes-end : tie.Need-slice-bounds-clashes-end invariant-loop decreases-lo
 part-clashes-end c = search (laid_inside)
 
 clashes-requires : tie.Need-clashes-requires invariant-loop decreases-loop
-clashes-requires c κs = (search rules, search (lent-formed), search rules, search rules)
+clashes-requires c κs = (search rules, search (lent_formed), search rules, search rules)
 
 returns : tie.Need-returns invariant-loop decreases-loop
-returns c = search (bytes-stop)
+returns c = search (bytes_stop)
 
 loop-again : tie.Need-loop-preserved invariant-loop decreases-loop
 loop-again c = (omega arith, search (bytes_next))
 
 returns-2 : tie.Need-returns-2 invariant-loop decreases-loop
-returns-2 c = search (bytes-end)
+returns-2 c = search (bytes_end)
 
 pub bytes-fault-spec : {M : Type 1} → statement M
 bytes-fault-spec =

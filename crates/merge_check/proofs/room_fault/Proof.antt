@@ -7,7 +7,7 @@ use Rattle.log_check.specs.Places.{laid_at}
 use Rattle.log_check.specs.InOrder.{listed}
 use Rattle.log_check.proofs.Scans.{laid_inside}
 use Rattle.model.specs.Merge.{room_fault}
-use Rattle.merge_check.proofs.Loops.{lent-unit, room-skip, room-stop, room_next, room-end}
+use Rattle.merge_check.proofs.Loops.{lent_unit, room_skip, room_stop, room_next, room_end}
 use borrow.Author.Rules.{rules}
 use native.Mathlib.Omega.{arith}
 use Rattle.merge_check.proofs.room_fault.Statement.{statement}
@@ -26,19 +26,19 @@ part-lacks-end : tie.Need-slice-bounds-lacks-end invariant-loop decreases-loop
 part-lacks-end c = search (laid_inside)
 
 lacks-requires : tie.Need-lacks-requires invariant-loop decreases-loop
-lacks-requires c κs = (search rules, search (lent-unit))
+lacks-requires c κs = (search rules, search (lent_unit))
 
 loop-again : tie.Need-loop-preserved invariant-loop decreases-loop
-loop-again c = (omega arith, omega arith, search (room-skip))
+loop-again c = (omega arith, omega arith, search (room_skip))
 
 returns : tie.Need-returns invariant-loop decreases-loop
-returns c = search (room-stop)
+returns c = search (room_stop)
 
 loop-again-2 : tie.Need-loop-preserved-2 invariant-loop decreases-loop
 loop-again-2 c = (omega arith, omega arith, search (room_next))
 
 returns-2 : tie.Need-returns-2 invariant-loop decreases-loop
-returns-2 c = search (room-end)
+returns-2 c = search (room_end)
 
 pub room-fault-spec : {M : Type 1} → statement M
 room-fault-spec =

@@ -8,8 +8,8 @@ use Rattle.log_check.specs.declared.Layout.TheVariants.{File}
 use Rattle.log_check.specs.Places.{laid_at}
 use Rattle.log_check.specs.InOrder.{listed}
 use Rattle.log_check.proofs.Scans.{laid_inside}
-use Rattle.merge_check.proofs.Loops.{lent-unit}
-use Rattle.merge_join.proofs.Gathered.{gathers_none, skips-count, skips-long, skips-laid, adds-count, adds-long, adds-laid, gathered-count, gathered-laid}
+use Rattle.merge_check.proofs.Loops.{lent_unit}
+use Rattle.merge_join.proofs.Gathered.{gathers_none, skips_count, skips_long, skips_laid, adds_count, adds_long, adds_laid, gathered_count, gathered_laid}
 use borrow.Author.Rules.{rules}
 use native.Mathlib.Omega.{arith}
 use Rattle.merge_join.proofs.gather_new.Statement.{statement}
@@ -36,19 +36,19 @@ part-lacks-end : tie.Need-slice-bounds-lacks-end invariant-loop decreases-loop
 part-lacks-end c = search (laid_inside)
 
 lacks-requires : tie.Need-lacks-requires invariant-loop decreases-loop
-lacks-requires c κs = (search rules, search (lent-unit))
+lacks-requires c κs = (search rules, search (lent_unit))
 
 loop-again : tie.Need-loop-preserved invariant-loop decreases-loop
-loop-again c = (omega arith, omega arith, search rules, search rules, search (skips-count), search (skips-long), search (skips-laid))
+loop-again c = (omega arith, omega arith, search rules, search rules, search (skips_count), search (skips_long), search (skips_laid))
 
 part-put-end : tie.Need-slice-bounds-put-end invariant-loop decreases-loop
 part-put-end c = search (laid_inside)
 
 loop-again-2 : tie.Need-loop-preserved-2 invariant-loop decreases-loop
-loop-again-2 c = (omega arith, omega arith, search rules, search rules, search (adds-count), search (adds-long), search (adds-laid))
+loop-again-2 c = (omega arith, omega arith, search rules, search rules, search (adds_count), search (adds_long), search (adds_laid))
 
 returns : tie.Need-returns invariant-loop decreases-loop
-returns c = ((search (gathered-count), omega arith), search (gathered-laid))
+returns c = ((search (gathered_count), omega arith), search (gathered_laid))
 
 pub gather-new-spec : {M : Type 1} → statement M
 gather-new-spec =

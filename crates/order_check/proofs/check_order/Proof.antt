@@ -1,18 +1,18 @@
 -- Another maker's order is checked against a log.
-use Rattle.call_guard.proofs.Opening.{open-long, open-used}
-use Rattle.order_check.proofs.Ways.{order-refused, order-lent, order-folded, order-sound, order-held, order-places, order-passes}
+use Rattle.call_guard.proofs.Opening.{open_long, open_used}
+use Rattle.order_check.proofs.Ways.{order_refused, order_lent_lem, order_folded, order_sound, order_held, order_places, order_passes}
 use borrow.Author.Rules.{rules}
 use Rattle.order_check.proofs.check_order.Statement.{statement}
 use Rattle.order_check.proofs.check_order.Tie as tie
 
 returns : tie.Need-returns
-returns c = order-refused _ _ _ _ c.before.before.before.before.open_order.ensures.0 _ c.if1.true
+returns c = order_refused _ _ _ _ c.before.before.before.before.open_order.ensures.0 _ c.if1.true
 
 returns-2 : tie.Need-returns-2
 returns-2 c =
     let i = c.before.before.before.before in
     let o = i.before.before.before.before in
-    order-folded _ _ _ _ o.open_order.ensures.0 i.if1.false _ c.before.is_zero.ensures _ c.if2.true
+    order_folded _ _ _ _ o.open_order.ensures.0 i.if1.false _ c.before.is_zero.ensures _ c.if2.true
 
 judge-order-requires : tie.Need-judge-order-requires
 judge-order-requires c κs =
@@ -24,12 +24,12 @@ judge-order-requires c κs =
     let q = d.before.is_zero.ensures in
     let h = d.if2.false in
     let t = o.before.before.before.before.before.before.before.before.before.before.before.before in
-    let lent = order-lent t.args.log.now t.args.base.now t.args.ours.now t.args.theirs.now e z in (
-      open-long _ _ _ _ _ e z,
-      order-sound _ _ _ e z _ q h,
-      open-used _ _ _ _ _ e z,
-      order-held _ _ _ e z _ q h,
-      order-places _ _ _ e z _ q h _ _ o.open_order.ensures.1,
+    let lent = order_lent_lem t.args.log.now t.args.base.now t.args.ours.now t.args.theirs.now e z in (
+      open_long _ _ _ _ _ e z,
+      order_sound _ _ _ e z _ q h,
+      open_used _ _ _ _ _ e z,
+      order_held _ _ _ e z _ q h,
+      order_places _ _ _ e z _ q h _ _ o.open_order.ensures.1,
       lent.0,
       lent.1,
     )
@@ -40,7 +40,7 @@ returns-3 c =
     let d = j.before.before.before.before in
     let i = d.before.before.before.before in
     let o = i.before.before.before.before in
-    order-passes _ _ _ _ o.open_order.ensures.0 i.if1.false _ d.before.is_zero.ensures d.if2.false _ _ j.judge-order.ensures
+    order_passes _ _ _ _ o.open_order.ensures.0 i.if1.false _ d.before.is_zero.ensures d.if2.false _ _ j.judge-order.ensures
 
 pub check-order-spec : {M : Type 1} → statement M
 check-order-spec =

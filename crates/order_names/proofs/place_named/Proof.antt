@@ -1,12 +1,12 @@
 -- Where the record that the name at place i names stands in a log, by the table of positions.
 use native.Mathlib.Omega.{arith}
-use Rattle.order_names.proofs.Names.{place_is, place_low, named-bytes, named_table, named_some, named_few}
+use Rattle.order_names.proofs.Names.{place_is, place_low, named_bytes, named_table, named_some, named_few}
 use borrow.Author.Rules.{rules}
 use Rattle.order_names.proofs.place_named.Statement.{statement}
 use Rattle.order_names.proofs.place_named.Tie as tie
 
 name-at-requires : tie.Need-name-at-requires
-name-at-requires c κs = search (named-bytes)
+name-at-requires c κs = search (named_bytes)
 
 position-requires : tie.Need-position-requires
 position-requires c κs = (search (named_table), omega arith, search (named_some), search (named_few))

@@ -6,7 +6,7 @@ use mathlib.Core.Path.{◌≡◌}
 use mathlib.Core.Bool.{true}
 use Rattle.model.specs.Log.{all_to}
 use Rattle.order_rows.specs.Compared.{row_shown}
-use Rattle.order_rows.proofs.Ways.{all_none, all-stop, all_more, all_done}
+use Rattle.order_rows.proofs.Ways.{all_none, all_stop, all_more, all_done}
 use Rattle.order_rows.proofs.all_shown.Statement.{statement}
 use Rattle.order_rows.proofs.all_shown.Tie as tie
 
@@ -23,7 +23,7 @@ is-shown-requires : tie.Need-is-shown-requires invariant-loop decreases-loop
 is-shown-requires c κs = (search rules, search rules, search rules, omega arith)
 
 returns : tie.Need-returns invariant-loop decreases-loop
-returns c = search (all-stop)
+returns c = search (all_stop)
 
 loop-again : tie.Need-loop-preserved invariant-loop decreases-loop
 loop-again c = (omega arith, search (all_more))

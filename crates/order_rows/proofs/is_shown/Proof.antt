@@ -1,5 +1,5 @@
 -- Row i of a is shown by b, whose rows are noted.
-use Rattle.order_rows.proofs.Notes.{key_slotted, shown-none, shown-low, shown-some}
+use Rattle.order_rows.proofs.Notes.{key_slotted, shown_none, shown_low, shown_some}
 use borrow.Author.Rules.{rules}
 use Rattle.order_rows.proofs.is_shown.Statement.{statement}
 use Rattle.order_rows.proofs.is_shown.Tie as tie
@@ -8,13 +8,13 @@ slot-of-requires : tie.Need-slot-of-requires
 slot-of-requires c κs = search (key_slotted)
 
 returns : tie.Need-returns
-returns c = search (shown-none)
+returns c = search (shown_none)
 
 row-alike-requires : tie.Need-row-alike-requires
-row-alike-requires c κs = (search rules, search rules, search rules, search (shown-low))
+row-alike-requires c κs = (search rules, search rules, search rules, search (shown_low))
 
 returns-2 : tie.Need-returns-2
-returns-2 c = search (shown-some)
+returns-2 c = search (shown_some)
 
 pub is-shown-spec : {M : Type 1} → statement M
 is-shown-spec =

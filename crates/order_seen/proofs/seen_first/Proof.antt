@@ -7,7 +7,7 @@ use borrow.Author.Rules.{rules}
 use Rattle.log_check.specs.InOrder.{listed}
 use Rattle.order_laws.specs.Marking.{covers_each}
 use Rattle.order_names.specs.Named.{named_at}
-use Rattle.order_seen.proofs.Running.{unit_low, Low, low_none, low_room, low_more, covers_start, covers-stop, covers-go, covers_end}
+use Rattle.order_seen.proofs.Running.{unit_low, Low, low_none, low_room, low_more, covers_start, covers_stop, covers_go, covers_end}
 use Rattle.order_seen.proofs.seen_first.Statement.{statement}
 use Rattle.order_seen.proofs.seen_first.Tie as tie
 
@@ -25,13 +25,13 @@ place-named-requires : tie.Need-place-named-requires invariant-loop decreases-lo
 place-named-requires c κs = (search rules, search rules)
 
 returns : tie.Need-returns invariant-loop decreases-loop
-returns c = search (covers-stop)
+returns c = search (covers_stop)
 
 bump-requires : tie.Need-bump-requires invariant-loop decreases-loop
 bump-requires c κs = (search (unit_low), search (low_room))
 
 loop-again : tie.Need-loop-preserved invariant-loop decreases-loop
-loop-again c = (omega arith, search (low_more), search (covers-go))
+loop-again c = (omega arith, search (low_more), search (covers_go))
 
 returns-2 : tie.Need-returns-2 invariant-loop decreases-loop
 returns-2 c = search (covers_end)

@@ -7,10 +7,10 @@ use borrow.Author.Rules.{rules}
 use Rattle.model.specs.Replay.{empty_tree, replay_from}
 use Rattle.hash_chains.specs.Chains.{nodes_in}
 use Rattle.tree_lookup.specs.Roles.{Works}
-use Rattle.tree_lookup.proofs.Working.{works-holds}
+use Rattle.tree_lookup.proofs.Working.{works_holds}
 use Rattle.log_check.specs.InOrder.{listed}
 use Rattle.order_names.specs.Named.{named_at}
-use Rattle.order_tree.proofs.Playing.{order_starts, order_nodes, order-entries, order-asides, order-both, order-takes, order-goes, order_ends}
+use Rattle.order_tree.proofs.Playing.{order_starts, order_nodes, order_entries, order_asides, order_both, order_takes, order_goes, order_ends}
 use Rattle.order_tree.proofs.replay_order.Statement.{statement}
 use Rattle.order_tree.proofs.replay_order.Tie as tie
 
@@ -28,10 +28,10 @@ place-named-requires : tie.Need-place-named-requires invariant-loop decreases-lo
 place-named-requires c κs = (search rules, search rules)
 
 step-requires : tie.Need-step-requires invariant-loop decreases-loop
-step-requires c κs = (search (order-takes), search (works-holds), search (order-entries), search (order-asides), search (order-both), search (order_nodes))
+step-requires c κs = (search (order_takes), search (works_holds), search (order_entries), search (order_asides), search (order_both), search (order_nodes))
 
 loop-again : tie.Need-loop-preserved invariant-loop decreases-loop
-loop-again c = (omega arith, search rules, search rules, omega arith, search (order-goes))
+loop-again c = (omega arith, search rules, search rules, omega arith, search (order_goes))
 
 returns : tie.Need-returns invariant-loop decreases-loop
 returns c = search (order_ends)

@@ -1,6 +1,6 @@
 -- An act: its record is made, or it is skipped and every log is left.
 use Rattle.plan_units.proofs.Logs.{good_part}
-use Rattle.plan_act.proofs.Acting.{full_skips, refused-skips, accepted-makes}
+use Rattle.plan_act.proofs.Acting.{full_skips, refused_skips, accepted_makes}
 use borrow.Author.Rules.{rules}
 use Rattle.plan_act.proofs.act.Statement.{statement}
 use Rattle.plan_act.proofs.act.Tie as tie
@@ -12,10 +12,10 @@ act-unit-requires : tie.Need-act-unit-requires
 act-unit-requires c κs = (search (good_part), search rules, search rules, search rules, search rules)
 
 returns-2 : tie.Need-returns-2
-returns-2 c = search (refused-skips)
+returns-2 c = search (refused_skips)
 
 returns-3 : tie.Need-returns-3
-returns-3 c = search (accepted-makes)
+returns-3 c = search (accepted_makes)
 
 pub act-spec : {M : Type 1} → statement M
 act-spec =

@@ -3,7 +3,7 @@ use Prim.Native.Nat.{◌-◌, ◌≤◌}
 use native.Mathlib.Nat.{sub-zero}
 use mathlib.Core.Path.{◌≡◌}
 use Rattle.plan_model.specs.Plan.{events_hold}
-use Rattle.plan_block.proofs.Events.{stops, goes_on, ends}
+use Rattle.plan_block.proofs.Events.{stops, goes_on_lem, ends}
 use borrow.Author.Rules.{rules}
 use native.Mathlib.Omega.{arith}
 use Rattle.plan_block.proofs.events_hold.Statement.{statement}
@@ -22,7 +22,7 @@ returns : tie.Need-returns invariant-loop decreases-loop
 returns c = search (stops)
 
 loop-again : tie.Need-loop-preserved invariant-loop decreases-loop
-loop-again c = (omega arith, search (goes_on))
+loop-again c = (omega arith, search (goes_on_lem))
 
 returns-2 : tie.Need-returns-2 invariant-loop decreases-loop
 returns-2 c = search (ends)

@@ -1,11 +1,11 @@
 -- The k-th block.
-use Rattle.plan_check.proofs.Walk.{last-part, whole_part}
+use Rattle.plan_check.proofs.Walk.{last_part, whole_part}
 use borrow.Author.Rules.{rules}
 use Rattle.plan_check.proofs.fault_at.Statement.{statement}
 use Rattle.plan_check.proofs.fault_at.Tie as tie
 
 returns : tie.Need-returns
-returns c = search (last-part)
+returns c = search (last_part)
 
 returns-2 : tie.Need-returns-2
 returns-2 c = search (whole_part)

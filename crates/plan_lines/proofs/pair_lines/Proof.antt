@@ -5,7 +5,7 @@ use lib.ListN.{length}
 use Rattle.line_text.proofs.Written.{wrote_none}
 use Rattle.line_text.specs.Written.{Wrote}
 use Rattle.plan_model.specs.Plan.{pair_lines}
-use Rattle.plan_lines.proofs.Turns.{pairs-of-fit, wrote-next-pairs, wrote_all_pair_lines}
+use Rattle.plan_lines.proofs.Turns.{pairs_of_fit, wrote_next_pairs, wrote_all_pair_lines}
 use borrow.Author.Rules.{rules}
 use native.Mathlib.Omega.{arith}
 use Rattle.plan_lines.proofs.pair_lines.Statement.{statement}
@@ -22,10 +22,10 @@ unfolding pair_lines
 loop-holds c = (omega arith, refl, search (wrote_none))
 
 pairs-of-requires : tie.Need-pairs-of-requires invariant-loop decreases-loop
-pairs-of-requires c κs = (search rules, search rules, search (pairs-of-fit))
+pairs-of-requires c κs = (search rules, search rules, search (pairs_of_fit))
 
 loop-again : tie.Need-loop-preserved invariant-loop decreases-loop
-loop-again c = (omega arith, omega arith, search (wrote-next-pairs))
+loop-again c = (omega arith, omega arith, search (wrote_next_pairs))
 
 returns : tie.Need-returns invariant-loop decreases-loop
 returns c = search (wrote_all_pair_lines)

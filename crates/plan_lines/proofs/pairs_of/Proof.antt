@@ -5,7 +5,7 @@ use lib.ListN.{length}
 use Rattle.line_text.proofs.Written.{wrote_none}
 use Rattle.line_text.specs.Written.{Wrote}
 use Rattle.plan_model.specs.Plan.{pairs_of}
-use Rattle.plan_lines.proofs.Turns.{pair-line-fits, wrote-next-pair, wrote_all_pairs}
+use Rattle.plan_lines.proofs.Turns.{pair_line_fits, wrote_next_pair, wrote_all_pairs}
 use borrow.Author.Rules.{rules}
 use native.Mathlib.Omega.{arith}
 use Rattle.plan_lines.proofs.pairs_of.Statement.{statement}
@@ -22,10 +22,10 @@ unfolding pairs_of
 loop-holds c = (omega arith, refl, search (wrote_none))
 
 pair-line-requires : tie.Need-pair-line-requires invariant-loop decreases-loop
-pair-line-requires c κs = search (pair-line-fits)
+pair-line-requires c κs = search (pair_line_fits)
 
 loop-again : tie.Need-loop-preserved invariant-loop decreases-loop
-loop-again c = (omega arith, omega arith, search (wrote-next-pair))
+loop-again c = (omega arith, omega arith, search (wrote_next_pair))
 
 returns : tie.Need-returns invariant-loop decreases-loop
 returns c = search (wrote_all_pairs)

@@ -5,7 +5,7 @@ use lib.ListN.{length}
 use Rattle.line_text.proofs.Written.{wrote_none}
 use Rattle.line_text.specs.Written.{Wrote}
 use Rattle.plan_model.specs.Plan.{unit_lines}
-use Rattle.plan_lines.proofs.Turns.{unit-line-fits, wrote-next-unit, wrote_all_units}
+use Rattle.plan_lines.proofs.Turns.{unit_line_fits, wrote_next_unit, wrote_all_units}
 use borrow.Author.Rules.{rules}
 use native.Mathlib.Omega.{arith}
 use Rattle.plan_lines.proofs.unit_lines.Statement.{statement}
@@ -22,10 +22,10 @@ unfolding unit_lines
 loop-holds c = (omega arith, refl, search (wrote_none))
 
 unit-line-requires : tie.Need-unit-line-requires invariant-loop decreases-loop
-unit-line-requires c κs = search (unit-line-fits)
+unit-line-requires c κs = search (unit_line_fits)
 
 loop-again : tie.Need-loop-preserved invariant-loop decreases-loop
-loop-again c = (omega arith, omega arith, search (wrote-next-unit))
+loop-again c = (omega arith, omega arith, search (wrote_next_unit))
 
 returns : tie.Need-returns invariant-loop decreases-loop
 returns c = search (wrote_all_units)

@@ -5,7 +5,7 @@ use Rattle.plan_model.specs.Plan.{round, events_done}
 use native.Mathlib.Nat.{sub-zero}
 use mathlib.Core.Path.{◌≡◌, refl}
 use Prim.Native.Nat.{◌+◌, ◌-◌, ◌≤◌}
-use Rattle.plan_round.proofs.Rounds.{few_events, event_at_lem, units-on, skipped-on, goes_on, ends}
+use Rattle.plan_round.proofs.Rounds.{few_events, event_at_lem, units_on, skipped_on, goes_on_lem, ends}
 use borrow.Author.Rules.{rules}
 use native.Mathlib.Omega.{arith}
 use Rattle.plan_round.proofs.block.Statement.{statement}
@@ -24,7 +24,7 @@ event-requires : tie.Need-event-requires invariant-loop decreases-loop
 event-requires c κs = (search rules, search rules, search rules, search (event_at_lem), search rules, search rules)
 
 loop-again : tie.Need-loop-preserved invariant-loop decreases-loop
-loop-again c = (omega arith, search rules, search rules, search rules, search (units-on, event_at_lem), search (skipped-on, event_at_lem), search (goes_on, event_at_lem))
+loop-again c = (omega arith, search rules, search rules, search rules, search (units_on, event_at_lem), search (skipped_on, event_at_lem), search (goes_on_lem, event_at_lem))
 
 returns : tie.Need-returns invariant-loop decreases-loop
 returns c = search (ends)

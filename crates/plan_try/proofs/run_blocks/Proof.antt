@@ -4,7 +4,7 @@ use mathlib.Core.Path.{◌≡◌, refl}
 use lib.ListN.{length}
 use Rattle.plan_model.specs.Plan.{round, blocks_done, round_of}
 use Rattle.plan_units.specs.Units.{Units}
-use Rattle.plan_try.proofs.Running.{few-skipped, block_inside, block_long, block_passes, units-on, skipped-on, goes_on, starts, units_start, ends}
+use Rattle.plan_try.proofs.Running.{few_skipped, block_inside, block_long, block_passes, units_on, skipped_on, goes_on_lem, starts, units_start, ends}
 use borrow.Author.Rules.{rules}
 use native.Mathlib.Omega.{arith}
 use Rattle.plan_try.proofs.run_blocks.Statement.{statement}
@@ -23,10 +23,10 @@ part-block-end : tie.Need-slice-bounds-block-end invariant-loop decreases-loop
 part-block-end c = search (block_inside)
 
 block-requires : tie.Need-block-requires invariant-loop decreases-loop
-block-requires c κs = (search rules, search rules, search (block_long), search (block_passes), search rules, search (few-skipped))
+block-requires c κs = (search rules, search rules, search (block_long), search (block_passes), search rules, search (few_skipped))
 
 loop-again : tie.Need-loop-preserved invariant-loop decreases-loop
-loop-again c = (omega arith, search rules, search rules, search (units-on), search (skipped-on), search (goes_on))
+loop-again c = (omega arith, search rules, search rules, search (units_on), search (skipped_on), search (goes_on_lem))
 
 returns : tie.Need-returns invariant-loop decreases-loop
 returns c = (search (ends), search rules)

@@ -1,21 +1,21 @@
 -- A plan is tried.
 use Rattle.plan_lines.proofs.Lengths.{refused_fits, round_fits, refused_end, round_end}
-use Rattle.plan_try.proofs.Trying.{text-wrong, base-wrong, work-wrong, logs-wrong, accepted, refuses, comes-to}
+use Rattle.plan_try.proofs.Trying.{text_wrong, base_wrong, work_wrong, logs_wrong, accepted, refuses, comes_to_lem}
 use borrow.Author.Rules.{rules}
 use Rattle.plan_try.proofs.try_plan.Statement.{statement}
 use Rattle.plan_try.proofs.try_plan.Tie as tie
 
 returns : tie.Need-returns
-returns c = search (text-wrong)
+returns c = search (text_wrong)
 
 returns-2 : tie.Need-returns-2
-returns-2 c = search (base-wrong)
+returns-2 c = search (base_wrong)
 
 returns-3 : tie.Need-returns-3
-returns-3 c = search (work-wrong)
+returns-3 c = search (work_wrong)
 
 returns-4 : tie.Need-returns-4
-returns-4 c = search (logs-wrong)
+returns-4 c = search (logs_wrong)
 
 refused-line-requires : tie.Need-refused-line-requires
 refused-line-requires c κs = search (refused_fits)
@@ -36,7 +36,7 @@ cast-t25 : tie.Need-overflow-cast-t25
 cast-t25 c = search (round_end)
 
 returns-6 : tie.Need-returns-6
-returns-6 c = search (comes-to)
+returns-6 c = search (comes_to_lem)
 
 pub try-plan-spec : {M : Type 1} → statement M
 try-plan-spec =

@@ -1,11 +1,11 @@
 -- The first records of a file become a log.
 use borrow.Author.Rules.{rules}
-use Rattle.read_file.proofs.Copied.{walk-fits, copied_all}
+use Rattle.read_file.proofs.Copied.{walk_fits, copied_all}
 use Rattle.read_file.proofs.copy_records.Statement.{statement}
 use Rattle.read_file.proofs.copy_records.Tie as tie
 
 walk-requires : tie.Need-walk-requires
-walk-requires c κs = search (walk-fits, rules)
+walk-requires c κs = search (walk_fits, rules)
 
 returns : tie.Need-returns
 returns c = search (copied_all)

@@ -1,18 +1,18 @@
 -- A file of any archive is read into a lent log and base, whose old bytes are not judged: the log becomes its records, the base
 -- empty with all eight units listed.
-use Rattle.read_file_check.proofs.Checks.{base-length, base_kept, base-emptied}
+use Rattle.read_file_check.proofs.Checks.{base_length, base_kept, base_emptied}
 use borrow.Author.Rules.{rules}
 use Rattle.read_file.proofs.read_file.Statement.{statement}
 use Rattle.read_file.proofs.read_file.Tie as tie
 
 returns : tie.Need-returns
-returns c = search (base-length)
+returns c = search (base_length)
 
 returns-2 : tie.Need-returns-2
 returns-2 c = search (base_kept)
 
 returns-3 : tie.Need-returns-3
-returns-3 c = search (base-emptied)
+returns-3 c = search (base_emptied)
 
 pub read-file-spec : {M : Type 1} → statement M
 read-file-spec =

@@ -1,6 +1,6 @@
 -- The first fault of the n blocks of a file with these letters and so many rows, with the place of its block.
 use Rattle.run_model.specs.Blocks.{blocks_fault_as}
-use Rattle.read_file_blocks.proofs.Agreement.{stops, goes_on, ends}
+use Rattle.read_file_blocks.proofs.Agreement.{stops, goes_on_lem, ends}
 use mathlib.Core.Path.{◌≡◌}
 use native.Mathlib.Nat.{sub-zero}
 use Prim.Native.Nat.{◌-◌, ◌≤◌}
@@ -22,7 +22,7 @@ returns : tie.Need-returns invariant-loop decreases-loop
 returns c = search (stops)
 
 loop-again : tie.Need-loop-preserved invariant-loop decreases-loop
-loop-again c = (omega arith, search (goes_on))
+loop-again c = (omega arith, search (goes_on_lem))
 
 returns-2 : tie.Need-returns-2 invariant-loop decreases-loop
 returns-2 c = search (ends)

@@ -1,11 +1,11 @@
 -- The first of the refusals 3, 4, 5 and 20 that holds of block k, or 0.
-use Rattle.read_file_blocks.proofs.Agreement.{faulty-alone, disagrees, passes}
+use Rattle.read_file_blocks.proofs.Agreement.{faulty_alone, disagrees, passes}
 use borrow.Author.Rules.{rules}
 use Rattle.read_file_blocks.proofs.file_block_fault.Statement.{statement}
 use Rattle.read_file_blocks.proofs.file_block_fault.Tie as tie
 
 returns : tie.Need-returns
-returns c = search (faulty-alone)
+returns c = search (faulty_alone)
 
 returns-2 : tie.Need-returns-2
 returns-2 c = search (disagrees)

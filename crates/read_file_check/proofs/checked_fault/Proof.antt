@@ -1,11 +1,11 @@
 -- 2 for a file that is not of 1 to 86 blocks, then its first fault.
-use Rattle.read_file_check.proofs.Checks.{whole, some_block, few_blocks, not-whole, whole-checked}
+use Rattle.read_file_check.proofs.Checks.{whole, some_block, few_blocks, not_whole, whole-checked}
 use borrow.Author.Rules.{rules}
 use Rattle.read_file_check.proofs.checked_fault.Statement.{statement}
 use Rattle.read_file_check.proofs.checked_fault.Tie as tie
 
 returns : tie.Need-returns
-returns c = search (not-whole)
+returns c = search (not_whole)
 
 file-fault-requires : tie.Need-file-fault-requires
 file-fault-requires c κs = (search (whole), search (some_block), search (few_blocks))

@@ -5,7 +5,7 @@ use Rattle.log_check.specs.declared.Layout.TheVariants.{File}
 use mathlib.Core.Path.{◌≡◌}
 use Prim.Native.Nat.{◌-◌, ◌≤◌}
 use native.Mathlib.Nat.{sub-zero}
-use Rattle.read_file_check.proofs.Records.{laid_index, list-stops, list-goes-on, list_ends}
+use Rattle.read_file_check.proofs.Records.{laid_index, list_stops, list_goes_on, list_ends}
 use borrow.Author.Rules.{rules}
 use native.Mathlib.Omega.{arith}
 use Rattle.read_file_check.proofs.first_unlisted.Statement.{statement}
@@ -24,10 +24,10 @@ shared-slice-read-names : tie.Need-shared-slice-read-names invariant-loop decrea
 shared-slice-read-names c = search (laid_index)
 
 returns : tie.Need-returns invariant-loop decreases-loop
-returns c = (search (list-stops), omega arith)
+returns c = (search (list_stops), omega arith)
 
 loop-again : tie.Need-loop-preserved invariant-loop decreases-loop
-loop-again c = (omega arith, search (list-goes-on))
+loop-again c = (omega arith, search (list_goes_on))
 
 returns-2 : tie.Need-returns-2 invariant-loop decreases-loop
 returns-2 c = (search (list_ends), omega arith)

@@ -1,9 +1,9 @@
 -- The days of a month in a year that is not leap, as 1990; 0 where there is no such month.
-use Rattle.record_date.proofs.Date.{common-february, short-month, key-month, july-august, before-months, behind-months}
+use Rattle.record_date.proofs.Date.{common_february, short_month, key_month, july_august, before_months, behind_months}
 use Rattle.record_date.proofs.days.Statement.{statement}
 use Rattle.record_date.proofs.days.Tie as tie
 
-ruleset months = (common-february, short-month, key-month, july-august, before-months, behind-months)
+ruleset months = (common_february, short_month, key_month, july_august, before_months, behind_months)
 
 returns : tie.Need-returns
 returns c = search months

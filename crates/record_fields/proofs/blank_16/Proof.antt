@@ -1,11 +1,11 @@
 -- The 16 bytes from a place on are zero.
-use Rattle.record_fields.proofs.Blanks.{sixteen-zero}
+use Rattle.record_fields.proofs.Blanks.{sixteen_zero}
 use borrow.Author.Rules.{rules}
 use Rattle.record_fields.proofs.blank_16.Statement.{statement}
 use Rattle.record_fields.proofs.blank_16.Tie as tie
 
 returns : tie.Need-returns
-returns c = search (sixteen-zero)
+returns c = search (sixteen_zero)
 
 pub blank-16-spec : {M : Type 1} → statement M
 blank-16-spec =

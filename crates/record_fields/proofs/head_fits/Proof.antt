@@ -1,23 +1,23 @@
 -- Unit, operation and number, and seen at the own unit is the number minus 1.
-use Rattle.record_fields.proofs.Tests.{head-unit, head-no-op, head-op-above, head-number, head-seen}
+use Rattle.record_fields.proofs.Tests.{head_unit_lem, head_no_op, head_op_above, head_number, head_seen}
 use borrow.Author.Rules.{rules}
 use Rattle.record_fields.proofs.head_fits.Statement.{statement}
 use Rattle.record_fields.proofs.head_fits.Tie as tie
 
 returns : tie.Need-returns
-returns c = search (head-unit)
+returns c = search (head_unit_lem)
 
 returns-2 : tie.Need-returns-2
-returns-2 c = search (head-no-op)
+returns-2 c = search (head_no_op)
 
 returns-3 : tie.Need-returns-3
-returns-3 c = search (head-op-above)
+returns-3 c = search (head_op_above)
 
 returns-4 : tie.Need-returns-4
-returns-4 c = search (head-number)
+returns-4 c = search (head_number)
 
 returns-5 : tie.Need-returns-5
-returns-5 c = search (head-seen)
+returns-5 c = search (head_seen)
 
 pub head-fits-spec : {M : Type 1} → statement M
 head-fits-spec =

@@ -1,14 +1,14 @@
 -- A used label is a label, an unused one is zero.
-use Rattle.record_fields.proofs.Tests.{label-used, label-unused}
+use Rattle.record_fields.proofs.Tests.{label_used, label_unused}
 use borrow.Author.Rules.{rules}
 use Rattle.record_fields.proofs.label_fits.Statement.{statement}
 use Rattle.record_fields.proofs.label_fits.Tie as tie
 
 returns : tie.Need-returns
-returns c = search (label-used)
+returns c = search (label_used)
 
 returns-2 : tie.Need-returns-2
-returns-2 c = search (label-unused)
+returns-2 c = search (label_unused)
 
 pub label-fits-spec : {M : Type 1} → statement M
 label-fits-spec =

@@ -1,14 +1,14 @@
 -- A used mark is any bytes, an unused one is zero.
-use Rattle.record_fields.proofs.Tests.{mark-used, mark-unused}
+use Rattle.record_fields.proofs.Tests.{mark_used, mark_unused}
 use borrow.Author.Rules.{rules}
 use Rattle.record_fields.proofs.mark_fits.Statement.{statement}
 use Rattle.record_fields.proofs.mark_fits.Tie as tie
 
 returns : tie.Need-returns
-returns c = search (mark-used)
+returns c = search (mark_used)
 
 returns-2 : tie.Need-returns-2
-returns-2 c = search (mark-unused)
+returns-2 c = search (mark_unused)
 
 pub mark-fits-spec : {M : Type 1} → statement M
 mark-fits-spec =

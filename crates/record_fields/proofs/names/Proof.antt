@@ -1,5 +1,5 @@
 -- An identity is named at a place: unit 0 to 7, a zero byte, a number of at least 1 and within seen.
-use Rattle.record_fields.proofs.Tests.{unit_above, byte-used, number-none, number-seen}
+use Rattle.record_fields.proofs.Tests.{unit_above, byte_used, number_none, number_seen}
 use borrow.Author.Rules.{rules}
 use Rattle.record_fields.proofs.names.Statement.{statement}
 use Rattle.record_fields.proofs.names.Tie as tie
@@ -8,13 +8,13 @@ returns : tie.Need-returns
 returns c = search (unit_above)
 
 returns-2 : tie.Need-returns-2
-returns-2 c = search (byte-used)
+returns-2 c = search (byte_used)
 
 returns-3 : tie.Need-returns-3
-returns-3 c = search (number-none)
+returns-3 c = search (number_none)
 
 returns-4 : tie.Need-returns-4
-returns-4 c = search (number-seen)
+returns-4 c = search (number_seen)
 
 pub names-spec : {M : Type 1} → statement M
 names-spec =

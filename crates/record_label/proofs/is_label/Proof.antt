@@ -1,5 +1,5 @@
 -- A text of at least one byte, no space first or last, then zeros.
-use Rattle.record_label.proofs.Follow.{no_bytes, pair-fails, first_below, first_above, end-tells}
+use Rattle.record_label.proofs.Follow.{no_bytes, pair_fails, first_below, first_above, end_tells}
 use borrow.Author.Rules.{rules}
 use Rattle.record_label.proofs.is_label.Statement.{statement}
 use Rattle.record_label.proofs.is_label.Tie as tie
@@ -8,7 +8,7 @@ returns : tie.Need-returns
 returns c = search (no_bytes)
 
 returns-2 : tie.Need-returns-2
-returns-2 c = search (pair-fails)
+returns-2 c = search (pair_fails)
 
 returns-3 : tie.Need-returns-3
 returns-3 c = search (first_below)
@@ -17,7 +17,7 @@ returns-4 : tie.Need-returns-4
 returns-4 c = search (first_above)
 
 returns-5 : tie.Need-returns-5
-returns-5 c = search (end-tells)
+returns-5 c = search (end_tells)
 
 pub is-label-spec : {M : Type 1} → statement M
 is-label-spec =

@@ -1,16 +1,16 @@
 -- A to Z as a to z.
-use Rattle.record_label.proofs.Same.{capital-fits, lower-capital, lower-other}
+use Rattle.record_label.proofs.Same.{capital_fits, lower_capital, lower_other}
 use Rattle.record_label.proofs.lower.Statement.{statement}
 use Rattle.record_label.proofs.lower.Tie as tie
 
 add-result : tie.Need-overflow-add-result
-add-result c = search (capital-fits)
+add-result c = search (capital_fits)
 
 returns : tie.Need-returns
-returns c = search (lower-capital)
+returns c = search (lower_capital)
 
 returns-2 : tie.Need-returns-2
-returns-2 c = search (lower-other)
+returns-2 c = search (lower_other)
 
 pub lower_spec : {M : Type 1} → statement M
 lower_spec = tie.close (tie.spec add-result returns returns-2)

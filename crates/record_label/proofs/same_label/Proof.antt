@@ -4,7 +4,7 @@ use mathlib.Core.Path.{◌≡◌, refl}
 use lib.ListN.{take}
 use Rattle.model.specs.Bytes.{same_bytes}
 use Rattle.model.specs.Replay.{label_key, same_label}
-use Rattle.record_label.proofs.Same.{label-next, label-end}
+use Rattle.record_label.proofs.Same.{label_next, label_end}
 use borrow.Author.Rules.{rules}
 use native.Mathlib.Omega.{arith}
 use Rattle.record_label.proofs.same_label.Statement.{statement}
@@ -21,10 +21,10 @@ unfolding same_label label_key same_bytes
 loop-holds c = (omega arith, refl)
 
 loop-again : tie.Need-loop-preserved invariant-loop decreases-loop
-loop-again c = (omega arith, search (label-next))
+loop-again c = (omega arith, search (label_next))
 
 returns : tie.Need-returns invariant-loop decreases-loop
-returns c = search (label-end)
+returns c = search (label_end)
 
 pub same-label-spec : {M : Type 1} → statement M
 same-label-spec =

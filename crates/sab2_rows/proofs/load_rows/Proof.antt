@@ -5,7 +5,7 @@ use Rattle.model.specs.Log.{all_to}
 use lib.ListN.{length}
 use mathlib.Core.Path.{◌≡◌}
 use Prim.Native.Nat.{◌-◌, ◌≤◌}
-use Rattle.sab2_rows.proofs.Loaded.{begun, one-loaded, one-blank, none-blank, all-loaded, all-blank, row_inside}
+use Rattle.sab2_rows.proofs.Loaded.{begun, one_loaded, one_blank, none-blank, all_loaded, all_blank, row_inside}
 use borrow.Author.Rules.{rules}
 use native.Mathlib.Omega.{arith}
 use Rattle.sab2_rows.proofs.load_rows.Statement.{statement}
@@ -24,10 +24,10 @@ load-row-requires : tie.Need-load-row-requires invariant-loop decreases-loop
 load-row-requires c κs = (search rules, search rules, search rules, search rules, search (row_inside))
 
 loop-again : tie.Need-loop-preserved invariant-loop decreases-loop
-loop-again c = (omega arith, search rules, search (one-loaded), search (one-blank))
+loop-again c = (omega arith, search rules, search (one_loaded), search (one_blank))
 
 returns : tie.Need-returns invariant-loop decreases-loop
-returns c = (search (all-loaded), search (all-blank))
+returns c = (search (all_loaded), search (all_blank))
 
 pub load-rows-spec : {M : Type 1} → statement M
 load-rows-spec =

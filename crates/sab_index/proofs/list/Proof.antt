@@ -1,14 +1,14 @@
 -- Lists a folder; the count is that of its entries.
-use Rattle.sab_index.proofs.Calls.{first_few, count_few, lent-wrong, list-refused, lists}
+use Rattle.sab_index.proofs.Calls.{first_few, count_few, lent_wrong, list_refused, lists}
 use borrow.Author.Rules.{rules}
 use Rattle.sab_index.proofs.list.Statement.{statement}
 use Rattle.sab_index.proofs.list.Tie as tie
 
 returns : tie.Need-returns
-returns c = search (lent-wrong)
+returns c = search (lent_wrong)
 
 returns-2 : tie.Need-returns-2
-returns-2 c = search (list-refused)
+returns-2 c = search (list_refused)
 
 tell-requires : tie.Need-tell-requires
 tell-requires c κs = (search rules, search (first_few), search (count_few))

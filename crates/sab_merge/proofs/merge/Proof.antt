@@ -1,11 +1,11 @@
 -- Makes one file of two, by way of a lent log.
-use Rattle.sab_merge.proofs.Calls.{tells-file, tells_blocks}
+use Rattle.sab_merge.proofs.Calls.{tells_file, tells_blocks}
 use borrow.Author.Rules.{rules}
 use Rattle.sab_merge.proofs.merge.Statement.{statement}
 use Rattle.sab_merge.proofs.merge.Tie as tie
 
 returns : tie.Need-returns
-returns c = search (tells-file)
+returns c = search (tells_file)
 
 returns-2 : tie.Need-returns-2
 returns-2 c = search (tells_blocks)

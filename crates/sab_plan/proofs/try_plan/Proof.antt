@@ -1,11 +1,11 @@
 -- Tries a plan on eight lent logs, by way of a lent base and work memory, and writes what is printed of it into the text.
-use Rattle.sab_plan.proofs.Calls.{size-wrong, not_lent, tells}
+use Rattle.sab_plan.proofs.Calls.{size_wrong, not_lent, tells}
 use borrow.Author.Rules.{rules}
 use Rattle.sab_plan.proofs.try_plan.Statement.{statement}
 use Rattle.sab_plan.proofs.try_plan.Tie as tie
 
 returns : tie.Need-returns
-returns c = search (size-wrong)
+returns c = search (size_wrong)
 
 returns-2 : tie.Need-returns-2
 returns-2 c = search (not_lent)

@@ -1,11 +1,11 @@
 -- Hands out all blocks of what the asked vector lacks; the count is that of the blocks.
-use Rattle.sab_row.proofs.Calls.{asks-wrong, hands}
+use Rattle.sab_row.proofs.Calls.{asks_wrong, hands}
 use borrow.Author.Rules.{rules}
 use Rattle.sab_row.proofs.hand_out_row.Statement.{statement}
 use Rattle.sab_row.proofs.hand_out_row.Tie as tie
 
 returns : tie.Need-returns
-returns c = search (asks-wrong)
+returns c = search (asks_wrong)
 
 returns-2 : tie.Need-returns-2
 returns-2 c = search (hands)

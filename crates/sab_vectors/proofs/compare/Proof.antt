@@ -1,17 +1,17 @@
 -- Compares two vectors; the count is the answer.
-use Rattle.sab_vectors.proofs.Calls.{first-wrong, second-wrong, lent-wrong, compares}
+use Rattle.sab_vectors.proofs.Calls.{first_wrong, second_wrong, lent_wrong, compares}
 use borrow.Author.Rules.{rules}
 use Rattle.sab_vectors.proofs.compare.Statement.{statement}
 use Rattle.sab_vectors.proofs.compare.Tie as tie
 
 returns : tie.Need-returns
-returns c = search (first-wrong)
+returns c = search (first_wrong)
 
 returns-2 : tie.Need-returns-2
-returns-2 c = search (second-wrong)
+returns-2 c = search (second_wrong)
 
 returns-3 : tie.Need-returns-3
-returns-3 c = search (lent-wrong)
+returns-3 c = search (lent_wrong)
 
 returns-4 : tie.Need-returns-4
 returns-4 c = search (compares)

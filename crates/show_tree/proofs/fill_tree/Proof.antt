@@ -1,12 +1,12 @@
 -- The tree of a sound state is laid in a table of zeros, by a register of zeros.
 use Rattle.show_tree.proofs.Shown.{laid}
-use Rattle.tree_lookup.proofs.Working.{works-holds}
+use Rattle.tree_lookup.proofs.Working.{works_holds}
 use borrow.Author.Rules.{rules}
 use Rattle.show_tree.proofs.fill_tree.Statement.{statement}
 use Rattle.show_tree.proofs.fill_tree.Tie as tie
 
 finish-requires : tie.Need-finish-requires
-finish-requires c κs = search (works-holds)
+finish-requires c κs = search (works_holds)
 
 returns : tie.Need-returns
 returns c = search (laid)

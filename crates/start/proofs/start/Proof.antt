@@ -1,11 +1,11 @@
 -- The lent log and base are emptied, whatever stood in them.
-use Rattle.start.proofs.Emptied.{not-started, base_long, emptied}
+use Rattle.start.proofs.Emptied.{not_started, base_long, emptied}
 use borrow.Author.Rules.{rules}
 use Rattle.start.proofs.start.Statement.{statement}
 use Rattle.start.proofs.start.Tie as tie
 
 returns : tie.Need-returns
-returns c = search (not-started)
+returns c = search (not_started)
 
 write-empty-requires : tie.Need-write-empty-requires
 write-empty-requires c κs = search (base_long)

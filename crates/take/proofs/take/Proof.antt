@@ -1,15 +1,15 @@
 -- A block is taken into the log.
-use Rattle.call_guard.proofs.Opening.{open-long, open-used}
-use Rattle.take.proofs.Ways.{take-refused, told_sound, told-indexed, took}
+use Rattle.call_guard.proofs.Opening.{open_long, open_used}
+use Rattle.take.proofs.Ways.{take_refused, told_sound, told_indexed, took}
 use borrow.Author.Rules.{rules}
 use Rattle.take.proofs.take.Statement.{statement}
 use Rattle.take.proofs.take.Tie as tie
 
 returns : tie.Need-returns
-returns c = search (take-refused)
+returns c = search (take_refused)
 
 take-block-requires : tie.Need-take-block-requires
-take-block-requires c κs = (search (open-long), search (told_sound), search (open-used), search rules, search rules, search (told-indexed))
+take-block-requires c κs = (search (open_long), search (told_sound), search (open_used), search rules, search rules, search (told_indexed))
 
 returns-2 : tie.Need-returns-2
 returns-2 c = search (took)

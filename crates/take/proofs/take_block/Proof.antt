@@ -1,12 +1,12 @@
 -- A block is taken into a log that is sound behind the base vector, or refused: 2 to 6, then each record 7, 26, and 10 if held,
 -- else 8, 27, 9, 11.
-use Rattle.take.proofs.Ways.{block-bad, bad-left, judged-left, taken-left, given_long, given_few, block_refused, log_stored, block_passed, block-taken}
+use Rattle.take.proofs.Ways.{block_bad, bad_left, judged_left, taken_left, given_long, given_few, block_refused, log_stored, block_passed, block_taken}
 use borrow.Author.Rules.{rules}
 use Rattle.take.proofs.take_block.Statement.{statement}
 use Rattle.take.proofs.take_block.Tie as tie
 
 returns : tie.Need-returns
-returns c = (search (block-bad), search (bad-left))
+returns c = (search (block_bad), search (bad_left))
 
 count-in-requires : tie.Need-count-in-requires
 count-in-requires c κs = search (given_long)
@@ -15,7 +15,7 @@ judge-block-requires : tie.Need-judge-block-requires
 judge-block-requires c κs = (search (given_long), search rules, search (given_few), search rules, search rules, search rules, search rules, search rules)
 
 returns-2 : tie.Need-returns-2
-returns-2 c = (search (block_refused), search (judged-left))
+returns-2 c = (search (block_refused), search (judged_left))
 
 store-requires : tie.Need-store-requires
 store-requires c κs =
@@ -28,7 +28,7 @@ store-requires c κs =
     )
 
 returns-3 : tie.Need-returns-3
-returns-3 c = (search (block-taken), search (taken-left))
+returns-3 c = (search (block_taken), search (taken_left))
 
 pub take-block-spec : {M : Type 1} → statement M
 take-block-spec =

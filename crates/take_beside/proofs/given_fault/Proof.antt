@@ -1,10 +1,10 @@
 -- The first of 2 to 6 that holds of a block given, or 0.
-use Rattle.take_beside.proofs.Checks.{given-length, given-bad, given-other, given-good}
+use Rattle.take_beside.proofs.Checks.{given_length, given_bad, given_other, given_good}
 use borrow.Author.Rules.{rules}
 use Rattle.take_beside.proofs.given_fault.Statement.{statement}
 use Rattle.take_beside.proofs.given_fault.Tie as tie
 
-ruleset ways = (given-length, given-bad, given-other, given-good)
+ruleset ways = (given_length, given_bad, given_other, given_good)
 
 returns : tie.Need-returns
 returns c = search ways

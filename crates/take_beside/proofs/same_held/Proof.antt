@@ -1,10 +1,10 @@
 -- The record at a position has the bytes of rec.
-use Rattle.take_beside.proofs.Checks.{held-in-log, held-in-block}
+use Rattle.take_beside.proofs.Checks.{held_in_log, held_in_block}
 use borrow.Author.Rules.{rules}
 use Rattle.take_beside.proofs.same_held.Statement.{statement}
 use Rattle.take_beside.proofs.same_held.Tie as tie
 
-ruleset ways = (held-in-log, held-in-block)
+ruleset ways = (held_in_log, held_in_block)
 
 returns : tie.Need-returns
 returns c = search ways

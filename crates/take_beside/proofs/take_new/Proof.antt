@@ -1,24 +1,24 @@
 -- A well-formed record whose identity is not held is refused, or held at the position p.
-use Rattle.log_admit.proofs.Faults.{unit-small}
-use Rattle.take_beside.proofs.Checks.{new-refuses, new-least, new-most, new-above, new-behind, new-notes}
+use Rattle.log_admit.proofs.Faults.{unit_small}
+use Rattle.take_beside.proofs.Checks.{new_refuses, new_least, new_most, new_above, new_behind, new_notes}
 use borrow.Author.Rules.{rules}
 use Rattle.take_beside.proofs.take_new.Statement.{statement}
 use Rattle.take_beside.proofs.take_new.Tie as tie
 
 returns : tie.Need-returns
-returns c = search (new-refuses)
+returns c = search (new_refuses)
 
 element-copy-out-f : tie.Need-element-copy-out-f
-element-copy-out-f c = search (unit-small)
+element-copy-out-f c = search (unit_small)
 
 counted-requires : tie.Need-counted-requires
-counted-requires c κs = (search (unit-small), search (new-above))
+counted-requires c κs = (search (unit_small), search (new_above))
 
 sub-note : tie.Need-overflow-sub-note
-sub-note c = search (new-behind)
+sub-note c = search (new_behind)
 
 note-requires : tie.Need-note-requires
-note-requires c κs = (search (unit-small), search (new-least), search (new-most), search rules, search rules, search rules)
+note-requires c κs = (search (unit_small), search (new_least), search (new_most), search rules, search rules, search rules)
 
 returns-2 : tie.Need-returns-2
 returns-2 c =
@@ -34,7 +34,7 @@ returns-2 c =
     let more = counted.counted.ensures in
     let placed = note.note.ensures.0 in
     let rowed = note.note.ensures.1 in
-    search (new-notes, judged, passed, seen, unit, numbered, more, placed, rowed)
+    search (new_notes, judged, passed, seen, unit, numbered, more, placed, rowed)
 
 pub take-new-spec : {M : Type 1} → statement M
 take-new-spec =

@@ -1,5 +1,5 @@
 -- 10 of a well-formed record whose identity is held with other bytes, or 0.
-use Rattle.take_beside.proofs.Checks.{held-before, held-differs, held_same, held-unit, held-most, held-inside}
+use Rattle.take_beside.proofs.Checks.{held-before, held-differs, held_same, held-unit, held_most, held_inside}
 use borrow.Author.Rules.{rules}
 use Rattle.take_judge.proofs.held_fault.Statement.{statement}
 use Rattle.take_judge.proofs.held_fault.Tie as tie
@@ -11,10 +11,10 @@ returns : tie.Need-returns
 returns c = search (held-before)
 
 position-requires : tie.Need-position-requires
-position-requires c κs = (search rules, search (held-unit), search rules, search (held-most))
+position-requires c κs = (search rules, search (held-unit), search rules, search (held_most))
 
 same-held-requires : tie.Need-same-held-requires
-same-held-requires c κs = (search (held-inside), search rules, search rules)
+same-held-requires c κs = (search (held_inside), search rules, search rules)
 
 returns-2 : tie.Need-returns-2
 returns-2 c = search (held-differs)

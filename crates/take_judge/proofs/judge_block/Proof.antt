@@ -3,7 +3,7 @@ use Prim.Native.Nat.{◌≤◌, ◌-◌}
 use mathlib.Core.Path.{◌≡◌}
 use lib.ListN.{length}
 use Rattle.take_beside.specs.Judging.{judge_from}
-use Rattle.take_judge.proofs.Going.{Going, going_starts, going-few, going-placed, going-counted, going-stops, going_next, going-ends, left_starts, left-stops, left-next, left-ends}
+use Rattle.take_judge.proofs.Going.{Going, going_starts, going_few, going_placed, going_counted, going_stops, going_next, going_ends, left_starts, left_stops, left-next, left_ends}
 use borrow.Author.Rules.{rules}
 use native.Mathlib.Omega.{arith}
 use Rattle.take_judge.proofs.judge_block.Statement.{statement}
@@ -21,16 +21,16 @@ loop-holds : tie.Need-loop-init invariant-loop decreases-loop
 loop-holds c = (omega arith, search rules, search rules, search (left_starts), search (going_starts))
 
 take-record-requires : tie.Need-take-record-requires invariant-loop decreases-loop
-take-record-requires c κs = (search rules, search rules, search (going-few), search rules, search rules, search rules, search rules, search (going-placed), search (going-counted))
+take-record-requires c κs = (search rules, search rules, search (going_few), search rules, search rules, search rules, search rules, search (going_placed), search (going_counted))
 
 returns : tie.Need-returns invariant-loop decreases-loop
-returns c = (search (left-stops), search (going-stops))
+returns c = (search (left_stops), search (going_stops))
 
 loop-again : tie.Need-loop-preserved invariant-loop decreases-loop
 loop-again c = (omega arith, search rules, search rules, search (left-next), search (going_next))
 
 returns-2 : tie.Need-returns-2 invariant-loop decreases-loop
-returns-2 c = (search (left-ends), search (going-ends))
+returns-2 c = (search (left_ends), search (going_ends))
 
 pub judge-block-spec : {M : Type 1} → statement M
 judge-block-spec =

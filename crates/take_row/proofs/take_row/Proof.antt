@@ -1,25 +1,25 @@
 -- The blocks of a row are taken in turn, up to the first refusal.
-use Rattle.call_guard.proofs.Opening.{open-long, open-based, open-unit, open-state, open-list, open-folded, open-used}
-use Rattle.take_row.proofs.Begun.{row-refused, row-passes, row-long, row_indexed}
+use Rattle.call_guard.proofs.Opening.{open_long, open_based, open_unit, open_state, open_list, open_folded, open_used}
+use Rattle.take_row.proofs.Begun.{row_refused, row-passes, row-long, row_indexed}
 use borrow.Author.Rules.{rules}
 use Rattle.take_row.proofs.take_row.Statement.{statement}
 use Rattle.take_row.proofs.take_row.Tie as tie
 
 returns : tie.Need-returns
-returns c = search (row-refused)
+returns c = search (row_refused)
 
 take-blocks-requires : tie.Need-take-blocks-requires
 take-blocks-requires c κs =
     let passed = c.before.before.before.before.before.before.before.before.if1.false in
     let opened = c.before.before.before.before.before.before.before.before.before.before.before.before.open-into.ensures.0 in (
       search (row-long),
-      search (open-unit),
-      search (open-long),
-      search (open-based),
-      open-state _ _ _ _ _ opened passed,
-      search (open-list),
-      search (open-folded),
-      search (open-used),
+      search (open_unit),
+      search (open_long),
+      search (open_based),
+      open_state _ _ _ _ _ opened passed,
+      search (open_list),
+      search (open_folded),
+      search (open_used),
       search rules,
       search rules,
       search rules,

@@ -3,8 +3,8 @@ use Prim.Native.Nat.{◌≤◌, ◌-◌}
 use mathlib.Core.Path.{◌≡◌}
 use lib.ListN.{length}
 use Rattle.model.specs.Log.{records_of}
-use Rattle.take_row_judge.proofs.Laid.{kept-few}
-use Rattle.take_row_judge.proofs.Running.{Running, running_starts, running-placed, running-counted, running-ends, running-stops, running-next, running-room}
+use Rattle.take_row_judge.proofs.Laid.{kept_few}
+use Rattle.take_row_judge.proofs.Running.{Running, running_starts, running_placed, running_counted, running_ends, running_stops, running_next, running_room}
 use borrow.Author.Rules.{rules}
 use native.Mathlib.Omega.{arith}
 use Rattle.take_row_judge.proofs.judge_into.Statement.{statement}
@@ -17,13 +17,13 @@ abbrev decreases-loop : tie.decreases-loop
 decreases-loop list folded b n log start m work₀ places₀ seens₀ held₀ used₀ j₀ work places seens held used j = n - j
 
 loop-holds : tie.Need-loop-init invariant-loop decreases-loop
-loop-holds c = (omega arith, search rules, search rules, search rules, search (kept-few), search (running_starts))
+loop-holds c = (omega arith, search rules, search rules, search rules, search (kept_few), search (running_starts))
 
 take-at-requires : tie.Need-take-at-requires invariant-loop decreases-loop
-take-at-requires c κs = (search rules, search rules, search rules, search rules, search rules, search (running-placed), search (running-counted))
+take-at-requires c κs = (search rules, search rules, search rules, search rules, search rules, search (running_placed), search (running_counted))
 
 returns : tie.Need-returns invariant-loop decreases-loop
-returns c = search (running-stops)
+returns c = search (running_stops)
 
 loop-again : tie.Need-loop-preserved invariant-loop decreases-loop
 loop-again c =
@@ -33,11 +33,11 @@ loop-again c =
     let at = inside.before in
     let inv = at.loop.invariant in
     let pre = at.before.before.before.before.before.before.requires in
-    let g = running-next _ _ _ _ _ _ _ _ _ _ _ _ _ _ inv.5 inside.loop-test.true pre.2 inv.1 pre.0 _ put.put.ensures _ _ _ _ _ take.take_at.ensures c.before.if1.false in
-    (omega arith, search rules, search rules, search rules, search (running-room), g)
+    let g = running_next _ _ _ _ _ _ _ _ _ _ _ _ _ _ inv.5 inside.loop-test.true pre.2 inv.1 pre.0 _ put.put.ensures _ _ _ _ _ take.take_at.ensures c.before.if1.false in
+    (omega arith, search rules, search rules, search rules, search (running_room), g)
 
 returns-2 : tie.Need-returns-2 invariant-loop decreases-loop
-returns-2 c = search (running-ends)
+returns-2 c = search (running_ends)
 
 pub judge-into-spec : {M : Type 1} → statement M
 judge-into-spec =

@@ -4,7 +4,7 @@ use mathlib.Core.Path.{◌≡◌}
 use lib.ListN.{length}
 use Rattle.model.specs.Log.{records_of, log_bytes}
 use Rattle.row_model.specs.Row.{try_from, try_all}
-use Rattle.row_laws.proofs.Turns.{block_is, block_inside, turns_start, turns-end, turn-stops, turn-goes}
+use Rattle.row_laws.proofs.Turns.{block_is, block_inside, turns_start, turns_end, turn_stops, turn_goes}
 use Rattle.take_row_store.specs.Grown.{held_in}
 use Rattle.take_row_judge.specs.Kept.{Kept}
 use Rattle.take_row_judge.proofs.Judged.{row_starts, row_gives, one_kept}
@@ -27,13 +27,13 @@ part-judge-one-end : tie.Need-slice-bounds-judge-one-end invariant-loop decrease
 part-judge-one-end c = search (block_inside)
 
 returns : tie.Need-returns invariant-loop decreases-loop
-returns c = search (row_gives, turn-stops, block_is)
+returns c = search (row_gives, turn_stops, block_is)
 
 loop-again : tie.Need-loop-preserved invariant-loop decreases-loop
-loop-again c = (omega arith, search rules, search rules, search rules, search rules, search (one_kept), search (turn-goes, block_is))
+loop-again c = (omega arith, search rules, search rules, search rules, search rules, search (one_kept), search (turn_goes, block_is))
 
 returns-2 : tie.Need-returns-2 invariant-loop decreases-loop
-returns-2 c = search (row_gives, turns-end)
+returns-2 c = search (row_gives, turns_end)
 
 pub judge-row-spec : {M : Type 1} → statement M
 judge-row-spec =

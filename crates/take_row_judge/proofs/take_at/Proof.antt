@@ -1,6 +1,6 @@
 -- One record of a block, which stands at the place used: 7, 26, then 10 if its identity is held, else 8, 27, 9, 11.
 use Rattle.log_admit.proofs.Faults.{formed}
-use Rattle.take_beside.proofs.Checks.{take-malformed, take-unlisted, unit-judged, take-unheld, take-known, known_within}
+use Rattle.take_beside.proofs.Checks.{take-malformed, take-unlisted, unit_judged, take_unheld, take_known, known_within}
 use borrow.Author.Rules.{rules}
 use Rattle.take_row_judge.proofs.take_at.Statement.{statement}
 use Rattle.take_row_judge.proofs.take_at.Tie as tie
@@ -9,25 +9,25 @@ returns : tie.Need-returns
 returns c = search (take-malformed)
 
 is-listed-requires : tie.Need-is-listed-requires
-is-listed-requires c κs = search (unit-judged)
+is-listed-requires c κs = search (unit_judged)
 
 returns-2 : tie.Need-returns-2
 returns-2 c = search (take-unlisted)
 
 element-copy-out-if3 : tie.Need-element-copy-out-if3
-element-copy-out-if3 c = search (unit-judged)
+element-copy-out-if3 c = search (unit_judged)
 
 take-new-requires : tie.Need-take-new-requires
 take-new-requires c κs = (search rules, search (formed), search rules, search rules, search rules, search rules, search rules, search rules)
 
 returns-3 : tie.Need-returns-3
-returns-3 c = search (take-unheld)
+returns-3 c = search (take_unheld)
 
 held-fault-requires : tie.Need-held-fault-requires
 held-fault-requires c κs = (search rules, search (formed), search (known_within), search rules, search rules, search rules)
 
 returns-4 : tie.Need-returns-4
-returns-4 c = search (take-known)
+returns-4 c = search (take_known)
 
 pub take-at-spec : {M : Type 1} → statement M
 take-at-spec =

@@ -5,7 +5,7 @@ use mathlib.Core.Path.{◌≡◌, refl}
 use lib.ListN.{length}
 use Rattle.model.specs.Log.{records_of, log_bytes}
 use Rattle.take_row_store.specs.Grown.{held_in}
-use Rattle.take_row_store.proofs.Runs.{puts_starts, puts_ends, puts-ordered, puts-used, puts-room, puts-rising, puts-next, grown_from, grown_few}
+use Rattle.take_row_store.proofs.Runs.{puts_starts, puts_ends, puts_ordered, puts_used, puts_room, puts_rising, puts_next, grown_from, grown_few}
 use borrow.Author.Rules.{rules}
 use native.Mathlib.Omega.{arith}
 use Rattle.take_row_store.proofs.put_in.Statement.{statement}
@@ -21,10 +21,10 @@ loop-holds : tie.Need-loop-init invariant-loop decreases-loop
 loop-holds c = (omega arith, search (grown_from), search (grown_few), refl, search (puts_starts))
 
 insert-records-requires : tie.Need-insert-records-requires invariant-loop decreases-loop
-insert-records-requires c κs = (search rules, search (puts-ordered), search (puts-used), search (puts-room), search rules, search (puts-rising))
+insert-records-requires c κs = (search rules, search (puts_ordered), search (puts_used), search (puts_room), search rules, search (puts_rising))
 
 loop-again : tie.Need-loop-preserved invariant-loop decreases-loop
-loop-again c = (omega arith, omega arith, omega arith, search rules, search (puts-next))
+loop-again c = (omega arith, omega arith, omega arith, search rules, search (puts_next))
 
 returns : tie.Need-returns invariant-loop decreases-loop
 returns c = search (puts_ends)

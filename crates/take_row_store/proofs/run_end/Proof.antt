@@ -5,7 +5,7 @@ use Rattle.model.specs.Log.{rank}
 use Rattle.log_check.specs.declared.Layout.TheVariants.{Log}
 use Rattle.log_check.specs.Places.{laid_at}
 use Rattle.take_row_store.specs.Grown.{Run}
-use Rattle.take_row_store.proofs.Runs.{run-first, run_one, run-last, run-next}
+use Rattle.take_row_store.proofs.Runs.{run_first, run_one, run_last, run-next}
 use borrow.Author.Rules.{rules}
 use native.Mathlib.Omega.{arith}
 use Rattle.take_row_store.proofs.run_end.Statement.{statement}
@@ -18,10 +18,10 @@ abbrev decreases-loop : tie.decreases-loop
 decreases-loop work from to at last₀ i₀ last i = to - i
 
 loop-holds : tie.Need-loop-init invariant-loop decreases-loop
-loop-holds c = (omega arith, omega arith, search (run-first), search (run_one))
+loop-holds c = (omega arith, omega arith, search (run_first), search (run_one))
 
 loop-again : tie.Need-loop-preserved invariant-loop decreases-loop
-loop-again c = (omega arith, omega arith, search (run-last), search (run-next))
+loop-again c = (omega arith, omega arith, search (run_last), search (run-next))
 
 pub run-end-spec : {M : Type 1} → statement M
 run-end-spec =

@@ -3,7 +3,7 @@ use Prim.Native.Nat.{◌≤◌, ◌-◌}
 use mathlib.Core.Path.{◌≡◌}
 use Rattle.model.specs.Block.{record_at}
 use Rattle.take_store.specs.New.{new_from}
-use Rattle.take_store.proofs.News.{new_starts, unit-below, not_new, not-rising, new-next, new_ends}
+use Rattle.take_store.proofs.News.{new_starts, unit-below, not_new, not_rising, new_next, new_ends}
 use borrow.Author.Rules.{rules}
 use native.Mathlib.Omega.{arith}
 use Rattle.take_store.proofs.are_new.Statement.{statement}
@@ -25,10 +25,10 @@ returns : tie.Need-returns invariant-loop decreases-loop
 returns c = search (not_new)
 
 returns-2 : tie.Need-returns-2 invariant-loop decreases-loop
-returns-2 c = search (not-rising)
+returns-2 c = search (not_rising)
 
 loop-again : tie.Need-loop-preserved invariant-loop decreases-loop
-loop-again c = (omega arith, search rules, search (new-next))
+loop-again c = (omega arith, search rules, search (new_next))
 
 returns-3 : tie.Need-returns-3 invariant-loop decreases-loop
 returns-3 c = search (new_ends)

@@ -6,7 +6,7 @@ use Rattle.model.specs.Log.{records_of}
 use Rattle.model.specs.Block.{record_at}
 use Rattle.take_beside.specs.Judging.{after_to}
 use Rattle.take_store.specs.Stored.{Stored}
-use Rattle.take_store.proofs.Storing.{storing_starts, storing-stored, storing-takes, storing-next, storing-ends}
+use Rattle.take_store.proofs.Storing.{storing_starts, storing_stored, storing_takes, storing_next, storing_ends}
 use borrow.Author.Rules.{rules}
 use native.Mathlib.Omega.{arith}
 use Rattle.take_store.proofs.store_each.Statement.{statement}
@@ -22,13 +22,13 @@ loop-holds : tie.Need-loop-init invariant-loop decreases-loop
 loop-holds c = (omega arith, refl, search (storing_starts))
 
 store-record-requires : tie.Need-store-record-requires invariant-loop decreases-loop
-store-record-requires c κs = (search rules, search rules, search (storing-stored), search (storing-takes))
+store-record-requires c κs = (search rules, search rules, search (storing_stored), search (storing_takes))
 
 loop-again : tie.Need-loop-preserved invariant-loop decreases-loop
-loop-again c = (omega arith, search rules, search (storing-next))
+loop-again c = (omega arith, search rules, search (storing_next))
 
 returns : tie.Need-returns invariant-loop decreases-loop
-returns c = search (storing-ends)
+returns c = search (storing_ends)
 
 pub store-each-spec : {M : Type 1} → statement M
 store-each-spec =

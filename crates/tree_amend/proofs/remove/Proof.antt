@@ -1,8 +1,8 @@
 -- A remove: the object's row stays, with kind 0.
-use Rattle.tree_amend.proofs.Registers.{remove-leaves, remove-register}
+use Rattle.tree_amend.proofs.Registers.{remove_leaves, remove_register}
 use Rattle.tree_judge.proofs.Reasons.{object_range}
-use Rattle.tree_amend.proofs.Amending.{unchanged, remove-done, remove-nodes, leave-counts, row_present, row-end, label-end, works-chains, works-wide}
-use Rattle.tree_lookup.proofs.Working.{works-long}
+use Rattle.tree_amend.proofs.Amending.{unchanged, remove_done, remove_nodes, leave_counts, row_present, row_end, label_end, works_chains, works_wide}
+use Rattle.tree_lookup.proofs.Working.{works_long}
 use native.Mathlib.Omega.{arith}
 use borrow.Author.Rules.{rules}
 use Rattle.tree_amend.proofs.remove.Statement.{statement}
@@ -12,19 +12,19 @@ entry-of-requires : tie.Need-entry-of-requires
 entry-of-requires c κs = (search, search (object_range))
 
 returns : tie.Need-returns
-returns c = (search (unchanged), omega arith, search (remove-leaves))
+returns c = (search (unchanged), omega arith, search (remove_leaves))
 
 inside-at-requires : tie.Need-inside-at-requires
-inside-at-requires c κs = (search (works-long), omega arith)
+inside-at-requires c κs = (search (works_long), omega arith)
 
 part-leave-end : tie.Need-slice-bounds-leave-end
-part-leave-end c = search (label-end)
+part-leave-end c = search (label_end)
 
 leave-requires : tie.Need-leave-requires
-leave-requires c κs = (search (works-chains), search (works-wide), omega arith, search (leave-counts, row_present), search rules)
+leave-requires c κs = (search (works_chains), search (works_wide), omega arith, search (leave_counts, row_present), search rules)
 
 part-remove-row-end : tie.Need-slice-bounds-remove-row-end
-part-remove-row-end c = search (row-end)
+part-remove-row-end c = search (row_end)
 
 returns-2 : tie.Need-returns-2
 returns-2 c =
@@ -33,9 +33,9 @@ returns-2 c =
     let e = d.before.before.before.before.before.before.before.before.before in
     let o = e.before.before in
     let s = o.before.before.before.before.before.before.before in (
-      remove-done _ _ _ _ s.requires.1 _ s.requires.0 _ _ o.before.object_of.ensures o.entry_of.ensures.1 _ _ _ e.if1.false d.before.before.before.before.before.before.before.inside-at.ensures _ d.before.before.before.before.place_of.ensures.0 d.before.before.before.before.place_of.ensures.1 d.leave.ensures _ a.remove-row.ensures,
-      search (remove-nodes),
-      remove-register _ _ _ _ _ _ _ o.before.object_of.ensures o.entry_of.ensures.0 o.entry_of.ensures.1 e.if1.false _ d.before.before.before.before.before.before.before.inside-at.ensures _ _ d.before.before.before.before.place_of.ensures.0 d.leave.ensures,
+      remove_done _ _ _ _ s.requires.1 _ s.requires.0 _ _ o.before.object_of.ensures o.entry_of.ensures.1 _ _ _ e.if1.false d.before.before.before.before.before.before.before.inside-at.ensures _ d.before.before.before.before.place_of.ensures.0 d.before.before.before.before.place_of.ensures.1 d.leave.ensures _ a.remove-row.ensures,
+      search (remove_nodes),
+      remove_register _ _ _ _ _ _ _ o.before.object_of.ensures o.entry_of.ensures.0 o.entry_of.ensures.1 e.if1.false _ d.before.before.before.before.before.before.before.inside-at.ensures _ _ d.before.before.before.before.place_of.ensures.0 d.leave.ensures,
     )
 
 pub remove-spec : {M : Type 1} → statement M

@@ -1,8 +1,8 @@
 -- A rename: place record and label of the object's row.
-use Rattle.tree_amend.proofs.Registers.{within_row, rename-leaves, rename-register}
+use Rattle.tree_amend.proofs.Registers.{within_row, rename_leaves, rename_register}
 use Rattle.tree_judge.proofs.Reasons.{object_range}
-use Rattle.tree_amend.proofs.Amending.{unchanged, rename-done, rename-nodes, row-end, works-chains}
-use Rattle.tree_lookup.proofs.Working.{works-long}
+use Rattle.tree_amend.proofs.Amending.{unchanged, rename_done, rename_nodes, row_end, works_chains}
+use Rattle.tree_lookup.proofs.Working.{works_long}
 use Rattle.model.specs.Record.{label_of}
 use Rattle.model.specs.Bytes.{part}
 use native.Mathlib.Omega.{arith}
@@ -14,19 +14,19 @@ entry-of-requires : tie.Need-entry-of-requires
 entry-of-requires c κs = (search, search (object_range))
 
 returns : tie.Need-returns
-returns c = (search (unchanged), omega arith, search (rename-leaves))
+returns c = (search (unchanged), omega arith, search (rename_leaves))
 
 inside-at-requires : tie.Need-inside-at-requires
-inside-at-requires c κs = (search (works-long), omega arith)
+inside-at-requires c κs = (search (works_long), omega arith)
 
 part-relabel-end : tie.Need-slice-bounds-relabel-end
 part-relabel-end c = search (rules, within_row)
 
 relabel-requires : tie.Need-relabel-requires
-relabel-requires c κs = (search (works-chains), search, search rules, search rules, omega arith)
+relabel-requires c κs = (search (works_chains), search, search rules, search rules, omega arith)
 
 part-rename-row-end : tie.Need-slice-bounds-rename-row-end
-part-rename-row-end c = search (row-end)
+part-rename-row-end c = search (row_end)
 
 returns-2 : tie.Need-returns-2
 unfolding label_of part
@@ -36,9 +36,9 @@ returns-2 c =
     let e = d.before.before.before.before.before.before.before in
     let o = e.before.before in
     let s = o.before.before.before.before.before.before.before in (
-      rename-done _ _ _ _ s.requires.1 _ s.requires.0 _ _ o.before.object_of.ensures o.entry_of.ensures.1 _ _ _ e.if1.false s.requires.2 d.before.before.before.before.inside-at.ensures d.relabel.ensures _ a.rename-row.ensures,
-      search (rename-nodes),
-      rename-register _ _ _ _ _ _ _ o.before.object_of.ensures o.entry_of.ensures.0 o.entry_of.ensures.1 e.if1.false _ d.before.before.before.before.inside-at.ensures _ d.relabel.ensures,
+      rename_done _ _ _ _ s.requires.1 _ s.requires.0 _ _ o.before.object_of.ensures o.entry_of.ensures.1 _ _ _ e.if1.false s.requires.2 d.before.before.before.before.inside-at.ensures d.relabel.ensures _ a.rename-row.ensures,
+      search (rename_nodes),
+      rename_register _ _ _ _ _ _ _ o.before.object_of.ensures o.entry_of.ensures.0 o.entry_of.ensures.1 e.if1.false _ d.before.before.before.before.inside-at.ensures _ d.relabel.ensures,
     )
 
 pub rename-spec : {M : Type 1} → statement M

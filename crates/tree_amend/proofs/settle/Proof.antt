@@ -1,7 +1,7 @@
 -- A settle: the aside that the object names is no longer open.
-use Rattle.tree_lookup.proofs.Working.{works-long, works_reads}
+use Rattle.tree_lookup.proofs.Working.{works_long, works_reads}
 use Rattle.tree_judge.proofs.Reasons.{object_range}
-use Rattle.tree_amend.proofs.Amending.{nothing-settled, aside-settled}
+use Rattle.tree_amend.proofs.Amending.{nothing_settled, aside-settled}
 use native.Mathlib.Omega.{arith}
 use borrow.Author.Rules.{rules}
 use Rattle.tree_amend.proofs.settle.Statement.{statement}
@@ -11,10 +11,10 @@ role-of-requires : tie.Need-role-of-requires
 role-of-requires c κs = (search (works_reads), search (object_range))
 
 returns : tie.Need-returns
-returns c = search (nothing-settled)
+returns c = search (nothing_settled)
 
 part-settle-row-end : tie.Need-slice-bounds-settle-row-end
-part-settle-row-end c = omega (arith, works-long _ _ _ _ _ c.before.before.before.before.before.before.before.requires.1)
+part-settle-row-end c = omega (arith, works_long _ _ _ _ _ c.before.before.before.before.before.before.before.requires.1)
 
 returns-2 : tie.Need-returns-2
 returns-2 c = search (aside-settled)

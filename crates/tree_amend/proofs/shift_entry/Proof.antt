@@ -1,8 +1,8 @@
 -- The entry in a row leaves its folder for the one that a move names, by the register.
 use Rattle.model.specs.Record.{label_of}
 use Rattle.model.specs.Bytes.{part}
-use Rattle.tree_lookup.proofs.Working.{works-long}
-use Rattle.tree_amend.proofs.Amending.{leave-counts, shift-counts, label-end, works-chains, works-wide}
+use Rattle.tree_lookup.proofs.Working.{works_long}
+use Rattle.tree_amend.proofs.Amending.{leave_counts, shift_counts, label_end, works_chains, works_wide}
 use Rattle.tree_amend.proofs.Registers.{shift_register}
 use native.Mathlib.Omega.{arith}
 use borrow.Author.Rules.{rules}
@@ -10,13 +10,13 @@ use Rattle.tree_amend.proofs.shift_entry.Statement.{statement}
 use Rattle.tree_amend.proofs.shift_entry.Tie as tie
 
 inside-at-requires : tie.Need-inside-at-requires
-inside-at-requires c κs = (search (works-long), omega arith)
+inside-at-requires c κs = (search (works_long), omega arith)
 
 part-shift-end : tie.Need-slice-bounds-shift-end
-part-shift-end c = search (label-end)
+part-shift-end c = search (label_end)
 
 shift-requires : tie.Need-shift-requires
-shift-requires c κs = (search (works-chains), search (works-wide), omega arith, search (leave-counts), omega arith, search (shift-counts), search, search rules, search rules, omega arith)
+shift-requires c κs = (search (works_chains), search (works_wide), omega arith, search (leave_counts), omega arith, search (shift_counts), search, search rules, search rules, omega arith)
 
 returns : tie.Need-returns
 unfolding label_of part

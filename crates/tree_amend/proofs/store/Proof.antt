@@ -1,6 +1,6 @@
 -- A store: contents record, date and mark of the object's row.
 use Rattle.tree_judge.proofs.Reasons.{object_range}
-use Rattle.tree_amend.proofs.Amending.{unchanged, store-done, row-end}
+use Rattle.tree_amend.proofs.Amending.{unchanged, store_done, row_end}
 use borrow.Author.Rules.{rules}
 use Rattle.tree_amend.proofs.store.Statement.{statement}
 use Rattle.tree_amend.proofs.store.Tie as tie
@@ -12,10 +12,10 @@ returns : tie.Need-returns
 returns c = search (unchanged)
 
 part-store-row-end : tie.Need-slice-bounds-store-row-end
-part-store-row-end c = search (row-end)
+part-store-row-end c = search (row_end)
 
 returns-2 : tie.Need-returns-2
-returns-2 c = search (store-done)
+returns-2 c = search (store_done)
 
 pub store_spec : {M : Type 1} → statement M
 store_spec =

@@ -6,7 +6,7 @@ use lib.ListN.{length}
 use borrow.Author.Rules.{rules}
 use Rattle.model.specs.Bytes.{put_at}
 use Rattle.tree_finish.specs.Finishing.{kept_to, present_to}
-use Rattle.tree_finish.proofs.Compaction.{row_below, compact-rows, compact-count, compact_starts, compact_ends}
+use Rattle.tree_finish.proofs.Compaction.{row_below, compact_rows, compact_count, compact_starts, compact_ends}
 use Rattle.tree_finish.proofs.compact.Statement.{statement}
 use Rattle.tree_finish.proofs.compact.Tie as tie
 
@@ -24,7 +24,7 @@ keep-row-requires : tie.Need-keep-row-requires invariant-loop decreases-loop
 keep-row-requires c κs = (omega arith, omega arith, search (row_below))
 
 loop-again : tie.Need-loop-preserved invariant-loop decreases-loop
-loop-again c = (omega arith, search rules, search (compact-rows), search (compact-count))
+loop-again c = (omega arith, search rules, search (compact_rows), search (compact_count))
 
 returns : tie.Need-returns invariant-loop decreases-loop
 returns c = search (compact_ends)

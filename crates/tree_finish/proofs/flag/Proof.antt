@@ -1,5 +1,5 @@
 -- The entries that open asides mark are flagged.
-use Rattle.tree_finish.proofs.Flags.{no_flags, flag-turn, flag-next, flags-end}
+use Rattle.tree_finish.proofs.Flags.{no_flags, flag_turn, flag_next, flags_end}
 use Prim.Native.Nat.{◌≤◌, ◌-◌}
 use mathlib.Core.Path.{◌≡◌, refl}
 use lib.ListN.{length, take}
@@ -20,13 +20,13 @@ loop-holds : tie.Need-loop-init invariant-loop decreases-loop
 loop-holds c = (omega arith, refl, search (no_flags))
 
 flag-one-requires : tie.Need-flag-one-requires invariant-loop decreases-loop
-flag-one-requires c κs = (search (flag-turn), omega arith)
+flag-one-requires c κs = (search (flag_turn), omega arith)
 
 loop-again : tie.Need-loop-preserved invariant-loop decreases-loop
-loop-again c = (omega arith, search rules, search (flag-next))
+loop-again c = (omega arith, search rules, search (flag_next))
 
 returns : tie.Need-returns invariant-loop decreases-loop
-returns c = search (flags-end)
+returns c = search (flags_end)
 
 pub flag-spec : {M : Type 1} → statement M
 flag-spec =

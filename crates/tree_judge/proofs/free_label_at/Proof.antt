@@ -1,7 +1,7 @@
 -- A label in the folder f: free but for the entry k, or 15 marks its holder; the chain of the label is given.
 use native.Mathlib.Omega.{arith}
-use Rattle.tree_lookup.proofs.Working.{works-long}
-use Rattle.tree_judge.proofs.Reasons.{label-held, label-free}
+use Rattle.tree_lookup.proofs.Working.{works_long}
+use Rattle.tree_judge.proofs.Reasons.{label_held_lem, label_free}
 use Rattle.model.specs.Record.{label_of}
 use Rattle.model.specs.Bytes.{part}
 use borrow.Author.Rules.{rules}
@@ -13,15 +13,15 @@ unfolding label_of part
 holder-at-requires c κs = (search rules, search rules, search rules, search rules)
 
 made-at-requires : tie.Need-made-at-requires
-made-at-requires c κs = (search (works-long), omega arith)
+made-at-requires c κs = (search (works_long), omega arith)
 
 returns : tie.Need-returns
 unfolding label_of part
-returns c = search (label-held)
+returns c = search (label_held_lem)
 
 returns-2 : tie.Need-returns-2
 unfolding label_of part
-returns-2 c = search (label-free)
+returns-2 c = search (label_free)
 
 pub free-label-at-spec : {M : Type 1} → statement M
 free-label-at-spec =

@@ -1,17 +1,17 @@
 -- A store on the entry in a row: 12 for no entry, 14 for a folder, 17 for unseen contents.
-use Rattle.tree_judge.proofs.Reasons.{store-absent, store-folder, store-unseen, store_fits}
+use Rattle.tree_judge.proofs.Reasons.{store_absent, store_folder, store_unseen, store_fits}
 use borrow.Author.Rules.{rules}
 use Rattle.tree_judge.proofs.judge_store.Statement.{statement}
 use Rattle.tree_judge.proofs.judge_store.Tie as tie
 
 returns : tie.Need-returns
-returns c = search (store-absent)
+returns c = search (store_absent)
 
 returns-2 : tie.Need-returns-2
-returns-2 c = search (store-folder)
+returns-2 c = search (store_folder)
 
 returns-3 : tie.Need-returns-3
-returns-3 c = search (store-unseen)
+returns-3 c = search (store_unseen)
 
 returns-4 : tie.Need-returns-4
 returns-4 c = search (store_fits)

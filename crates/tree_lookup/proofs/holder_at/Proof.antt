@@ -1,7 +1,7 @@
 -- The row of the holder of a label in the folder f, other than the entry k, or the number of rows if the
 -- label is free; the chain of the label is given.
-use Rattle.tree_lookup.proofs.Labels.{Seeking, seek-starts, seek-row, seek-goes, seek_ends}
-use Rattle.tree_lookup.proofs.Working.{works-long, row_among_lem}
+use Rattle.tree_lookup.proofs.Labels.{Seeking, seek_starts, seek-row, seek_goes, seek_ends}
+use Rattle.tree_lookup.proofs.Working.{works_long, row_among_lem}
 use borrow.Author.Rules.{rules}
 use Rattle.tree_lookup.proofs.holder_at.Statement.{statement}
 use Rattle.tree_lookup.proofs.holder_at.Tie as tie
@@ -13,13 +13,13 @@ abbrev decreases-loop : tie.decreases-loop
 decreases-loop table register k f label h best₀ q₀ best q = q
 
 loop-holds : tie.Need-loop-init invariant-loop decreases-loop
-loop-holds c = search (seek-starts)
+loop-holds c = search (seek_starts)
 
 earlier-requires : tie.Need-earlier-requires invariant-loop decreases-loop
-earlier-requires c κs = (search (works-long), search (seek-row), search rules)
+earlier-requires c κs = (search (works_long), search (seek-row), search rules)
 
 loop-again : tie.Need-loop-preserved invariant-loop decreases-loop
-loop-again c = search (seek-goes)
+loop-again c = search (seek_goes)
 
 returns : tie.Need-returns invariant-loop decreases-loop
 returns c = (search (row_among_lem, seek_ends), search (seek_ends))

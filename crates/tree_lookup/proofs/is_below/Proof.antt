@@ -2,8 +2,8 @@
 use mathlib.Core.Path.{◌≡◌}
 use Rattle.model.specs.Replay.{comes_to, is_below}
 use Rattle.tree_table.specs.Rows.{entries_from}
-use Rattle.tree_lookup.proofs.Working.{works-long}
-use Rattle.tree_lookup.proofs.Below.{below_starts, below-ends, below-here, below_root, below-absent, below-goes, identity_in}
+use Rattle.tree_lookup.proofs.Working.{works_long}
+use Rattle.tree_lookup.proofs.Below.{below_starts, below_ends, below_here, below_root, below_absent, below_goes, identity_in}
 use native.Mathlib.Omega.{arith}
 use borrow.Author.Rules.{rules}
 use Rattle.tree_lookup.proofs.is_below.Statement.{statement}
@@ -19,7 +19,7 @@ loop-holds : tie.Need-loop-init invariant-loop decreases-loop
 loop-holds c = search (below_starts)
 
 returns : tie.Need-returns invariant-loop decreases-loop
-returns c = search (below-here)
+returns c = search (below_here)
 
 returns-2 : tie.Need-returns-2 invariant-loop decreases-loop
 returns-2 c = search (below_root)
@@ -28,16 +28,16 @@ entry-of-requires : tie.Need-entry-of-requires invariant-loop decreases-loop
 entry-of-requires c κs = (search, identity_in _ _ c.before.is-identity.ensures c.if2.false)
 
 returns-3 : tie.Need-returns-3 invariant-loop decreases-loop
-returns-3 c = search (below-absent)
+returns-3 c = search (below_absent)
 
 inside-at-requires : tie.Need-inside-at-requires invariant-loop decreases-loop
-inside-at-requires c κs = (search (works-long), omega arith)
+inside-at-requires c κs = (search (works_long), omega arith)
 
 loop-again : tie.Need-loop-preserved invariant-loop decreases-loop
-loop-again c = search (below-goes)
+loop-again c = search (below_goes)
 
 returns-4 : tie.Need-returns-4 invariant-loop decreases-loop
-returns-4 c = search (below-ends)
+returns-4 c = search (below_ends)
 
 pub is-below-spec : {M : Type 1} → statement M
 is-below-spec =

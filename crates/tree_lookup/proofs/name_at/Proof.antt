@@ -1,5 +1,5 @@
 -- The identity that has a role.
-use Rattle.tree_lookup.proofs.Names.{name-low, name-end, name-entry, name-aside}
+use Rattle.tree_lookup.proofs.Names.{name_low, name_end, name-entry, name-aside}
 use borrow.Author.Rules.{rules}
 use Rattle.tree_lookup.proofs.name_at.Statement.{statement}
 use Rattle.tree_lookup.proofs.name_at.Tie as tie
@@ -8,10 +8,10 @@ returns : tie.Need-returns
 returns c = search (name-entry)
 
 sub-identity-at : tie.Need-overflow-sub-identity-at
-sub-identity-at c = search (name-low)
+sub-identity-at c = search (name_low)
 
 identity-at-requires : tie.Need-identity-at-requires
-identity-at-requires c κs = search (name-end)
+identity-at-requires c κs = search (name_end)
 
 returns-2 : tie.Need-returns-2
 returns-2 c = search (name-aside)

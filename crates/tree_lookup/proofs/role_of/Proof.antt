@@ -1,6 +1,6 @@
 -- The role of an identity, looked for in its chain.
 use Rattle.tree_table.specs.Rows.{tree_in}
-use Rattle.tree_lookup.proofs.Names.{Tracing, trace-starts, trace-role, trace-low, trace-found, trace-goes, trace-ends}
+use Rattle.tree_lookup.proofs.Names.{Tracing, trace_starts, trace_role, trace_low, trace_found, trace_goes, trace_ends}
 use native.Mathlib.Omega.{arith}
 use borrow.Author.Rules.{rules}
 use Rattle.tree_lookup.proofs.role_of.Statement.{statement}
@@ -13,19 +13,19 @@ abbrev decreases-loop : tie.decreases-loop
 decreases-loop table register size k h q₀ q = q
 
 loop-holds : tie.Need-loop-init invariant-loop decreases-loop
-loop-holds c = search (trace-starts)
+loop-holds c = search (trace_starts)
 
 name-at-requires : tie.Need-name-at-requires invariant-loop decreases-loop
-name-at-requires c κs = (search, search, search, search (trace-role))
+name-at-requires c κs = (search, search, search, search (trace_role))
 
 returns : tie.Need-returns invariant-loop decreases-loop
-returns c = (search (trace-found), search (trace-low))
+returns c = (search (trace_found), search (trace_low))
 
 loop-again : tie.Need-loop-preserved invariant-loop decreases-loop
-loop-again c = search (trace-goes)
+loop-again c = search (trace_goes)
 
 returns-2 : tie.Need-returns-2 invariant-loop decreases-loop
-returns-2 c = (search (trace-ends), omega arith)
+returns-2 c = (search (trace_ends), omega arith)
 
 pub role-of-spec : {M : Type 1} → statement M
 role-of-spec =

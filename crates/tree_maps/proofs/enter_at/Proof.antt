@@ -1,5 +1,5 @@
 -- An entry is made in the folder f, which is at a place, in a row, the chain of its label given.
-use Rattle.tree_maps.proofs.Keeping.{counted-chains, counted-room}
+use Rattle.tree_maps.proofs.Keeping.{counted_chains, counted_room}
 use Rattle.tree_maps.specs.Keys.{entered}
 use native.Mathlib.Omega.{arith}
 use borrow.Author.Rules.{rules}
@@ -7,7 +7,7 @@ use Rattle.tree_maps.proofs.enter_at.Statement.{statement}
 use Rattle.tree_maps.proofs.enter_at.Tie as tie
 
 push-requires : tie.Need-push-requires
-push-requires c κs = (search (counted-chains), search (counted-room), omega arith, search rules)
+push-requires c κs = (search (counted_chains), search (counted_room), omega arith, search rules)
 
 returns : tie.Need-returns
 unfolding entered

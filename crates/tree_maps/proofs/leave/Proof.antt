@@ -1,12 +1,12 @@
 -- The entry in a row leaves the folder f, which is at a place.
-use Rattle.tree_maps.proofs.Keeping.{pop-long, pop-count}
+use Rattle.tree_maps.proofs.Keeping.{pop_long, pop_count}
 use Rattle.tree_maps.specs.Keys.{left}
 use borrow.Author.Rules.{rules}
 use Rattle.tree_maps.proofs.leave.Statement.{statement}
 use Rattle.tree_maps.proofs.leave.Tie as tie
 
 count-down-requires : tie.Need-count-down-requires
-count-down-requires c κs = (search rules, search (pop-long), search (pop-count))
+count-down-requires c κs = (search rules, search (pop_long), search (pop_count))
 
 returns : tie.Need-returns
 unfolding left

@@ -1,5 +1,5 @@
 -- The entry in a row of the folder f gets another label.
-use Rattle.tree_maps.proofs.Keeping.{pop-chains, pop-room}
+use Rattle.tree_maps.proofs.Keeping.{pop_chains, pop_room}
 use Rattle.tree_maps.specs.Keys.{relabelled}
 use native.Mathlib.Omega.{arith}
 use borrow.Author.Rules.{rules}
@@ -7,7 +7,7 @@ use Rattle.tree_maps.proofs.relabel.Statement.{statement}
 use Rattle.tree_maps.proofs.relabel.Tie as tie
 
 push-requires : tie.Need-push-requires
-push-requires c κs = (search (pop-chains), search (pop-room), omega arith, search rules)
+push-requires c κs = (search (pop_chains), search (pop_room), omega arith, search rules)
 
 returns : tie.Need-returns
 unfolding relabelled

@@ -1,5 +1,5 @@
 -- The first n records of a log or a file, from the tree that a table holds on.
-use Rattle.tree_replay.proofs.Playing.{turn-entries, turn-asides, turn-both, turn_holds, turn-takes, turn-goes, turn_inside, play-ends, play_starts}
+use Rattle.tree_replay.proofs.Playing.{turn_entries, turn_asides, turn_both, turn_holds, turn_takes, turn_goes, turn_inside, play_ends, play_starts}
 use Prim.Native.Nat.{◌+◌, ◌≤◌, ◌-◌}
 use mathlib.Core.Path.{◌≡◌, refl}
 use lib.ListN.{length}
@@ -10,7 +10,7 @@ use Rattle.tree_lookup.specs.Roles.{Works}
 use Rattle.log_check.specs.Places.{laid_at}
 use Rattle.log_check.specs.InOrder.{listed}
 use Rattle.tree_replay.specs.Registers.{replay_on}
-use Rattle.tree_replay.proofs.Registers.{starts_on, goes_on, ends_on}
+use Rattle.tree_replay.proofs.Registers.{starts_on, goes_on_lem, ends_on}
 use borrow.Author.Rules.{rules}
 use native.Mathlib.Omega.{arith}
 use Rattle.tree_replay.proofs.replay.Statement.{statement}
@@ -35,13 +35,13 @@ part-step-at-end : tie.Need-slice-bounds-step-at-end invariant-loop decreases-lo
 part-step-at-end c = search (turn_inside)
 
 step-at-requires : tie.Need-step-at-requires invariant-loop decreases-loop
-step-at-requires c κs = (search (turn-takes), search (turn_holds), search (turn-entries), search (turn-asides), search (turn-both), omega arith)
+step-at-requires c κs = (search (turn_takes), search (turn_holds), search (turn_entries), search (turn_asides), search (turn_both), omega arith)
 
 loop-again : tie.Need-loop-preserved invariant-loop decreases-loop
-loop-again c = (omega arith, search rules, search rules, omega arith, search (turn-goes), search (goes_on))
+loop-again c = (omega arith, search rules, search rules, omega arith, search (turn_goes), search (goes_on_lem))
 
 returns : tie.Need-returns invariant-loop decreases-loop
-returns c = (search (play-ends), search (ends_on))
+returns c = (search (play_ends), search (ends_on))
 
 pub replay-spec : {M : Type 1} → statement M
 replay-spec =

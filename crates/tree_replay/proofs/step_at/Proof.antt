@@ -1,8 +1,8 @@
 -- One record: it acts, or stands aside.
 use native.Mathlib.Omega.{arith}
 use mathlib.Core.List.{[]}
-use Rattle.tree_replay.proofs.Stepping.{step-placed, step-acts, step-stands, mark_fits_lem}
-use Rattle.tree_replay.proofs.Registers.{acts-on, stands_on}
+use Rattle.tree_replay.proofs.Stepping.{step-placed, step_acts, step_stands, mark_fits_lem}
+use Rattle.tree_replay.proofs.Registers.{acts_on, stands_on}
 use borrow.Author.Rules.{rules}
 use Rattle.tree_replay.proofs.step_at.Statement.{statement}
 use Rattle.tree_replay.proofs.step_at.Tie as tie
@@ -13,13 +13,13 @@ effect-requires c κs =
     (search, search, step-placed _ [] _ _ _ _ _ judged (search rules), search, search, search)
 
 returns-2 : tie.Need-returns-2
-returns-2 c = (search (step-acts), omega arith, search (acts-on))
+returns-2 c = (search (step_acts), omega arith, search (acts_on))
 
 stand-aside-requires : tie.Need-stand-aside-requires
 stand-aside-requires c κs = (search, search, search, search, search (mark_fits_lem))
 
 returns-3 : tie.Need-returns-3
-returns-3 c = (search (step-stands), omega arith, search (stands_on))
+returns-3 c = (search (step_stands), omega arith, search (stands_on))
 
 pub step-at-spec : {M : Type 1} → statement M
 step-at-spec =

@@ -1,5 +1,5 @@
 -- The row is taken into a copy of the log of a sound state whose records the tables have.
-use Rattle.try_row.proofs.Tried.{copy-long, copy-sound, copy-used, copy-indexed, copy-tried}
+use Rattle.try_row.proofs.Tried.{copy_long, copy_sound, copy_used, copy_indexed, copy_tried}
 use mathlib.Core.Path.{◌∙◌}
 use borrow.Author.Rules.{rules}
 use Rattle.try_row.proofs.take_copy.Statement.{statement}
@@ -10,16 +10,16 @@ take-by-requires c κs =
     let is = c.before.before.before.before.before.before.copy-log.ensures in (
       search rules,
       search rules,
-      copy-long _ _ is (search rules),
+      copy_long _ _ is (search rules),
       search rules,
-      copy-sound _ _ is _ (search rules),
-      search rules,
-      search rules,
-      copy-used _ _ is _ (search rules),
+      copy_sound _ _ is _ (search rules),
       search rules,
       search rules,
+      copy_used _ _ is _ (search rules),
       search rules,
-      copy-indexed _ _ is _ _ _ _ _ (search rules),
+      search rules,
+      search rules,
+      copy_indexed _ _ is _ _ _ _ _ (search rules),
     )
 
 same_length : tie.Need-same-length
@@ -28,7 +28,7 @@ same_length c =
     t.take_by.auto.1.1.1.0 ∙ t.before.before.before.before.before.before.before.copy-log.auto.1.0
 
 returns : tie.Need-returns
-returns c = (search (copy-tried), search rules)
+returns c = (search (copy_tried), search rules)
 
 pub take-copy-spec : {M : Type 1} → statement M
 take-copy-spec =

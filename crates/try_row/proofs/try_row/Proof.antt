@@ -1,13 +1,13 @@
 -- What taking a row would do: the copy as the log would be, its tree in the table, and the report.
-use Rattle.call_guard.proofs.Opening.{open-long, open-based, open-unit, open-state, open-used, open-held, open-list, open-folded, open-entries, open-asides}
-use Rattle.try_row.proofs.Tried.{try-refused, try_passes, try-short, try-copy, try-tree, try-report, tried-long, tried-sound}
+use Rattle.call_guard.proofs.Opening.{open_long, open_based, open_unit, open_state, open_used, open_held, open_list, open_folded, open_entries, open_asides}
+use Rattle.try_row.proofs.Tried.{try_refused, try_passes, try_short, try_copy, try_tree, try_report, tried-long, tried_sound}
 use mathlib.Core.Path.{◌∙◌}
 use borrow.Author.Rules.{rules}
 use Rattle.try_row.proofs.try_row.Statement.{statement}
 use Rattle.try_row.proofs.try_row.Tie as tie
 
 returns : tie.Need-returns
-returns c = try-refused _ _ _ _ _ _ _ _ c.before.before.before.before.open-trial.ensures.0 c.if1.true
+returns c = try_refused _ _ _ _ _ _ _ _ c.before.before.before.before.open-trial.ensures.0 c.if1.true
 
 take-copy-requires : tie.Need-take-copy-requires
 take-copy-requires c κs =
@@ -15,16 +15,16 @@ take-copy-requires c κs =
     let o = i.before.before.before.before in
     let z = i.if1.false in
     let e = o.open-trial.ensures.0 in (
-      try-short _ _ _ _ _ _ _ e z,
-      open-unit _ _ _ _ _ e z,
-      open-long _ _ _ _ _ e z,
-      open-based _ _ _ _ _ e z,
-      open-state _ _ _ _ _ e z,
-      open-list _ _ _ _ _ e z,
-      open-folded _ _ _ _ _ e z,
-      open-used _ _ _ _ _ e z,
-      try-copy _ _ _ _ _ _ _ e z,
-      try-tree _ _ _ _ _ _ _ e z,
+      try_short _ _ _ _ _ _ _ e z,
+      open_unit _ _ _ _ _ e z,
+      open_long _ _ _ _ _ e z,
+      open_based _ _ _ _ _ e z,
+      open_state _ _ _ _ _ e z,
+      open_list _ _ _ _ _ e z,
+      open_folded _ _ _ _ _ e z,
+      open_used _ _ _ _ _ e z,
+      try_copy _ _ _ _ _ _ _ e z,
+      try_tree _ _ _ _ _ _ _ e z,
       search rules,
       search rules,
       o.open-trial.ensures.1 z,
@@ -37,23 +37,23 @@ report-trial-requires c κs =
     let z = i.if1.false in
     let e = i.before.before.before.before.open-trial.ensures.0 in
     let q = t.take-copy.ensures.0 in
-    let long = open-long _ _ _ _ _ e z in
-    let based = open-based _ _ _ _ _ e z in
-    let sound = open-state _ _ _ _ _ e z in
-    let unit = open-unit _ _ _ _ _ e z in (
+    let long = open_long _ _ _ _ _ e z in
+    let based = open_based _ _ _ _ _ e z in
+    let sound = open_state _ _ _ _ _ e z in
+    let unit = open_unit _ _ _ _ _ e z in (
       long,
       based,
       sound,
-      open-used _ _ _ _ _ e z,
-      open-held _ _ _ _ _ e z,
-      open-entries _ _ _ _ _ e z,
-      open-asides _ _ _ _ _ e z,
+      open_used _ _ _ _ _ e z,
+      open_held _ _ _ _ _ e z,
+      open_entries _ _ _ _ _ e z,
+      open_asides _ _ _ _ _ e z,
       tried-long _ _ _ _ _ _ _ _ unit long based sound q,
-      tried-sound _ _ _ _ _ _ _ _ unit long based sound q,
+      tried_sound _ _ _ _ _ _ _ _ unit long based sound q,
       t.take-copy.ensures.1.0,
       t.take-copy.ensures.1.1,
-      t.take-copy.auto.1.1.1.1.1.1.1.1.1.1.0 ∙ try-tree _ _ _ _ _ _ _ e z,
-      try-report _ _ _ _ _ _ _ e z,
+      t.take-copy.auto.1.1.1.1.1.1.1.1.1.1.0 ∙ try_tree _ _ _ _ _ _ _ e z,
+      try_report _ _ _ _ _ _ _ e z,
     )
 
 returns-2 : tie.Need-returns-2

@@ -5,7 +5,7 @@ use mathlib.Core.Bool.{false}
 use lib.ListN.{take}
 use native.Mathlib.Omega.{arith}
 use Rattle.try_row_report.specs.Listed.{is_among}
-use Rattle.try_row_report.proofs.Listing.{among_none, among-found, among-passes, among_ends}
+use Rattle.try_row_report.proofs.Listing.{among_none, among_found, among_passes, among_ends}
 use borrow.Author.Rules.{rules}
 use Rattle.try_row_report.proofs.is_noted.Statement.{statement}
 use Rattle.try_row_report.proofs.is_noted.Tie as tie
@@ -20,10 +20,10 @@ loop-holds : tie.Need-loop-init invariant-loop decreases-loop
 loop-holds c = (omega arith, search (among_none))
 
 returns : tie.Need-returns invariant-loop decreases-loop
-returns c = search (among-found)
+returns c = search (among_found)
 
 loop-again : tie.Need-loop-preserved invariant-loop decreases-loop
-loop-again c = (omega arith, search (among-passes))
+loop-again c = (omega arith, search (among_passes))
 
 returns-2 : tie.Need-returns-2 invariant-loop decreases-loop
 returns-2 c = search (among_ends)

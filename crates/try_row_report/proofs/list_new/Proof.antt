@@ -6,7 +6,7 @@ use lib.ListN.{length, take}
 use native.Mathlib.Omega.{arith}
 use Rattle.model.specs.Bytes.{padded}
 use Rattle.try_row_report.specs.Listed.{listed_count, listed}
-use Rattle.try_row_report.proofs.Listing.{made_low, list_first, list_long, count_first, skips-count, skips-list, adds-count, adds-list, list_ends, list_whole}
+use Rattle.try_row_report.proofs.Listing.{made_low, list_first, list_long, count_first, skips_count, skips_list, adds_count, adds_list, list_ends, list_whole}
 use borrow.Author.Rules.{rules}
 use Rattle.try_row_report.proofs.list_new.Statement.{statement}
 use Rattle.try_row_report.proofs.list_new.Tie as tie
@@ -21,7 +21,7 @@ loop-holds : tie.Need-loop-init invariant-loop decreases-loop
 loop-holds c = (omega arith, search rules, omega arith, search (list_long), refl, search (count_first), search (list_first))
 
 loop-again : tie.Need-loop-preserved invariant-loop decreases-loop
-loop-again c = (omega arith, omega arith, omega arith, omega arith, omega arith, search (skips-count), search (skips-list))
+loop-again c = (omega arith, omega arith, omega arith, omega arith, omega arith, search (skips_count), search (skips_list))
 
 made-at-requires : tie.Need-made-at-requires invariant-loop decreases-loop
 made-at-requires c κs = (search rules, search rules)
@@ -30,7 +30,7 @@ put-identity-requires : tie.Need-put-identity-requires invariant-loop decreases-
 put-identity-requires c κs = (search rules, search (made_low))
 
 loop-again-2 : tie.Need-loop-preserved-2 invariant-loop decreases-loop
-loop-again-2 c = (omega arith, omega arith, omega arith, omega arith, omega arith, search (adds-count), search (adds-list))
+loop-again-2 c = (omega arith, omega arith, omega arith, omega arith, omega arith, search (adds_count), search (adds_list))
 
 returns : tie.Need-returns invariant-loop decreases-loop
 returns c = ((search (list_ends), omega arith), search (list_whole))

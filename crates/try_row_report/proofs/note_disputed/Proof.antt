@@ -4,7 +4,7 @@ use mathlib.Core.Path.{◌≡◌, refl}
 use lib.ListN.{length, take}
 use native.Mathlib.Omega.{arith}
 use Rattle.try_row_report.specs.Listed.{noted}
-use Rattle.try_row_report.proofs.Listing.{set_long, notes_first, notes_none, notes-one, notes_all}
+use Rattle.try_row_report.proofs.Listing.{set_long, notes_first, notes_none, notes_one, notes_all}
 use borrow.Author.Rules.{rules}
 use Rattle.try_row_report.proofs.note_disputed.Statement.{statement}
 use Rattle.try_row_report.proofs.note_disputed.Tie as tie
@@ -22,7 +22,7 @@ loop-again : tie.Need-loop-preserved invariant-loop decreases-loop
 loop-again c = (omega arith, omega arith, omega arith, omega arith, omega arith, search (notes_none))
 
 loop-again-2 : tie.Need-loop-preserved-2 invariant-loop decreases-loop
-loop-again-2 c = (omega arith, omega arith, omega arith, search (set_long), search (set_long), search (notes-one))
+loop-again-2 c = (omega arith, omega arith, omega arith, search (set_long), search (set_long), search (notes_one))
 
 returns : tie.Need-returns invariant-loop decreases-loop
 returns c = (omega arith, search (notes_all))

@@ -2,7 +2,7 @@
 use Prim.Native.Nat.{◌≤◌, ◌-◌}
 use mathlib.Core.Path.{◌≡◌, refl}
 use Rattle.model.specs.Vector.{covers_to}
-use Rattle.vector.proofs.Dominance.{covers-next, covers-ends}
+use Rattle.vector.proofs.Dominance.{covers-next, covers_ends}
 use borrow.Author.Rules.{rules}
 use native.Mathlib.Omega.{arith}
 use Rattle.vector.proofs.covers.Statement.{statement}
@@ -22,7 +22,7 @@ loop-again : tie.Need-loop-preserved invariant-loop decreases-loop
 loop-again c = (omega arith, search (covers-next))
 
 returns : tie.Need-returns invariant-loop decreases-loop
-returns c = search (covers-ends)
+returns c = search (covers_ends)
 
 pub covers-spec : {M : Type 1} → statement M
 covers-spec =

@@ -2,7 +2,7 @@
 use Prim.Native.Nat.{◌≤◌, ◌-◌, ◌*◌}
 use mathlib.Core.Path.{◌≡◌, refl}
 use Rattle.model.specs.Vector.{lacks_to}
-use Rattle.vector.proofs.Distances.{lacks-next, lacks-ends}
+use Rattle.vector.proofs.Distances.{lacks_next, lacks_ends}
 use borrow.Author.Rules.{rules}
 use native.Mathlib.Omega.{arith}
 use Rattle.vector.proofs.lacks.Statement.{statement}
@@ -19,10 +19,10 @@ unfolding lacks_to
 loop-holds c = (omega arith, omega arith, refl)
 
 loop-again : tie.Need-loop-preserved invariant-loop decreases-loop
-loop-again c = (omega arith, omega arith, search (lacks-next))
+loop-again c = (omega arith, omega arith, search (lacks_next))
 
 returns : tie.Need-returns invariant-loop decreases-loop
-returns c = (search (lacks-ends), omega arith)
+returns c = (search (lacks_ends), omega arith)
 
 pub lacks-spec : {M : Type 1} → statement M
 lacks-spec =

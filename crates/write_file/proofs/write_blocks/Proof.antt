@@ -1,5 +1,5 @@
 -- Block after block is written, then zeros; the count of blocks is returned.
-use Rattle.write_file.proofs.Whole.{few_used, few, begun, all_counted, goes_on, ends}
+use Rattle.write_file.proofs.Whole.{few_used, few, begun, all_counted, goes_on_lem, ends}
 use Rattle.model.specs.File.{file_to}
 use Rattle.model.specs.Log.{records_of}
 use lib.ListN.{length, drop}
@@ -29,7 +29,7 @@ file-block-requires : tie.Need-file-block-requires invariant-loop decreases-loop
 file-block-requires c κs = (search rules, search rules, search rules, search rules, search rules, search (begun))
 
 loop-again : tie.Need-loop-preserved invariant-loop decreases-loop
-loop-again c = (omega arith, search rules, search rules, search rules, search (goes_on))
+loop-again c = (omega arith, search rules, search rules, search rules, search (goes_on_lem))
 
 returns : tie.Need-returns invariant-loop decreases-loop
 returns c = (search (all_counted), search (ends))
