@@ -18,14 +18,14 @@ MARKS = r"(?:(?:pub|abbrev|unfoldable|pattern|axiom|mutual)\s+)*"
 TOP = re.compile(rf'^{MARKS}([^\s(){{}}.;,@"«»:]+)(?: \{{[^{{}}\n]*\}})? :(?= |$)', re.M)
 NESTED = re.compile(r'^  +(?:pub )?([^\s(){}.;,@"«»:]+) : ', re.M)
 HEAD = re.compile(r"^(?:pub |pattern )*(?:data|record) ", re.M)
-# Names inside one file that a respelled definition would meet, and one that a lemma of std has.
+# Names inside one file that a respelled definition would meet; one that a lemma of std has; one that the library spells so.
 LOCAL = {
     "order_rows/proofs/Tables.antt": {"entry_row": "entry_row_is"},
     "fold/proofs/Folding.antt": {"held_on": "held_on_is"},
     "base_laws/proofs/Plain.antt": {"row_on": "row_on_is"},
     "base_laws/proofs/LaidTree.antt": {"entry_row": "entry_row_is", "rows_fit": "rows_fit_is"},
 }
-APART = {"takeAll": "takes_all"}
+APART = {"takeAll": "takes_all", "not-false": "not-false"}
 STD = set("length take drop append get_or set replicate map filter sum reverse nil cons add sub mul div mod suc le lt eq".split())
 
 

@@ -8,7 +8,7 @@ use mathlib.Core.List.{List}
 use lib.Dec.{leb}
 use lib.ListN.{get_or, length, drop}
 use lib.Seq.{get_or-drop}
-use borrow.Author.Tests.{eq-eqb, le-leb, lt-leb, not-true, not_false}
+use borrow.Author.Tests.{eq-eqb, le-leb, lt-leb, not-true, not-false}
 use Rattle.model.specs.Bytes.{word, part}
 use Rattle.model.specs.Record.{Rec, unit, op, num, seen, label_of, unused, names, head_fits, object_fits, folder_fits, date_fits, label_fits, mark_fits, well_formed}
 use Rattle.byte_slice.proofs.Parts.{part-drop}
@@ -35,16 +35,16 @@ module _ (r : Rec) where
       module _ {p : Bool} (go : not o ≡ false) (ep : p ≡ folder_fits r) where
         pub bad_folder : not p ≡ true → false ≡ body_fits r
         unfolding body_fits op
-        bad_folder f = rw (le-leb 1 (get_or r 1 0) a, le-leb (get_or r 1 0) 7 b, ← eo, not_false o go, ← ep, not-true p f)
+        bad_folder f = rw (le-leb 1 (get_or r 1 0) a, le-leb (get_or r 1 0) 7 b, ← eo, not-false o go, ← ep, not-true p f)
 
         module _ {d : Bool} (gp : not p ≡ false) (ed : d ≡ date_fits r) where
           pub bad_date : not d ≡ true → false ≡ body_fits r
           unfolding body_fits op
-          bad_date f = rw (le-leb 1 (get_or r 1 0) a, le-leb (get_or r 1 0) 7 b, ← eo, not_false o go, ← ep, not_false p gp, ← ed, not-true d f)
+          bad_date f = rw (le-leb 1 (get_or r 1 0) a, le-leb (get_or r 1 0) 7 b, ← eo, not-false o go, ← ep, not-false p gp, ← ed, not-true d f)
 
           pub mark_last : {m : Bool} → not d ≡ false → m ≡ mark_fits r → m ≡ body_fits r
           unfolding body_fits op
-          mark_last gd em = rw (le-leb 1 (get_or r 1 0) a, le-leb (get_or r 1 0) 7 b, ← eo, not_false o go, ← ep, not_false p gp, ← ed, not_false d gd, em)
+          mark_last gd em = rw (le-leb 1 (get_or r 1 0) a, le-leb (get_or r 1 0) 7 b, ← eo, not-false o go, ← ep, not-false p gp, ← ed, not-false d gd, em)
 
 -- ---- two records of one operation that differ in unit and number alone
 

@@ -8,7 +8,7 @@ use mathlib.Core.List.{List, [], ◌∷◌, ◌++◌}
 use lib.Dec.{leb, eqb}
 use lib.ListN.{get_or, length, take, drop, length-drop, take-append-drop}
 use lib.Seq.{take_all}
-use borrow.Author.Tests.{leb-true, eqb-false, le-leb, ne_eqb, not-true, not_false}
+use borrow.Author.Tests.{leb-true, eqb-false, le-leb, ne_eqb, not-true, not-false}
 use Rattle.model.specs.Bytes.{blank, part}
 use Rattle.model.specs.Record.{Rec, op, label_of, text_length, printable, is_label, uses_label, unused, label_fits, has_stroke}
 use Rattle.model.specs.Numbers.{first_of}
@@ -84,7 +84,7 @@ module _ (t : List ℕ) {n : ℕ} (e : n ≡ text_length t) (within : n ≤ leng
         pub by_the_table : {x : ℕ} → not b ≡ false → x ≡ text_number t n → x ≡ label_number t
         unfolding label_number
         by_the_table h k =
-            let z : blank (drop n t) ≡ true = rest_is ∙ not_false b h in
+            let z : blank (drop n t) ≡ true = rest_is ∙ not-false b h in
             let p : Parts t = record { some_text = rw (← e) some; first = f; last = rw (← e) g; zeros = rw (← e) z } in
             k ∙ text_number_lem t n within ∙ rw (by_text t p, ← e, stroke_in_text t n z)
 
@@ -103,5 +103,5 @@ module _ (r : Rec) {u : Bool} (e : u ≡ uses_label (get_or r 1 0)) where
     pub zeros-unused : not b ≡ false → 0 ≡ field_number r
     unfolding field_number label_fits label_of unused part op
     zeros-unused k =
-        let z : blank (take (64 - 32) (drop 32 r)) ≡ true = sym q ∙ not_false b k in
+        let z : blank (take (64 - 32) (drop 32 r)) ≡ true = sym q ∙ not-false b k in
         rw (← e, h, z, blank_no_stroke (take (64 - 32) (drop 32 r)) z)

@@ -8,7 +8,7 @@ use mathlib.Core.Bool.{Bool, true, false, not, ◌&&◌}
 use mathlib.Core.List.{List, ◌++◌, append_assoc}
 use lib.ListN.{get_or, length, take, drop, replicate, length-append, length-drop, length-replicate, get_or-append}
 use lib.Seq.{drop_at, length-take-le, get_or-take}
-use borrow.Author.Tests.{eq-eqb, ne_eqb, lt-ltb, le-ltb, not-true, not_false}
+use borrow.Author.Tests.{eq-eqb, ne_eqb, lt-ltb, le-ltb, not-true, not-false}
 use Rattle.model.specs.Bytes.{two, blank, part, put_at}
 use Rattle.model.specs.Vector.{vector_bytes}
 use Rattle.model.specs.Record.{Rec, unit, op, num, seen, label_fits, well_formed}
@@ -127,11 +127,11 @@ module _ (u : ℕ) (w : List ℕ) (r : Rec) where
     module _ {f : Bool} (h : not b ≡ false) (g : f ≡ body_fits r) where
       pub not_formed : not f ≡ true → 7 ≡ number_as u w r
       unfolding number_as fits_as part
-      not_formed k = rw (eq-eqb (get_or w 0 0) u a, ← e, not_false b h, ← g, not-true f k)
+      not_formed k = rw (eq-eqb (get_or w 0 0) u a, ← e, not-false b h, ← g, not-true f k)
 
       pub label_tells : {x : ℕ} → not f ≡ false → x ≡ field_number r → x ≡ number_as u w r
       unfolding number_as fits_as field_number part
-      label_tells k z = z ∙ rw (eq-eqb (get_or w 0 0) u a, ← e, not_false b h, ← g, not_false f k)
+      label_tells k z = z ∙ rw (eq-eqb (get_or w 0 0) u a, ← e, not-false b h, ← g, not-false f k)
 
 -- ---- the ways out of `room_number`
 
@@ -159,8 +159,8 @@ module _ (m u : ℕ) (h : List ℕ) (n : ℕ) (w : List ℕ) (r : Rec) {t : Bool
   module _ {x : ℕ} (g : not t ≡ false) (q : x ≡ number_as u w r) where
     pub wish_refused : (x ≡ 0 → ⊥) → x ≡ early_as m u h n w r
     unfolding early_as
-    wish_refused k = rw (← e, not_false t g, ← q, first_stops x (room_as (get_or h u 0) n) k)
+    wish_refused k = rw (← e, not-false t g, ← q, first_stops x (room_as (get_or h u 0) n) k)
 
     pub room_tells : {y : ℕ} → x ≡ 0 → y ≡ room_as (get_or h u 0) n → y ≡ early_as m u h n w r
     unfolding early_as
-    room_tells z k = k ∙ rw (← e, not_false t g, ← q, z)
+    room_tells z k = k ∙ rw (← e, not-false t g, ← q, z)

@@ -7,7 +7,7 @@ use mathlib.Core.Bool.{Bool, true, false, not, ◌&&◌}
 use mathlib.Core.List.{List}
 use lib.Dec.{eqb, leb}
 use lib.ListN.{get_or, take, drop}
-use borrow.Author.Tests.{lt-leb, not-true, not_false}
+use borrow.Author.Tests.{lt-leb, not-true, not-false}
 use Rattle.model.specs.Bytes.{word, blank, part}
 use Rattle.model.specs.Vector.{vector_at}
 use Rattle.model.specs.Log.{all_to}
@@ -75,8 +75,8 @@ module _ (b : List ℕ) where
     module _ {n m : ℕ} {r : Bool} (f : not h ≡ false) (p : n ≡ word b 2) (q : m ≡ word b 4) (g : r ≡ rows_fit b n m) where
       pub no_rows : not r ≡ true → false ≡ sound_base b
       unfolding sound_base
-      no_rows k = rw (← e, not_false h f, ← p, ← q, ← g, not-true r k)
+      no_rows k = rw (← e, not-false h f, ← p, ← q, ← g, not-true r k)
 
       pub whole : {t u : Bool} → not r ≡ false → t ≡ ids_fit b n m → u ≡ all_to n (name_new b) → (t && u) ≡ sound_base b
       unfolding sound_base
-      whole k i j = rw (← e, not_false h f, ← p, ← q, ← g, not_false r k, i, j)
+      whole k i j = rw (← e, not-false h f, ← p, ← q, ← g, not-false r k, i, j)

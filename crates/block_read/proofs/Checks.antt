@@ -7,7 +7,7 @@ use mathlib.Core.Bool.{Bool, true, false, not}
 use mathlib.Core.List.{List}
 use lib.Dec.{eqb}
 use lib.ListN.{take, drop}
-use borrow.Author.Tests.{eq-eqb, ne_eqb, le-leb, lt-leb, not-true, not_false}
+use borrow.Author.Tests.{eq-eqb, ne_eqb, le-leb, lt-leb, not-true, not-false}
 use Rattle.model.specs.Bytes.{word, same_bytes, blank, part}
 use Rattle.model.specs.Block.{letters, first_to, second_to, sender_in, count_in, sums_hold, header_holds, block_fault}
 use Rattle.run_model.specs.Runs.{block_fault_as}
@@ -48,15 +48,15 @@ module _ (a b : List ℕ) {t : Bool} (e : t ≡ same_bytes (take 4 b) a) where
   module _ {s : Bool} (h : not t ≡ false) (f : s ≡ sums_hold b) where
     pub bad_sum_lem : not s ≡ true → 4 ≡ block_fault_as a b
     unfolding block_fault_as
-    bad_sum_lem g = rw (← e, not_false t h, ← f, not-true s g)
+    bad_sum_lem g = rw (← e, not-false t h, ← f, not-true s g)
 
     pub bad_header_lem : {r : Bool} → not s ≡ false → r ≡ header_holds b → not r ≡ true → 5 ≡ block_fault_as a b
     unfolding block_fault_as
-    bad_header_lem {r} g k q = rw (← e, not_false t h, ← f, not_false s g, ← k, not-true r q)
+    bad_header_lem {r} g k q = rw (← e, not-false t h, ← f, not-false s g, ← k, not-true r q)
 
     pub no_fault : {r : Bool} → not s ≡ false → r ≡ header_holds b → not r ≡ false → 0 ≡ block_fault_as a b
     unfolding block_fault_as
-    no_fault {r} g k q = rw (← e, not_false t h, ← f, not_false s g, ← k, not_false r q)
+    no_fault {r} g k q = rw (← e, not-false t h, ← f, not-false s g, ← k, not-false r q)
 
 -- the letters SAB1 are a case
 pub fault_sab1 : (b : List ℕ) {n : ℕ} → n ≡ block_fault_as letters b → n ≡ block_fault b

@@ -8,7 +8,7 @@ use mathlib.Core.List.{List, [], ◌∷◌, ◌++◌}
 use lib.Dec.{eqb}
 use lib.ListN.{get_or, length, take, drop, replicate, take-append-drop, length-take, length-drop}
 use lib.Seq.{take_all, drop-drop}
-use borrow.Author.Tests.{eqb-true, eq-eqb, ne_eqb, not-true, not_false}
+use borrow.Author.Tests.{eqb-true, eq-eqb, ne_eqb, not-true, not-false}
 use Rattle.model.specs.Bytes.{same_bytes, blank, part}
 use Rattle.byte_slice.proofs.Parts.{part_length, part_snoc}
 use Rattle.byte_slice.proofs.Numbers.{and_true, true_and, and_right, test_false, not_both}
@@ -86,7 +86,7 @@ module _ (a b : List ℕ) (at : ℕ) (t : Bool) (e : length a ≡ length b) (inv
       ) inv
 
   pub same_next : 16 ≤ length a - at → t ≡ same_bytes (part a at 16) (part b at 16) → not t ≡ false → same_bytes (drop (at + 16) a) (drop (at + 16) b) ≡ same_bytes a b
-  same_next h p g = rw (← p, not_false t g) at (step h)
+  same_next h p g = rw (← p, not-false t g) at (step h)
 
   pub same_differs : 16 ≤ length a - at → t ≡ same_bytes (part a at 16) (part b at 16) → not t ≡ true → false ≡ same_bytes a b
   same_differs h p g = rw (← p, not-true t g) at (step h)
@@ -170,7 +170,7 @@ module _ (s : List ℕ) (at : ℕ) (t : Bool) where
   pub blank-next : t ≡ blank (part s at 64) → not t ≡ false → blank (drop at s) ≡ blank s → blank (drop (at + 64) s) ≡ blank s
   unfolding part
   blank-next e g inv =
-      let p : blank (take 64 (drop at s)) ≡ true = sym e ∙ not_false t g in
+      let p : blank (take 64 (drop at s)) ≡ true = sym e ∙ not-false t g in
       let q : (blank (take 64 (drop at s)) && blank (drop 64 (drop at s))) ≡ blank s =
       sym (blank-append (take 64 (drop at s)) (drop 64 (drop at s))) ∙ rw (take-append-drop 64 (drop at s)) inv in
       rw (p, drop-drop 64 at s) at q

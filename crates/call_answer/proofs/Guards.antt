@@ -7,7 +7,7 @@ use mathlib.Core.Bool.{Bool, true, false, cond, not, ◌&&◌}
 use mathlib.Core.List.{List}
 use lib.Dec.{leb, eqb}
 use lib.ListN.{length}
-use borrow.Author.Tests.{eq-eqb, ne_eqb, eqb-true, le-leb, lt-leb, leb-true, not-true, not_false}
+use borrow.Author.Tests.{eq-eqb, ne_eqb, eqb-true, le-leb, lt-leb, leb-true, not-true, not-false}
 use Rattle.call_model.specs.Outcome.{Outcome, refusal, or_refused, early_number}
 use Rattle.byte_slice.proofs.Numbers.{and_true}
 
@@ -27,14 +27,14 @@ module _ (u : ℕ) (log base : List ℕ) (ok row : Bool) where
 
       module _ (b : not ok ≡ false) where
         pub unit_above : 7 < u → 21 ≡ early_number u log base ok row
-        unit_above h = rw (eq-eqb (length log) 40960 a, eq-eqb (length base) 43032 d, not_false ok b, lt-leb u 7 h)
+        unit_above h = rw (eq-eqb (length log) 40960 a, eq-eqb (length base) 43032 d, not-false ok b, lt-leb u 7 h)
 
         module _ (c : u ≤ 7) where
           pub row-length : not row ≡ true → 2 ≡ early_number u log base ok row
-          row-length h = rw (eq-eqb (length log) 40960 a, eq-eqb (length base) 43032 d, not_false ok b, le-leb u 7 c, not-true row h)
+          row-length h = rw (eq-eqb (length log) 40960 a, eq-eqb (length base) 43032 d, not-false ok b, le-leb u 7 c, not-true row h)
 
           pub early_passes : not row ≡ false → 0 ≡ early_number u log base ok row
-          early_passes h = rw (eq-eqb (length log) 40960 a, eq-eqb (length base) 43032 d, not_false ok b, le-leb u 7 c, not_false row h)
+          early_passes h = rw (eq-eqb (length log) 40960 a, eq-eqb (length base) 43032 d, not-false ok b, le-leb u 7 c, not-false row h)
 
 -- ---- what 0 says
 

@@ -8,7 +8,7 @@ use mathlib.Core.Bool.{Bool, true, false, cond, not, ◌&&◌}
 use mathlib.Core.List.{List}
 use lib.Dec.{eqb}
 use lib.ListN.{get_or, length, replicate}
-use borrow.Author.Tests.{eqb-true, not-true, not_false}
+use borrow.Author.Tests.{eqb-true, not-true, not-false}
 use Rattle.model.specs.Numbers.{first_of}
 use Rattle.model.specs.Bytes.{word}
 use Rattle.model.specs.Log.{records_of, sound_log_on}
@@ -31,7 +31,7 @@ module _ (s : Bool) (hd : BaseHead) (held : List ℕ) (used : ℕ) where
   not_sound t o e = e ∙ rw (not-true s t)
 
   pub is_sound : not s ≡ false → opened 0 hd held used ≡ cond s (opened 0 hd held used) (opened 19 no_head (replicate 8 0) 0)
-  is_sound t = rw (not_false s t)
+  is_sound t = rw (not-false s t)
 
 module _ (u : ℕ) (log base : List ℕ) (ok row : Bool) (n : ℕ) (e : n ≡ early_number u log base ok row) where
   pub early_refused : (n ≡ 0 → ⊥) → (o : Opening) → o ≡ opened n no_head (replicate 8 0) 0 → o ≡ open_of u log base ok row

@@ -6,7 +6,7 @@ use mathlib.Core.Path.{◌≡◌, refl, sym, ap, ◌∙◌}
 use mathlib.Core.Bool.{Bool, true, false, not}
 use mathlib.Core.List.{List}
 use lib.ListN.{length, take, drop, replicate}
-use borrow.Author.Tests.{eq-eqb, ne_eqb, not-true, not_false}
+use borrow.Author.Tests.{eq-eqb, ne_eqb, not-true, not-false}
 use Rattle.model.specs.Bytes.{blank, part, padded, put_at}
 use Rattle.model.specs.Record.{Rec}
 use Rattle.model.specs.Log.{no_counts, vector_of}
@@ -92,7 +92,7 @@ module _ (f lent : List ℕ) where
     back_folded h = rw (eq-eqb (length lent) 44032 long, way_29 f z (blank_is ∙ not-true t h))
 
     pub none-folded : not t ≡ false → blank (base_vector (sab2_base f)) ≡ true
-    none-folded h = blank_is ∙ not_false t h
+    none-folded h = blank_is ∙ not-false t h
 
     pub back_lowered : not t ≡ false → (k : ℕ) (o : List ℕ) → k ≡ block_count (length (sab2_records f)) → o ≡ padded 44032 (as_sab1 f) → converted 0 0 k o ≡ to_sab1_of f lent
     back_lowered h k o ek eo = sym (back_done f z (none-folded h) lent long ∙ rw (ek, eo))

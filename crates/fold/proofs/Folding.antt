@@ -7,7 +7,7 @@ use mathlib.Core.Bool.{Bool, true, false, cond, not, ◌&&◌}
 use mathlib.Core.List.{List, [], ◌∷◌}
 use lib.Dec.{eqb, leb}
 use lib.ListN.{get_or, length, take, drop}
-use borrow.Author.Tests.{le-leb, not-true, not_false}
+use borrow.Author.Tests.{le-leb, not-true, not-false}
 use Rattle.model.specs.Numbers.{first_of}
 use Rattle.model.specs.Bytes.{word}
 use Rattle.model.specs.Record.{Rec}
@@ -43,11 +43,11 @@ lists_not m u v b e h = rw (← e, not-true b h)
 
 pub lists_so : (m u : ℕ) (v : List ℕ) (b t : Bool) → b ≡ is_listed m u → not b ≡ false → t ≡ lists_all m v → t ≡ list_fits m u v
 unfolding list_fits
-lists_so m u v b t e h q = rw (← e, not_false b h) q
+lists_so m u v b t e h q = rw (← e, not-false b h) q
 
 pub fits_own : (m u : ℕ) (v : List ℕ) (b : Bool) → b ≡ list_fits m u v → not b ≡ false → is_listed m u ≡ true
 unfolding list_fits
-fits_own m u v b e h = (and_true (is_listed m u) (lists_all m v) (sym e ∙ not_false b h)).0
+fits_own m u v b e h = (and_true (is_listed m u) (lists_all m v) (sym e ∙ not-false b h)).0
 
 -- ---- a state at hand
 
@@ -177,8 +177,8 @@ module _ (u : ℕ) (log base work : List ℕ) (l : ℕ) {n m k j : ℕ} {v held 
       pub done : (log' base' : List ℕ) → log' ≡ log_bytes (drop r (records_of log)) → base' ≡ base_bytes (folded_base l (base_vector base) (base_tree base) (records_of log) r)
           → outcome 0 0 log' base' r ≡ fold_of u log base l work
       unfolding fold_of fold_by guarded folded base_in
-      done log' base' x y = rw (passed, ← held_is, ← f, not_false b h, x, y, q)
+      done log' base' x y = rw (passed, ← held_is, ← f, not-false b h, x, y, q)
 
       pub done_work : (work' : List ℕ) → work' ≡ work_bytes (replay_from (base_tree base) (take r (records_of log))) → work' ≡ fold_work u log base l work
       unfolding fold_work base_in
-      done_work work' x = rw (passed, ← held_is, ← f, not_false b h, x, q)
+      done_work work' x = rw (passed, ← held_is, ← f, not-false b h, x, q)

@@ -11,7 +11,7 @@ use mathlib.Core.List.{List, [], ◌∷◌}
 use lib.Dec.{leb}
 use lib.ListN.{get_or, length, take, drop, length-append, get_or-append}
 use lib.Seq.{get_or_at, drop-cons, drop-length}
-use borrow.Author.Tests.{not-true, not_false, lt-ltb, le-ltb, le-leb, lt-leb, eq-eqb}
+use borrow.Author.Tests.{not-true, not-false, lt-ltb, le-ltb, le-leb, lt-leb, eq-eqb}
 use Rattle.model.specs.Record.{Rec, unit, num}
 use Rattle.model.specs.Log.{all_to, vector_on, records_of, sound_log_on}
 use Rattle.base_model.specs.Base.{is_listed}
@@ -130,7 +130,7 @@ module _ (m : ℕ) (rows : List (List ℕ)) (h : List ℕ) (w : ℕ) (t : Bool) 
 
   pub least_lowers : {v o : List ℕ} → v ≡ least_to m rows h w → not t ≡ false → o ≡ lowers_to v (get_or rows w []) 8 → o ≡ least_to m rows h (w + 1)
   unfolding least_to
-  least_lowers e f g = rw (add-one w, ← named, not_false t f, ← e) g
+  least_lowers e f g = rw (add-one w, ← named, not-false t f, ← e) g
 
 pub least_ends : (m : ℕ) (rows : List (List ℕ)) (h : List ℕ) (w : ℕ) {v : List ℕ} → w ≤ 8 → 8 ≤ w → v ≡ least_to m rows h w → v ≡ least_of m rows h
 unfolding least_of
@@ -159,7 +159,7 @@ module _ (v base b : List ℕ) (i used : ℕ) (whole : used ≡ length (records_
     run_stops f = let e = rw (not-true t f) at here in omega arith
 
     pub run_goes_on : not t ≡ false → i + 1 + run_within v (drop (i + 1) (records_of b)) ≡ run_within v (records_of b)
-    run_goes_on f = let e = rw (not_false t f, ← add-one i) at here in omega arith
+    run_goes_on f = let e = rw (not-false t f, ← add-one i) at here in omega arith
 
   pub run_ends : i ≤ used → used ≤ i → used ≡ run_within v (records_of b)
   unfolding run_within

@@ -7,7 +7,7 @@ use mathlib.Core.Bool.{Bool, true, false, not}
 use mathlib.Core.List.{List, [], ◌∷◌, ◌++◌, append-nil}
 use lib.Dec.{eqb}
 use lib.ListN.{length, take, replicate, length-append, length-replicate}
-use borrow.Author.Tests.{not-true, not_false}
+use borrow.Author.Tests.{not-true, not-false}
 use Rattle.model.specs.Bytes.{padded, joined, put_at}
 use Rattle.model.specs.Vector.{covers}
 use Rattle.model.specs.Record.{Rec}
@@ -68,7 +68,7 @@ module _ (a u : ℕ) (log base v lent : List ℕ) {n m k j : ℕ} {folded held :
       unfolding hand_of handed
       handed_out o p q =
           let w : put_at lent 0 bytes ≡ bytes = put_whole lent bytes (long ∙ sym (open_buffer u log base true lent 512 e z)) in
-          let d : outcome 0 0 log o 0 ≡ handed a u log base v lent = rw (p, w, q, open_held u log base (eqb (length lent) 512) true e z, asks, not_false t g) in
+          let d : outcome 0 0 log o 0 ≡ handed a u log base v lent = rw (p, w, q, open_held u log base (eqb (length lent) 512) true e z, asks, not-false t g) in
           d ∙ call_passes u log base lent (eqb (length lent) 512) e (handed a u log base v lent) z
 
 -- the log is sound behind the base vector that the call is told

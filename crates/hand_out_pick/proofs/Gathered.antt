@@ -10,7 +10,7 @@ use mathlib.Core.List.{List, [], ◌∷◌, ◌++◌, append-nil}
 use lib.Dec.{ltb}
 use lib.ListN.{get_or, length, take, drop, replicate, take-append-drop, length-append, length-replicate}
 use lib.Seq.{take-suc, take_all, take_at}
-use borrow.Author.Tests.{not-true, not_false}
+use borrow.Author.Tests.{not-true, not-false}
 use Rattle.model.specs.Bytes.{part, padded, joined, put_at}
 use Rattle.model.specs.Record.{Rec, unit, num}
 use Rattle.model.specs.Log.{records_of, sound_log_on, log_bytes, lacking}
@@ -115,7 +115,7 @@ module _ (base v b : List ℕ) (long : length b ≡ 40960) (sound : sound_log_on
       skipped e = next ∙ rw (not-true t e, append-nil)
 
       added : not t ≡ false → gathered v b (i + 1) ≡ gathered v b i ++ (part b (80 * i) 80 ∷ [])
-      added e = next ∙ rw (not_false t e)
+      added e = next ∙ rw (not-false t e)
 
       pub skips_count : not t ≡ true → n ≡ length (gathered v b (i + 1))
       skips_count e = rw (skipped e) counted

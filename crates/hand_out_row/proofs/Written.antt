@@ -11,7 +11,7 @@ use lib.Dec.{eqb}
 use lib.ListN.{length, take, drop, replicate, length-append, length-take, length-drop, length-replicate}
 use lib.Seq.{take_all, drop-length, drop-drop, drop-append-add}
 use borrow.Rule.Slice.PartMut.{put_mid}
-use borrow.Author.Tests.{not-true, not_false}
+use borrow.Author.Tests.{not-true, not-false}
 use Rattle.model.specs.Vector.{covers, blocks_for}
 use Rattle.model.specs.Bytes.{part, padded, joined, put_at}
 use Rattle.model.specs.Record.{Rec}
@@ -163,5 +163,5 @@ module _ (a u : ℕ) (log base v lent : List ℕ) {n m k j : ℕ} {folded held :
       pub all_handed : not t ≡ false → {i : ℕ} {o : List ℕ} → o ≡ padded 44032 (row_of a u held (records_of log) v) → i ≡ blocks_for (length (lacking v (records_of log))) → outcome 0 0 log o i ≡ hand_row_of a u log base v lent
       unfolding hand_row_of handed_row
       all_handed g {i} {o} p q =
-          let d : outcome 0 0 log o i ≡ handed_row a u log base v lent = rw (p, q, open_held u log base (eqb (length lent) 44032) true e z, asks, not_false t g) in
+          let d : outcome 0 0 log o i ≡ handed_row a u log base v lent = rw (p, q, open_held u log base (eqb (length lent) 44032) true e z, asks, not-false t g) in
           d ∙ call_passes u log base lent (eqb (length lent) 44032) e (handed_row a u log base v lent) z

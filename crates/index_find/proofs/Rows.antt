@@ -7,7 +7,7 @@ use mathlib.Core.Bool.{Bool, true, false, not, ◌&&◌}
 use mathlib.Core.List.{List}
 use lib.Dec.{ltb, eqb}
 use lib.ListN.{length, take, drop, replicate}
-use borrow.Author.Tests.{eq-eqb, ne_eqb, lt-ltb, le-ltb, ltb-true, not-true, not_false}
+use borrow.Author.Tests.{eq-eqb, ne_eqb, lt-ltb, le-ltb, ltb-true, not-true, not-false}
 use Rattle.byte_slice.proofs.Numbers.{and_true, and_wrong, test_false}
 use Rattle.byte_slice.proofs.Parts.{part_is, part_length}
 use Rattle.record_label.proofs.Same.{same_key, key_length}
@@ -75,13 +75,13 @@ module _ (b : List ℕ) (f : ℕ) (t : List ℕ) where
       pub find_there : not r ≡ false → (x : ℕ) → x ≡ entry_at b i → found 0 x ≡ find_of b f t
       unfolding find_of find_in
       find_there z x y =
-          let w : row_is b f t (seek b (folder_key f) t) ≡ true = rw (← sought) (sym e ∙ not_false r z) in
+          let w : row_is b f t (seek b (folder_key f) t) ≡ true = rw (← sought) (sym e ∙ not-false r z) in
           rw (eq-eqb (length b) index_size h, eq-eqb (length t) 32 g, w, ← sought, y)
 
       pub row_within : not r ≡ false → n ≤ index_places → i < index_places
       unfolding row_is
       row_within z few =
-          let (u, v) = and_true (ltb i (rows_in b)) (eqb (folder_at b i) f && same_label (label_at b i) t) (sym e ∙ not_false r z) in
+          let (u, v) = and_true (ltb i (rows_in b)) (eqb (folder_at b i) f && same_label (label_at b i) t) (sym e ∙ not-false r z) in
           omega (arith, ltb-true i (rows_in b) u)
 
 pub list_bad_index : (b : List ℕ) (f : ℕ) → (length b ≡ index_size → ⊥) → range 1 0 0 ≡ range_of b f

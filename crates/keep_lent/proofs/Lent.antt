@@ -6,7 +6,7 @@ use mathlib.Core.Bool.{Bool, true, false, cond, not, ◌||◌}
 use mathlib.Core.List.{List}
 use lib.Dec.{eqb}
 use lib.ListN.{length}
-use borrow.Author.Tests.{eqb-true, eq-eqb, ne_eqb, not-true, not_false}
+use borrow.Author.Tests.{eqb-true, eq-eqb, ne_eqb, not-true, not-false}
 use Rattle.byte_slice.proofs.Numbers.{and_true}
 use Rattle.model.specs.Lengths.{tree_size}
 use Rattle.call_model.specs.Outcome.{Outcome, outcome}
@@ -25,7 +25,7 @@ unfolding index_fits
 some_bytes i h = rw (ne_eqb (length i) 0 h)
 
 pub fits_by : {fit : Bool} (b : Bool) → b ≡ fit → not b ≡ false → fit ≡ true
-fits_by b e h = sym e ∙ not_false b h
+fits_by b e h = sym e ∙ not-false b h
 
 pub lent_long : (i : List ℕ) → index_fits i ≡ true → (length i ≡ 0 → ⊥) → length i ≡ index_size
 unfolding index_fits

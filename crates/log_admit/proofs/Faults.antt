@@ -7,7 +7,7 @@ use mathlib.Core.Bool.{Bool, true, false, cond, not, ◌&&◌}
 use mathlib.Core.List.{List}
 use lib.Dec.{leb, eqb}
 use lib.ListN.{get_or, set}
-use borrow.Author.Tests.{le-leb, lt-leb, eq-eqb, ne_eqb, eqb-true, not-true, not_false}
+use borrow.Author.Tests.{le-leb, lt-leb, eq-eqb, ne_eqb, eqb-true, not-true, not-false}
 use Rattle.model.specs.Bytes.{put_at}
 use Rattle.model.specs.Vector.{covers}
 use Rattle.model.specs.Record.{Rec, unit, num, seen_vector, well_formed}
@@ -25,12 +25,12 @@ module _ (n c a t : ℕ) (e : a ≡ n) (f : t ≡ c) where
   next_no h = sym (ne_eqb n (suc c) (λ k. h (omega arith)))
 
 pub formed : (r : Rec) (t : Bool) → t ≡ well_formed r → not t ≡ false → well_formed r ≡ true
-formed r t e g = sym e ∙ not_false t g
+formed r t e g = sym e ∙ not-false t g
 
 -- what is seen lies within what is held, so its positions lie in the tables
 pub placed_within : (base held s places : List ℕ) (t : Bool) → Placed base held places → t ≡ covers held s → not t ≡ false → Placed base s places
 placed_within base held s places t p e g =
-    let w : covers held s ≡ true = sym e ∙ not_false t g in
+    let w : covers held s ≡ true = sym e ∙ not-false t g in
     record {
       few = λ u h. omega (arith, covers_at held s w u h, p.few u h);
       inside = λ u c h l k. p.inside u c h l (omega (arith, covers_at held s w u h));
@@ -51,20 +51,20 @@ module _ (r : Rec) (base held places seens : List ℕ) where
     module _ (y : not x ≡ false) (s : List ℕ) (v : s ≡ seen_vector r) (t : Bool) (f : t ≡ covers held s) where
       pub join_above : not t ≡ true → 8 ≡ join_fault base held places seens r
       unfolding join_fault
-      join_above z = rw (← a, ← b, ← d, not_false x y, ← v, ← f, not-true t z)
+      join_above z = rw (← a, ← b, ← d, not-false x y, ← v, ← f, not-true t z)
 
       module _ (z : not t ≡ false) (o : Bool) (i : o ≡ closed_by base places seens s) where
         pub join_open : not o ≡ true → 9 ≡ join_fault base held places seens r
         unfolding join_fault
-        join_open w = rw (← a, ← b, ← d, not_false x y, ← v, ← f, not_false t z, ← i, not-true o w)
+        join_open w = rw (← a, ← b, ← d, not-false x y, ← v, ← f, not-false t z, ← i, not-true o w)
 
         pub join_quick : o ≡ true → 0 ≡ join_fault base held places seens r
         unfolding join_fault
-        join_quick w = rw (← a, ← b, ← d, not_false x y, ← v, ← f, not_false t z, ← i, w)
+        join_quick w = rw (← a, ← b, ← d, not-false x y, ← v, ← f, not-false t z, ← i, w)
 
         pub join_none : not o ≡ false → 0 ≡ join_fault base held places seens r
         unfolding join_fault
-        join_none w = rw (← a, ← b, ← d, not_false x y, ← v, ← f, not_false t z, ← i, not_false o w)
+        join_none w = rw (← a, ← b, ← d, not-false x y, ← v, ← f, not-false t z, ← i, not-false o w)
 
   -- a record that joins is its unit's next
   pub join_next : join_fault base held places seens r ≡ 0 → num r ≡ suc (get_or held (unit r) 0)
@@ -85,11 +85,11 @@ module _ (r : Rec) (base : List ℕ) (floor : ℕ) (held places seens : List ℕ
   module _ (g : not w ≡ false) (k : ℕ) (q : k ≡ rank r) where
     pub fault_low : k < floor → 20 ≡ fault_by base floor held places seens r
     unfolding fault_by
-    fault_low h = rw (← e, not_false w g, ← q, lt-leb floor k h)
+    fault_low h = rw (← e, not-false w g, ← q, lt-leb floor k h)
 
     pub fault_joins : floor ≤ k → (n : ℕ) → n ≡ join_fault base held places seens r → n ≡ fault_by base floor held places seens r
     unfolding fault_by
-    fault_joins h n f = rw (← e, not_false w g, ← q, le-leb floor k h) f
+    fault_joins h n f = rw (← e, not-false w g, ← q, le-leb floor k h) f
 
 -- ---- a record behind others is admitted
 

@@ -10,7 +10,7 @@ use mathlib.Core.List.{List, [], ◌∷◌}
 use lib.Dec.{eqb}
 use lib.ListN.{length, take, drop, replicate, length-drop}
 use lib.Seq.{drop-drop, take_all}
-use borrow.Author.Tests.{eq-eqb, ne_eqb, eqb-true, not_false}
+use borrow.Author.Tests.{eq-eqb, ne_eqb, eqb-true, not-false}
 use Rattle.model.specs.Bytes.{blank, part}
 use Rattle.model.specs.Record.{Rec}
 use Rattle.model.specs.Log.{vector_of, no_counts, record_fault, sound_after, records_in, records_of, sound_log_on, sound_log}
@@ -147,7 +147,7 @@ plain_sound b = refl
 -- what is known of a log that was checked and found sound
 module _ (b : List ℕ) {s : Bool} (judged : s ≡ sound_log b) (holds : not s ≡ false) where
   pub known_sound : sound_log b ≡ true
-  known_sound = sym judged ∙ not_false s holds
+  known_sound = sym judged ∙ not-false s holds
 
   pub known_held : {h : List ℕ} → h ≡ held_of no_counts b → h ≡ vector_of (records_of b)
   unfolding held_of sound_log sound_log_on

@@ -8,7 +8,7 @@ use mathlib.Core.Logic.{⊎_elim}
 use mathlib.Core.Bool.{Bool, true, false, not}
 use mathlib.Core.List.{List, [], ◌∷◌}
 use lib.ListN.{get_or, length}
-use borrow.Author.Tests.{le-leb, lt-leb, not-true, not_false}
+use borrow.Author.Tests.{le-leb, lt-leb, not-true, not-false}
 use Rattle.model.specs.Vector.{covers, covers_to}
 use Rattle.model.specs.Log.{all_to}
 use Rattle.byte_slice.proofs.Numbers.{lt_or_ge, and_wrong}
@@ -81,7 +81,7 @@ module _ (base places seens s : List ℕ) where
 
   -- the units one by one
   pub units_next : (u : ℕ) (t : Bool) → all_to u (unit_closed base places seens s) ≡ true → t ≡ unit_closed base places seens s u → not t ≡ false → all_to (u + 1) (unit_closed base places seens s) ≡ true
-  units_next u t a e h = all_next u (unit_closed base places seens s) a (sym e ∙ not_false t h)
+  units_next u t a e h = all_next u (unit_closed base places seens s) a (sym e ∙ not-false t h)
 
   pub unit_open : (u : ℕ) (t : Bool) → u < 8 → t ≡ unit_closed base places seens s u → not t ≡ true → false ≡ closed_by base places seens s
   unfolding closed_by

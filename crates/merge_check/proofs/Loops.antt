@@ -9,7 +9,7 @@ use mathlib.Core.Option.{none, some}
 use mathlib.Core.List.{List}
 use lib.Dec.{ltb}
 use lib.ListN.{get_or, length, take, drop}
-use borrow.Author.Tests.{not-true, not_false, lt-ltb}
+use borrow.Author.Tests.{not-true, not-false, lt-ltb}
 use Rattle.model.specs.Bytes.{same_bytes, part}
 use Rattle.model.specs.Record.{Rec, unit, num, well_formed}
 use Rattle.model.specs.Log.{count, by_id}
@@ -122,9 +122,9 @@ module _ (v g : List ℕ) (total used n i : ℕ) (q : room_fault v n i (listed (
     room_skip z = rw add-one (rw (not-true t z) at room_step)
 
     pub room_stop : not t ≡ false → n ≡ 512 → fault 11 (i / 6) ≡ room_fault v used 0 (listed (laid_at File g) 0 total)
-    room_stop z k = rw (not_false t z, k) at room_step
+    room_stop z k = rw (not-false t z, k) at room_step
 
     pub room_next : not t ≡ false → n ≤ 512 → (n ≡ 512 → ⊥) → room_fault v (n + 1) (i + 1) (listed (laid_at File g) (i + 1) (total - (i + 1))) ≡ room_fault v used 0 (listed (laid_at File g) 0 total)
     room_next z k x =
         let y : n < 512 = omega arith in
-        rw (add-one i, add-one n) (rw (not_false t z, lt-ltb n 512 y) at room_step)
+        rw (add-one i, add-one n) (rw (not-false t z, lt-ltb n 512 y) at room_step)

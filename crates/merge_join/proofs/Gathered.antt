@@ -7,7 +7,7 @@ use mathlib.Core.Bool.{Bool, true, false, cond, not}
 use mathlib.Core.List.{List, [], ◌∷◌, ◌++◌, append-nil}
 use lib.Dec.{ltb}
 use lib.ListN.{get_or, length, take, drop, length-append}
-use borrow.Author.Tests.{not-true, not_false}
+use borrow.Author.Tests.{not-true, not-false}
 use Rattle.model.specs.Bytes.{joined, put_at}
 use Rattle.model.specs.Record.{Rec, unit, num}
 use Rattle.model.specs.Log.{lacking}
@@ -52,7 +52,7 @@ module _ (v g : List ℕ) (total i : ℕ) (h : i < total) (at : ℕ) (ea : at �
   skipped z = more ∙ rw (not-true t z, append-nil)
 
   added : not t ≡ false → lacking v (listed (laid_at File g) 0 (i + 1)) ≡ lacking v (listed (laid_at File g) 0 i) ++ (laid_at File g i ∷ [])
-  added z = more ∙ rw (not_false t z)
+  added z = more ∙ rw (not-false t z)
 
   module _ (k : ℕ) where
     pub skips_count : not t ≡ true → k ≡ length (lacking v (listed (laid_at File g) 0 i)) → k ≡ length (lacking v (listed (laid_at File g) 0 (i + 1)))

@@ -37,14 +37,14 @@ agree_from a h i (x ∷ b) e r s p q u n =
     q)
     (cond_cases (differs (by_id (unit x) (num x) a) x) (fault 10 (i / 6)) (bytes_fault a (suc i) b))
   where
-    not_false : (t : Bool) → not t ≡ false → t ≡ true
-    not_false true z = refl
-    not_false false z = absurd (let w : ◌≡◌ {A = ℕ} 0 1 = cc in omega arith)
+    not-false : (t : Bool) → not t ≡ false → t ≡ true
+    not-false true z = refl
+    not-false false z = absurd (let w : ◌≡◌ {A = ℕ} 0 1 = cc in omega arith)
 
     here : differs (by_id (unit s) (num s) a) s ≡ false → r ≡ s
     here z =
         let k : by_id (unit s) (num s) a ≡ some r = rw (← u, ← n) (held-by_id a r h p) in
-        same_eq r s (not_false (same_bytes r s) (rw k at z))
+        same_eq r s (not-false (same_bytes r s) (rw k at z))
 
 -- and the other way round
 pub agree_bytes : (a : List Rec) (i : ℕ) (b : List Rec) → Agree a b → bytes_fault a i b ≡ fault 0 0

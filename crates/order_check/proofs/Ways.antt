@@ -7,7 +7,7 @@ use mathlib.Core.Bool.{Bool, true, false, cond, not, ◌&&◌}
 use mathlib.Core.List.{List}
 use lib.Dec.{eqb}
 use lib.ListN.{length, replicate}
-use borrow.Author.Tests.{eq-eqb, ne_eqb, eqb-true, not-true, not_false}
+use borrow.Author.Tests.{eq-eqb, ne_eqb, eqb-true, not-true, not-false}
 use Rattle.model.specs.Numbers.{first_of}
 use Rattle.model.specs.Bytes.{blank}
 use Rattle.model.specs.Record.{Rec}
@@ -148,7 +148,7 @@ module _ (log list places ours theirs : List ℕ) (n : ℕ) (w : Given log list 
 
   module _ (z : not t ≡ false) (a b : List ℕ) (r : Bool) (q : r ≡ shown_alike (replay (records_of log)) (replay (in_order_of (names_given list) (records_of log)))) (x : a ≡ table_bytes (replay (records_of log))) (y : b ≡ table_bytes (replay (in_order_of (names_given list) (records_of log)))) where
     seen : seen_first (in_order_of (names_given list) (records_of log)) ≡ true
-    seen = sym e ∙ not_false t z
+    seen = sym e ∙ not-false t z
 
     pub judged_differ : not r ≡ true → ordered 0 0 3 a b ≡ judged_order (names_given list) (records_of log) ours theirs
     unfolding judged_order failed_of
@@ -156,10 +156,10 @@ module _ (log list places ours theirs : List ℕ) (n : ℕ) (w : Given log list 
 
     pub judged_alike : not r ≡ false → ordered 0 0 0 a b ≡ judged_order (names_given list) (records_of log) ours theirs
     unfolding judged_order failed_of
-    judged_alike k = rw (x, y, w.names, seen, ← q, not_false r k)
+    judged_alike k = rw (x, y, w.names, seen, ← q, not-false r k)
 
 pub names_given_lem : (log list places : List ℕ) (n : ℕ) (t : Bool) → length log ≡ 40960 → sound_log log ≡ true → n ≡ length (records_of log) → Positions log places n → t ≡ names_all (names_given list) (records_of log) → not t ≡ false → Given log list places n
-names_given_lem log list places n t a b c d e z = record { long = a; sound = b; used = c; table = d; names = sym e ∙ not_false t z }
+names_given_lem log list places n t a b c d e z = record { long = a; sound = b; used = c; table = d; names = sym e ∙ not-false t z }
 
 -- ---- the call
 
@@ -174,7 +174,7 @@ module _ (log base : List ℕ) (lent : Bool) {n m k j used : ℕ} {folded held :
 
   module _ (h : not t ≡ false) where
     plain : base_vector base ≡ no_counts
-    plain = no_vector base (none ∙ not_false t h)
+    plain = no_vector base (none ∙ not-false t h)
 
     pub order_sound : sound_log log ≡ true
     unfolding sound_log
@@ -209,4 +209,4 @@ module _ (log base ours theirs : List ℕ) {n m k j used : ℕ} {folded held : L
 
       pub order_passes : not t ≡ false → (list : List ℕ) (o : Ordered) → o ≡ judged_order (names_given list) (records_of log) ours theirs → o ≡ order_of log base list ours theirs
       unfolding order_of order_number
-      order_passes h list o q = q ∙ rw (← guard, z, whole, not_false t h)
+      order_passes h list o q = q ∙ rw (← guard, z, whole, not-false t h)

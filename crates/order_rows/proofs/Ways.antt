@@ -7,7 +7,7 @@ use mathlib.Core.Path.{◌≡◌, refl, sym, ap, ◌∙◌}
 use mathlib.Core.Bool.{Bool, true, false, not, ◌&&◌, true≢false}
 use mathlib.Core.List.{List}
 use lib.ListN.{length, take, drop}
-use borrow.Author.Tests.{not-true, not_false}
+use borrow.Author.Tests.{not-true, not-false}
 use Rattle.model.specs.Bytes.{word, same_bytes, part}
 use Rattle.model.specs.Record.{identity_at}
 use Rattle.model.specs.Log.{all_to}
@@ -58,7 +58,7 @@ module _ (a b : List ℕ) (i j : ℕ) where
       → r ≡ row_alike Entries a i b j
   unfolding row_alike
   rows_same t r e z q =
-      let f : same_bytes (part a (4 + 72 * i) 12) (part b (4 + 72 * j) 12) ≡ true = sym (rw (part_is a (4 + 72 * i) 12, part_is b (4 + 72 * j) 12) at e) ∙ not_false t z in
+      let f : same_bytes (part a (4 + 72 * i) 12) (part b (4 + 72 * j) 12) ≡ true = sym (rw (part_is a (4 + 72 * i) 12, part_is b (4 + 72 * j) 12) at e) ∙ not-false t z in
       rw f (rw (part_is a (24 + 72 * i) 52, part_is b (24 + 72 * j) 52) at q)
 
   pub asides_same : (r : Bool) → r ≡ same_bytes (take (73732 + 12 * i + 12 - (73732 + 12 * i)) (drop (73732 + 12 * i) a)) (take (73732 + 12 * j + 12 - (73732 + 12 * j)) (drop (73732 + 12 * j) b))
@@ -81,7 +81,7 @@ module _ (p : Rows) (a b : List ℕ) (i n : ℕ) (t : Bool) (c : n ≡ row_count
 
   pub all_more : not t ≡ false → all_to i (row_shown p a b) ≡ true → all_to (i + 1) (row_shown p a b) ≡ true
   unfolding all_to
-  all_more z y = rw (add-one i, y, ← e) (not_false t z)
+  all_more z y = rw (add-one i, y, ← e) (not-false t z)
 
 pub all_done : (p : Rows) (a b : List ℕ) (i n : ℕ) → n ≡ row_count p a → i ≤ n → n ≤ i → all_to i (row_shown p a b) ≡ true → true ≡ rows_within p a b
 unfolding rows_within
@@ -96,7 +96,7 @@ module _ (a b : List ℕ) (t : Bool) where
 
   pub asides_decide : t ≡ rows_within Entries a b → not t ≡ false → (r : Bool) → r ≡ rows_within Asides a b → r ≡ table_within a b
   unfolding table_within
-  asides_decide e z r q = let f : rows_within Entries a b ≡ true = sym e ∙ not_false t z in rw f q
+  asides_decide e z r q = let f : rows_within Entries a b ≡ true = sym e ∙ not-false t z in rw f q
 
   pub one_differs : t ≡ table_within a b → not t ≡ true → false ≡ tables_alike a b
   unfolding tables_alike
@@ -104,7 +104,7 @@ module _ (a b : List ℕ) (t : Bool) where
 
   pub other_decides : t ≡ table_within a b → not t ≡ false → (r : Bool) → r ≡ table_within b a → r ≡ tables_alike a b
   unfolding tables_alike
-  other_decides e z r q = let f : table_within a b ≡ true = sym e ∙ not_false t z in rw f q
+  other_decides e z r q = let f : table_within a b ≡ true = sym e ∙ not-false t z in rw f q
 
 pub table_entries : (b : List ℕ) → Table b → Rowed Entries b
 table_entries b w = w.entries

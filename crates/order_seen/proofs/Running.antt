@@ -9,7 +9,7 @@ use mathlib.Core.Bool.{Bool, true, false, not, ◌&&◌}
 use mathlib.Core.List.{List, [], ◌∷◌}
 use lib.ListN.{get_or, length, take, drop, set, replicate}
 use lib.Seq.{get_or-set_same, get_or-set_other, set_out}
-use borrow.Author.Tests.{not-true, not_false}
+use borrow.Author.Tests.{not-true, not-false}
 use Rattle.model.specs.Vector.{covers}
 use Rattle.model.specs.Record.{Rec, unit, seen_vector}
 use Rattle.byte_slice.proofs.Numbers.{lt_or_ge, eq_or_ne}
@@ -68,7 +68,7 @@ module _ (log list places : List ℕ) (i n p : ℕ) (h : i < n) (e : p ≡ place
       → covers_each had' (listed (named_at log list places) (i + 1) (n - (i + 1))) ≡ t
   covers_go z u had' w v =
       let c : u ≡ unit (named_at log list places i) = w ∙ ap unit (named_lent log list places i p e) in
-      rw (v, c) (rw (covers-next had (named_at log list places) i n h, test, not_false r z) at inv)
+      rw (v, c) (rw (covers-next had (named_at log list places) i n h, test, not-false r z) at inv)
 
 pub covers_end : (had : List ℕ) (at : ℕ → Rec) (i n : ℕ) (t : Bool) → i ≤ n → n ≤ i → covers_each had (listed at i (n - i)) ≡ t → true ≡ t
 unfolding covers_each listed

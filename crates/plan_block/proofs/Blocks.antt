@@ -7,7 +7,7 @@ use mathlib.Core.Bool.{Bool, true, false, not}
 use mathlib.Core.List.{List}
 use lib.Dec.{leb, eqb}
 use lib.ListN.{length, take, drop}
-use borrow.Author.Tests.{eq-eqb, ne_eqb, le-leb, lt-leb, lt-ltb, le-ltb, leb-true, not-true, not_false}
+use borrow.Author.Tests.{eq-eqb, ne_eqb, le-leb, lt-leb, lt-ltb, le-ltb, leb-true, not-true, not-false}
 use Rattle.model.specs.Bytes.{same_bytes, blank, part}
 use Rattle.model.specs.Block.{sums_hold, archive_in, sender_in, count_in}
 use Rattle.byte_slice.proofs.Numbers.{and_true}
@@ -34,13 +34,13 @@ module _ (b : List ℕ) {n : ℕ} (en : n ≡ count_in b) where
       unfolding plan_header_holds part
       rest_decides h es =
           let m : 480 - 84 * n ≡ 508 - (28 + 84 * n) = omega arith in
-          es ∙ rw (← en, le-leb n 5 few, ← eu, eq-eqb u 0 z, ← et, not_false t h, m)
+          es ∙ rw (← en, le-leb n 5 few, ← eu, eq-eqb u 0 z, ← et, not-false t h, m)
 
 -- an accepted header counts at most five events
 pub few_events : (b : List ℕ) {n : ℕ} {t : Bool} → n ≡ count_in b → t ≡ plan_header_holds b → not t ≡ false → n ≤ 5
 unfolding plan_header_holds
 few_events b {n} {t} en et h =
-    let e : leb n 5 ≡ true = (and_true (leb n 5) _ (rw (← en) at (sym et ∙ not_false t h))).0 in
+    let e : leb n 5 ≡ true = (and_true (leb n 5) _ (rw (← en) at (sym et ∙ not-false t h))).0 in
     leb-true n 5 e
 
 -- ---- 5, 6, 30
@@ -53,16 +53,16 @@ module _ (archive : ℕ) (b : List ℕ) {t : Bool} (et : t ≡ plan_header_holds
   module _ {a : ℕ} (h : not t ≡ false) (ea : a ≡ archive_in b) where
     pub other_archive_lem : (a ≡ archive → ⊥) → 6 ≡ plan_body_fault archive b
     unfolding plan_body_fault
-    other_archive_lem d = rw (← et, not_false t h, ← ea, ne_eqb a archive d)
+    other_archive_lem d = rw (← et, not-false t h, ← ea, ne_eqb a archive d)
 
     module _ {n : ℕ} {s : Bool} (d : a ≡ archive) (en : n ≡ count_in b) (es : s ≡ events_hold b 0 n) where
       pub bad_event_lem : not s ≡ true → 30 ≡ plan_body_fault archive b
       unfolding plan_body_fault
-      bad_event_lem q = rw (← et, not_false t h, ← ea, eq-eqb a archive d, ← en, ← es, not-true s q)
+      bad_event_lem q = rw (← et, not-false t h, ← ea, eq-eqb a archive d, ← en, ← es, not-true s q)
 
       pub no_fault : not s ≡ false → 0 ≡ plan_body_fault archive b
       unfolding plan_body_fault
-      no_fault q = rw (← et, not_false t h, ← ea, eq-eqb a archive d, ← en, ← es, not_false s q)
+      no_fault q = rw (← et, not-false t h, ← ea, eq-eqb a archive d, ← en, ← es, not-false s q)
 
 -- ---- 3 and 4 before them
 
@@ -74,11 +74,11 @@ module _ (archive : ℕ) (b : List ℕ) {t : Bool} (et : t ≡ same_bytes (take 
   module _ {s : Bool} (h : not t ≡ false) (es : s ≡ sums_hold b) where
     pub bad_sum_lem : not s ≡ true → 4 ≡ plan_block_fault archive b
     unfolding plan_block_fault
-    bad_sum_lem q = rw (← et, not_false t h, ← es, not-true s q)
+    bad_sum_lem q = rw (← et, not-false t h, ← es, not-true s q)
 
     pub body_decides : {x : ℕ} → not s ≡ false → x ≡ plan_body_fault archive b → x ≡ plan_block_fault archive b
     unfolding plan_block_fault
-    body_decides q ex = ex ∙ rw (← et, not_false t h, ← es, not_false s q)
+    body_decides q ex = ex ∙ rw (← et, not-false t h, ← es, not-false s q)
 
 -- ---- 2 before all
 

@@ -9,7 +9,7 @@ use mathlib.Core.Bool.{Bool, true, false, not, ◌&&◌}
 use mathlib.Core.List.{List}
 use lib.Dec.{leb, eqb}
 use lib.ListN.{get_or, take, drop}
-use borrow.Author.Tests.{eq-eqb, ne_eqb, le-leb, lt-leb, not-true, not_false}
+use borrow.Author.Tests.{eq-eqb, ne_eqb, le-leb, lt-leb, not-true, not-false}
 use Rattle.model.specs.Bytes.{blank, part}
 use Rattle.byte_slice.proofs.Parts.{part_is}
 use Rattle.plan_model.specs.Plan.{event_at, event_kind, event_unit, event_other, act_holds, pass_holds, event_holds, events_hold}
@@ -29,11 +29,11 @@ module _ (e : List ℕ) where
     module _ (h : not t ≡ false) where
       pub act_strange : (get_or e 4 0 ≡ get_or e 1 0 → ⊥) → false ≡ act_holds e
       unfolding act_holds event_unit part
-      act_strange d = rw (le-leb (get_or e 1 0) 7 low, ← et, not_false t h, ne_eqb (get_or e 4 0) (get_or e 1 0) d)
+      act_strange d = rw (le-leb (get_or e 1 0) 7 low, ← et, not-false t h, ne_eqb (get_or e 4 0) (get_or e 1 0) d)
 
       pub act_decides : {s : Bool} → get_or e 4 0 ≡ get_or e 1 0 → s ≡ blank (take (24 - 6) (drop 6 e)) → s ≡ act_holds e
       unfolding act_holds event_unit part
-      act_decides d es = es ∙ rw (le-leb (get_or e 1 0) 7 low, ← et, not_false t h, eq-eqb (get_or e 4 0) (get_or e 1 0) d)
+      act_decides d es = es ∙ rw (le-leb (get_or e 1 0) 7 low, ← et, not-false t h, eq-eqb (get_or e 4 0) (get_or e 1 0) d)
 
 -- ---- the event of a pass
 
@@ -88,7 +88,7 @@ module _ (b : List ℕ) (n i : ℕ) (inv : events_hold b i (n - i) ≡ events_ho
     stops z = rw (not-true t z) at step
 
     pub goes_on_lem : not t ≡ false → events_hold b (i + 1) (n - (i + 1)) ≡ events_hold b 0 n
-    goes_on_lem z = rw (not_false t z) at step
+    goes_on_lem z = rw (not-false t z) at step
 
   pub ends : i ≤ n → n ≤ i → true ≡ events_hold b 0 n
   unfolding events_hold

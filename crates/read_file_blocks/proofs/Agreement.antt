@@ -10,7 +10,7 @@ use mathlib.Core.Bool.{Bool, true, false, cond, not, ◌&&◌, ◌||◌}
 use mathlib.Core.List.{List}
 use lib.Dec.{leb, ltb, eqb}
 use lib.ListN.{length, take, drop}
-use borrow.Author.Tests.{eq-eqb, ne_eqb, le-leb, lt-leb, lt-ltb, le-ltb, not-true, not_false}
+use borrow.Author.Tests.{eq-eqb, ne_eqb, le-leb, lt-leb, lt-ltb, le-ltb, not-true, not-false}
 use Rattle.model.specs.Bytes.{same_bytes, part}
 use Rattle.model.specs.Vector.{blocks_for, covers}
 use Rattle.model.specs.Block.{letters, archive_in, sender_in, place_in, count_in, vector_in}
@@ -108,7 +108,7 @@ module _ (w n k : ℕ) (first b : List ℕ) {p : ℕ} (ep : p ≡ place_in b) wh
 
         pub fullness_decides : {c : ℕ} {r : Bool} → not t ≡ false → c ≡ count_in b → r ≡ count_fits_as w n k c → r ≡ agrees_as w n k first b
         unfolding agrees_as
-        fullness_decides h ec er = er ∙ rw (← ep, eq-eqb p k hp, ← es, ← es₀, eq-eqb s s₀ hs, ← ea, ← ea₀, eq-eqb a a₀ ha, ← ev, ← ev₀, ← et, not_false t h, ← ec)
+        fullness_decides h ec er = er ∙ rw (← ep, eq-eqb p k hp, ← es, ← es₀, eq-eqb s s₀ hs, ← ea, ← ea₀, eq-eqb a a₀ ha, ← ev, ← ev₀, ← et, not-false t h, ← ec)
 
 -- ---- a block of a file
 
@@ -143,7 +143,7 @@ module _ (a : List ℕ) (w : ℕ) (f : List ℕ) (n k : ℕ) (whole : length f �
 
       pub passes : not t ≡ false → 0 ≡ file_block_fault_as a w f k
       unfolding file_block_fault_as
-      passes h = rw (← alone, eq-eqb x 0 z, ← beside, not_false t h)
+      passes h = rw (← alone, eq-eqb x 0 z, ← beside, not-false t h)
 
 -- ---- block after block
 

@@ -8,7 +8,7 @@ use mathlib.Core.Bool.{Bool, true, false, not, ◌&&◌}
 use mathlib.Core.List.{List, []}
 use lib.Dec.{leb, eqb}
 use lib.ListN.{length, take, drop, replicate}
-use borrow.Author.Tests.{eq-eqb, ne_eqb, eqb-true, eqb-false, leb-true, not-true, not_false}
+use borrow.Author.Tests.{eq-eqb, ne_eqb, eqb-true, eqb-false, leb-true, not-true, not-false}
 use Rattle.model.specs.Bytes.{same_bytes, part}
 use Rattle.model.specs.Log.{vector_of, vector_on, no_counts}
 use Rattle.model.specs.Block.{letters, vector_in}
@@ -36,7 +36,7 @@ module _ (f : List ℕ) {t : Bool} (e : t ≡ file_length f) (h : not t ≡ fals
   tests : (length f % 512 ≡ 0) × (1 ≤ length f / 512) × (length f / 512 ≤ 86)
   unfolding file_length
   tests =
-      let (p, q) = and_true (eqb (length f % 512) 0) (leb 1 (length f / 512) && leb (length f / 512) 86) (sym e ∙ not_false t h) in
+      let (p, q) = and_true (eqb (length f % 512) 0) (leb 1 (length f / 512) && leb (length f / 512) 86) (sym e ∙ not-false t h) in
       let (r, s) = and_true (leb 1 (length f / 512)) (leb (length f / 512) 86) q in
       (eqb-true (length f % 512) 0 p, leb-true 1 (length f / 512) r, leb-true (length f / 512) 86 s)
 
@@ -66,7 +66,7 @@ module _ (m : ℕ) (v : List ℕ) (p : ℕ) (f : List ℕ) (rn rp : ℕ) (held p
 
     pub nothing_refused : not t ≡ false → fault 0 0 ≡ or_else (records_fault_on m v p [] 0 (file_records f)) (counts_fault_on v n (vector_in b) (file_records f))
     unfolding or_else fault counts_fault_on
-    nothing_refused h = sym (rw (← j.first, y, ← compared, not_false t h))
+    nothing_refused h = sym (rw (← j.first, y, ← compared, not-false t h))
 
 module _ (m : ℕ) (v : List ℕ) (p : ℕ) (f : List ℕ) (rn rp : ℕ) (held places seens : List ℕ) (j : Judges m v p f rn rp held places seens) where
   pub held_indexed : rn ≡ 0 → Indexed v (laid_at File f) (records_counted f) (file_records f) (vector_on v (file_records f)) places seens
@@ -127,7 +127,7 @@ module _ (f : List ℕ) {t : Bool} (e : t ≡ file_length f) where
   not_whole h = rw (← e, not-true t h)
 
   pub whole-checked : not t ≡ false → (n p : ℕ) → fault n p ≡ file_fault f → fault n p ≡ checked_fault f
-  whole-checked h n p q = q ∙ rw (← e, not_false t h)
+  whole-checked h n p q = q ∙ rw (← e, not-false t h)
 
 -- ---- what reading answers, where no base is lent
 

@@ -11,7 +11,7 @@ use mathlib.Core.Bool.{Bool, true, false, cond, not, ◌&&◌}
 use mathlib.Core.List.{List, [], ◌∷◌}
 use lib.Dec.{ltb, eqb}
 use lib.ListN.{get_or, length, take, drop, get_or-eq_default}
-use borrow.Author.Tests.{eq-eqb, ne_eqb, lt-ltb, le-ltb, not-true, not_false}
+use borrow.Author.Tests.{eq-eqb, ne_eqb, lt-ltb, le-ltb, not-true, not-false}
 use Rattle.model.specs.Bytes.{part}
 use Rattle.model.specs.Record.{Rec, unit, well_formed}
 use Rattle.model.specs.Log.{record_fault, rises, is_next, is_within, is_closed}
@@ -75,7 +75,7 @@ module _ (m : ℕ) (f : List ℕ) (n i : ℕ) (inv : unlisted_from m (laid_at Fi
     list_stops z = rw (not-true t z) at step
 
     pub list_goes_on : not t ≡ false → unlisted_from m (laid_at File f) (i + 1) (n - (i + 1)) ≡ unlisted_from m (laid_at File f) 0 n
-    list_goes_on z = rw (not_false t z) at step
+    list_goes_on z = rw (not-false t z) at step
 
   pub list_ends : i ≤ n → n ≤ i → i ≡ unlisted_from m (laid_at File f) 0 n
   unfolding unlisted_from

@@ -3,7 +3,7 @@
 use mathlib.Core.Path.{◌≡◌}
 use mathlib.Core.Bool.{Bool, true, false, not}
 use lib.ListN.{length}
-use borrow.Author.Tests.{eq-eqb, ne_eqb, not-true, not_false}
+use borrow.Author.Tests.{eq-eqb, ne_eqb, not-true, not-false}
 use Rattle.model.specs.Record.{Rec, head_fits, object_fits, folder_fits, date_fits, label_fits, mark_fits, well_formed}
 
 pub other_length : (r : Rec) → (length r ≡ 80 → ⊥) → false ≡ well_formed r
@@ -18,23 +18,23 @@ module _ (r : Rec) {h : Bool} (n : length r ≡ 80) (eh : h ≡ head_fits r) whe
   module _ {o : Bool} (gh : not h ≡ false) (eo : o ≡ object_fits r) where
     pub bad_object : not o ≡ true → false ≡ well_formed r
     unfolding well_formed
-    bad_object f = rw (eq-eqb (length r) 80 n, ← eh, not_false h gh, ← eo, not-true o f)
+    bad_object f = rw (eq-eqb (length r) 80 n, ← eh, not-false h gh, ← eo, not-true o f)
 
     module _ {p : Bool} (go : not o ≡ false) (ep : p ≡ folder_fits r) where
       pub bad_folder : not p ≡ true → false ≡ well_formed r
       unfolding well_formed
-      bad_folder f = rw (eq-eqb (length r) 80 n, ← eh, not_false h gh, ← eo, not_false o go, ← ep, not-true p f)
+      bad_folder f = rw (eq-eqb (length r) 80 n, ← eh, not-false h gh, ← eo, not-false o go, ← ep, not-true p f)
 
       module _ {d : Bool} (gp : not p ≡ false) (ed : d ≡ date_fits r) where
         pub bad_date : not d ≡ true → false ≡ well_formed r
         unfolding well_formed
-        bad_date f = rw (eq-eqb (length r) 80 n, ← eh, not_false h gh, ← eo, not_false o go, ← ep, not_false p gp, ← ed, not-true d f)
+        bad_date f = rw (eq-eqb (length r) 80 n, ← eh, not-false h gh, ← eo, not-false o go, ← ep, not-false p gp, ← ed, not-true d f)
 
         module _ {l : Bool} (gd : not d ≡ false) (el : l ≡ label_fits r) where
           pub bad_label : not l ≡ true → false ≡ well_formed r
           unfolding well_formed
-          bad_label f = rw (eq-eqb (length r) 80 n, ← eh, not_false h gh, ← eo, not_false o go, ← ep, not_false p gp, ← ed, not_false d gd, ← el, not-true l f)
+          bad_label f = rw (eq-eqb (length r) 80 n, ← eh, not-false h gh, ← eo, not-false o go, ← ep, not-false p gp, ← ed, not-false d gd, ← el, not-true l f)
 
           pub mark_last : {m : Bool} → not l ≡ false → m ≡ mark_fits r → m ≡ well_formed r
           unfolding well_formed
-          mark_last gl em = rw (eq-eqb (length r) 80 n, ← eh, not_false h gh, ← eo, not_false o go, ← ep, not_false p gp, ← ed, not_false d gd, ← el, not_false l gl, em)
+          mark_last gl em = rw (eq-eqb (length r) 80 n, ← eh, not-false h gh, ← eo, not-false o go, ← ep, not-false p gp, ← ed, not-false d gd, ← el, not-false l gl, em)

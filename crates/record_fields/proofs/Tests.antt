@@ -5,7 +5,7 @@ use mathlib.Core.Path.{◌≡◌, refl, sym}
 use mathlib.Core.Bool.{Bool, true, false, cond, not, ◌&&◌}
 use lib.Dec.{leb, eqb}
 use lib.ListN.{get_or, take, drop}
-use borrow.Author.Tests.{eq-eqb, ne_eqb, le-leb, lt-leb, not-true, not_false}
+use borrow.Author.Tests.{eq-eqb, ne_eqb, le-leb, lt-leb, not-true, not-false}
 use Rattle.model.specs.Bytes.{word, blank, part}
 use Rattle.model.specs.Date.{is_date}
 use Rattle.model.specs.Record.{Rec, unit, op, num, seen, label_of, is_label, uses_object, uses_folder, uses_label, uses_mark, unused, names, head_fits, object_fits, folder_fits, date_fits, label_fits, mark_fits}
@@ -103,4 +103,4 @@ module _ (r : Rec) {z : Bool} (e : z ≡ blank (part r 24 4)) where
 
     pub folder_used : {b : Bool} → not u ≡ false → b ≡ names r 24 → b ≡ folder_fits r
     unfolding folder_fits op unused
-    folder_used g k = rw (← f, not_false u g, ← e, h, k)
+    folder_used g k = rw (← f, not-false u g, ← e, h, k)

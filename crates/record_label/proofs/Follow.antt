@@ -10,7 +10,7 @@ use mathlib.Core.Bool.{Bool, true, false, cond, not, ◌&&◌, ◌||◌}
 use mathlib.Core.List.{List, [], ◌∷◌}
 use lib.Dec.{leb, eqb}
 use lib.ListN.{get_or, length, get_or-eq_default}
-use borrow.Author.Tests.{leb-true, eqb-true, eqb-false, le-leb, eq-eqb, ne_eqb, not-true, not_false}
+use borrow.Author.Tests.{leb-true, eqb-true, eqb-false, le-leb, eq-eqb, ne_eqb, not-true, not-false}
 use Rattle.model.specs.Record.{text_length, is_label}
 use Rattle.byte_slice.proofs.Numbers.{lt_or_ge, and_true, or_true, true_and, test_false, not_both, bool_cases}
 use Rattle.record_label.specs.Label.{Label}
@@ -79,7 +79,7 @@ module _ (t : List ℕ) (n : ℕ) (p : Bool) (field : n ≡ 31) (first : p ≡ f
           let whole : follow_to t 0 n ≡ true =
           all_run t 0 n (λ i l.
           ⊎_elim
-          (λ (m : i < 16). run_at t 0 16 (sym first ∙ not_false p g) i m)
+          (λ (m : i < 16). run_at t 0 16 (sym first ∙ not-false p g) i m)
           (λ (m : 16 ≤ i).
           let q : 15 + (i - 15) ≡ 0 + i = omega arith in
           rw q at (run_at t 15 16 k (i - 15) (omega arith)))
@@ -204,4 +204,4 @@ module _ (t : List ℕ) where
       where
         go : (s : Bool) → eqb (get_or t (length t - 1) 0) 32 ≡ s → not (eqb (get_or t (length t - 1) 0) 32) ≡ is_label t
         go true k = rw k (sym (test_false (is_label t) (λ e. end_no_space t some (label_means t e) (eqb-true (get_or t (length t - 1) 0) 32 k))))
-        go false k = rw k (sym (a_label t (told t some (sym f ∙ not_false p g) a b (eqb-false (get_or t (length t - 1) 0) 32 k))))
+        go false k = rw k (sym (a_label t (told t some (sym f ∙ not-false p g) a b (eqb-false (get_or t (length t - 1) 0) 32 k))))

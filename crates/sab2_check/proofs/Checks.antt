@@ -8,7 +8,7 @@ use mathlib.Core.List.{List, []}
 use lib.Dec.{leb, eqb}
 use lib.ListN.{get_or, length, take, drop, length-take, length-drop}
 use lib.Seq.{take_all}
-use borrow.Author.Tests.{ne_eqb, eqb-true, leb-true, not-true, not_false}
+use borrow.Author.Tests.{ne_eqb, eqb-true, leb-true, not-true, not-false}
 use Rattle.model.specs.Bytes.{word, part}
 use Rattle.model.specs.Vector.{blocks_for}
 use Rattle.model.specs.Record.{Rec}
@@ -38,7 +38,7 @@ module _ (f : List ℕ) {t : Bool} (e : t ≡ rows_hold (sab2_rows f)) where
 
   module _ (h : not t ≡ false) {b : List ℕ} (l : t ≡ true → b ≡ sab2_base f) {m n k : ℕ} {v : List ℕ} (eh : headed m v n k ≡ head_of b) where
     base_is : b ≡ sab2_base f
-    base_is = l (not_false t h)
+    base_is = l (not-false t h)
 
     list_is : m ≡ get_or (sab2_base f) 0 0
     unfolding head_of
@@ -50,19 +50,19 @@ module _ (f : List ℕ) {t : Bool} (e : t ≡ rows_hold (sab2_rows f)) where
 
     stands_as : rows_stand (sab2_rows f) ≡ (lists_all m v && sound_base b)
     unfolding rows_stand base_stands sab2_base
-    stands_as = rw (← e, not_false t h, list_is, vector_is, base_is)
+    stands_as = rw (← e, not-false t h, list_is, vector_is, base_is)
 
     pub list_fails : {u : Bool} → u ≡ lists_all m v → not u ≡ true → false ≡ rows_stand (sab2_rows f)
     list_fails {u} eu z = sym (stands_as ∙ rw (← eu, not-true u z))
 
     pub base_decides : {u w : Bool} → u ≡ lists_all m v → not u ≡ false → w ≡ sound_base b → w ≡ rows_stand (sab2_rows f)
-    base_decides {u} eu z ew = ew ∙ sym (stands_as ∙ rw (← eu, not_false u z))
+    base_decides {u} eu z ew = ew ∙ sym (stands_as ∙ rw (← eu, not-false u z))
 
 pub none_left : (o s : List ℕ) → false ≡ true → o ≡ s
 none_left o s e = absurd (not_both false e refl)
 
 pub base_left_lem : (f b : List ℕ) {t : Bool} → not t ≡ false → (t ≡ true → b ≡ sab2_base f) → b ≡ sab2_base f
-base_left_lem f b {t} h l = l (not_false t h)
+base_left_lem f b {t} h l = l (not-false t h)
 
 -- rows that keep their layout are few
 two_few : (rows : List Rec) → rows_hold rows ≡ true → (word (get_or rows 0 []) 2 ≤ 512) × (word (get_or rows 0 []) 4 ≤ 512)
@@ -173,10 +173,10 @@ module _ (f : List ℕ) (n : ℕ) (whole : length f ≡ 512 * n) (r bn bp : ℕ)
     base_refused h = sym (then_held ∙ rw (not-true t h))
 
     pub stands_so : not t ≡ false → rows_stand (sab2_rows f) ≡ true
-    stands_so h = sym et ∙ not_false t h
+    stands_so h = sym et ∙ not-false t h
 
     pub behind_decides : not t ≡ false → (x y : ℕ) → fault x y ≡ held_fault true (sab2_base f) (row_blocks f) n (vector_in (block_at f 0)) (sab2_records f) → fault x y ≡ sab2_fault f
-    behind_decides h x y e = e ∙ sym (then_held ∙ rw (not_false t h))
+    behind_decides h x y e = e ∙ sym (then_held ∙ rw (not-false t h))
 
 -- ---- the length
 
@@ -192,7 +192,7 @@ module _ (f : List ℕ) {t : Bool} (e : t ≡ (eqb (length f % 512) 0 && (leb 1 
   module _ (h : not t ≡ false) where
     tests : (length f % 512 ≡ 0) × (1 ≤ length f / 512) × (length f / 512 ≤ 186)
     tests =
-        let (p, q) = and_true (eqb (length f % 512) 0) (leb 1 (length f / 512) && leb (length f / 512) 186) (sym e ∙ not_false t h) in
+        let (p, q) = and_true (eqb (length f % 512) 0) (leb 1 (length f / 512) && leb (length f / 512) 186) (sym e ∙ not-false t h) in
         let (r, s) = and_true (leb 1 (length f / 512)) (leb (length f / 512) 186) q in
         (eqb-true (length f % 512) 0 p, leb-true 1 (length f / 512) r, leb-true (length f / 512) 186 s)
 
@@ -207,7 +207,7 @@ module _ (f : List ℕ) {t : Bool} (e : t ≡ (eqb (length f % 512) 0 && (leb 1 
 
     pub whole-checked : (n p : ℕ) → fault n p ≡ sab2_fault f → fault n p ≡ checked_sab2 f
     unfolding checked_sab2
-    whole-checked n p q = q ∙ rw (fits_as_lem, not_false t h)
+    whole-checked n p q = q ∙ rw (fits_as_lem, not-false t h)
 
 -- a refusal leaves nothing to say
 pub number_not : (x : ℕ) (o s : List ℕ) → (x ≡ 0 → ⊥) → x ≡ 0 → o ≡ s

@@ -6,7 +6,7 @@ use mathlib.Core.Logic.{⊎_elim}
 use mathlib.Core.Bool.{Bool, true, false, cond, not, ◌&&◌, false≢true}
 use mathlib.Core.List.{List, []}
 use lib.ListN.{length, drop, get_or}
-use borrow.Author.Tests.{not-true, not_false}
+use borrow.Author.Tests.{not-true, not-false}
 use Rattle.model.specs.Bytes.{blank}
 use Rattle.model.specs.Log.{records_of, sound_after, sound_log_on}
 use Rattle.byte_slice.proofs.Numbers.{bool_cases, and_true}
@@ -27,10 +27,10 @@ module _ (h : BaseHead) (s : Bool) (held : List ℕ) (n : ℕ) (m : ℕ) where
 
   module _ (f : not s ≡ false) where
     pub unit-unlisted : (o : StateTold) {t : Bool} → o ≡ unsound → t ≡ lists_all m held → not t ≡ true → o ≡ cond (s && lists_all m held) (stated true h held n) unsound
-    unit-unlisted o {t} e g k = e ∙ rw (not_false s f, ← g, not-true t k)
+    unit-unlisted o {t} e g k = e ∙ rw (not-false s f, ← g, not-true t k)
 
     pub all_sound : {t : Bool} → t ≡ lists_all m held → not t ≡ false → stated true h held n ≡ cond (s && lists_all m held) (stated true h held n) unsound
-    all_sound {t} g k = rw (not_false s f, ← g, not_false t k)
+    all_sound {t} g k = rw (not-false s f, ← g, not-false t k)
 
 -- ---- the ways out of `check_state_into`
 
@@ -50,7 +50,7 @@ module _ (log base : List ℕ) {p : Bool} (e : p ≡ sound_base base) where
 
   module _ (f : not p ≡ false) where
     based : sound_base base ≡ true
-    based = sym e ∙ not_false p f
+    based = sym e ∙ not-false p f
 
     module _ (h : BaseHead) (hd : h ≡ head_of base) (places₀ seens₀ : List ℕ) (s : Bool) (used : ℕ) (held places seens : List ℕ) (c : checked s used held places seens ≡ check_of h.folded log places₀ seens₀) where
       folded_is : h.folded ≡ base_vector base

@@ -7,7 +7,7 @@ use mathlib.Core.Bool.{Bool, true, false, cond, not}
 use mathlib.Core.List.{List}
 use lib.Dec.{ltb, eqb}
 use lib.ListN.{get_or, length, take, drop, set}
-use borrow.Author.Tests.{lt-ltb, le-ltb, ltb-true, le-leb, lt-leb, eq-eqb, ne_eqb, eqb-true, eqb-false, not-true, not_false}
+use borrow.Author.Tests.{lt-ltb, le-ltb, ltb-true, le-leb, lt-leb, eq-eqb, ne_eqb, eqb-true, eqb-false, not-true, not-false}
 use Rattle.model.specs.Bytes.{same_bytes, put_at}
 use Rattle.model.specs.Vector.{covers}
 use Rattle.model.specs.Record.{Rec, unit, num, seen_vector, well_formed}
@@ -70,15 +70,15 @@ module _ (r : Rec) (base held : List ℕ) (used : ℕ) (places seens : List ℕ)
     module _ (g : not t ≡ false) where
       pub new_barred : (n ≡ 0 → ⊥) → n ≡ new_by base held used places seens r
       unfolding new_by
-      new_barred h = rw (← e, ne_eqb n 8 x, covering, not_false t g, ne_eqb n 0 h)
+      new_barred h = rw (← e, ne_eqb n 8 x, covering, not-false t g, ne_eqb n 0 h)
 
       pub new_full : n ≡ 0 → 512 ≤ used → 11 ≡ new_by base held used places seens r
       unfolding new_by
-      new_full z k = rw (← e, ne_eqb n 8 x, covering, not_false t g, eq-eqb n 0 z, le-ltb used 512 k)
+      new_full z k = rw (← e, ne_eqb n 8 x, covering, not-false t g, eq-eqb n 0 z, le-ltb used 512 k)
 
       pub new_none : n ≡ 0 → used < 512 → 0 ≡ new_by base held used places seens r
       unfolding new_by
-      new_none z k = rw (← e, ne_eqb n 8 x, covering, not_false t g, eq-eqb n 0 z, lt-ltb used 512 k)
+      new_none z k = rw (← e, ne_eqb n 8 x, covering, not-false t g, eq-eqb n 0 z, lt-ltb used 512 k)
 
 -- ---- a new record is refused or held
 
@@ -141,16 +141,16 @@ module _ (m : ℕ) (base : List ℕ) (at : ℕ → Rec) (r : Rec) (p : ℕ) (hel
 
     pub take-unlisted : not y ≡ true → step 26 held used places seens ≡ take_by m base at r p held used places seens
     unfolding take_by
-    take-unlisted h = rw (← e, not_false w g, named, not-true y h)
+    take-unlisted h = rw (← e, not-false w g, named, not-true y h)
 
     module _ (j : not y ≡ false) (c : ℕ) (b : c ≡ num r) where
       pub take_unheld : get_or held u 0 < c → (o : Step) → o ≡ new_step base r p held used places seens → o ≡ take_by m base at r p held used places seens
       unfolding take_by
-      take_unheld h o f = f ∙ rw (← e, not_false w g, named, not_false y j, ← a, ← b, lt-leb c (get_or held u 0) h)
+      take_unheld h o f = f ∙ rw (← e, not-false w g, named, not-false y j, ← a, ← b, lt-leb c (get_or held u 0) h)
 
       pub take_known : c ≤ get_or held u 0 → (n : ℕ) → n ≡ held_by base at places r → step n held used places seens ≡ take_by m base at r p held used places seens
       unfolding take_by
-      take_known h n f = rw (f, ← e, not_false w g, named, not_false y j, ← a, ← b, le-leb c (get_or held u 0) h)
+      take_known h n f = rw (f, ← e, not-false w g, named, not-false y j, ← a, ← b, le-leb c (get_or held u 0) h)
 
 module _ (r : Rec) (w : Bool) (e : w ≡ well_formed r) (g : not w ≡ false) (u : ℕ) (a : u ≡ unit r) where
   pub unit_judged : u < 8
@@ -173,7 +173,7 @@ module _ (base : List ℕ) (at : ℕ → Rec) (r : Rec) (places : List ℕ) (u c
 
     pub held_same : not t ≡ false → 0 ≡ held_by base at places r
     unfolding held_by
-    held_same z = rw (← a, ← b, lt-leb c (get_or base u 0) l, ← j, ← i, ← f, not_false t z)
+    held_same z = rw (← a, ← b, lt-leb c (get_or base u 0) l, ← j, ← i, ← f, not-false t z)
 
 module _ (base held places : List ℕ) (r : Rec) (w : well_formed r ≡ true) (k : Placed base held places) (h : num r ≤ get_or held (unit r) 0) (u c : ℕ) (a : u ≡ unit r) (b : c ≡ num r) where
   pub held-unit : u < 8

@@ -10,7 +10,7 @@ use mathlib.Core.Bool.{Bool, true, false, not, ◌&&◌}
 use mathlib.Core.List.{List, [], ◌∷◌}
 use lib.Dec.{ltb, leb}
 use lib.ListN.{length, get_or, take, drop}
-use borrow.Author.Tests.{lt-leb, le-leb, ltb-true, leb-true, not-true, not_false}
+use borrow.Author.Tests.{lt-leb, le-leb, ltb-true, leb-true, not-true, not-false}
 use Rattle.model.specs.Record.{Rec, unit, num}
 use Rattle.model.specs.Log.{rank, insert, count_on, vector_on, log_bytes}
 use Rattle.model.specs.Block.{record_at, records_from}
@@ -60,10 +60,10 @@ module _ (held b : List ℕ) (n floor j : ℕ) (h : j < n) (q : new_from held (r
       rank_is = sym (rw lent_is at d)
 
       pub not_rising : k < floor → false ≡ new_from held (record_at b) 0 0 n
-      not_rising l = rw (not_false t g, rank_is, lt-leb floor k l) at step
+      not_rising l = rw (not-false t g, rank_is, lt-leb floor k l) at step
 
       pub new_next : floor ≤ k → new_from held (record_at b) (k + 1) (j + 1) (n - (j + 1)) ≡ new_from held (record_at b) 0 0 n
-      new_next l = rw (← add-one k, ← add-one j) at (rw (not_false t g, rank_is, le-leb floor k l) at step)
+      new_next l = rw (← add-one k, ← add-one j) at (rw (not-false t g, rank_is, le-leb floor k l) at step)
 
 pub new_starts : (held b : List ℕ) (n : ℕ) → new_from held (record_at b) 0 0 (n - 0) ≡ new_from held (record_at b) 0 0 n
 new_starts held b n = rw (sub-zero n)

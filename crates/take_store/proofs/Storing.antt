@@ -9,7 +9,7 @@ use mathlib.Core.Bool.{Bool, true, false, not}
 use mathlib.Core.List.{List, [], ◌∷◌}
 use lib.ListN.{length, get_or, set, take, drop}
 use lib.Seq.{ext_get_or}
-use borrow.Author.Tests.{ltb-true, ltb-false, not-true, not_false}
+use borrow.Author.Tests.{ltb-true, ltb-false, not-true, not-false}
 use Rattle.model.specs.Record.{Rec, unit, num, well_formed}
 use Rattle.model.specs.Log.{insert, count_on, vector_on, records_of, log_bytes}
 use Rattle.model.specs.Block.{record_at, records_from}
@@ -85,7 +85,7 @@ module _ (v log : List ℕ) (used : ℕ) (held : List ℕ) (g : Stored v (record
       module _ (h : not b ≡ false) where
         above : get_or held (unit r) 0 < num r
         unfolding is_new
-        above = ltb-true (get_or held (unit r) 0) (num r) (sym e ∙ not_false b h)
+        above = ltb-true (get_or held (unit r) 0) (num r) (sym e ∙ not-false b h)
 
         new : New v l r (after m v l r)
         unfolding l

@@ -10,7 +10,7 @@ use mathlib.Core.Option.{none, some}
 use mathlib.Core.List.{List, [], ◌∷◌}
 use lib.Dec.{eqb}
 use lib.ListN.{length}
-use borrow.Author.Tests.{eq-eqb, ne_eqb, not-true, not_false}
+use borrow.Author.Tests.{eq-eqb, ne_eqb, not-true, not-false}
 use Rattle.model.specs.Replay.{Entry, is_present, entry_of, comes_to, is_below}
 use Rattle.byte_slice.proofs.Numbers.{not_both}
 use Rattle.model.specs.Table.{entry_in}
@@ -59,4 +59,4 @@ module _ (b : List ℕ) (n k f at steps : ℕ) (inv : comes_to steps k at (entri
       below_goes g up e = rw e (rw (ne_eqb at k other, ← o, row_some b n row g) at (more h))
 
 pub identity_in : (k : ℕ) (s : Bool) → s ≡ is_identity k → not s ≡ false → InRange k
-identity_in k s e g = identity-range k (sym e ∙ not_false s g)
+identity_in k s e g = identity-range k (sym e ∙ not-false s g)

@@ -8,7 +8,7 @@ use mathlib.Core.Logic.{◌⊎◌, inl, inr, ⊎_elim}
 use mathlib.Core.Bool.{Bool, true, false, not, ◌&&◌}
 use mathlib.Core.List.{List, [], ◌∷◌, ◌++◌}
 use lib.ListN.{get_or, length, set}
-use borrow.Author.Tests.{ne_eqb, not-true, not_false}
+use borrow.Author.Tests.{ne_eqb, not-true, not-false}
 use Rattle.model.specs.Replay.{Entry, Tree, is_present, is_in}
 use Rattle.byte_slice.proofs.Numbers.{eq_or_ne, and_wrong, not_both, lt_or_ge}
 use Rattle.tree_table.specs.Rows.{tree_in, InRange, AllProper}

@@ -9,7 +9,7 @@ use mathlib.Core.Bool.{Bool, true, false, not, ◌&&◌}
 use mathlib.Core.List.{List, [], ◌∷◌}
 use lib.Dec.{eqb}
 use lib.ListN.{get_or, take, drop}
-use borrow.Author.Tests.{eq-eqb, ne_eqb, eqb-true, le-leb, lt-leb, not-true, not_false}
+use borrow.Author.Tests.{eq-eqb, ne_eqb, eqb-true, le-leb, lt-leb, not-true, not-false}
 use Rattle.model.specs.Replay.{Entry, is_present, is_in, same_label, is_holder, holder_of}
 use Rattle.byte_slice.proofs.Numbers.{lt_or_ge, bool_cases, and_true, not_both, test_false}
 use Rattle.record_label.proofs.Same.{same_key}
@@ -40,11 +40,11 @@ module _ (b : List ℕ) (i k f : ℕ) (label : List ℕ) (t : Bool) (h : t ≡ i
 
   pub holds_itself : (x : ℕ) → not t ≡ false → x ≡ (entry_in b (4 + 72 * i)).made → x ≡ k → false ≡ holds_at b k f label i
   unfolding holds_at is_holder
-  holds_itself x g e y = rw (← h, not_false t g, eq-eqb (entry_in b (4 + 72 * i)).made k (sym e ∙ y))
+  holds_itself x g e y = rw (← h, not-false t g, eq-eqb (entry_in b (4 + 72 * i)).made k (sym e ∙ y))
 
   pub holds_same : (x : ℕ) (s : Bool) → not t ≡ false → x ≡ (entry_in b (4 + 72 * i)).made → (x ≡ k → ⊥) → s ≡ same_label (take (4 + 72 * i + 24 + 32 - (4 + 72 * i + 24)) (drop (4 + 72 * i + 24) b)) label → s ≡ holds_at b k f label i
   unfolding holds_at is_holder entry_in
-  holds_same x s g y z e = rw (← h, not_false t g, ne_eqb (entry_in b (4 + 72 * i)).made k (λ (w : (entry_in b (4 + 72 * i)).made ≡ k). z (y ∙ w))) (e ∙ rw (part_is b (4 + 72 * i + 24) 32))
+  holds_same x s g y z e = rw (← h, not-false t g, ne_eqb (entry_in b (4 + 72 * i)).made k (λ (w : (entry_in b (4 + 72 * i)).made ≡ k). z (y ∙ w))) (e ∙ rw (part_is b (4 + 72 * i + 24) 32))
 
 module _ (b : List ℕ) (k f : ℕ) (t : List ℕ) (row best : ℕ) where
   pub earlier_not : best ≤ row → best ≡ earlier_of b k f t row best

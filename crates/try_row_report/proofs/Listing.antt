@@ -9,7 +9,7 @@ use mathlib.Core.List.{List, [], ◌∷◌, ◌++◌, append-nil, append_assoc}
 use lib.Dec.{eqb}
 use lib.ListN.{get_or, length, take, drop, set, replicate, length-append, length-set, length-replicate}
 use lib.Seq.{take-suc, take-append-le, set_split, get_or-set_same, length-take-le}
-use borrow.Author.Tests.{not-true, not_false, eq-eqb, ne_eqb}
+use borrow.Author.Tests.{not-true, not-false, eq-eqb, ne_eqb}
 use borrow.Rule.Slice.PartMut.{put_mid}
 use Rattle.model.specs.Bytes.{word, two, part, padded, put_at}
 use Rattle.model.specs.Vector.{vector_bytes}
@@ -63,7 +63,7 @@ module _ (b : List ℕ) (i : ℕ) {t : Bool} (e : t ≡ disputed_in b i) where
   pub notes_one : not t ≡ false → (c k n : ℕ) (l : List ℕ) → c ≤ i → i < n → n ≤ 1024 → length l ≡ 1024 → k ≡ (entry_in b (4 + 72 * i)).made → take c l ≡ noted b i → take (c + 1) (set l c k) ≡ noted b (i + 1)
   unfolding noted
   notes_one z c k n l x y w h m q =
-      let d : disputed_in b i ≡ true = sym e ∙ not_false t z in
+      let d : disputed_in b i ≡ true = sym e ∙ not-false t z in
       take-set l c k (omega arith) ∙ rw (add-one i, d, q, row_made b i k m)
 
 pub notes_all : (b l : List ℕ) (i n c : ℕ) → n ≡ word b 0 → i ≤ n → n ≤ i → take c l ≡ noted b i → take c l ≡ noted b (word b 0)
@@ -122,7 +122,7 @@ module _ (b l : List ℕ) (i : ℕ) {t : Bool} (e : t ≡ disputed_in b i) where
 
   pub new_by_notes : not t ≡ false → {k : ℕ} {a : Bool} → k ≡ (entry_in b (4 + 72 * i)).made → a ≡ is_among k l → not a ≡ is_new_in b l i
   unfolding is_new_in
-  new_by_notes z {k} m q = let d : disputed_in b i ≡ true = sym e ∙ not_false t z in rw (d, q, row_made b i k m)
+  new_by_notes z {k} m q = let d : disputed_in b i ≡ true = sym e ∙ not-false t z in rw (d, q, row_made b i k m)
 
 four_bytes : (k : ℕ) → length (identity_bytes k) ≡ 4
 unfolding identity_bytes
@@ -160,13 +160,13 @@ module _ (b f : List ℕ) (i : ℕ) {t : Bool} (e : t ≡ is_new_in b f i) where
 
   pub adds_count : not t ≡ false → {c : ℕ} → c ≡ listed_count b f i → c + 1 ≡ listed_count b f (i + 1)
   unfolding listed_count
-  adds_count z q = let d : is_new_in b f i ≡ true = sym e ∙ not_false t z in rw (add-one i, d, q)
+  adds_count z q = let d : is_new_in b f i ≡ true = sym e ∙ not-false t z in rw (add-one i, d, q)
 
   pub adds_list : not t ≡ false → {c k : ℕ} {d o : List ℕ} → c ≡ listed_count b f i → k ≡ (entry_in b (4 + 72 * i)).made → d ≡ padded 4096 (listed b f i) → o ≡ put_at d (4 * c) (identity_bytes k)
       → o ≡ padded 4096 (listed b f (i + 1))
   unfolding listed
   adds_list z {c} {k} {d} {o} q m p r =
-      let n : is_new_in b f i ≡ true = sym e ∙ not_false t z in
+      let n : is_new_in b f i ≡ true = sym e ∙ not-false t z in
       let l : 4 * c ≡ length (listed b f i) = omega (arith, length-listed b f i) in
       r ∙ rw (p, l, row_made b i k m, add-one i, n) (put-padded 4096 (listed b f i) (identity_bytes (made_in b i)))
 

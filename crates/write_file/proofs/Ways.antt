@@ -8,7 +8,7 @@ use mathlib.Core.Bool.{Bool, true, false, not}
 use mathlib.Core.List.{List}
 use lib.Dec.{eqb}
 use lib.ListN.{length, replicate}
-use borrow.Author.Tests.{not-true, not_false}
+use borrow.Author.Tests.{not-true, not-false}
 use Rattle.model.specs.Bytes.{blank, padded}
 use Rattle.model.specs.Vector.{covers}
 use Rattle.model.specs.Log.{vector_of, no_counts, vector_on, records_of, sound_log_on, sound_log}
@@ -66,7 +66,7 @@ module _ (a u : ℕ) (log base lent : List ℕ) {n m k j : ℕ} {folded held : L
     module _ (g : not t ≡ false) where
       -- no record is folded
       whole : length folded ≡ 8 → base_vector base ≡ no_counts
-      whole l = sym told ∙ (rw l at (blank-eq folded (sym c ∙ not_false t g)))
+      whole l = sym told ∙ (rw l at (blank-eq folded (sym c ∙ not-false t g)))
 
       pub whole_sound : length folded ≡ 8 → sound_log log ≡ true
       unfolding sound_log
@@ -78,5 +78,5 @@ module _ (a u : ℕ) (log base lent : List ℕ) {n m k j : ℕ} {folded held : L
       pub all_written : (i : ℕ) (o : List ℕ) → o ≡ padded 44032 (file_of a u (records_of log)) → i ≡ block_count (length (records_of log)) → outcome 0 0 log o i ≡ write_of a u log base lent
       unfolding write_of written
       all_written i o p q =
-          let d : outcome 0 0 log o i ≡ written a u log base lent = rw (p, q, none, not_false t g) in
+          let d : outcome 0 0 log o i ≡ written a u log base lent = rw (p, q, none, not-false t g) in
           d ∙ call_passes u log base lent (eqb (length lent) 44032) e (written a u log base lent) z

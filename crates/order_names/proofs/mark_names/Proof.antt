@@ -1,5 +1,5 @@
 -- Each of the first n names is ours, and none has a mark before its turn.
-use borrow.Author.Tests.{not-true, not_false}
+use borrow.Author.Tests.{not-true, not-false}
 use native.Mathlib.Nat.{sub-zero}
 use Prim.Native.Nat.{◌≤◌, ◌-◌}
 use native.Mathlib.Omega.{arith}
@@ -45,7 +45,7 @@ loop-again c =
     let o = c.before.before.before.before.before.before.before.loop in
     let k = c.before.before.before.before.before.name-at in
     let m = c.before.before.before.mark in
-    (omega arith, search (marks_long), marks_go a.held.counts o.marks a.list.now o.i a.n k.result _ m.result _ (omega arith) k.ensures.0 m.ensures.0 (not_false m.result c.if1.false) m.ensures.1 o.invariant.2)
+    (omega arith, search (marks_long), marks_go a.held.counts o.marks a.list.now o.i a.n k.result _ m.result _ (omega arith) k.ensures.0 m.ensures.0 (not-false m.result c.if1.false) m.ensures.1 o.invariant.2)
 
 returns-2 : tie.Need-returns-2 invariant-loop decreases-loop
 returns-2 c =
