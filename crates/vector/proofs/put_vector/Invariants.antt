@@ -1,0 +1,7 @@
+use Rattle.std.proofs.Common.{◌≡◌, ◌+◌, ◌-◌, ◌*◌, ◌≤◌, ◌∙◌, refl, sym, length, drop, take, replicate, arith, rules, length-set}
+use Rattle.model.specs.Bytes.{put_at}
+use Rattle.model.specs.Vector.{count_bytes, vector_bytes}
+use Rattle.vector.proofs.put_vector.Given as goal
+
+abbrev pub invariant-loop-u : goal.invariant-loop-u
+invariant-loop-u l = (l.u ≤ 8) × (length l.dst ≡ length l.initial.dst) × (l.dst ≡ put_at l.initial.dst l.at (count_bytes l.v.counts l.u))
