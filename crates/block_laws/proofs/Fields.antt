@@ -77,10 +77,10 @@ records_back [] p r i z e = refl
 records_back (x ∷ l) p r i z e =
     let b : p ++ ((x ++ joined l) ++ r) ≡ p ++ (x ++ (joined l ++ r)) = ap (λ (t : List ℕ). p ++ t) (append_assoc x (joined l) r) in
     let n : length (p ++ x) ≡ 28 + 80 * suc i = omega (arith, length-append p x, z.0) in
-    let here : record_at (p ++ (x ++ (joined l ++ r))) i ≡ x = record_middle p x (joined l ++ r) i e z.0 in
-    let rest : records_from (p ++ (x ++ (joined l ++ r))) (suc i) (length l) ≡ l =
-    rw (append_assoc p x (joined l ++ r)) at (records_back l (p ++ x) r (suc i) z.1 n) in
-    rw (b, here, rest)
+    let here : record_at (p ++ ((x ++ joined l) ++ r)) i ≡ x = rw b (record_middle p x (joined l ++ r) i e z.0) in
+    let rest : records_from (p ++ ((x ++ joined l) ++ r)) (suc i) (length l) ≡ l =
+    rw b (rw (append_assoc p x (joined l ++ r)) at (records_back l (p ++ x) r (suc i) z.1 n)) in
+    ap (λ (y : Rec). y ∷ records_from (p ++ ((x ++ joined l) ++ r)) (suc i) (length l)) here ∙ ap (λ (t : List Rec). x ∷ t) rest
 
 -- ---- header, body and block, under any four letters; SAB1's are a case
 
