@@ -9,13 +9,13 @@ PAGES := $(MAN)/readout.1 $(MAN)/sab.3 $(MAN)/sab1.5
 all: library readout visits command pages
 
 library:
-	rt staticlib sab
+	scripts/build library
 
 readout:
-	rt check readout
+	scripts/build readout
 
 visits:
-	rt check visits
+	scripts/build visits
 
 command: library
 	cd hosts/rust/cli && cargo build --release --quiet --offline --locked --bin sab
