@@ -11,7 +11,7 @@ use log_closure::{all_covered, is_closed, slot};
 use vector::Vector;
 
 // What is known of the records before: their counts, and the lowest rank that rises behind them.
-#[derive(Drop)]
+#[derive(Clone, Copy, Drop)]
 pub struct Before {
     pub held: Vector,
     pub floor: u32,

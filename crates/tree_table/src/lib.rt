@@ -8,7 +8,7 @@ ghost use Rattle.model.specs.Table.{identity_bytes, aside_row, entry_in};
 ghost use Rattle.tree_table.specs.Rows.{new_aside, new_row, stored_row, renamed_row, moved_row};
 
 // How many rows of entries and of asides a table has.
-#[derive(Drop)]
+#[derive(Clone, Copy, Drop)]
 pub struct Size {
     pub entries: usize,
     pub asides: usize,

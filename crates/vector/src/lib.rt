@@ -7,7 +7,7 @@ ghost use Rattle.model.specs.Vector.{covers, lacks_of, vector_at, vector_bytes};
 
 use byte_slice::{le16, put16};
 
-#[derive(Drop)]
+#[derive(Clone, Copy, Drop)]
 pub struct Vector {
     pub counts: [u16; 8],
 }

@@ -1,0 +1,16 @@
+-- Where the folder f stands: 0 for the root, one above the row of a folder, 513 for neither.
+use Rattle.base_ids.proofs.Rooted.{up_root, up_none, up_other, up_folder}
+use native.Mathlib.Omega.{arith}
+use Rattle.base_ids.proofs.up_of.Goals as goal
+
+pub returns-then-f-eq0 : goal.returns-then-f-eq0
+returns-then-f-eq0 c = (search (up_root), omega arith)
+
+pub returns-then-q-eq0 : goal.returns-then-q-eq0
+returns-then-q-eq0 c = (search (up_none), omega arith)
+
+pub returns-then-kind_at-ne1 : goal.returns-then-kind_at-ne1
+returns-then-kind_at-ne1 c = (search (up_other), omega arith)
+
+pub returns : goal.returns
+returns c = (search (up_folder), omega arith)

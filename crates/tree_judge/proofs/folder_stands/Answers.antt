@@ -1,0 +1,26 @@
+-- The folder f is the root, or is there and a folder: 13 if it is absent, 14 for a trace.
+use Rattle.tree_lookup.proofs.Working.{works_long}
+use Rattle.tree_judge.proofs.Reasons.{folder_root, folder_absent, folder_trace, folder_found, folder_range}
+use native.Mathlib.Omega.{arith}
+use Rattle.tree_judge.proofs.folder_stands.Goals as goal
+
+pub returns-then-f-eq0 : goal.returns-then-f-eq0
+returns-then-f-eq0 c = search (folder_root)
+
+pub entry_of-row-requires : goal.entry_of-row-requires
+entry_of-row-requires c = (search, search (folder_range))
+
+pub returns-then-size-row : goal.returns-then-size-row
+returns-then-size-row c = search (folder_absent)
+
+pub kind_at-requires : goal.kind_at-requires
+kind_at-requires c = (search (works_long), omega arith)
+
+pub made_at-requires : goal.made_at-requires
+made_at-requires c = (search (works_long), omega arith)
+
+pub returns-then-kind_at-ne1 : goal.returns-then-kind_at-ne1
+returns-then-kind_at-ne1 c = search (folder_trace)
+
+pub returns : goal.returns
+returns c = search (folder_found)

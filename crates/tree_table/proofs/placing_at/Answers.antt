@@ -1,0 +1,7 @@
+-- The last place record of the entry in row i.
+use Rattle.model.specs.Table.{entry_in}
+use Rattle.tree_table.proofs.placing_at.Goals as goal
+
+pub returns : goal.returns
+unfolding entry_in
+returns c = cc
