@@ -9,12 +9,12 @@ pub loop-j-init : goal.loop-j-init
 loop-j-init c = (omega arith, refl, paste-zero c.args.dst.now c.args.at c.args.src.now)
 
 pub loop-j-preserved : goal.loop-j-preserved
-loop-j-preserved c = 
+loop-j-preserved c =
     let l = c.loop-j in
     (omega arith, simp length-set l.invariant.1, rw (l.invariant.2, add-one) (paste-suc c.args.dst.now c.args.at c.args.src.now l.j 0 (omega arith) (omega arith)))
 
 pub returns : goal.returns
-returns c = 
+returns c =
     let l = c.loop-j in
     let e : l.j ≡ length c.args.src.now = omega arith in
     (rw e at l.invariant.2) ∙ paste_put c.args.dst.now c.args.at c.args.src.now
