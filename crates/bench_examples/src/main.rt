@@ -81,51 +81,52 @@ fn pass(from: &[u8], to: &mut [u8], base: &[u8]) -> Passed {
 }
 
 // A line: what was tried, and what came of it.
-fn say(what: &[u8], n: u64) {
-    io::write_all(1, what);
-    io::print_decimal(1, n);
-    io::write_all(1, b"\n");
+fn say(out: &impl Print, what: &[u8], n: u64) {
+    let _ = out.write_all(what);
+    let _ = out.print(n);
+    let _ = out.write_all(b"\n");
 }
 
 // Whether two logs are the same byte for byte.
-fn say_same(log: &[u8], other: &[u8]) {
+fn say_same(out: &impl Print, log: &[u8], other: &[u8]) {
     if byte_slice::same(log, other) {
-        io::write_all(1, b"both logs are the same\n");
+        let _ = out.write_all(b"both logs are the same\n");
     } else {
-        io::write_all(1, b"the logs differ\n");
+        let _ = out.write_all(b"the logs differ\n");
     }
 }
 
 // n records are lacking: how many blocks pass them, what the takes answer, and what the receiver holds.
-fn lacking(n: usize, base: &[u8]) {
+fn lacking(out: &impl Print, n: usize, base: &[u8]) {
     let mut log = [0u8; 40960];
     let mut other = [0u8; 40960];
-    say(b"acts that answer 0: ", fill(&mut log, base, n));
+    say(out, b"acts that answer 0: ", fill(&mut log, base, n));
     let p = pass(&log, &mut other, base);
-    io::print_decimal(1, n as u64);
-    say(b" lacking, blocks: ", p.blocks);
-    say(b"takes that answer 0: ", p.taken);
-    say_same(&log, &other);
+    let _ = out.print(n as u64);
+    say(out, b" lacking, blocks: ", p.blocks);
+    say(out, b"takes that answer 0: ", p.taken);
+    say_same(out, &log, &other);
 }
 
 // A log of 512 records: the blocks of its file, and the records of the last.
-fn full(base: &[u8]) {
+fn full(out: &impl Print, base: &[u8]) {
     let mut log = [0u8; 40960];
     let mut file = [0u8; 44032];
-    say(b"acts that answer 0: ", fill(&mut log, base, 512));
+    say(out, b"acts that answer 0: ", fill(&mut log, base, 512));
     let w = write_file::write_file(&log, base, 7, 0, &mut file);
-    say(b"512 records, blocks: ", w.blocks as u64);
+    say(out, b"512 records, blocks: ", w.blocks as u64);
     say(
+        out,
         b"records in the last: ",
         byte_slice::wide(file[43529]) as u64,
     );
     let more = wish(513);
     let number = act_number(&mut log, base, &more.bytes);
-    say(b"a 513th record: ", number as u64);
+    say(out, b"a 513th record: ", number as u64);
 }
 
 // A wish to make a folder with a label.
-fn label(text: &[u8], base: &[u8])
+fn label(out: &impl Print, text: &[u8], base: &[u8])
     requires { length text.now ≤ 48 }
 {
     let mut log = [0u8; 40960];
@@ -137,29 +138,29 @@ fn label(text: &[u8], base: &[u8])
     b[30] = 3;
     b[31] = 3;
     let number = act_number(&mut log, base, &b);
-    io::write_all(1, b"a label of ");
-    io::print_decimal(1, text.len() as u64);
-    say(b" bytes: ", number as u64);
+    let _ = out.write_all(b"a label of ");
+    let _ = out.print(text.len() as u64);
+    say(out, b" bytes: ", number as u64);
 }
 
 // A wish dated 31 December 1989.
-fn dated(base: &[u8]) {
+fn dated(out: &impl Print, base: &[u8]) {
     let mut log = [0u8; 40960];
     let mut w = wish(0);
     w.bytes[28] = 197;
     w.bytes[30] = 12;
     w.bytes[31] = 31;
     let number = act_number(&mut log, base, &w.bytes);
-    say(b"1989-12-31: ", number as u64);
+    say(out, b"1989-12-31: ", number as u64);
 }
 
-fn main() {
+fn main(rt: HostRuntime) {
     let mut base = [0u8; 43032];
     base[0] = 255;
-    dated(&base);
-    lacking(6, &base);
-    lacking(7, &base);
-    full(&base);
-    label(b"xxxxxxxxxxxxxxxxxxxxxxxxxxxxxxxx", &base);
-    label(b"xxxxxxxxxxxxxxxxxxxxxxxxxxxxxxxxx", &base);
+    dated(&rt, &base);
+    lacking(&rt, 6, &base);
+    lacking(&rt, 7, &base);
+    full(&rt, &base);
+    label(&rt, b"xxxxxxxxxxxxxxxxxxxxxxxxxxxxxxxx", &base);
+    label(&rt, b"xxxxxxxxxxxxxxxxxxxxxxxxxxxxxxxxx", &base);
 }

@@ -3,6 +3,8 @@
 
 ghost use Rattle.std.specs.Prelude.{◌≤◌, length};
 
+use std::io::Read;
+
 // How many bytes were read, and whether a read failed.
 #[derive(Drop)]
 pub struct Got {
@@ -11,20 +13,18 @@ pub struct Got {
 }
 
 // Reads until buf is full, the input ends or a read fails; what was read stands at the start of buf.
-pub fn read_into(fd: i32, buf: &mut [u8]) -> Got
+pub fn read_into<R: Read>(reader: &mut R, buf: &mut [u8]) -> Got
     ensures { result.count ≤ length buf.new }
 {
     let end = buf.len();
     let mut n: usize = 0;
     while n < end {
-        let got = libc::read(fd, &mut buf[n..end]);
-        if got < 0 {
+        let Ok(more) = reader.read(&mut buf[n..end]) else {
             return Got {
                 count: n,
                 failed: true,
             };
-        }
-        let more = io::count(got, &buf[n..end]);
+        };
         if more == 0 {
             return Got {
                 count: n,

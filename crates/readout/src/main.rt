@@ -22,21 +22,21 @@ fn output(failed: bool, file: &[u8], text: &mut [u8]) -> usize
 }
 
 // It is printed at once. Whether all of it could be written.
-fn report(failed: bool, file: &[u8]) -> bool {
+fn report(out: &impl Print, failed: bool, file: &[u8]) -> bool {
     let mut text = [0u8; 172544];
     let n = output(failed, file, &mut text);
-    io::write_all(1, &text[0..n])
+    out.write_all(&text[0..n]).is_ok()
 }
 
 // One byte more than an SAB2 file may have shows that it is longer.
-fn main() {
+fn main(rt: HostRuntime) {
     let mut file = [0u8; 95233];
-    let got = input::read_into(0, &mut file);
+    let got = input::read_into(&mut rt.stdin(), &mut file);
     if got.failed {
-        io::write_all(2, b"readout: standard input could not be read\n");
+        let _ = rt.eprint("readout: standard input could not be read\n");
     }
     let n = got.count;
-    if !report(got.failed, &file[0..n]) {
-        io::write_all(2, b"readout: cannot write\n");
+    if !report(&rt, got.failed, &file[0..n]) {
+        let _ = rt.eprint("readout: cannot write\n");
     }
 }

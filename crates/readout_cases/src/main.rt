@@ -4,26 +4,52 @@
 
 ghost use Rattle.std.specs.Prelude.{◌≤◌, length};
 
-// The file of a name is read; a file that cannot be opened is empty.
-fn load(path: &[u8], buf: &mut [u8]) -> usize
+use std::env::FillError;
+use std::rt::{Env, Files};
+use std::{fs, str};
+
+// Puts the argument i at the start of buf, and answers its length; 0 for one that is missing or does not fit.
+fn arg(env: &impl Env, i: usize, buf: &mut [u8]) -> usize
     ensures { result ≤ length buf.new }
 {
-    let fd = os::open_read(path);
-    if fd < 0 {
-        return 0;
+    match env.arg(i, buf) {
+        Ok(n) => n,
+        Err(_) => 0,
     }
-    let got = input::read_into(fd, buf);
-    libc::close(fd);
+}
+
+// How many arguments there are, the program's name among them.
+fn arg_count(env: &impl Env) -> usize {
+    let mut name = [0u8; 64];
+    for n in 0..usize::MAX {
+        if matches!(env.arg(n, &mut name), Err(FillError::NotPresent)) {
+            return n;
+        }
+    }
+    usize::MAX
+}
+
+// The file of a name is read; a file that cannot be opened is empty.
+fn load(files: &impl Files, path: &[u8], buf: &mut [u8]) -> usize
+    ensures { result ≤ length buf.new }
+{
+    let Ok(name) = str::from_utf8(path) else {
+        return 0;
+    };
+    let Ok(mut file) = fs::open(files, name) else {
+        return 0;
+    };
+    let got = input::read_into(&mut file, buf);
     got.count
 }
 
 // The file that an argument names is read.
-fn load_named(i: usize, buf: &mut [u8]) -> usize
+fn load_named(rt: &(impl Files + Env), i: usize, buf: &mut [u8]) -> usize
     ensures { result ≤ length buf.new }
 {
     let mut name = [0u8; 64];
-    let n = os::arg(i, &mut name);
-    load(&name[0..n], buf)
+    let n = arg(rt, i, &mut name);
+    load(rt, &name[0..n], buf)
 }
 
 // The listing of a file is what was expected.
@@ -38,39 +64,39 @@ fn lists(file: &[u8], expected: &[u8]) -> bool {
 }
 
 // The case whose two files the arguments i and j name.
-fn passes(i: usize, j: usize) -> bool {
+fn passes(rt: &(impl Files + Env), i: usize, j: usize) -> bool {
     let mut file = [0u8; 95233];
     let mut expected = [0u8; 172545];
-    let n = load_named(i, &mut file);
-    let m = load_named(j, &mut expected);
+    let n = load_named(rt, i, &mut file);
+    let m = load_named(rt, j, &mut expected);
     lists(&file[0..n], &expected[0..m])
 }
 
 // 1 for a case that passes; 0 for one that fails, and its name is told.
-fn run(i: usize, j: usize) -> usize
+fn run(rt: &(impl Files + Env + Print), i: usize, j: usize) -> usize
     ensures { result ≤ 1 }
 {
-    if passes(i, j) {
+    if passes(rt, i, j) {
         return 1;
     }
     let mut name = [0u8; 64];
-    let n = os::arg(i, &mut name);
-    io::write_all(1, b"failed: ");
-    io::write_all(1, &name[0..n]);
-    io::write_all(1, b"\n");
+    let n = arg(rt, i, &mut name);
+    let _ = rt.write_all(b"failed: ");
+    let _ = rt.write_all(&name[0..n]);
+    let _ = rt.write_all(b"\n");
     0
 }
 
-fn main() {
-    let cases = os::arg_count() / 2;
+fn main(rt: HostRuntime) {
+    let cases = arg_count(&rt) / 2;
     let mut passed: usize = 0;
     let mut i: usize = 0;
     while i < cases {
-        passed += run(2 * i + 1, 2 * i + 2);
+        passed += run(&rt, 2 * i + 1, 2 * i + 2);
         i += 1;
     }
-    io::print_decimal(1, passed as u64);
-    io::write_all(1, b" passed, ");
-    io::print_decimal(1, (cases - passed) as u64);
-    io::write_all(1, b" failed\n");
+    let _ = rt.print(passed as u64);
+    let _ = rt.write_all(b" passed, ");
+    let _ = rt.print((cases - passed) as u64);
+    let _ = rt.write_all(b" failed\n");
 }

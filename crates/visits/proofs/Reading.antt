@@ -1,10 +1,6 @@
 -- A plan as it is read: each block keeps it on its way, and what is printed fits the lent text.
 -- Assumes nothing.
-use Prim.Native.Nat.{ℕ, ◌+◌, ◌≤◌}
-use native.Mathlib.Omega.{arith}
-use mathlib.Core.Path.{◌≡◌, sym, subst}
-use mathlib.Core.List.{List, ◌++◌}
-use lib.ListN.{length, take, drop, replicate, length-append}
+use Rattle.std.proofs.Common.{ℕ, ◌+◌, ◌≤◌, arith, ◌≡◌, sym, subst, List, ◌++◌, length, take, drop, replicate, length-append}
 use Rattle.model.specs.Bytes.{put_at}
 use Rattle.line_text.specs.Written.{Wrote}
 use Rattle.plan_model.specs.Plan.{round}

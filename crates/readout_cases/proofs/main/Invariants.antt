@@ -1,0 +1,9 @@
+-- No more cases pass than were run, and no more are run than there are.
+use Rattle.std.proofs.Common.{◌-◌, ◌≤◌}
+use Rattle.readout_cases.proofs.main.Given as goal
+
+abbrev pub invariant-loop-i : goal.invariant-loop-i
+invariant-loop-i l = (l.i ≤ l.cases) × (l.passed ≤ l.i)
+
+abbrev pub decreases-loop-i : goal.decreases-loop-i
+decreases-loop-i l = l.cases - l.i
