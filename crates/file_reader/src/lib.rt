@@ -7,7 +7,7 @@ ghost use Rattle.std.specs.Prelude.{◌≡◌, ◌+◌, ◌*◌, ◌≤◌, leng
 ghost use Rattle.model.specs.Bytes.{put_at};
 ghost use Rattle.file_reader.specs.Walk.{record_or_zeros, walked_to};
 
-#[derive(Drop)]
+#[derive(Clone, Copy, Drop)]
 struct Reader<'a> {
     src: &'a [u8],
     at: usize,

@@ -16,14 +16,14 @@ use model::{LOG_BYTES, LOG_PLACES};
 use vector::Vector;
 
 // Where records stand: places of 80 bytes, or six to a block of 512 bytes behind its header.
-#[derive(Drop)]
+#[derive(Clone, Copy, Drop)]
 pub enum Layout {
     Log,
     File,
 }
 
 // The first fault among records, or 0, and where; and the base vector with the records counted, zeros if one has a fault.
-#[derive(Drop)]
+#[derive(Clone, Copy, Drop)]
 pub struct Scanned {
     pub number: u8,
     pub at: usize,

@@ -1,0 +1,12 @@
+-- How many digits a number has.
+use Prim.Native.Nat.{◌+◌, ◌-◌, ◌<◌}
+use mathlib.Core.Path.{◌≡◌}
+use lib.ListN.{length}
+use Rattle.model.specs.Listing.{decimal}
+use Rattle.line_text.proofs.digits.Given as goal
+
+abbrev pub invariant-loop-left : goal.invariant-loop-left
+invariant-loop-left l = (l.left < 4294967296) × (l.k + length (decimal l.left) ≡ length (decimal l.n) + 1)
+
+abbrev pub decreases-loop-left : goal.decreases-loop-left
+decreases-loop-left l = l.left
