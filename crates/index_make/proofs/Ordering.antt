@@ -1,21 +1,21 @@
 -- What the loops that order rows are asked, over plain values.
 -- Assumes nothing.
-use Prim.Native.Nat.{ℕ, zero, suc, ◌+◌, ◌-◌, ◌*◌, ◌/◌, ◌≤◌, ◌<◌}
-use native.Mathlib.Nat.{sub_self, sub-zero}
+use Prim.Native.Nat.{ℕ, ◌+◌, ◌-◌, ◌*◌, ◌/◌, ◌≤◌, ◌<◌}
+use native.Mathlib.Nat.{sub_self}
 use native.Mathlib.Omega.{arith}
-use mathlib.Core.Path.{◌≡◌, refl, sym, ap, ◌∙◌}
-use mathlib.Core.Bool.{Bool, true, false}
-use mathlib.Core.List.{List, [], ◌∷◌, ◌++◌}
+use mathlib.Core.Path.{◌≡◌, refl, sym, ◌∙◌}
+use mathlib.Core.Bool.{Bool}
+use mathlib.Core.List.{List, ◌∷◌}
 use lib.ListN.{get_or, length, take, drop, set}
 use lib.Seq.{get_or-take}
 use Rattle.model.specs.Table.{entry_in}
 use Rattle.byte_slice.proofs.Parts.{part_is, part_none, part_length}
 use Rattle.byte_slice.proofs.PutAt.{put-nil, put-before, moved}
 use Rattle.model.specs.Bytes.{part, put_at}
-use Rattle.log_laws.proofs.Members.{All, all_at}
-use Rattle.index_model.specs.Index.{index_places, folder_key, key_before, entry_before, halve}
+use Rattle.log_laws.proofs.Members.{all_at}
+use Rattle.index_model.specs.Index.{index_places, folder_key, key_before, entry_before}
 use Rattle.index_laws.specs.Copied.{entry_row_at, order_before, ordered_rows, Low}
-use Rattle.index_laws.proofs.Fresh.{ordered_many, ordered-below, order_next}
+use Rattle.index_laws.proofs.Fresh.{ordered_many, ordered-below}
 
 -- ---- one row
 

@@ -12,7 +12,7 @@ use byte_slice::{le16, same};
 use log_closure::slot;
 
 // The rows of entries of a table, or those of asides.
-#[derive(Drop)]
+#[derive(Clone, Copy, Drop)]
 pub enum Rows {
     Entries,
     Asides,

@@ -1,0 +1,9 @@
+-- The archive of a file.
+use Rattle.model.specs.File.{block_at}
+use Rattle.model.specs.Bytes.{part}
+use borrow.Author.Rules.{rules}
+use Rattle.merge_check.proofs.archive_of.Goals as goal
+
+pub returns : goal.returns
+unfolding block_at part
+returns c = search rules
