@@ -3,19 +3,18 @@
 use Prim.Native.Nat.{ℕ, zero, suc, ◌≤◌, ◌<◌}
 use native.Mathlib.Omega.{arith}
 use mathlib.Core.Path.{◌≡◌, refl, sym, ap, ◌∙◌}
-use mathlib.Core.Bool.{Bool, true, false, cond, not, ◌&&◌}
+use mathlib.Core.Bool.{Bool, true, false, not}
 use mathlib.Core.List.{List, [], ◌∷◌}
 use lib.Dec.{eqb, leb}
-use lib.ListN.{get_or, length, take, drop}
+use lib.ListN.{length, take, drop}
 use borrow.Author.Tests.{le-leb, not-true, not-false}
 use Rattle.model.specs.Numbers.{first_of}
 use Rattle.model.specs.Bytes.{word}
-use Rattle.model.specs.Record.{Rec}
 use Rattle.model.specs.Log.{vector_on, records_of, log_bytes, sound_log_on}
 use Rattle.model.specs.Replay.{Entry, Tree, is_present, present_ones, trim, replay_from}
 use Rattle.model.specs.Table.{work_bytes}
-use Rattle.base_model.specs.Base.{Base, is_listed, lists_all, base_bytes, base_in, base_vector, base_tree, base_entries, base_asides, held_on}
-use Rattle.call_model.specs.Outcome.{Outcome, outcome, refusal, or_refused, guard_number, guarded, work_after}
+use Rattle.base_model.specs.Base.{is_listed, lists_all, base_bytes, base_in, base_vector, base_tree, base_entries, base_asides, held_on}
+use Rattle.call_model.specs.Outcome.{outcome, guard_number, guarded, work_after}
 use Rattle.call_model.specs.Fold.{heard_run, counts_as_base, longest, run_of, run_in, folded_base, list_fits, list_number, folded, fold_by, fold_of, fold_work}
 use Rattle.byte_slice.proofs.Numbers.{and_true}
 use Rattle.encoding_laws.proofs.Logs.{sound_few}
