@@ -3,17 +3,16 @@
 use Prim.Native.Nat.{ℕ, zero, suc, ◌+◌, ◌-◌, ◌*◌, ◌/◌, ◌≤◌, ◌<◌}
 use native.Mathlib.Nat.{zero-add}
 use native.Mathlib.Omega.{arith}
-use mathlib.Core.Path.{◌≡◌, refl, sym, ap, ◌∙◌}
+use mathlib.Core.Path.{◌≡◌, refl, sym, ap, subst, ◌∙◌}
 use mathlib.Core.Logic.{inl, inr}
-use mathlib.Core.Bool.{Bool, true, false, not}
 use mathlib.Core.List.{List, []}
 use lib.ListN.{length, take, drop}
-use borrow.Author.Tests.{eq-eqb, ne_eqb, not-true, not-false}
+use borrow.Author.Tests.{eq-eqb, ne_eqb}
 use Rattle.model.specs.Bytes.{part}
 use Rattle.model.specs.Record.{Rec}
 use Rattle.model.specs.Log.{vector_of, no_counts}
 use Rattle.model.specs.Block.{vector_in}
-use Rattle.model.specs.File.{file_length, block_at, Fault, fault, records_counted, file_records, file_fault, checked_fault}
+use Rattle.model.specs.File.{block_at, Fault, fault, records_counted, file_records, checked_fault}
 use Rattle.model.specs.Merge.{union, union_fault, merged, unless, unless_any, joined_file, merge_of}
 use Rattle.log_laws.specs.Members.{Has}
 use Rattle.log_laws.proofs.Counts.{no_counts_lem, formed}
@@ -54,7 +53,7 @@ has_listed : (at : ℕ → Rec) (i n j : ℕ) → j < n → Has (at (i + j)) (li
 unfolding listed
 has_listed at i zero j h = absurd (omega arith)
 has_listed at i (suc n) zero h = inl (let e : i + 0 ≡ i = omega arith in rw e)
-has_listed at i (suc n) (suc j) h = inr (let e : i + suc j ≡ suc i + j = omega arith in rw e (has_listed at (suc i) n j (omega arith)))
+has_listed at i (suc n) (suc j) h = inr (subst (λ (x : ℕ). Has (at x) (listed at (suc i) n)) (let e : suc i + j ≡ i + suc j = omega arith in e) (has_listed at (suc i) n j (omega arith)))
 
 module _ (f : List ℕ) (z : (checked_fault f).number ≡ 0) where
   pub checked-whole : length f ≡ 512 * (length f / 512)
