@@ -1,0 +1,6 @@
+-- The listing of a file is what was expected.
+use Rattle.listing.proofs.Claims.{answered_length_fits}
+use Rattle.readout_cases.proofs.lists.Goals as goal
+
+pub slice_bounds-same-end : goal.slice_bounds-same-end
+slice_bounds-same-end c = search (answered_length_fits)
