@@ -6,7 +6,7 @@ use mathlib.Core.Bool.{Bool, true, false}
 use mathlib.Core.Logic.{inl, inr, ⊎_elim}
 use mathlib.Core.List.{List, []}
 use lib.ListN.{replicate}
-use denote.Ref.{Bor}
+use denote.Ref.{Bor, MutBor}
 use Rattle.model.specs.Log.{records_of}
 use Rattle.base_model.specs.Base.{base_vector, tree_of}
 use Rattle.call_model.specs.Outcome.{Outcome, outcome, start_of, stamped, act_of, hand_of, write_of, take_of, show_of}
@@ -23,6 +23,10 @@ use Rattle.claims.proofs.Outcomes.{uncounted, changing, changing_uncounted, read
 -- a slice with these bytes
 abbrev slice : List ℕ → Bor (List ℕ)
 slice b = record { ref_ptr = (0, 0); now = b }
+
+-- one that is lent for writing
+abbrev lent_slice : List ℕ → MutBor (List ℕ)
+lent_slice b = record { ref_ptr = (0, 0); ghost_name = 0; now = b }
 
 -- what a call that carries an index answers, as an outcome: of a start with the base, of the others with nothing lent
 abbrev pub answered : Kept → Outcome
@@ -47,9 +51,9 @@ start_ran u log base i =
     let o : Kept = start_kept u log base i in
     record {
       κs = ([], ([], ([], tt)));
-      args = (slice log, (slice base, (slice i, (0, (u, tt)))));
+      args = (lent_slice log, (lent_slice base, (lent_slice i, (0, (u, tt)))));
       result = record { number = o.number; place = o.place };
-      exit = (slice o.log, (slice o.lent, (slice o.index, (0, (u, tt)))));
+      exit = (lent_slice o.log, (lent_slice o.lent, (lent_slice o.index, (0, (u, tt)))));
       learnt = refl;
       given = (refl, refl, refl, refl);
       gave = refl;
@@ -76,9 +80,9 @@ module _ (u : ℕ) (log base i w work : List ℕ) where
       let x : List ℕ = act_kept_work u log base i w work in
       record {
         κs = ([], ([], ([], ([], ([], tt)))));
-        args = (slice log, (slice base, (slice i, (0, (u, (slice w, (slice work, tt)))))));
+        args = (lent_slice log, (slice base, (lent_slice i, (0, (u, (slice w, (lent_slice work, tt)))))));
         result = record { number = acted.number; place = acted.place };
-        exit = (slice acted.log, (slice base, (slice acted.index, (0, (u, (slice w, (slice x, tt)))))));
+        exit = (lent_slice acted.log, (slice base, (lent_slice acted.index, (0, (u, (slice w, (lent_slice x, tt)))))));
         learnt = (nothing_kept acted acted-none, refl);
         given = (refl, refl, refl, refl, refl, refl);
         gave = ap (λ (b : List ℕ). outcome acted.number acted.place acted.log b 0) acted-none;
@@ -100,9 +104,9 @@ hand_out_runs archive u log base v lent =
     let o : Outcome = hand_of archive u log base v lent in
     record {
       κs = ([], ([], ([], tt)));
-      args = (slice log, (slice base, (archive, (u, (record { counts = v }, (slice lent, tt))))));
+      args = (slice log, (slice base, (archive, (u, (record { counts = v }, (lent_slice lent, tt))))));
       result = record { number = o.number; place = o.place };
-      exit = (slice log, (slice base, (archive, (u, (record { counts = v }, (slice o.lent, tt))))));
+      exit = (slice log, (slice base, (archive, (u, (record { counts = v }, (lent_slice o.lent, tt))))));
       learnt = hand_made archive u log base v lent;
       given = (refl, refl, refl, refl, refl, refl);
       gave = sym (hand_made archive u log base v lent);
@@ -113,9 +117,9 @@ write_file_runs archive u log base lent =
     let o : Outcome = write_of archive u log base lent in
     record {
       κs = ([], ([], ([], tt)));
-      args = (slice log, (slice base, (archive, (u, (slice lent, tt)))));
+      args = (slice log, (slice base, (archive, (u, (lent_slice lent, tt)))));
       result = record { number = o.number; place = o.place; blocks = o.blocks };
-      exit = (slice log, (slice base, (archive, (u, (slice o.lent, tt)))));
+      exit = (slice log, (slice base, (archive, (u, (lent_slice o.lent, tt)))));
       learnt = write_made archive u log base lent;
       given = (refl, refl, refl, refl, refl);
       gave = sym (write_made archive u log base lent);
@@ -135,9 +139,9 @@ module _ (archive u : ℕ) (log base i b work : List ℕ) where
       let x : List ℕ = take_kept_work archive u log base i b work in
       record {
         κs = ([], ([], ([], ([], ([], tt)))));
-        args = (slice log, (slice base, (slice i, (slice work, (archive, (u, (slice b, tt)))))));
+        args = (lent_slice log, (slice base, (lent_slice i, (lent_slice work, (archive, (u, (slice b, tt)))))));
         result = record { number = took.number; place = took.place };
-        exit = (slice took.log, (slice base, (slice took.index, (slice x, (archive, (u, (slice b, tt)))))));
+        exit = (lent_slice took.log, (slice base, (lent_slice took.index, (lent_slice x, (archive, (u, (slice b, tt)))))));
         learnt = (nothing_kept took took_none, refl);
         given = (refl, refl, refl, refl, refl, refl, refl);
         gave = ap (λ (y : List ℕ). outcome took.number took.place took.log y 0) took_none;
@@ -161,9 +165,9 @@ take_row_runs archive u log base i row work =
     let x : List ℕ = take_row_kept_work archive u log base i row work in
     record {
       κs = ([], ([], ([], ([], ([], tt)))));
-      args = (slice log, (slice base, (slice i, (slice work, (archive, (u, (slice row, tt)))))));
+      args = (lent_slice log, (slice base, (lent_slice i, (lent_slice work, (archive, (u, (slice row, tt)))))));
       result = record { number = o.number; place = o.place; taken = o.taken; stopped = o.stopped };
-      exit = (slice o.log, (slice base, (slice o.index, (slice x, (archive, (u, (slice row, tt)))))));
+      exit = (lent_slice o.log, (slice base, (lent_slice o.index, (lent_slice x, (archive, (u, (slice row, tt)))))));
       learnt = (refl, refl);
       given = (refl, refl, refl, refl, refl, refl, refl);
       gave = refl;
@@ -175,9 +179,9 @@ fold_runs u log base m work =
     let o : Outcome = fold_of u log base m work in
     record {
       κs = ([], ([], ([], tt)));
-      args = (slice log, (slice base, (0, (u, (m, (slice work, tt))))));
+      args = (lent_slice log, (lent_slice base, (0, (u, (m, (lent_slice work, tt))))));
       result = record { number = o.number; records = o.blocks };
-      exit = (slice o.log, (slice o.lent, (0, (u, (m, (slice (fold_work u log base m work), tt))))));
+      exit = (lent_slice o.log, (lent_slice o.lent, (0, (u, (m, (lent_slice (fold_work u log base m work), tt))))));
       learnt = (fold_made u log base m work, refl);
       given = (refl, refl, refl, refl, refl);
       gave = sym (fold_made u log base m work);
@@ -189,9 +193,9 @@ show_runs log base lent =
     let o : Outcome = show_of log base lent in
     record {
       κs = ([], ([], ([], tt)));
-      args = (slice log, (slice base, (slice lent, tt)));
+      args = (slice log, (slice base, (lent_slice lent, tt)));
       result = record { number = o.number; place = o.place };
-      exit = (slice log, (slice base, (slice o.lent, tt)));
+      exit = (slice log, (slice base, (lent_slice o.lent, tt)));
       learnt = show_made log base lent;
       given = (refl, refl, refl);
       gave = sym (show_made log base lent);

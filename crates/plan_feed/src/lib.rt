@@ -14,7 +14,7 @@ use plan_block::piece_fault;
 use plan_check::{archive_of, placed};
 
 // The refusal and its place, or 0; how many blocks have passed, the archive of the first; records made and acts skipped.
-#[derive(Drop)]
+#[derive(Clone, Copy, Drop)]
 pub struct Fed {
     pub number: u8,
     pub place: u16,

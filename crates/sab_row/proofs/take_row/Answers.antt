@@ -1,0 +1,6 @@
+-- Takes the blocks of a row in turn; the count is that of the blocks taken, with what stopped the row in its upper half.
+use Rattle.sab_row.proofs.Calls.{takes}
+use Rattle.sab_row.proofs.take_row.Goals as goal
+
+pub returns : goal.returns
+returns c = search (takes)
