@@ -3,7 +3,7 @@
 use Prim.Native.Nat.{ℕ, zero, suc, ◌+◌, ◌-◌, ◌≤◌, ◌<◌}
 use native.Mathlib.Nat.{sub_self, sub-zero}
 use native.Mathlib.Omega.{arith}
-use mathlib.Core.Path.{◌≡◌, refl, sym, ap, ◌∙◌}
+use mathlib.Core.Path.{◌≡◌, refl, sym, ap, subst, ◌∙◌}
 use mathlib.Core.Logic.{⊎_elim}
 use mathlib.Core.Bool.{true}
 use mathlib.Core.List.{List, append-nil}
@@ -82,9 +82,15 @@ module _ (archive u : ℕ) (row : List ℕ) (at : ℕ → ℕ) where
       ⊎_elim
       (λ (z : (take_of archive u (s.logs u) (s.bases u) (block_at row k)).number ≡ 0).
       let s' = next archive s (takes u (at k)) in
-      rw (eq-eqb (take_of archive u (s.logs u) (s.bases u) (block_at row k)).number 0 z, ← next_log s k e, ← next_base s (at k))
-      (played_more k s (try_from archive u (s'.bases u) row (s'.logs u) (suc k) n) (take-answers s k e ∙ z) (taken_least archive u (s'.bases u) row (s'.logs u) (suc k) n)
-      (plays n (suc k) s' (λ j a b. h j (omega arith) (omega arith) ∙ ap (λ (x : Block). x.bytes) (sym (same_given s (at k) (at j)))))))
+      let p : Played k s (try_from archive u (s'.bases u) row (s'.logs u) (suc k) n) =
+      played_more k s (try_from archive u (s'.bases u) row (s'.logs u) (suc k) n) (take-answers s k e ∙ z) (taken_least archive u (s'.bases u) row (s'.logs u) (suc k) n)
+      (plays n (suc k) s' (λ j a b. h j (omega arith) (omega arith) ∙ ap (λ (x : Block). x.bytes) (sym (same_given s (at k) (at j)))))
+      in
+      let q : Played k s (try_from archive u (s.bases u) row (s'.logs u) (suc k) n) =
+      subst (λ (b : List ℕ). Played k s (try_from archive u b row (s'.logs u) (suc k) n)) (next_base s (at k)) p
+      in
+      rw (eq-eqb (take_of archive u (s.logs u) (s.bases u) (block_at row k)).number 0 z)
+      (subst (λ (l : List ℕ). Played k s (try_from archive u (s.bases u) row l (suc k) n)) (next_log s k e) q))
       (λ (z : (take_of archive u (s.logs u) (s.bases u) (block_at row k)).number ≡ 0 → ⊥).
       rw (ne_eqb (take_of archive u (s.logs u) (s.bases u) (block_at row k)).number 0 z) (played_none k s (take_of archive u (s.logs u) (s.bases u) (block_at row k)).number (λ y. take-answers s k e)))
       (eq_or_ne (take_of archive u (s.logs u) (s.bases u) (block_at row k)).number 0)

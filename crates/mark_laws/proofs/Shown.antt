@@ -100,19 +100,21 @@ module _ (k : ℕ) (s : List Aside) where
       let b₁ : n + suc (length (present_ones es)) ≤ 512 = rw c at b in
       ⊎_elim
       (λ (z : e.made ≡ k).
-      let y : n + 0 ≡ n = omega arith in
-      rw (c, eq-eqb e.made k z, y) (
+      let y : n + row_of k (e ∷ es) ≡ n = rw (c, eq-eqb e.made k z) (omega arith) in
+      subst (λ (i : ℕ). Hides (is_mark_place i) g s n (present_ones (e ∷ es))) (sym y) (rw c (
         row_own n x e (omega arith) a.0 z,
         rows_behind n (suc n) (omega arith) es a.1 (λ i. d.0 (subst (λ (v : ℕ). Has v (makers es)) (sym z) i)),
-      ))
+      )))
       (λ (z : e.made ≡ k → ⊥).
-      let y : n + suc (row_of k es) ≡ suc n + row_of k es = omega arith in
-      rw (c, ne_eqb e.made k z, y) (
+      let y : n + row_of k (e ∷ es) ≡ suc n + row_of k es = rw (c, ne_eqb e.made k z) (omega arith) in
+      subst (λ (i : ℕ). Hides (is_mark_place i) g s n (present_ones (e ∷ es))) (sym y) (rw c (
         row_other n (suc n + row_of k es) x e (inl (omega arith)) a.0 ∙ ap (entry_row x) (sym (mark_other k zeros e z)),
         rows_marked (suc n) es (omega arith) a.1 d.1,
-      ))
+      )))
       (eq_or_ne e.made k))
-      (λ (c : is_present e ≡ false). rw c (rows_marked n es (rw c at b) a.1 d.1))
+      (λ (c : is_present e ≡ false).
+      let y : n + row_of k (e ∷ es) ≡ n + row_of k es = rw c in
+      subst (λ (i : ℕ). Hides (is_mark_place i) g s n (present_ones (e ∷ es))) (sym y) (rw c (rows_marked n es (rw c at b) a.1 d.1)))
       (bool_cases (is_present e))
 
 -- ---- tables
