@@ -75,7 +75,7 @@
  * No call needs more than 64 KiB of stack; what each needs stands in
  * docs/PERFORMANCE.md.
  *
- * `rt staticlib sab` writes the archive, for x86-64 Linux. To link it:
+ * `scripts/build library` writes the archive, for x86-64 Linux. To link it:
  *
  *     cc -Iinclude yours.c target/staticlib/libsab.a
  *

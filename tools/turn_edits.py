@@ -68,7 +68,7 @@ def show(path):
 every = collections.defaultdict(collections.Counter)
 root = pathlib.Path("crates")
 cache = {}
-# what port.py turned is learned from LANDED's definitions, code and lemmas; the names that tools/respell.py turned are turned already in the edits
+# What port.py and tools/respell.py turned is learned from the definitions and code, as they stood in LANDED and as they stand.
 edits = sorted(root.glob("*/must-fail/*.edit"))
 named = set()
 for edit in edits:
