@@ -13,26 +13,30 @@ ghost use Rattle.call_model.specs.Outcome.{outcome, act_of, act_work};
 ghost use Rattle.tree_table.specs.Rows.{tree_in};
 ghost use Rattle.tree_maps.specs.Keys.{register_size};
 ghost use Rattle.tree_lookup.specs.Roles.{Holds};
+ghost use Rattle.refusal.specs.Refusals.{code_of};
 ghost use Rattle.act.specs.Acted.{acted_on, worked_on};
 
-use act_wish::{early_wish, stamp};
+use act_wish::{check_early, stamp};
 use base_head::Head;
-use call_answer::Answer;
 use call_guard::open;
 use model::{RECORD_BYTES, TREE_BYTES};
+use refusal::Refusal;
 use tree_maps::REGISTER;
 use tree_table::Size;
 use vector::Vector;
 
 // ---- the reason
 
-// The reason under which a record would stand aside behind the tree that a table and a register hold, or 0.
-fn reason_on(rec: &[u8], table: &[u8], register: &[u16], size: Size) -> u8
+// The reason under which a record would stand aside behind the tree that a table and a register hold.
+fn reason_on(rec: &[u8], table: &[u8], register: &[u16], size: Size) -> Result<(), Refusal>
     requires { (well_formed rec.now ≡ true) × Holds table.now register.now size.entries size.asides }
-    ensures { result ≡ reason_of (judge_of rec.now (tree_in table.now size.entries size.asides)) }
+    ensures { code_of result ≡ reason_of (judge_of rec.now (tree_in table.now size.entries size.asides)) }
 {
-    let j = tree_judge::judge(rec, table, register, size);
-    j.reason
+    // By cases, since the clause did not close over the closure of `map_err`.
+    match tree_judge::judge(rec, table, register, size) {
+        Ok(()) => Ok(()),
+        Err(aside) => Err(aside.reason),
+    }
 }
 
 // The same behind the records held, whose tree is laid in a work memory of zeros by a register of zeros.
@@ -45,9 +49,9 @@ fn reason_behind(
     rec: &[u8],
     work: &mut [u8],
     register: &mut [u16],
-) -> u8
+) -> Result<(), Refusal>
     requires { (length log.now ≡ log_size) × (length base.now ≡ base_size) × (sound_state log.now base.now ≡ true) × (used ≡ length (records_of log.now)) × (held.counts ≡ held_on log.now base.now) × (size.entries ≡ word base.now 2) × (size.asides ≡ word base.now 4) × (well_formed rec.now ≡ true) × (work.old ≡ replicate tree_size 0) × (register.old ≡ replicate register_size 0) }
-    ensures tells { result ≡ reason_of (judge_of rec.now (tree_of log.now base.now)) }
+    ensures tells { code_of result ≡ reason_of (judge_of rec.now (tree_of log.now base.now)) }
     ensures lays { work.new ≡ work_bytes (tree_of log.now base.now) }
 {
     let laid = state_tree::replay_state(log, used, base, held, size, work, register);
@@ -63,12 +67,12 @@ pub fn reason(
     size: Size,
     rec: &[u8],
     work: &mut [u8],
-) -> u8
+) -> Result<(), Refusal>
     requires { (length log.now ≡ log_size) × (length base.now ≡ base_size) × (sound_state log.now base.now ≡ true) × (used ≡ length (records_of log.now)) × (held.counts ≡ held_on log.now base.now) × (size.entries ≡ word base.now 2) × (size.asides ≡ word base.now 4) × (well_formed rec.now ≡ true) × (length work.old ≡ tree_size) }
-    ensures tells { result ≡ reason_of (judge_of rec.now (tree_of log.now base.now)) }
+    ensures tells { code_of result ≡ reason_of (judge_of rec.now (tree_of log.now base.now)) }
     ensures lays { work.new ≡ work_bytes (tree_of log.now base.now) }
 {
-    byte_slice::clear(work);
+    work.fill(0);
     let mut register = [0u16; REGISTER];
     reason_behind(log, used, base, held, size, rec, work, &mut register)
 }
@@ -83,7 +87,7 @@ pub fn put_behind(log: &mut [u8], used: usize, rec: &[u8])
     byte_slice::put(log, 80 * used, rec);
 }
 
-// A wish in a sound state: its record is put behind the others and 0 is answered, or it is refused and the log is left.
+// A wish in a sound state: its record is put behind the others, or it is refused and the log is left.
 pub fn act_on(
     log: &mut [u8],
     used: usize,
@@ -93,27 +97,20 @@ pub fn act_on(
     unit: u8,
     wish: &[u8],
     work: &mut [u8],
-) -> u8
+) -> Result<(), Refusal>
     requires { (length log.old ≡ log_size) × (length base.now ≡ base_size) × (sound_state log.old base.now ≡ true) × (used ≡ length (records_of log.old)) × (held.counts ≡ held_on log.old base.now) × (head.list ≡ get_or base.now 0 0) × (head.entries ≡ word base.now 2) × (head.asides ≡ word base.now 4) × (unit < 8) × (length wish.now ≡ record_size) × (length work.old ≡ tree_size) }
-    ensures acted { outcome result 0 log.new [] 0 ≡ acted_on unit log.old base.now wish.now }
+    ensures acted { outcome (code_of result) 0 log.new [] 0 ≡ acted_on unit log.old base.now wish.now }
     ensures worked { work.new ≡ worked_on unit log.old base.now wish.now work.old }
 {
-    let s = stamp(wish, unit, held);
-    let rec = s.bytes;
-    let k = early_wish(head.list, unit, held, used, wish, &rec);
-    if k != 0 {
-        return k;
-    }
+    let rec = stamp(wish, unit, held);
+    check_early(head.list, unit, held, used, wish, &rec)?;
     let size = Size {
         entries: head.entries,
         asides: head.asides,
     };
-    let n = reason(log, used, base, held, size, &rec, work);
-    if n != 0 {
-        return n;
-    }
+    reason(log, used, base, held, size, &rec, work)?;
     put_behind(log, used, &rec);
-    0
+    Ok(())
 }
 
 // One act of the own unit: its record is put behind those of the log, or it is refused and the log is left. Checked in this order: 1, 21, 19,
@@ -126,20 +123,12 @@ pub fn act(
     unit: u8,
     wish: &[u8],
     work: &mut [u8],
-) -> Answer
-    ensures acted { outcome result.number result.place log.new [] 0 ≡ act_of unit log.old base.now wish.now work.old }
+) -> Result<(), Refusal>
+    ensures acted { outcome (code_of result) 0 log.new [] 0 ≡ act_of unit log.old base.now wish.now work.old }
     ensures worked { work.new ≡ act_work unit log.old base.now wish.now work.old }
 {
     let lent = (wish.len() == RECORD_BYTES) & (work.len() == TREE_BYTES);
-    let o = open(log, base, unit, lent, true);
-    if o.number != 0 {
-        return Answer {
-            number: o.number,
-            place: 0,
-        };
-    }
-    let head = o.head;
-    let held = o.held;
-    let number = act_on(log, o.used, base, head, held, unit, wish, work);
-    Answer { number, place: 0 }
+    let state = open(log, base, unit, lent, true)?;
+    let head = state.head;
+    act_on(log, state.used, base, head, state.held, unit, wish, work)
 }

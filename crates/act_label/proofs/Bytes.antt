@@ -1,15 +1,15 @@
 -- The bytes of a text one by one: what may stand, what is a stroke, and what is printable.
 -- Assumes nothing.
-use Prim.Native.Nat.{ℕ, zero, suc, ◌+◌, ◌≤◌, ◌<◌}
+use Prim.Native.Nat.{ℕ, zero, suc, ◌+◌, ◌≤◌}
 use native.Mathlib.Numerals.{add-one}
 use native.Mathlib.Omega.{arith}
-use mathlib.Core.Path.{◌≡◌, refl, sym, ap, ◌∙◌}
+use mathlib.Core.Path.{◌≡◌, refl, ap, ◌∙◌}
 use mathlib.Core.Bool.{Bool, true, false, cond, not, ◌&&◌, ◌||◌}
 use mathlib.Core.Logic.{⊎_elim}
 use mathlib.Core.List.{List, [], ◌∷◌, ◌++◌}
 use lib.Dec.{leb, eqb}
 use lib.ListN.{get_or, length, take}
-use lib.Seq.{take-suc}
+use lib.Seq.{take-suc, take_all}
 use borrow.Author.Tests.{eqb-true}
 use Rattle.model.specs.Record.{printable, has_stroke}
 use Rattle.model.specs.Numbers.{first_of}
@@ -92,16 +92,18 @@ stand_is t (suc n) h =
     go true false true true e = refl
 
 -- 7 for a text that is not printable, 24 for one with a stroke
-pub text_number_lem : (t : List ℕ) (n : ℕ) → n ≤ length t → text_number t n ≡ first_of (cond (printable (take n t)) 0 7) (cond (has_stroke (take n t)) 24 0)
+pub text_number_lem : (t : List ℕ) → text_number t (length t) ≡ first_of (cond (printable t) 0 7) (cond (has_stroke t) 24 0)
 unfolding text_number
-text_number_lem t n h = rw (stand_is t n h, plain_is t n h) (go (printable (take n t)) (has_stroke (take n t)))
+text_number_lem t =
+    let all : take (length t) t ≡ t = take_all (length t) t (omega arith) in
+    rw (stand_is t (length t) (omega arith), plain_is t (length t) (omega arith), all) (go (printable t) (has_stroke t))
   where
     go : (p s : Bool) → cond (p && not s) 0 (cond p 24 7) ≡ first_of (cond p 0 7) (cond s 24 0)
     go true true = refl
     go true false = refl
     go false s = refl
 
--- ---- what the loop of `text_number` is asked
+-- ---- what the loop of `check_text` is asked
 
 module _ (t : List ℕ) (i : ℕ) {yes : Bool} (y : yes ≡ may_stand (get_or t i 0)) where
   pub stand_next : {g : Bool} → g ≡ stand_to t i → (g && yes) ≡ stand_to t (i + 1)
@@ -112,19 +114,19 @@ module _ (t : List ℕ) (i : ℕ) {yes : Bool} (y : yes ≡ may_stand (get_or t 
   unfolding plain_to
   plain_next e = rw (add-one i, e, y)
 
-module _ (t : List ℕ) (i n : ℕ) (u : i ≤ n) (v : n ≤ i) {stand : Bool} (a : stand ≡ stand_to t i) where
-  same_end : i ≡ n
+module _ (t : List ℕ) (i : ℕ) (u : i ≤ length t) (v : length t ≤ i) {stand : Bool} (a : stand ≡ stand_to t i) where
+  same_end : i ≡ length t
   same_end = omega arith
 
-  pub all_stand : stand ≡ true → 0 ≡ text_number t n
+  pub all_stand : stand ≡ true → 0 ≡ text_number t (length t)
   unfolding text_number
   all_stand k = rw (← same_end, ← a, k)
 
   module _ (k : stand ≡ false) {plain : Bool} (b : plain ≡ plain_to t i) where
-    pub some_stroke : plain ≡ true → 24 ≡ text_number t n
+    pub some_stroke : plain ≡ true → 24 ≡ text_number t (length t)
     unfolding text_number
     some_stroke m = rw (← same_end, ← a, k, ← b, m)
 
-    pub other_byte : plain ≡ false → 7 ≡ text_number t n
+    pub other_byte : plain ≡ false → 7 ≡ text_number t (length t)
     unfolding text_number
     other_byte m = rw (← same_end, ← a, k, ← b, m)

@@ -3,15 +3,14 @@
 use Prim.Native.Nat.{ℕ, ◌-◌, ◌≤◌, ◌<◌}
 use native.Mathlib.Omega.{arith}
 use mathlib.Core.Path.{◌≡◌, refl, sym, ap, ◌∙◌}
-use mathlib.Core.Bool.{Bool, true, false, cond, not, ◌&&◌, ◌||◌}
-use mathlib.Core.List.{List, [], ◌∷◌, ◌++◌}
+use mathlib.Core.Bool.{Bool, true, false, not, ◌&&◌, ◌||◌}
+use mathlib.Core.List.{List}
 use lib.Dec.{leb, eqb}
 use lib.ListN.{get_or, length, take, drop, length-drop, take-append-drop}
 use lib.Seq.{take_all}
 use borrow.Author.Tests.{leb-true, eqb-false, le-leb, ne_eqb, not-true, not-false}
 use Rattle.model.specs.Bytes.{blank, part}
 use Rattle.model.specs.Record.{Rec, op, label_of, text_length, printable, is_label, uses_label, unused, label_fits, has_stroke}
-use Rattle.model.specs.Numbers.{first_of}
 use Rattle.byte_slice.proofs.Numbers.{and_true, and_right, test_false, not_both}
 use Rattle.log_laws.proofs.Formed.{blank_no_stroke}
 use Rattle.act_label.specs.Label.{text_number, label_number, field_number}
@@ -81,12 +80,12 @@ module _ (t : List ℕ) {n : ℕ} (e : n ≡ text_length t) (within : n ≤ leng
         pub more_behind : not b ≡ true → 7 ≡ label_number t
         more_behind h = not_label t (λ l. not_both b (sym rest_is ∙ rw (← e) at (parts_of t l).zeros) (not-true b h))
 
-        pub by_the_table : {x : ℕ} → not b ≡ false → x ≡ text_number t n → x ≡ label_number t
+        pub by_the_table : {x : ℕ} → not b ≡ false → x ≡ text_number (take n t) (length (take n t)) → x ≡ label_number t
         unfolding label_number
         by_the_table h k =
             let z : blank (drop n t) ≡ true = rest_is ∙ not-false b h in
             let p : Parts t = record { some_text = rw (← e) some; first = f; last = rw (← e) g; zeros = rw (← e) z } in
-            k ∙ text_number_lem t n within ∙ rw (by_text t p, ← e, stroke_in_text t n z)
+            k ∙ text_number_lem (take n t) ∙ rw (by_text t p, ← e, stroke_in_text t n z)
 
 -- ---- `field_number`
 

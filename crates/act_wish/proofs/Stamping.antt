@@ -6,7 +6,7 @@ use mathlib.Core.Path.{◌≡◌, refl, sym, ap, ◌∙◌}
 use mathlib.Core.Logic.{⊎_elim}
 use mathlib.Core.Bool.{Bool, true, false, not, ◌&&◌}
 use mathlib.Core.List.{List, ◌++◌, append_assoc}
-use lib.ListN.{get_or, length, take, drop, replicate, length-append, length-drop, length-replicate, get_or-append}
+use lib.ListN.{get_or, length, take, drop, length-append, length-drop, get_or-append}
 use lib.Seq.{drop_at, length-take-le, get_or-take}
 use borrow.Author.Tests.{eq-eqb, ne_eqb, lt-ltb, le-ltb, not-true, not-false}
 use Rattle.model.specs.Bytes.{two, blank, part, put_at}
@@ -16,7 +16,7 @@ use Rattle.model.specs.Log.{count_on, vector_on}
 use Rattle.base_model.specs.Base.{is_listed}
 use Rattle.call_model.specs.Outcome.{stamped, wish_fits, wish_number, early_wish}
 use Rattle.byte_slice.proofs.Numbers.{eq_or_ne, first_stops}
-use Rattle.byte_slice.proofs.PutAt.{put_whole, put_more}
+use Rattle.byte_slice.proofs.PutAt.{put_more}
 use Rattle.vector.proofs.InBytes.{vector_bytes-length}
 use Rattle.log_laws.proofs.Tests.{vector_on_get_d}
 use Rattle.act_laws.proofs.Act.{stamped_label, stamped-unit, stamped-num, stamped-seen}
@@ -24,20 +24,13 @@ use Rattle.act_label.specs.Label.{field_number, body_fits}
 use Rattle.act_label.proofs.Body.{body_same, label_same, label_fits_same, formed_by_body}
 use Rattle.act_wish.specs.Stamp.{stamped_by, fits_as, number_as, room_as, early_as}
 
--- ---- the three writings
+-- ---- the writings
 
-stamp_put : (n : ℕ) (v w : List ℕ) → length w ≡ 80 → put_at (put_at w 2 (two n)) 4 (vector_bytes v) ≡ stamped_by n v w
+pub stamp_put : (n : ℕ) (v w : List ℕ) → length w ≡ 80 → put_at (put_at w 2 (two n)) 4 (vector_bytes v) ≡ stamped_by n v w
 unfolding stamped_by put_at
 stamp_put n v w h =
     let k : 2 + length (two n ++ vector_bytes v) ≡ 20 = omega (arith, length-append (two n) (vector_bytes v), vector_bytes-length v) in
     put_more w 2 (two n) (vector_bytes v) (omega arith) ∙ rw (k, append_assoc (two n) (vector_bytes v) (drop 20 w))
-
--- y is the own count
-pub stamp_writes : (u : ℕ) (v w : List ℕ) {y : ℕ} {a b c : List ℕ} → length w ≡ 80 → y ≡ get_or v u 0 → a ≡ put_at (replicate 80 0) 0 w → b ≡ put_at a 2 (two ((y + 1) % 65536)) → c ≡ put_at b 4 (vector_bytes v)
-    → c ≡ stamped_by ((get_or v u 0 + 1) % 65536) v w
-stamp_writes u v w {y} h k p q r =
-    let e : put_at (replicate 80 0) 0 w ≡ w = put_whole (replicate 80 0) w (h ∙ sym (length-replicate {A = ℕ} 80 0)) in
-    r ∙ rw (q, p, e, ← k) (stamp_put ((y + 1) % 65536) v w h)
 
 -- ---- what is stamped, whatever the number
 
@@ -112,7 +105,7 @@ module _ (u : ℕ) (v : List ℕ) (l : List Rec) (w : List ℕ) {h : List ℕ} (
     unfolding early_as room_as early_wish
     early_is m e = rw (number_is, own_count, e)
 
--- ---- the ways out of `wish_number`
+-- ---- the ways out of `check_wish`
 
 module _ (u : ℕ) (w : List ℕ) (r : Rec) where
   pub other_unit : (get_or w 0 0 ≡ u → ⊥) → 7 ≡ number_as u w r
@@ -120,9 +113,9 @@ module _ (u : ℕ) (w : List ℕ) (r : Rec) where
   other_unit h = rw (ne_eqb (get_or w 0 0) u h)
 
   module _ (a : get_or w 0 0 ≡ u) {b : Bool} (e : b ≡ blank (take (20 - 2) (drop 2 w))) where
-    pub not_zero : not b ≡ true → 7 ≡ number_as u w r
+    pub not_blank : not b ≡ true → 7 ≡ number_as u w r
     unfolding number_as fits_as part
-    not_zero h = rw (eq-eqb (get_or w 0 0) u a, ← e, not-true b h)
+    not_blank h = rw (eq-eqb (get_or w 0 0) u a, ← e, not-true b h)
 
     module _ {f : Bool} (h : not b ≡ false) (g : f ≡ body_fits r) where
       pub not_formed : not f ≡ true → 7 ≡ number_as u w r
@@ -133,23 +126,26 @@ module _ (u : ℕ) (w : List ℕ) (r : Rec) where
       unfolding number_as fits_as field_number part
       label_tells k z = z ∙ rw (eq-eqb (get_or w 0 0) u a, ← e, not-false b h, ← g, not-false f k)
 
--- ---- the ways out of `room_number`
+-- ---- the ways out of `check_room`
 
 module _ (c n : ℕ) where
-  pub last_used : 65535 ≤ c → 28 ≡ room_as c n
+  pub last_used : c ≡ 65535 → 28 ≡ room_as c n
   unfolding room_as
-  last_used h = rw (le-ltb c 65535 h)
+  last_used h = rw h
 
-  module _ (a : c < 65535) where
+  module _ (within : c < 65536) (not_last : c ≡ 65535 → ⊥) where
+    below : c < 65535
+    below = omega (arith, not_last)
+
     pub log_full : 512 ≤ n → 11 ≡ room_as c n
     unfolding room_as
-    log_full h = rw (lt-ltb c 65535 a, le-ltb n 512 h)
+    log_full h = rw (lt-ltb c 65535 below, le-ltb n 512 h)
 
     pub room_left : n < 512 → 0 ≡ room_as c n
     unfolding room_as
-    room_left h = rw (lt-ltb c 65535 a, lt-ltb n 512 h)
+    room_left h = rw (lt-ltb c 65535 below, lt-ltb n 512 h)
 
--- ---- the ways out of `early_wish`
+-- ---- the ways out of `check_early`
 
 module _ (m u : ℕ) (h : List ℕ) (n : ℕ) (w : List ℕ) (r : Rec) {t : Bool} (e : t ≡ is_listed m u) where
   pub not_listed : not t ≡ true → 26 ≡ early_as m u h n w r

@@ -22,7 +22,7 @@ fn count_at(base: &[u8], at: usize) -> usize
     requires { (length base.now ≡ 43032) × (at < 24) }
     ensures { result ≡ word base.now at }
 {
-    le16(base, at) as usize
+    usize::from(le16(base, at))
 }
 
 // The rows of n entries.
@@ -31,10 +31,8 @@ fn entries_fit(base: &[u8], v: Vector, n: usize) -> bool
     ensures { result ≡ all_to n (entry_row_fits base.now) }
 {
     let mut all = true;
-    let mut i: usize = 0;
-    while i < n {
+    for i in 0..n {
         all = all & base_rows::entry_fits(v, base, 24 + 72 * i);
-        i += 1;
     }
     all
 }
@@ -45,10 +43,8 @@ fn asides_fit(base: &[u8], v: Vector, m: usize) -> bool
     ensures { result ≡ all_to m (aside_row_fits base.now) }
 {
     let mut all = true;
-    let mut i: usize = 0;
-    while i < m {
+    for i in 0..m {
         all = all & base_rows::aside_fits(v, base, 36888 + 12 * i);
-        i += 1;
     }
     all
 }

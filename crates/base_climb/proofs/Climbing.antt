@@ -5,16 +5,18 @@ use native.Mathlib.Omega.{arith}
 use mathlib.Core.Path.{◌≡◌, refl, sym, ap, ◌∙◌}
 use mathlib.Core.Logic.{⊎_elim}
 use mathlib.Core.Bool.{true, false, ◌&&◌, ◌||◌}
-use mathlib.Core.List.{List, ◌++◌}
+use mathlib.Core.List.{List}
 use lib.Dec.{eqb, leb}
-use lib.ListN.{get_or, length, set, replicate, drop, length-set, length-replicate, get_or-replicate}
+use lib.ListN.{get_or, length, set, replicate, length-set, length-replicate, get_or-replicate}
 use lib.Seq.{get_or-set_same, get_or-set_other}
 use borrow.Author.Tests.{eq-eqb, ne_eqb, le-leb, lt-leb}
 use Rattle.model.specs.Log.{all_to}
 use Rattle.byte_slice.proofs.Numbers.{lt_or_ge, eq_or_ne, not_both}
-use Rattle.byte_slice.proofs.Parts.{filled}
 use Rattle.base_links.proofs.Links.{all_next, all_ends, all_none, all_false}
+use Rattle.std.proofs.Common.{Option}
+use Rattle.std.specs.Bool.{then_some}
 use Rattle.base_climb.specs.Climb.{climbs, climbs_from, Exact, Known, Away}
+use Rattle.base_climb.specs.Steps.{steps_told}
 
 shifted : (k s : ℕ) → leb k s ≡ leb (suc k) (suc s)
 shifted k s =
@@ -110,6 +112,10 @@ module _ (ups : List ℕ) (n i : ℕ) where
     never : n ≤ 512 → climbs ups (n - t) q ≡ false → Away ups n i 513
     never l e = record { told = lt-leb 513 n (omega arith) ∙ (sym e ∙ w.same); exact = λ h. absurd (omega arith) }
 
+    -- further than n is as good as never
+    pub climb_far : n ≤ 512 → (k : ℕ) → Away ups n i k → n < k → Away ups n i 513
+    climb_far l k a h = record { told = lt-leb 513 n (omega arith) ∙ (sym (lt-leb k n h) ∙ a.told); exact = λ g. absurd (omega arith) }
+
     pub climb_lost : n ≤ 512 → (q ≡ 0 → ⊥) → 512 < q → Away ups n i 513
     climb_lost l z h = never l (at_none ups (n - t) q z h)
 
@@ -120,6 +126,21 @@ module _ (ups : List ℕ) (n i : ℕ) where
 
     pub climb_end : n ≤ t → q ≡ 0 → Away ups n i n
     climb_end h e = let s : t ≡ n = omega (arith, w.few) in (rw s at (climb_top e))
+
+    -- as the code tells it: a row that was reached, and the end of the climb
+    pub climb_tells : n ≤ 512 → (k : ℕ) → Away ups n i k → {r : Option ℕ} → r ≡ then_some (leb k n) k → Away ups n i (steps_told r)
+    climb_tells l k a e =
+        ⊎_elim
+        (λ (h : n < k). rw (e, lt-leb k n h) (climb_far l k a h))
+        (λ (h : k ≤ n). rw (e, le-leb k n h) a)
+        (lt_or_ge n k)
+
+    pub climb_ends : n ≤ 512 → n ≤ t → {r : Option ℕ} → r ≡ then_some (eqb q 0) n → Away ups n i (steps_told r)
+    climb_ends l h e =
+        ⊎_elim
+        (λ (z : q ≡ 0). rw (e, eq-eqb q 0 z) (climb_end h z))
+        (λ (z : q ≡ 0 → ⊥). rw (e, ne_eqb q 0 z) (climb_over l h z))
+        (eq_or_ne q 0)
 
     pub climb_goes : {r : ℕ} → t < n → (q ≡ 0 → ⊥) → q ≤ 512 → r ≡ get_or ups (q - 1) 0 → Climbing ups n i (t + 1) r
     climb_goes {r} h z l e =
@@ -134,14 +155,10 @@ module _ (ups : List ℕ) (n i : ℕ) where
 
 -- ---- what is known
 
--- a table that was filled up to its end
-pub cleared : (d : List ℕ) (i : ℕ) {o : List ℕ} → length d ≡ 1024 → i ≤ 1024 → 1024 ≤ i → o ≡ replicate i 0 ++ drop i d → o ≡ replicate 1024 0
-cleared d i long h g e = e ∙ (filled d 0 i (omega arith) ∙ rw long)
-
 module _ (ups : List ℕ) where
-  pub known_none : {d : List ℕ} → d ≡ replicate 1024 0 → Known ups d
-  known_none e =
-      rw e record {
+  pub known_none : {n : ℕ} {d : List ℕ} → n ≡ 1024 → d ≡ replicate n 0 → Known ups d
+  known_none z e =
+      rw (e, z) record {
         long = length-replicate {A = ℕ} 1024 0;
         far = λ j l h. absurd (omega (arith, get_or-replicate {A = ℕ} 1024 j 0 0 (omega arith)));
       }
@@ -181,10 +198,10 @@ module _ (ups : List ℕ) (n : ℕ) where
   pub all_start : true ≡ all_to 0 (climbs_from ups n)
   all_start = all_none (climbs_from ups n)
 
-  module _ (i k : ℕ) (w : Away ups n i k) where
-    pub all_lost : i < n → n < k → false ≡ all_to n (climbs_from ups n)
-    all_lost h l = sym (all_false n (climbs_from ups n) i h (sym w.told ∙ lt-leb k n l))
+  pub all_lost : (i : ℕ) → Away ups n i 513 → n ≤ 512 → i < n → false ≡ all_to n (climbs_from ups n)
+  all_lost i w l h = sym (all_false n (climbs_from ups n) i h (sym w.told ∙ lt-leb 513 n (omega arith)))
 
+  module _ (i k : ℕ) (w : Away ups n i k) where
     pub all_goes : k ≤ n → true ≡ all_to i (climbs_from ups n) → true ≡ all_to (i + 1) (climbs_from ups n)
     all_goes l e = all_next (climbs_from ups n) i e (sym (le-leb k n l) ∙ w.told)
 

@@ -5,13 +5,11 @@ ghost use Rattle.std.specs.Prelude.{◌≡◌, length};
 ghost use Rattle.model.specs.Lengths.{base_size};
 ghost use Rattle.base_model.specs.Base.{empty_base};
 
-use byte_slice::clear;
-
 // The lent base becomes empty, whatever stood in it.
 pub fn write_empty(base: &mut [u8])
     requires { length base.old ≡ base_size }
     ensures { base.new ≡ empty_base }
 {
-    clear(base);
+    base.fill(0);
     base[0] = 255;
 }

@@ -1,15 +1,15 @@
 // The head of a lent base, its first 24 bytes: the list, the counts of its rows, the base vector; and which units a list names.
 #![tactic(auto)]
 
-ghost use Rattle.std.specs.Prelude.{◌≡◌, ◌≤◌, ◌<◌, length, replicate};
+ghost use Rattle.std.specs.Prelude.{◌≡◌, ◌≤◌, ◌<◌, length};
 ghost use Rattle.base_model.specs.Base.{is_listed, lists_all};
-ghost use Rattle.base_head.specs.Head.{headed, head_of, no_head};
+ghost use Rattle.base_head.specs.Head.{headed, head_of};
 
 use byte_slice::le16;
 use vector::Vector;
 
 // The list, how many records of each unit are folded, and how many rows of entries and of asides there are.
-#[derive(Drop)]
+#[derive(Clone, Copy, Drop)]
 pub struct Head {
     pub list: u8,
     pub folded: Vector,
@@ -34,19 +34,6 @@ pub fn head_of(base: &[u8]) -> Head
     }
 }
 
-// Zeros, in the place of a head that is not told.
-pub fn no_head() -> Head
-    ensures { headed result.list result.folded.counts result.entries result.asides ≡ no_head }
-{
-    let folded = vector::zero_vector();
-    Head {
-        list: 0,
-        folded,
-        entries: 0,
-        asides: 0,
-    }
-}
-
 // The list names the unit.
 pub fn is_listed(list: u8, unit: usize) -> bool
     requires { unit < 8 }
@@ -61,10 +48,8 @@ pub fn lists_all(list: u8, v: Vector) -> bool
     ensures { result ≡ lists_all list v.counts }
 {
     let mut all = true;
-    let mut u: usize = 0;
-    while u < 8 {
+    for u in 0..8 {
         all = all & ((v.counts[u] == 0) | is_listed(list, u));
-        u += 1;
     }
     all
 }

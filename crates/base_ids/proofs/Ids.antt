@@ -3,17 +3,19 @@
 use Prim.Native.Nat.{ℕ, ◌+◌, ◌-◌, ◌*◌, ◌%◌, ◌≤◌, ◌<◌}
 use native.Mathlib.Omega.{arith}
 use mathlib.Core.Path.{◌≡◌, refl, sym, ap, ◌∙◌}
-use mathlib.Core.Bool.{Bool, true, ◌&&◌}
+use mathlib.Core.Bool.{Bool, true, not, ◌&&◌}
 use mathlib.Core.List.{List}
-use lib.Dec.{eqb}
 use lib.ListN.{get_or, set, replicate}
 use borrow.Author.Tests.{eq-eqb, ne_eqb, eqb-true, lt-ltb, le-ltb}
 use Rattle.model.specs.Record.{identity_at}
 use Rattle.model.specs.Log.{all_to}
 use Rattle.model.specs.Table.{entry_in, aside_in}
 use Rattle.base_model.specs.Base.{last_to, base_entry, base_aside, id_at, is_id, id_new}
+use Rattle.std.proofs.Common.{Option}
+use Rattle.std.specs.Option.{is_some}
+use Rattle.base_links.specs.Places.{place_told}
 use Rattle.base_links.specs.Links.{Linked, Walk}
-use Rattle.base_links.proofs.Links.{walk_starts, walk_low, walk_goes, walk_found, walk_ends, linked_none, linked_more, all_next, all_ends, all_none}
+use Rattle.base_links.proofs.Links.{walk_starts, walk_low, walk_goes, walk_found, walk_ends, linked_none, linked_more, none_told, all_next, all_ends, all_none}
 use Rattle.base_ids.specs.Ups.{link_of, id_key}
 
 -- ---- fields
@@ -62,11 +64,11 @@ module _ (b heads next : List ℕ) (n k i : ℕ) (w : Linked (id_key b n) heads 
     seek_goes d f =
         walk_goes (is_id b n k) (id_key b n) heads next (link_of k) i agree w s z (ne_eqb (id_at b n (q - 1)) k (λ y. d (e ∙ y))) f
 
-    pub seek_found : x ≡ k → q ≡ last_to (is_id b n k) i
+    pub seek_found : x ≡ k → q - 1 + 1 ≡ last_to (is_id b n k) i
     unfolding is_id
     seek_found d = walk_found (is_id b n k) (id_key b n) (link_of k) i q s z (eq-eqb (id_at b n (q - 1)) k (sym e ∙ d))
 
-pub seek_ends : (b : List ℕ) (n k i q : ℕ) → Seeks b n k i q → q ≤ 0 → q ≡ last_to (is_id b n k) i
+pub seek_ends : (b : List ℕ) (n k i q : ℕ) → Seeks b n k i q → q ≤ 0 → 0 ≡ last_to (is_id b n k) i
 seek_ends b n k i q s z = walk_ends (is_id b n k) (id_key b n) (link_of k) i q s z
 
 -- ---- all identities
@@ -78,9 +80,9 @@ module _ (b : List ℕ) (n : ℕ) where
   ids_linked heads next heads' next' i to k h w few most low e f l p q =
       linked_more (id_key b n) heads next heads' next' h i w (omega arith) (omega arith) (f ∙ ap link_of e) p q
 
-  pub ids_next : (i k q : ℕ) {t : Bool} → t ≡ all_to i (id_new b n) → k ≡ id_at b n i → q ≡ last_to (is_id b n k) i → (t && eqb q 0) ≡ all_to (i + 1) (id_new b n)
+  pub ids_next : (i k : ℕ) (o : Option ℕ) {t : Bool} (u : Bool) → t ≡ all_to i (id_new b n) → k ≡ id_at b n i → place_told o ≡ last_to (is_id b n k) i → is_some o ≡ not u → (t && u) ≡ all_to (i + 1) (id_new b n)
   unfolding id_new
-  ids_next i k q a e f = all_next (id_new b n) i a (rw (f, e))
+  ids_next i k o u a e f g = all_next (id_new b n) i a (none_told o u g ∙ rw (f, e))
 
   pub ids_end : (i to : ℕ) {t : Bool} → i ≤ to → to ≤ i → t ≡ all_to i (id_new b n) → t ≡ all_to to (id_new b n)
   ids_end i to h g e = all_ends (id_new b n) i to h g e

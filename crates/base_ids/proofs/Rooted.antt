@@ -24,19 +24,25 @@ module _ (b : List ℕ) (n f : ℕ) where
   unfolding up_of
   up_root e = rw (eq-eqb f 0 e)
 
-  module _ (d : f ≡ 0 → ⊥) {q : ℕ} (e : q ≡ last_to (is_id b n f) n) where
-    pub up_none : q ≡ 0 → 513 ≡ up_of b n f
+  module _ (d : f ≡ 0 → ⊥) where
+    pub up_none : 0 ≡ last_to (is_id b n f) n → 513 ≡ up_of b n f
     unfolding up_of place_of is_folder_row
-    up_none z = rw (ne_eqb f 0 d, ← e, eq-eqb q 0 z)
+    up_none e = rw (ne_eqb f 0 d, ← e)
 
-    module _ (z : q ≡ 0 → ⊥) {k : ℕ} (g : k ≡ (base_entry b (q - 1)).kind) where
+    module _ (row : ℕ) (e : row + 1 ≡ last_to (is_id b n f) n) {k : ℕ} (g : k ≡ (base_entry b row).kind) where
+      one_above : row + 1 ≡ 0 → ⊥
+      one_above z = absurd (omega arith)
+
+      below : (base_entry b (row + 1 - 1)).kind ≡ k
+      below = let s : row + 1 - 1 ≡ row = omega arith in rw s (sym g)
+
       pub up_other : (k ≡ 1 → ⊥) → 513 ≡ up_of b n f
       unfolding up_of place_of is_folder_row
-      up_other h = rw (ne_eqb f 0 d, ← e, ne_eqb q 0 z, ← g, ne_eqb k 1 h)
+      up_other h = rw (ne_eqb f 0 d, ← e, ne_eqb (row + 1) 0 one_above, below, ne_eqb k 1 h)
 
-      pub up_folder : k ≡ 1 → q ≡ up_of b n f
+      pub up_folder : k ≡ 1 → row + 1 ≡ up_of b n f
       unfolding up_of place_of is_folder_row
-      up_folder h = rw (ne_eqb f 0 d, ← e, ne_eqb q 0 z, ← g, eq-eqb k 1 h)
+      up_folder h = rw (ne_eqb f 0 d, ← e, ne_eqb (row + 1) 0 one_above, below, eq-eqb k 1 h)
 
 -- ---- the table
 

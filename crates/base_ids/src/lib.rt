@@ -1,10 +1,11 @@
 // The identities of a base: none twice, and each entry reaches the root through folders.
 #![tactic(auto)]
 
-ghost use Rattle.std.specs.Prelude.{◌≡◌, ◌+◌, ◌≤◌, ◌<◌, length};
+ghost use Rattle.std.specs.Prelude.{◌≡◌, ◌+◌, ◌≤◌, ◌<◌, IfSome, length};
 ghost use Rattle.model.specs.Log.{all_to};
 ghost use Rattle.base_model.specs.Base.{last_to, base_entry, id_at, is_id, id_new, ids_fit};
 ghost use Rattle.base_links.specs.Links.{Linked};
+ghost use Rattle.base_links.specs.Places.{place_told};
 ghost use Rattle.base_ids.specs.Ups.{link_of, id_key, up_of, Ups};
 
 // The kind of the entry in row i.
@@ -41,20 +42,21 @@ fn link(k: u32) -> usize
     (k % 1021) as usize
 }
 
-// Of the first i identities the last that is k, and one; 0 for none.
-fn before(base: &[u8], n: usize, k: u32, heads: &[u16], next: &[u16], i: usize) -> usize
+// Of the first i identities the last that is k. A walk along a chain.
+fn before(base: &[u8], n: usize, k: u32, heads: &[u16], next: &[u16], i: usize) -> Option<usize>
     requires { (length base.now ≡ 43032) × (n ≤ 512) × (i ≤ n + 512) × Linked (id_key base.now n) heads.now next.now i }
-    ensures { (result ≡ last_to (is_id base.now n k) i) × (result ≤ i) }
+    ensures place { place_told result ≡ last_to (is_id base.now n k) i }
+    ensures within { IfSome result (λ j. j < i) }
 {
     let h = link(k);
     let mut q = hash_chains::number_at(heads, h);
     while 0 < q {
         if id_at(base, n, q - 1) == k {
-            return q;
+            return Some(q - 1);
         }
         q = hash_chains::number_at(next, q - 1);
     }
-    q
+    None
 }
 
 // The identities from one up to another are judged, each against those before it, and linked.
@@ -71,19 +73,15 @@ fn link_ids(
     ensures { (result ≡ all_to to (id_new base.now n)) × Linked (id_key base.now n) heads.new next.new to }
 {
     let mut all = fine;
-    let mut i = from;
-    while i < to {
+    for i in from..to {
         let k = id_at(base, n, i);
-        let q = before(base, n, k, heads, next, i);
-        all = all & (q == 0);
-        let h = link(k);
-        base_links::push(heads, next, h, i);
-        i += 1;
+        all = all & before(base, n, k, heads, next, i).is_none();
+        base_links::push(heads, next, link(k), i);
     }
     all
 }
 
-// Where the folder f stands: 0 for the root, one above the row of a folder, 513 for neither.
+// Where the folder f stands: 0 for the root, one above the row of a folder, 513 for neither. A number, as the table of folders keeps it.
 fn up_of(base: &[u8], n: usize, f: u32, heads: &[u16], next: &[u16]) -> usize
     requires { (length base.now ≡ 43032) × (n ≤ 512) × Linked (id_key base.now n) heads.now next.now n }
     ensures { (result ≡ up_of base.now n f) × (result ≤ 513) }
@@ -91,14 +89,13 @@ fn up_of(base: &[u8], n: usize, f: u32, heads: &[u16], next: &[u16]) -> usize
     if f == 0 {
         return 0;
     }
-    let q = before(base, n, f, heads, next, n);
-    if q == 0 {
+    let Some(row) = before(base, n, f, heads, next, n) else {
+        return 513;
+    };
+    if kind_at(base, row) != 1 {
         return 513;
     }
-    if kind_at(base, q - 1) != 1 {
-        return 513;
-    }
-    q
+    row + 1
 }
 
 // The table of the entries' folders.
@@ -106,12 +103,10 @@ fn fill_ups(base: &[u8], n: usize, heads: &[u16], next: &[u16], ups: &mut [u16])
     requires { (length base.now ≡ 43032) × (n ≤ 512) × Linked (id_key base.now n) heads.now next.now n × (length ups.old ≡ 512) }
     ensures { Ups base.now n ups.new n }
 {
-    let mut i: usize = 0;
-    while i < n {
+    for i in 0..n {
         let f = inside_at(base, i);
         let u = up_of(base, n, f, heads, next);
         hash_chains::put(ups, i, u);
-        i += 1;
     }
 }
 

@@ -5,7 +5,7 @@ use native.Mathlib.Numerals.{add-one}
 use native.Mathlib.Omega.{arith}
 use mathlib.Core.Path.{◌≡◌, refl, sym, ap, ◌∙◌}
 use mathlib.Core.Logic.{⊎_elim}
-use mathlib.Core.Bool.{Bool, true, false, ◌&&◌}
+use mathlib.Core.Bool.{Bool, true, false, ◌&&◌, not, false≢true}
 use mathlib.Core.List.{List}
 use lib.ListN.{get_or, length, set, replicate, length-set, length-replicate, get_or-replicate}
 use lib.Seq.{get_or-set_same, get_or-set_other}
@@ -13,6 +13,9 @@ use borrow.Author.Tests.{eq-eqb, ne_eqb, eqb-true}
 use Rattle.model.specs.Log.{all_to}
 use Rattle.byte_slice.proofs.Numbers.{lt_or_ge, eq_or_ne, bool_cases, test_false, and_wrong}
 use Rattle.base_model.specs.Base.{last_to}
+use Rattle.std.proofs.Common.{Option, None, Some, eqb}
+use Rattle.std.specs.Option.{is_some}
+use Rattle.base_links.specs.Places.{place_told}
 use Rattle.base_links.specs.Links.{has_key, Linked, Walk}
 
 -- ---- all that pass
@@ -112,15 +115,23 @@ module _ (p : ℕ → Bool) (key : ℕ → ℕ) (heads next : List ℕ) (h i : �
       one_less : (q : ℕ) → 0 < q → p (q - 1) ≡ false → last_to p q ≡ last_to p (q - 1)
       one_less q z f = let e : suc (q - 1) ≡ q = omega arith in (rw e at (beyond p (q - 1) f))
 
-pub walk_found : (p : ℕ → Bool) (key : ℕ → ℕ) (h i q : ℕ) → Walk p key h i q → 0 < q → p (q - 1) ≡ true → q ≡ last_to p i
+-- as the code tells it: the place that was found, or none
+pub walk_found : (p : ℕ → Bool) (key : ℕ → ℕ) (h i q : ℕ) → Walk p key h i q → 0 < q → p (q - 1) ≡ true → q - 1 + 1 ≡ last_to p i
 walk_found p key h i q k z e =
     let f : suc (q - 1) ≡ q = omega arith in
-    sym (rw f at (here p (q - 1) e)) ∙ k.same
+    let g : q - 1 + 1 ≡ q = omega arith in
+    g ∙ (sym (rw f at (here p (q - 1) e)) ∙ k.same)
 
-pub walk_ends : (p : ℕ → Bool) (key : ℕ → ℕ) (h i q : ℕ) → Walk p key h i q → q ≤ 0 → q ≡ last_to p i
+pub walk_ends : (p : ℕ → Bool) (key : ℕ → ℕ) (h i q : ℕ) → Walk p key h i q → q ≤ 0 → 0 ≡ last_to p i
 walk_ends p key h i q k z =
     let f : q ≡ 0 = omega arith in
-    f ∙ (sym (none p) ∙ (rw f at k.same))
+    sym (none p) ∙ (rw f at k.same)
+
+pub none_told : (o : Option ℕ) (u : Bool) → is_some o ≡ not u → u ≡ eqb (place_told o) 0
+none_told None true e = refl
+none_told None false e = absurd (false≢true e)
+none_told (Some i) true e = absurd (false≢true (sym e))
+none_told (Some i) false e = sym (ne_eqb (i + 1) 0 (λ z. absurd (omega arith)))
 
 -- ---- the tables
 

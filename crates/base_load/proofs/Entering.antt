@@ -3,26 +3,25 @@
 use Prim.Native.Nat.{ℕ, zero, suc, ◌+◌, ◌-◌, ◌*◌, ◌≤◌, ◌<◌}
 use native.Mathlib.Omega.{arith}
 use mathlib.Core.Path.{◌≡◌, refl, sym, ap, ◌∙◌, subst}
-use mathlib.Core.Logic.{◌⊎◌, inl, inr, ⊎_elim}
+use mathlib.Core.Logic.{◌⊎◌, ⊎_elim}
 use mathlib.Core.Bool.{Bool, true, false, not}
-use mathlib.Core.List.{List, [], ◌∷◌}
+use mathlib.Core.List.{List, []}
 use lib.ListN.{get_or, length, set, take, drop, replicate}
-use Rattle.model.specs.Bytes.{part}
 use Rattle.model.specs.Record.{identity_at}
-use Rattle.model.specs.Replay.{Entry, Aside, Tree, is_present, removed, empty_tree}
-use Rattle.model.specs.Table.{flagged, work_bytes, entry_in}
+use Rattle.model.specs.Replay.{Entry, Tree, is_present, removed, empty_tree}
+use Rattle.model.specs.Table.{work_bytes, entry_in}
 use Rattle.base_model.specs.Base.{base_entry, base_aside, base_entries, base_asides}
 use borrow.Author.Tests.{not-true}
 use Rattle.byte_slice.proofs.Numbers.{not_both}
 use Rattle.byte_slice.proofs.Parts.{part_is}
-use Rattle.tree_table.specs.Rows.{tree_in, InRange, AllProper}
+use Rattle.tree_table.specs.Rows.{tree_in, InRange}
 use Rattle.tree_table.proofs.Rows.{tree_back}
 use Rattle.tree_table.proofs.Writes.{flagged-long}
 use Rattle.hash_chains.specs.Chains.{nodes_in, Chains}
-use Rattle.tree_maps.specs.Keys.{register_size, is_identity, children_of, folder_at, OneEach, entered, Keyed}
+use Rattle.tree_maps.specs.Keys.{register_size, is_identity, folder_at, OneEach, entered, Keyed}
 use Rattle.tree_maps.proofs.Counts.{range-identity, children_few}
 use Rattle.tree_maps.proofs.Keeping.{keyed_entered, entered-before, entered-long, entered_nodes}
-use Rattle.tree_lookup.specs.Roles.{row_from, note_from, row_of, note_of, behind_rows, role_of, Named, Lone, MarksFit, Home, Housed, Reads, Works}
+use Rattle.tree_lookup.specs.Roles.{row_from, row_of, note_of, behind_rows, role_of, Named, Lone, MarksFit, Home, Reads, Works}
 use Rattle.tree_lookup.proofs.Names.{row_few, named-kept}
 use Rattle.tree_lookup.proofs.Homes.{no_row, place_folder, one_each}
 use Rattle.tree_lookup.proofs.Below.{identity_in}
@@ -142,12 +141,6 @@ module _ (b : List ℕ) (n m : ℕ) (w : Loads b n m) where
 
     pub label_chains : Chains 4097 register
     label_chains = o.keyed.chains
-
-    pub label_named : Named register (tree_to b n m)
-    label_named = o.named
-
-    pub label_end : 24 + 72 * i + 56 ≤ length b
-    label_end = omega (arith, w.long, w.few)
 
     pub label_row : i < 65536
     label_row = omega (arith, w.few)

@@ -1,16 +1,15 @@
 -- The labels of a base, entered one by one: until its turn an entry counts as if it were removed.
 -- Assumes nothing.
-use Prim.Native.Nat.{ℕ, zero, suc, ◌+◌, ◌*◌, ◌≤◌, ◌<◌}
+use Prim.Native.Nat.{ℕ, zero, suc, ◌+◌, ◌≤◌, ◌<◌}
 use native.Mathlib.Omega.{arith}
 use mathlib.Core.Path.{◌≡◌, refl, sym, ap, ◌∙◌}
-use mathlib.Core.Logic.{◌⊎◌, inl, inr, ⊎_elim}
-use mathlib.Core.Bool.{true, false}
+use mathlib.Core.Bool.{false}
 use mathlib.Core.List.{List, [], ◌∷◌}
 use lib.ListN.{get_or, length, set}
 use Rattle.model.specs.Replay.{Entry, is_present, is_in, removed}
 use Rattle.byte_slice.proofs.Numbers.{not_both}
-use Rattle.hash_chains.specs.Chains.{nodes_in, first_of, Chains}
-use Rattle.tree_maps.specs.Keys.{register_size, children_of, made_at, folder_at, OneEach, entered, Keyed}
+use Rattle.hash_chains.specs.Chains.{nodes_in, first_of}
+use Rattle.tree_maps.specs.Keys.{register_size, children_of, made_at, folder_at, OneEach, Keyed}
 use Rattle.base_load.specs.Loading.{awaiting}
 
 -- ---- entries that wait

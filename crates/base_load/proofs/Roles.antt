@@ -1,16 +1,15 @@
 -- One entry or one aside more: its row in the table, and its role in the register.
 -- Assumes nothing.
-use Prim.Native.Nat.{ℕ, zero, suc, ◌+◌, ◌-◌, ◌*◌, ◌≤◌, ◌<◌}
+use Prim.Native.Nat.{ℕ, ◌+◌, ◌-◌, ◌*◌, ◌≤◌, ◌<◌}
 use native.Mathlib.Omega.{arith}
 use mathlib.Core.Path.{◌≡◌, refl, sym, ap, ◌∙◌, subst}
 use mathlib.Core.Logic.{◌⊎◌, inl, inr, ⊎_elim}
-use mathlib.Core.Bool.{true}
 use mathlib.Core.List.{List, [], ◌∷◌, ◌++◌}
-use lib.ListN.{get_or, length, take, drop}
+use lib.ListN.{length, take, drop}
 use borrow.Rule.Slice.PartMut.{put_mid}
-use Rattle.model.specs.Bytes.{word, part, put_at}
-use Rattle.model.specs.Record.{identity, identity_at}
-use Rattle.model.specs.Replay.{Entry, Aside, Tree, is_disputed}
+use Rattle.model.specs.Bytes.{part, put_at}
+use Rattle.model.specs.Record.{identity_at}
+use Rattle.model.specs.Replay.{is_disputed}
 use Rattle.model.specs.Table.{entry_row, aside_row, flagged, work_bytes, entry_in, aside_in}
 use Rattle.base_model.specs.Base.{base_entry, base_aside, base_entries, base_asides}
 use Rattle.byte_slice.proofs.Numbers.{eq_or_ne}
@@ -21,7 +20,7 @@ use Rattle.tree_table.specs.Rows.{Proper, AllProper}
 use Rattle.tree_table.proofs.Rows.{row-length, aside_row_length}
 use Rattle.tree_table.proofs.Writes.{flagged-long, add-entry, add-aside}
 use Rattle.hash_chains.specs.Chains.{nodes_in, Chains}
-use Rattle.tree_maps.specs.Keys.{register_size, named}
+use Rattle.tree_maps.specs.Keys.{named}
 use Rattle.tree_maps.proofs.Keeping.{named-long, named-behind}
 use Rattle.tree_lookup.specs.Roles.{row_from, note_from, row_of, note_of, behind_rows, role_of, Named}
 use Rattle.tree_effect.proofs.Additions.{named_make, named-aside}
@@ -162,9 +161,6 @@ module _ (b : List ℕ) (n m : ℕ) (w : Loads b n m) where
     pub row_end : 4 + 72 * i + 72 ≤ length table
     row_end = omega (arith, table-long, w.few)
 
-    pub source_end : 24 + 72 * i + 72 ≤ length b
-    source_end = omega (arith, w.long, w.few)
-
     pub row_role : i + 1 < 65536
     row_role = omega (arith, w.few)
 
@@ -226,9 +222,6 @@ module _ (b : List ℕ) (n m : ℕ) (w : Loads b n m) where
     pub note_end : 73732 + 12 * j + 12 ≤ length table
     note_end = omega (arith, notes_long, w.few_asides)
 
-    pub note_source_end : 36888 + 12 * j + 12 ≤ length b
-    note_source_end = omega (arith, w.long, w.few_asides)
-
     pub note_role : 1025 + j < 65536
     note_role = omega (arith, w.few_asides)
 
@@ -240,9 +233,3 @@ module _ (b : List ℕ) (n m : ℕ) (w : Loads b n m) where
     note_room = omega (arith, o.named.count, entries_long b 0 n, asides_long b 0 j, w.few, w.few_asides)
 
 -- ---- all of them
-
-pub done_entries : (b table register : List ℕ) (n i : ℕ) → i ≤ n → n ≤ i → Loading b table register i 0 → Loading b table register n 0
-done_entries b table register n i h g o = let z : n ≡ i = omega arith in rw z o
-
-pub done_asides : (b table register : List ℕ) (n m j : ℕ) → j ≤ m → m ≤ j → Loading b table register n j → Loading b table register n m
-done_asides b table register n m j h g o = let z : m ≡ j = omega arith in rw z o

@@ -1,15 +1,15 @@
 -- The row of an entry and of an aside, written field by field from a base, is the row of what the base has there.
 -- Assumes nothing.
-use Prim.Native.Nat.{ℕ, ◌+◌, ◌≤◌, ◌<◌}
+use Prim.Native.Nat.{ℕ, ◌<◌}
 use native.Mathlib.Omega.{arith}
-use mathlib.Core.Path.{◌≡◌, refl, sym, ap, ◌∙◌}
+use mathlib.Core.Path.{◌≡◌, ◌∙◌}
 use mathlib.Core.Logic.{⊎_elim}
-use mathlib.Core.Bool.{true, false, cond}
+use mathlib.Core.Bool.{cond}
 use mathlib.Core.List.{List, [], ◌∷◌, ◌++◌}
 use lib.Dec.{eqb}
 use lib.ListN.{get_or, length, length-append}
 use borrow.Author.Tests.{eq-eqb, ne_eqb}
-use Rattle.model.specs.Bytes.{part, put_at}
+use Rattle.model.specs.Bytes.{part}
 use Rattle.model.specs.Record.{identity_at}
 use Rattle.model.specs.Table.{identity_bytes, entry_row, aside_row, entry_in, aside_in}
 use Rattle.byte_slice.proofs.Parts.{part_length, part_split}

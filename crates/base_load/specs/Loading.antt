@@ -1,6 +1,6 @@
 -- A base on its way into a working table and the register beside it: what it must be, and what stands after so many rows.
 -- Assumes nothing.
-use Rattle.std.specs.Prelude.{ℕ, zero, suc, ◌+◌, ◌*◌, ◌≤◌, ◌<◌, ◌≡◌, ◌⊎◌, true, cond, List, [], ◌∷◌, eqb, get_or, length}
+use Rattle.std.specs.Prelude.{ℕ, zero, suc, ◌≤◌, ◌<◌, ◌≡◌, ◌⊎◌, true, cond, List, [], ◌∷◌, eqb, get_or, length}
 use Rattle.model.specs.Bytes.{part, put_at}
 use Rattle.model.specs.Record.{identity_at}
 use Rattle.model.specs.Replay.{Entry, Aside, Tree, is_present, removed}

@@ -16,7 +16,7 @@ fn load_entry(row: &mut [u8], src: &[u8])
     requires { (length row.old ≡ 72) × (length src.now ≡ 72) × Ranged (entry_in src.now 0) }
     ensures { row.new ≡ loaded_row row.old src.now }
 {
-    let head = [src[0], 0u8, 0u8, 0u8];
+    let head = [src[0], 0, 0, 0];
     byte_slice::put(row, 0, &head);
     tree_table::put_identity(row, 4, tree_table::identity_at(src, 4));
     tree_table::put_identity(row, 8, tree_table::identity_at(src, 8));
@@ -29,10 +29,7 @@ fn load_entry(row: &mut [u8], src: &[u8])
 fn state_of(x: u8) -> u8
     ensures { result ≡ state_of x }
 {
-    if x == 1 {
-        return 1;
-    }
-    2
+    if x == 1 { 1 } else { 2 }
 }
 
 // The row of an aside, from the 12 bytes that a base has for it.
@@ -40,7 +37,7 @@ fn load_aside(row: &mut [u8], src: &[u8])
     requires { (length row.old ≡ 12) × (length src.now ≡ 12) × Noted (aside_in src.now 0) }
     ensures { row.new ≡ loaded_aside row.old src.now }
 {
-    let state = [src[4], state_of(src[5]), 0u8, 0u8];
+    let state = [src[4], state_of(src[5]), 0, 0];
     tree_table::put_identity(row, 0, tree_table::identity_at(src, 0));
     byte_slice::put(row, 4, &state);
     tree_table::put_identity(row, 8, tree_table::identity_at(src, 8));
@@ -75,10 +72,8 @@ fn add_entries(base: &[u8], size: Size, table: &mut [u8], register: &mut [u16])
     requires { Loads base.now size.entries size.asides × Loading base.now table.old register.old 0 0 }
     ensures { Loading base.now table.new register.new size.entries 0 }
 {
-    let mut i: usize = 0;
-    while i < size.entries {
+    for i in 0..size.entries {
         add_entry(base, size, i, table, register);
-        i += 1;
     }
 }
 
@@ -87,10 +82,8 @@ fn add_asides(base: &[u8], size: Size, table: &mut [u8], register: &mut [u16])
     requires { Loads base.now size.entries size.asides × Loading base.now table.old register.old size.entries 0 }
     ensures { Loading base.now table.new register.new size.entries size.asides }
 {
-    let mut j: usize = 0;
-    while j < size.asides {
+    for j in 0..size.asides {
         add_aside(base, size, j, table, register);
-        j += 1;
     }
 }
 
@@ -122,10 +115,8 @@ fn enter_labels(base: &[u8], table: &[u8], register: &mut [u16], size: Size)
     requires { Loads base.now size.entries size.asides × (table.now ≡ work_bytes (tree_to base.now size.entries size.asides)) × Entering base.now register.old size.entries size.asides 0 }
     ensures { Works table.now register.new size.entries size.asides (tree_to base.now size.entries size.asides) × (nodes_in 4097 register.new ≡ size.entries) }
 {
-    let mut i: usize = 0;
-    while i < size.entries {
+    for i in 0..size.entries {
         enter_label(base, table, register, size, i);
-        i += 1;
     }
 }
 

@@ -3,7 +3,7 @@
 use Prim.Native.Nat.{ℕ, ◌+◌, ◌-◌, ◌*◌, ◌≤◌, ◌<◌}
 use native.Mathlib.Omega.{arith}
 use mathlib.Core.Path.{◌≡◌, sym, ◌∙◌}
-use mathlib.Core.Bool.{Bool, true, false, ◌&&◌}
+use mathlib.Core.Bool.{Bool, true, false, not, ◌&&◌}
 use mathlib.Core.List.{List}
 use lib.Dec.{eqb}
 use lib.ListN.{get_or, take, drop, set, replicate}
@@ -18,8 +18,11 @@ use Rattle.model.specs.Table.{entry_in}
 use Rattle.tree_maps.specs.Keys.{hash_of, chain_of}
 use Rattle.tree_maps.proofs.Labels.{hash_key}
 use Rattle.base_model.specs.Base.{last_to, base_entry, one_name, name_new}
+use Rattle.std.proofs.Common.{Option}
+use Rattle.std.specs.Option.{is_some}
+use Rattle.base_links.specs.Places.{place_told}
 use Rattle.base_links.specs.Links.{Linked, Walk}
-use Rattle.base_links.proofs.Links.{walk_starts, walk_low, walk_goes, walk_found, walk_ends, linked_none, linked_more, all_next, all_ends, all_none}
+use Rattle.base_links.proofs.Links.{walk_starts, walk_low, walk_goes, walk_found, walk_ends, linked_none, linked_more, none_told, all_next, all_ends, all_none}
 use Rattle.base_names.specs.Names.{name_key}
 
 -- labels that are the same have one chain
@@ -67,10 +70,10 @@ module _ (b heads next : List ℕ) (i : ℕ) (w : Linked (name_key b) heads next
     pub seek_goes : {r : ℕ} {t : Bool} → t ≡ one_name b i (q - 1) → t ≡ false → r ≡ get_or next (q - 1) 0 → Seeks b i r
     seek_goes e d f = walk_goes (one_name b i) (name_key b) heads next (name_key b i) i agree w s z (sym e ∙ d) f
 
-pub seek_found : (b : List ℕ) (i q : ℕ) {t : Bool} → Seeks b i q → 0 < q → t ≡ one_name b i (q - 1) → t ≡ true → q ≡ last_to (one_name b i) i
+pub seek_found : (b : List ℕ) (i q : ℕ) {t : Bool} → Seeks b i q → 0 < q → t ≡ one_name b i (q - 1) → t ≡ true → q - 1 + 1 ≡ last_to (one_name b i) i
 seek_found b i q s z e d = walk_found (one_name b i) (name_key b) (name_key b i) i q s z (sym e ∙ d)
 
-pub seek_ends : (b : List ℕ) (i q : ℕ) → Seeks b i q → q ≤ 0 → q ≡ last_to (one_name b i) i
+pub seek_ends : (b : List ℕ) (i q : ℕ) → Seeks b i q → q ≤ 0 → 0 ≡ last_to (one_name b i) i
 seek_ends b i q s z = walk_ends (one_name b i) (name_key b) (name_key b i) i q s z
 
 -- ---- all labels
@@ -81,9 +84,9 @@ module _ (b : List ℕ) where
   names_linked heads next heads' next' i n h w few low e l p q =
       linked_more (name_key b) heads next heads' next' h i w (omega arith) (omega arith) e p q
 
-  pub names-next : (i q : ℕ) {t : Bool} → t ≡ all_to i (name_new b) → q ≡ last_to (one_name b i) i → (t && eqb q 0) ≡ all_to (i + 1) (name_new b)
+  pub names-next : (i : ℕ) (o : Option ℕ) {t : Bool} (u : Bool) → t ≡ all_to i (name_new b) → place_told o ≡ last_to (one_name b i) i → is_some o ≡ not u → (t && u) ≡ all_to (i + 1) (name_new b)
   unfolding name_new
-  names-next i q a f = all_next (name_new b) i a (rw f)
+  names-next i o u a f e = all_next (name_new b) i a (none_told o u e ∙ rw f)
 
   pub names_end : (i n : ℕ) {t : Bool} → i ≤ n → n ≤ i → t ≡ all_to i (name_new b) → t ≡ all_to n (name_new b)
   names_end i n h g e = all_ends (name_new b) i n h g e

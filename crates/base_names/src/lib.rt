@@ -5,6 +5,7 @@ ghost use Rattle.std.specs.Prelude.{◌≡◌, ◌+◌, ◌≤◌, ◌<◌, leng
 ghost use Rattle.model.specs.Log.{all_to};
 ghost use Rattle.base_model.specs.Base.{last_to, base_entry, one_name, name_new};
 ghost use Rattle.base_links.specs.Links.{Linked};
+ghost use Rattle.base_links.specs.Places.{place_told};
 ghost use Rattle.base_names.specs.Names.{name_key};
 
 // The chain of the entry in row i.
@@ -32,19 +33,19 @@ fn one_name(base: &[u8], i: usize, j: usize) -> bool
     record_label::same_label(&base[a..a + 32], &base[b..b + 32])
 }
 
-// Of the rows before row i, in the chain h, the last that has its label in its folder, and one; 0 for none.
-fn before(base: &[u8], h: usize, heads: &[u16], next: &[u16], i: usize) -> usize
+// Of the rows before row i, in the chain h, the last that has its label in its folder. A walk along a chain.
+fn before(base: &[u8], h: usize, heads: &[u16], next: &[u16], i: usize) -> Option<usize>
     requires { (length base.now ≡ 43032) × (i < 512) × Linked (name_key base.now) heads.now next.now i × (h ≡ name_key base.now i) × (h < 1021) }
-    ensures { result ≡ last_to (one_name base.now i) i }
+    ensures { place_told result ≡ last_to (one_name base.now i) i }
 {
     let mut q = hash_chains::number_at(heads, h);
     while 0 < q {
         if one_name(base, i, q - 1) {
-            return q;
+            return Some(q - 1);
         }
         q = hash_chains::number_at(next, q - 1);
     }
-    q
+    None
 }
 
 // No label twice in a folder: the rows are judged, each against those before it, and linked.
@@ -53,13 +54,10 @@ fn link_names(base: &[u8], n: usize, heads: &mut [u16], next: &mut [u16]) -> boo
     ensures { result ≡ all_to n (name_new base.now) }
 {
     let mut all = true;
-    let mut i: usize = 0;
-    while i < n {
+    for i in 0..n {
         let h = name_key(base, i);
-        let q = before(base, h, heads, next, i);
-        all = all & (q == 0);
+        all = all & before(base, h, heads, next, i).is_none();
         base_links::push(heads, next, h, i);
-        i += 1;
     }
     all
 }

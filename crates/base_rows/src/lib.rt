@@ -13,7 +13,7 @@ pub fn identity_at(s: &[u8], at: usize) -> u32
     requires { at + 4 ≤ length s.now }
     ensures { result ≡ identity_at s.now at }
 {
-    8 * byte_slice::wider(le16(s, at + 2)) + byte_slice::wide32(s[at])
+    8 * u32::from(le16(s, at + 2)) + u32::from(s[at])
 }
 
 // An identity is named at a place: unit 0 to 7, a zero byte, a number of at least 1 and within the vector.
@@ -32,7 +32,7 @@ pub fn names_in(v: Vector, s: &[u8], at: usize) -> bool
     if number < 1 {
         return false;
     }
-    number <= v.counts[unit as usize]
+    number <= v.counts[usize::from(unit)]
 }
 
 // Zeros, or a named identity.

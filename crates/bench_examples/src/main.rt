@@ -4,15 +4,11 @@
 
 ghost use Rattle.std.specs.Prelude.{◌≤◌, length};
 
+use refusal::Refusal;
 use vector::Vector;
 
-#[derive(Drop)]
-pub struct Bytes80 {
-    pub bytes: [u8; 80],
-}
-
 // A wish of unit 0 to make a trace in the root on 3 March 2025, with a label of its own for each k.
-fn wish(k: usize) -> Bytes80 {
+fn wish(k: usize) -> [u8; 80] {
     let mut b = [0u8; 80];
     b[1] = 2;
     b[28] = 233;
@@ -21,32 +17,27 @@ fn wish(k: usize) -> Bytes80 {
     b[31] = 3;
     b[32] = b'a' + (k % 26) as u8;
     b[33] = b'a' + (k / 26 % 26) as u8;
-    Bytes80 { bytes: b }
+    b
 }
 
-// 1 for an answer of 0.
-fn accepted(number: u8) -> u64
+// 1 for an answer that is no refusal.
+fn accepted(answer: Result<(), Refusal>) -> u64
     ensures { result ≤ 1 }
 {
-    if number == 0 {
-        return 1;
-    }
-    0
+    u64::from(answer.is_ok())
 }
 
-// An act of unit 0, with work memory of its own: the number that it answers.
-fn act_number(log: &mut [u8], base: &[u8], wish: &[u8]) -> u8 {
+// An act of unit 0, with work memory of its own.
+fn act_with(log: &mut [u8], base: &[u8], wish: &[u8]) -> Result<(), Refusal> {
     let mut work = [0u8; 86020];
-    let a = act::act(log, base, 7, 0, wish, &mut work);
-    a.number
+    act::act(log, base, 7, 0, wish, &mut work)
 }
 
 // n wishes are acted on: how many of the acts answer 0.
 fn fill(log: &mut [u8], base: &[u8], n: usize) -> u64 {
     let mut done: u64 = 0;
     for k in 0..n {
-        let w = wish(k);
-        done += accepted(act_number(log, base, &w.bytes));
+        done += accepted(act_with(log, base, &wish(k)));
     }
     done
 }
@@ -54,7 +45,7 @@ fn fill(log: &mut [u8], base: &[u8], n: usize) -> u64 {
 // The vector of a log, as it stands in a block that is handed out.
 fn held(log: &[u8], base: &[u8]) -> Vector {
     let mut b = [0u8; 512];
-    hand_out::hand_out(log, base, 7, 1, vector::zero_vector(), &mut b);
+    let _ = hand_out::hand_out(log, base, 7, 1, vector::zero_vector(), &mut b);
     vector::vector_at(&b, 12)
 }
 
@@ -70,12 +61,11 @@ fn pass(from: &[u8], to: &mut [u8], base: &[u8]) -> Passed {
     let mut taken: u64 = 0;
     for n in 0u64..100 {
         let mut b = [0u8; 512];
-        hand_out::hand_out(from, base, 7, 0, held(to, base), &mut b);
+        let _ = hand_out::hand_out(from, base, 7, 0, held(to, base), &mut b);
         if b[9] == 0 {
             return Passed { blocks: n, taken };
         }
-        let t = take::take(to, base, 7, 1, &b);
-        taken += accepted(t.number);
+        taken += accepted(take::take(to, base, 7, 1, &b));
     }
     Passed { blocks: 100, taken }
 }
@@ -87,9 +77,14 @@ fn say(out: &impl Print, what: &[u8], n: u64) {
     let _ = out.write_all(b"\n");
 }
 
+// A line: what was tried, and the number of its refusal, 0 for none.
+fn say_code(out: &impl Print, what: &[u8], answer: Result<(), Refusal>) {
+    say(out, what, u64::from(refusal::code(answer)));
+}
+
 // Whether two logs are the same byte for byte.
 fn say_same(out: &impl Print, log: &[u8], other: &[u8]) {
-    if byte_slice::same(log, other) {
+    if log == other {
         let _ = out.write_all(b"both logs are the same\n");
     } else {
         let _ = out.write_all(b"the logs differ\n");
@@ -113,16 +108,14 @@ fn full(out: &impl Print, base: &[u8]) {
     let mut log = [0u8; 40960];
     let mut file = [0u8; 44032];
     say(out, b"acts that answer 0: ", fill(&mut log, base, 512));
-    let w = write_file::write_file(&log, base, 7, 0, &mut file);
-    say(out, b"512 records, blocks: ", w.blocks as u64);
-    say(
+    let blocks = write_file::write_file(&log, base, 7, 0, &mut file).unwrap_or(0);
+    say(out, b"512 records, blocks: ", u64::from(blocks));
+    say(out, b"records in the last: ", u64::from(file[43529]));
+    say_code(
         out,
-        b"records in the last: ",
-        byte_slice::wide(file[43529]) as u64,
+        b"a 513th record: ",
+        act_with(&mut log, base, &wish(513)),
     );
-    let more = wish(513);
-    let number = act_number(&mut log, base, &more.bytes);
-    say(out, b"a 513th record: ", number as u64);
 }
 
 // A wish to make a folder with a label.
@@ -137,21 +130,20 @@ fn label(out: &impl Print, text: &[u8], base: &[u8])
     b[29] = 7;
     b[30] = 3;
     b[31] = 3;
-    let number = act_number(&mut log, base, &b);
+    let answer = act_with(&mut log, base, &b);
     let _ = out.write_all(b"a label of ");
     let _ = out.print(text.len() as u64);
-    say(out, b" bytes: ", number as u64);
+    say_code(out, b" bytes: ", answer);
 }
 
 // A wish dated 31 December 1989.
 fn dated(out: &impl Print, base: &[u8]) {
     let mut log = [0u8; 40960];
     let mut w = wish(0);
-    w.bytes[28] = 197;
-    w.bytes[30] = 12;
-    w.bytes[31] = 31;
-    let number = act_number(&mut log, base, &w.bytes);
-    say(out, b"1989-12-31: ", number as u64);
+    w[28] = 197;
+    w[30] = 12;
+    w[31] = 31;
+    say_code(out, b"1989-12-31: ", act_with(&mut log, base, &w));
 }
 
 fn main(rt: HostRuntime) {

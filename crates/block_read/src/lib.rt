@@ -1,13 +1,15 @@
 // The block of 512 bytes: its fields and its checks.
-#![tactic(auto)]
+#![tactic(auto, using(crate::proofs::Checks::ways), unfolding(model::specs::Block::count_in, model::specs::Block::archive_in, model::specs::Block::sender_in, model::specs::Block::place_in, model::specs::Block::vector_in))]
 
 ghost use Rattle.std.specs.Prelude.{◌≡◌, ◌≤◌, length, take};
 ghost use Rattle.model.specs.Bytes.{same_bytes};
 ghost use Rattle.model.specs.Block.{count_in, archive_in, sender_in, place_in, vector_in, sums_hold, header_holds, block_fault};
 ghost use Rattle.run_model.specs.Runs.{block_fault_as};
+ghost use Rattle.refusal.specs.Refusals.{code_of};
 
 use block_sums::block_sums;
 use byte_slice::{is_blank, le16, le32, same};
+use refusal::Refusal;
 use vector::{Vector, vector_at};
 
 // These letters stand first.
@@ -24,10 +26,7 @@ pub fn sums_hold(b: &[u8]) -> bool
     ensures { result ≡ sums_hold b.now }
 {
     let s = block_sums(b);
-    if le16(b, 508) != s.first {
-        return false;
-    }
-    le16(b, 510) == s.second
+    le16(b, 508) == s.first && le16(b, 510) == s.second
 }
 
 // How many records the header counts.
@@ -75,38 +74,32 @@ pub fn header_holds(b: &[u8]) -> bool
     requires { length b.now ≡ 512 }
     ensures { result ≡ header_holds b.now }
 {
-    if 7 < sender_in(b) {
-        return false;
-    }
+    let unit = sender_in(b);
     let n = count_in(b);
-    if 6 < n {
-        return false;
-    }
-    let at = 28 + 80 * n as usize;
-    is_blank(&b[at..508])
+    unit <= 7 && n <= 6 && is_blank(&b[28 + 80 * usize::from(n)..508])
 }
 
-// The first of the refusals 3, 4 and 5 that holds of a block with these letters, or 0.
-pub fn block_fault_as(b: &[u8], letters: &[u8; 4]) -> u8
+// The first refusal that holds of a block with these letters.
+pub fn block_fault_as(b: &[u8], letters: &[u8; 4]) -> Result<(), Refusal>
     requires { length b.now ≡ 512 }
-    ensures { result ≡ block_fault_as letters.now b.now }
+    ensures { code_of result ≡ block_fault_as letters.now b.now }
 {
     if !has_letters(b, letters) {
-        return 3;
+        return Err(Refusal::BadLetters);
     }
     if !sums_hold(b) {
-        return 4;
+        return Err(Refusal::BadSum);
     }
     if !header_holds(b) {
-        return 5;
+        return Err(Refusal::BadHeader);
     }
-    0
+    Ok(())
 }
 
 // The same of a block with the letters SAB1.
-pub fn block_fault(b: &[u8]) -> u8
+pub fn block_fault(b: &[u8]) -> Result<(), Refusal>
     requires { length b.now ≡ 512 }
-    ensures { result ≡ block_fault b.now }
+    ensures { code_of result ≡ block_fault b.now }
 {
     block_fault_as(b, b"SAB1")
 }

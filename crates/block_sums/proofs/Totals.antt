@@ -58,16 +58,16 @@ pub no_weights : (by : List ℕ) → Weights by 0
 no_weights by = record { weight = λ j h. absurd (omega arith) }
 
 module _ (by : List ℕ) (i : ℕ) (w : Weights by i) where
-  pub next_weight : (k : ℕ) → i < 254 → length by ≡ 254 → k + i ≡ 254 → Weights (set by i k) (i + 1)
-  next_weight k h n e =
+  pub next_weight : (p : ℕ) → i < 254 → length by ≡ 254 → p ≡ i → Weights (set by p (254 - i)) (i + 1)
+  next_weight p h n e =
       record {
         weight = λ j l.
             ⊎_elim
-            (λ (q : j < i). get_or-set_other by i j k 0 (λ (z : j ≡ i). omega arith) ∙ w.weight j q)
+            (λ (q : j < i). get_or-set_other by p j (254 - i) 0 (λ (z : j ≡ p). omega arith) ∙ w.weight j q)
             (λ (q : i ≤ j).
-            let m : i ≡ j = omega arith in
-            let o : k ≡ 254 - i = omega arith in
-            rw (← m) (get_or-set_same by i k 0 (omega arith) ∙ o))
+            let m : p ≡ j = omega arith in
+            let o : i ≡ j = omega arith in
+            rw (m, o) (get_or-set_same by j (254 - j) 0 (omega arith)))
             (lt_or_ge j i);
       }
 
@@ -75,6 +75,14 @@ module _ (by : List ℕ) (i : ℕ) (w : Weights by i) where
   all_weights h g = let n : i ≡ 254 = omega arith in rw n at w
 
 -- what the loop of `block_sums` is asked, over plain values
+pub no_words : (b : List ℕ) → 0 ≡ first_total_lem b 0
+unfolding first_total_lem
+no_words b = refl
+
+pub no_totals : (b : List ℕ) (m : ℕ) → 0 ≡ weighted b m 0
+unfolding weighted
+no_totals b m = refl
+
 pub first_on : (b : List ℕ) (i : ℕ) {x v w : ℕ} → x ≡ first_total_lem b i → v ≡ word b (2 * i) → w ≡ v → x + w ≡ first_total_lem b (i + 1)
 unfolding first_total_lem
 first_on b i e f g = rw (add-one i, e, g, f)
@@ -95,3 +103,6 @@ second_done b i h g e = let n : i ≡ 254 = omega arith in rw e (rw (n, weighted
 
 pub weight_bound : (k w : ℕ) → k ≤ 254 → w ≤ 65535 → k * w ≤ 16645890
 weight_bound k w h g = mul-le-mul h g
+
+-- what the goals of this crate ask for
+pub ruleset ways = (no_weights, next_weight, all_weights, no_words, no_totals, first_on, second_on, weight_small, first_done, second_done, weight_bound)

@@ -1,11 +1,11 @@
 // The two sums of a block.
-#![tactic(auto)]
+#![tactic(auto, using(crate::proofs::Totals::ways))]
 
 ghost use Rattle.std.specs.Prelude.{◌≡◌, ◌*◌, ◌≤◌, length};
 ghost use Rattle.model.specs.Block.{first_to, second_to};
 ghost use Rattle.block_sums.specs.Weights.{Weights};
 
-use byte_slice::{le16, wider};
+use byte_slice::le16;
 
 #[derive(Drop)]
 pub struct Sums {
@@ -18,10 +18,8 @@ fn weights() -> [u16; 254]
     ensures { Weights result 254 }
 {
     let mut by = [0u16; 254];
-    let mut k: u16 = 254;
-    for i in 0..254 {
-        by[i] = k;
-        k -= 1;
+    for i in 0..254u16 {
+        by[usize::from(i)] = 254 - i;
     }
     by
 }
@@ -42,12 +40,10 @@ pub fn block_sums(b: &[u8]) -> Sums
     let by = weights();
     let mut first: u32 = 0;
     let mut second: u32 = 0;
-    let mut i: usize = 0;
-    while i < 254 {
-        let w = wider(le16(b, 2 * i));
+    for i in 0..254 {
+        let w = u32::from(le16(b, 2 * i));
         first += w;
-        second += weigh(wider(by[i]), w);
-        i += 1;
+        second += weigh(u32::from(by[i]), w);
     }
     Sums {
         first: (first % 65521) as u16,

@@ -84,3 +84,6 @@ filled_sab1 w n s e = rw (head_sab1 w n) at e
 pub fresh_block : (w : Header) {d o : List ℕ} → d ≡ put_at (replicate 512 0) 0 (head_as letters w 0) → o ≡ sealed (take 508 d) → o ≡ block_of w []
 unfolding block_of body_bytes joined
 fresh_block w {d} e k = filled_sab1 w 0 [] (filled_block letters w 0 [] refl (omega arith) e (sym (put-nil d 28)) k)
+
+-- what the goals of this crate ask for
+pub ruleset ways = (headed, filled_block, filled_sab1, fresh_block)

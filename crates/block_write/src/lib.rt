@@ -1,5 +1,5 @@
 // A block is written: its header, its records and its two sums.
-#![tactic(auto)]
+#![tactic(auto, using(crate::proofs::Written::ways))]
 
 ghost use Rattle.std.specs.Prelude.{◌≡◌, [], ◌++◌, ◌≤◌, length, take};
 ghost use Rattle.model.specs.Bytes.{put_at, padded};
@@ -29,10 +29,9 @@ pub fn put_header(
     ensures written { dst.new ≡ put_at dst.old 0 (head_as letters.now (record { archive = archive; sender = unit; place = place; vector = v.counts }) count) }
     ensures four { length letters.now ≡ 4 }
 {
-    let pair = [unit, count];
     put(dst, 0, letters);
     put32(dst, 4, archive);
-    put(dst, 8, &pair);
+    put(dst, 8, &[unit, count]);
     put16(dst, 10, place);
     put_vector(dst, 12, v);
 }

@@ -6,11 +6,11 @@ use mathlib.Core.Path.{◌≡◌, refl, sym, ap, ◌∙◌}
 use mathlib.Core.Bool.{Bool, true, false, ◌&&◌, not, false≢true}
 use mathlib.Core.List.{List, [], ◌∷◌, ◌++◌}
 use lib.Dec.{eqb}
-use lib.ListN.{get_or, length, take, drop, replicate, take-append-drop, length-take, length-drop}
+use lib.ListN.{get_or, length, take, drop, replicate, take-append-drop, length-drop}
 use lib.Seq.{take_all, drop-drop}
-use borrow.Author.Tests.{eqb-true, eq-eqb, ne_eqb, not-true, not-false}
+use borrow.Author.Tests.{eqb-true, eq-eqb, not-true, not-false}
 use Rattle.model.specs.Bytes.{same_bytes, blank, part}
-use Rattle.byte_slice.proofs.Parts.{part_length, part_snoc}
+use Rattle.byte_slice.proofs.Parts.{part_snoc}
 use Rattle.byte_slice.proofs.Numbers.{and_true, true_and, and_right, test_false, not_both}
 
 -- ---- the same bytes
@@ -50,53 +50,9 @@ same_append (x ∷ a) (y ∷ b) c d n = go (eqb x y) (same_append a b c d (omega
     go true e = e
     go false e = refl
 
--- what `same` is asked, over plain values
+-- lists of different lengths
 pub same_lengths : (a b : List ℕ) → (length a ≡ length b → ⊥) → false ≡ same_bytes a b
 same_lengths a b h = sym (ne_same a b (λ e. h (ap (λ (l : List ℕ). length l) e)))
-
-module _ (a b : List ℕ) (at i : ℕ) {t : Bool} (inv : t ≡ same_bytes (part a at i) (part b at i)) where
-  pub same_run_next : (n : ℕ) → i < n → at + n ≤ length a → at + n ≤ length b
-      → (t && eqb (get_or a (at + i) 0) (get_or b (at + i) 0)) ≡ same_bytes (part a at (i + 1)) (part b at (i + 1))
-  unfolding same_bytes
-  same_run_next n h g k =
-      let e : length (part a at i) ≡ length (part b at i) = part_length a at i (omega arith) ∙ sym (part_length b at i (omega arith)) in
-      rw (
-        part_snoc a at i (omega arith),
-        part_snoc b at i (omega arith),
-        same_append (part a at i) (part b at i) (get_or a (at + i) 0 ∷ []) (get_or b (at + i) 0 ∷ []) e,
-        and_right (eqb (get_or a (at + i) 0) (get_or b (at + i) 0)),
-        inv,
-      )
-
-  pub same_run_end : (n : ℕ) → i ≤ n → n ≤ i → t ≡ same_bytes (part a at n) (part b at n)
-  same_run_end n h g = let e : i ≡ n = omega arith in (rw e at inv)
-
-module _ (a b : List ℕ) (at : ℕ) (t : Bool) (e : length a ≡ length b) (inv : same_bytes (drop at a) (drop at b) ≡ same_bytes a b) where
-  step : 16 ≤ length a - at → (same_bytes (part a at 16) (part b at 16) && same_bytes (drop (at + 16) a) (drop (at + 16) b)) ≡ same_bytes a b
-  unfolding part
-  step h =
-      let n : length (take 16 (drop at a)) ≡ length (take 16 (drop at b)) =
-      omega (arith, length-take 16 (drop at a), length-take 16 (drop at b), length-drop at a, length-drop at b) in
-      rw (
-        ← drop-drop 16 at a,
-        ← drop-drop 16 at b,
-        ← same_append (take 16 (drop at a)) (take 16 (drop at b)) (drop 16 (drop at a)) (drop 16 (drop at b)) n,
-        take-append-drop 16 (drop at a),
-        take-append-drop 16 (drop at b),
-      ) inv
-
-  pub same_next : 16 ≤ length a - at → t ≡ same_bytes (part a at 16) (part b at 16) → not t ≡ false → same_bytes (drop (at + 16) a) (drop (at + 16) b) ≡ same_bytes a b
-  same_next h p g = rw (← p, not-false t g) at (step h)
-
-  pub same_differs : 16 ≤ length a - at → t ≡ same_bytes (part a at 16) (part b at 16) → not t ≡ true → false ≡ same_bytes a b
-  same_differs h p g = rw (← p, not-true t g) at (step h)
-
-  pub same_end : t ≡ same_bytes (part a at (length a - at)) (part b at (length a - at)) → t ≡ same_bytes a b
-  unfolding part
-  same_end p =
-      let m : length (drop at a) ≤ length a - at = omega (arith, length-drop at a) in
-      let n : length (drop at b) ≤ length a - at = omega (arith, length-drop at b) in
-      p ∙ (rw (take_all (length a - at) (drop at a) m, take_all (length a - at) (drop at b) n) inv)
 
 -- ---- all zeros
 

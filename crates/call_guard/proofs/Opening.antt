@@ -4,100 +4,95 @@ use Prim.Native.Nat.{ℕ, zero, suc, ◌≤◌}
 use native.Mathlib.Omega.{arith}
 use mathlib.Core.Path.{◌≡◌, refl, sym, ap, ◌∙◌}
 use mathlib.Core.Logic.{⊎_elim}
-use mathlib.Core.Bool.{Bool, true, false, cond, not, ◌&&◌}
+use mathlib.Core.Bool.{Bool, true, false, cond, ◌&&◌}
 use mathlib.Core.List.{List}
 use lib.Dec.{eqb}
 use lib.ListN.{get_or, length, replicate}
-use borrow.Author.Tests.{eqb-true, not-true, not-false}
-use Rattle.model.specs.Numbers.{first_of}
+use borrow.Author.Tests.{eqb-true}
+use Rattle.std.proofs.Common.{Option, None, Some, Result, IfSome, IfOk, rules}
+use Rattle.std.specs.Option.{ok_or}
+use Rattle.refusal.specs.declared.Refusal.{Refusal}
+use Rattle.refusal.specs.declared.Refusal.TheVariants.{UnsoundState}
 use Rattle.model.specs.Bytes.{word}
 use Rattle.model.specs.Log.{records_of, sound_log_on}
 use Rattle.base_model.specs.Base.{lists_all, base_vector, sound_base, held_on, sound_state}
 use Rattle.call_model.specs.Outcome.{Outcome, refusal, early_number, guard_number, guarded}
 use Rattle.byte_slice.proofs.Numbers.{bool_cases, and_true, first_stops, first_zero}
 use Rattle.call_answer.proofs.Guards.{early_long, early_based, early_lent, early_unit, early_row, refused_by}
-use Rattle.base_head.specs.Head.{BaseHead, headed, head_of, no_head}
+use Rattle.base_head.specs.Head.{headed, head_of, no_head}
 use Rattle.base_head.proofs.Listed.{head_list, head_folded, head_entries, head_asides}
-use Rattle.log_closure.specs.Tables.{Indexed, tables}
-use Rattle.log_check.specs.declared.Layout.TheVariants.{Log}
-use Rattle.log_check.specs.Places.{laid_at}
+use Rattle.log_closure.specs.Tables.{tables}
 use Rattle.state_check.specs.State.{StateTold, stated, unsound, state_of, note_of}
+use Rattle.state_check.specs.declared.State.{State}
+use Rattle.state_check.specs.Told.{state_told}
+use Rattle.call_guard.specs.Told.{opening}
 use Rattle.call_guard.specs.Opened.{Opening, opened, opened_by, open_of, filled_by, fill_of}
 
--- ---- the ways out of `judged`, `open` and `open_into`
+-- ---- the ways out of `open` and `open_into`
 
-module _ (s : Bool) (hd : BaseHead) (held : List ℕ) (used : ℕ) where
-  pub not_sound : not s ≡ true → (o : Opening) → o ≡ opened 19 no_head (replicate 8 0) 0 → o ≡ cond s (opened 0 hd held used) (opened 19 no_head (replicate 8 0) 0)
-  not_sound t o e = e ∙ rw (not-true s t)
-
-  pub is_sound : not s ≡ false → opened 0 hd held used ≡ cond s (opened 0 hd held used) (opened 19 no_head (replicate 8 0) 0)
-  is_sound t = rw (not-false s t)
-
-module _ (u : ℕ) (log base : List ℕ) (ok row : Bool) (n : ℕ) (e : n ≡ early_number u log base ok row) where
-  pub early_refused : (n ≡ 0 → ⊥) → (o : Opening) → o ≡ opened n no_head (replicate 8 0) 0 → o ≡ open_of u log base ok row
+module _ (u : ℕ) (log base : List ℕ) (ok row : Bool) (n : ℕ) (e : n ≡ early_number u log base ok row) (x : n ≡ 0 → ⊥) where
+  pub early_refused : opened n no_head (replicate 8 0) 0 ≡ open_of u log base ok row
   unfolding open_of opened_by
-  early_refused x o eo = eo ∙ rw (← e, first_stops n (cond (sound_state log base) 0 19) x) (go n x)
+  early_refused = rw (← e, first_stops n (cond (sound_state log base) 0 19) x) (go n x)
     where
       go : (m : ℕ) → (m ≡ 0 → ⊥) → opened m no_head (replicate 8 0) 0 ≡ opened_by m log base
       go zero k = absurd (k refl)
       go (suc m) k = refl
 
-  pub early_opens_none : (n ≡ 0 → ⊥) → (m : ℕ) (h : BaseHead) (l : List ℕ) (k : ℕ) → opened m h l k ≡ opened n no_head (replicate 8 0) 0 → m ≡ 0 → ⊥
-  early_opens_none x m h l k eo z = x (sym (ap (λ (o : Opening). o.number) eo) ∙ z)
-
-  pub early_unfilled : (n ≡ 0 → ⊥) → (places seens : List ℕ) → tables places seens ≡ fill_of u log base ok row places seens
+  pub early_unfilled : (places seens : List ℕ) → tables places seens ≡ fill_of u log base ok row places seens
   unfolding fill_of filled_by
-  early_unfilled h places seens = rw (← e) (go n h)
+  early_unfilled places seens = rw (← e) (go n x)
     where
       go : (m : ℕ) → (m ≡ 0 → ⊥) → tables places seens ≡ filled_by m log base places seens
       go zero k = absurd (k refl)
       go (suc m) k = refl
 
-  module _ (z : n ≡ 0) where
-    pub passed_long : length log ≡ 40960
-    passed_long = early_long u log base ok row (sym e ∙ z)
+module _ (u : ℕ) (log base : List ℕ) (ok row : Bool) (e : 0 ≡ early_number u log base ok row) where
+  pub passed_long : length log ≡ 40960
+  passed_long = early_long u log base ok row (sym e)
 
-    pub passed_based : length base ≡ 43032
-    passed_based = early_based u log base ok row (sym e ∙ z)
+  pub passed_based : length base ≡ 43032
+  passed_based = early_based u log base ok row (sym e)
 
-    module _ (s : Bool) (hd : BaseHead) (held : List ℕ) (used : ℕ) (c : stated s hd held used ≡ state_of log base) where
-      sound_is : s ≡ sound_state log base
-      unfolding state_of
-      sound_is = ap (λ (x : StateTold). x.sound) c ∙ go (sound_state log base)
-        where
-          go : (b : Bool) → (cond b (stated true (head_of base) (held_on log base) (length (records_of log))) unsound).sound ≡ b
-          go true = refl
-          go false = refl
+  opens_none : sound_state log base ≡ false → opened 19 no_head (replicate 8 0) 0 ≡ open_of u log base ok row
+  unfolding open_of opened_by
+  opens_none t = rw (← e, t)
 
-      told : s ≡ true → stated s hd held used ≡ stated true (head_of base) (held_on log base) (length (records_of log))
-      unfolding state_of
-      told t = c ∙ rw (← sound_is, t)
+  opens_some : sound_state log base ≡ true → opened 0 (head_of base) (held_on log base) (length (records_of log)) ≡ open_of u log base ok row
+  unfolding open_of opened_by
+  opens_some t = rw (← e, t)
 
-      pub judged_opened : (o : Opening) → o ≡ cond s (opened 0 hd held used) (opened 19 no_head (replicate 8 0) 0) → o ≡ open_of u log base ok row
-      unfolding open_of opened_by
-      judged_opened o w = w ∙ ⊎_elim sounds (λ (t : s ≡ false). rw (← e, z, ← sound_is, t)) (bool_cases s)
-        where
-          sounds : s ≡ true → cond s (opened 0 hd held used) (opened 19 no_head (replicate 8 0) 0) ≡ opened_by (first_of (early_number u log base ok row) (cond (sound_state log base) 0 19)) log base
-          sounds t =
-              let a : hd ≡ head_of base = ap (λ (x : StateTold). x.head) (told t) in
-              let b : held ≡ held_on log base = ap (λ (x : StateTold). x.held) (told t) in
-              let d : used ≡ length (records_of log) = ap (λ (x : StateTold). x.used) (told t) in
-              rw (← e, z, ← sound_is, t, a, b, d)
+  state_sound : (told : StateTold) → told ≡ state_of log base → told.sound ≡ sound_state log base
+  unfolding state_of
+  state_sound told c = ap (λ (x : StateTold). x.sound) c ∙ go (sound_state log base)
+    where
+      go : (b : Bool) → (cond b (stated true (head_of base) (held_on log base) (length (records_of log))) unsound).sound ≡ b
+      go true = refl
+      go false = refl
 
-      pub judged_holds : (places seens : List ℕ)
-          → (sound_state log base ≡ true → Indexed (base_vector base) (laid_at Log log) used (records_of log) held places seens)
-          → (m : ℕ) (h : BaseHead) (l : List ℕ) (k : ℕ) → opened m h l k ≡ cond s (opened 0 hd held used) (opened 19 no_head (replicate 8 0) 0)
-          → m ≡ 0 → Indexed (base_vector base) (laid_at Log log) k (records_of log) l places seens
-      judged_holds places seens f m h l k w y = ⊎_elim sounds (λ (t : s ≡ false). absurd (let o : opened m h l k ≡ opened 19 no_head (replicate 8 0) 0 = rw t at w in omega (arith, sym (ap (λ (x : Opening). x.number) o) ∙ y))) (bool_cases s)
-        where
-          sounds : s ≡ true → Indexed (base_vector base) (laid_at Log log) k (records_of log) l places seens
-          sounds t =
-              let o : opened m h l k ≡ opened 0 hd held used = rw t at w in
-              rw (ap (λ (x : Opening). x.held) o, ap (λ (x : Opening). x.used) o) (f (sym sound_is ∙ t))
+  told_opens : (told : StateTold) → told ≡ state_of log base → sound_state log base ≡ true → opened 0 told.head told.held told.used ≡ open_of u log base ok row
+  unfolding state_of
+  told_opens told c t =
+      let e : told ≡ stated true (head_of base) (held_on log base) (length (records_of log)) = c ∙ rw t in
+      ap (λ (x : StateTold). opened 0 x.head x.held x.used) e ∙ opens_some t
 
-    pub passed_filled : (places₀ seens₀ places seens : List ℕ) → tables places seens ≡ note_of log base places₀ seens₀ → tables places seens ≡ fill_of u log base ok row places₀ seens₀
-    unfolding fill_of filled_by
-    passed_filled places₀ seens₀ places seens w = rw (← e, z) w
+  answered : (a : Option State) → state_told a ≡ state_of log base → opening (ok_or a UnsoundState) ≡ open_of u log base ok row
+  answered None c = opens_none (sym (state_sound unsound c))
+  answered (Some s) c = told_opens (state_told (Some s)) c (sym (state_sound (state_told (Some s)) c))
+
+  pub judged_opened : (a : Option State) → state_told a ≡ state_of log base → (r : Result State Refusal) → r ≡ ok_or a UnsoundState → opening r ≡ open_of u log base ok row
+  judged_opened a c r q = rw q (answered a c)
+
+  pub passed_filled : (places₀ seens₀ places seens : List ℕ) → tables places seens ≡ note_of log base places₀ seens₀ → tables places seens ≡ fill_of u log base ok row places₀ seens₀
+  unfolding fill_of filled_by
+  passed_filled places₀ seens₀ places seens w = rw (← e) w
+
+pub judged_holds : (P : State → Type 0) (a : Option State) → IfSome a P → (r : Result State Refusal) → r ≡ ok_or a UnsoundState → IfOk r P
+judged_holds P a h r q = rw q (go a h)
+  where
+    go : (a : Option State) → IfSome a P → IfOk (ok_or a UnsoundState) P
+    go None h = search rules
+    go (Some s) h = h
 
 -- ---- what a call knows
 

@@ -1,4 +1,5 @@
 pub mod Outcomes
+pub mod Table
 pub mod Ran
 pub mod Exist
 pub mod Indexed

@@ -12,6 +12,10 @@ use Rattle.call_model.specs.Fold.{fold_of, fold_work}
 use Rattle.index_model.specs.Index.{index_size}
 use Rattle.index_model.specs.Acting.{change_in}
 use Rattle.index_model.specs.Kept.{index_of_log, index_fits, both_fit, Kept, kept, kept_of, start_kept, act_kept, act_kept_work, take_kept, take_kept_work, RowKept, row_kept, take_row_kept, take_row_kept_work}
+use Rattle.refusal.specs.Refusals.{code_of}
+use Rattle.write_file.specs.Told.{blocks_of}
+use Rattle.fold.specs.Records.{records_folded}
+use Rattle.take_row.specs.Answer.{taken_of, stopped_of}
 use Rattle.claims.specs.Ran.{RanStart, RanAct, RanHandOut, RanWriteFile, RanTake, RanTakeRow, RanFold, RanShow}
 use Rattle.claims.proofs.Outcomes.{uncounted, changing_uncounted, start_made, act_made, take_made}
 
@@ -25,7 +29,7 @@ kept-outcome fit log lent i o j f c e = ap (λ (k : Kept). outcome k.number k.pl
 pub ran_start_kept : (u : ℕ) (log base i : List ℕ) (o : Outcome) (j : List ℕ) → RanStart u log base i o j → kept o.number o.place o.log j o.lent ≡ start_kept u log base i
 ran_start_kept u log base i o j r =
     let a = r.args in
-    let e : kept r.result.number r.result.place r.exit.0.now r.exit.1.1.0.now r.exit.1.0.now
+    let e : kept (code_of r.result) 0 r.exit.0.now r.exit.1.1.0.now r.exit.1.0.now
     ≡ start_kept a.1.1.1.1.0 a.0.now a.1.0.now a.1.1.0.now = r.learnt in
     cc
 
@@ -39,7 +43,7 @@ pub ran_act_kept : (u : ℕ) (log base i w work : List ℕ) (o : Outcome) (j x :
     → kept o.number o.place o.log j o.lent ≡ act_kept u log base i w work
 ran_act_kept u log base i w work o j x r =
     let a = r.args in
-    let e : kept r.result.number r.result.place r.exit.0.now r.exit.1.1.0.now []
+    let e : kept (code_of r.result) 0 r.exit.0.now r.exit.1.1.0.now []
     ≡ act_kept a.1.1.1.1.0 a.0.now a.1.0.now a.1.1.0.now a.1.1.1.1.1.0.now a.1.1.1.1.1.1.0.now = r.learnt.0 in
     cc
 
@@ -61,7 +65,7 @@ pub ran_take_kept : (archive u : ℕ) (log base i b work : List ℕ) (o : Outcom
     → kept o.number o.place o.log j o.lent ≡ take_kept archive u log base i b work
 ran_take_kept archive u log base i b work o j x r =
     let a = r.args in
-    let e : kept r.result.number r.result.place r.exit.0.now r.exit.1.1.0.now []
+    let e : kept (code_of r.result) 0 r.exit.0.now r.exit.1.1.0.now []
     ≡ take_kept a.1.1.1.1.0 a.1.1.1.1.1.0 a.0.now a.1.0.now a.1.1.0.now a.1.1.1.1.1.1.0.now a.1.1.1.0.now = r.learnt.0 in
     cc
 
@@ -85,7 +89,7 @@ pub ran_take_row : (archive u : ℕ) (log base i row work : List ℕ) (o : RowKe
     → o ≡ take_row_kept archive u log base i row work
 ran_take_row archive u log base i row work o x r =
     let a = r.args in
-    let e : row_kept r.result.number r.result.place r.result.taken r.result.stopped r.exit.0.now r.exit.1.1.0.now
+    let e : row_kept (code_of r.result) 0 (taken_of r.result) (stopped_of r.result) r.exit.0.now r.exit.1.1.0.now
     ≡ take_row_kept a.1.1.1.1.0 a.1.1.1.1.1.0 a.0.now a.1.0.now a.1.1.0.now a.1.1.1.1.1.1.0.now a.1.1.1.0.now = r.learnt.0 in
     cc
 
@@ -102,21 +106,21 @@ ran_take_row_worked archive u log base i row work o x r =
 pub ran_hand_out : (archive u : ℕ) (log base v lent : List ℕ) (o : Outcome) → RanHandOut archive u log base v lent o → o ≡ hand_of archive u log base v lent
 ran_hand_out archive u log base v lent o r =
     let a = r.args in
-    let e : outcome r.result.number r.result.place a.0.now r.exit.1.1.1.1.1.0.now 0
+    let e : outcome (code_of r.result) 0 a.0.now r.exit.1.1.1.1.1.0.now 0
     ≡ hand_of a.1.1.0 a.1.1.1.0 a.0.now a.1.0.now a.1.1.1.1.0.counts a.1.1.1.1.1.0.now = r.learnt in
     cc
 
 pub ran_write_file : (archive u : ℕ) (log base lent : List ℕ) (o : Outcome) → RanWriteFile archive u log base lent o → o ≡ write_of archive u log base lent
 ran_write_file archive u log base lent o r =
     let a = r.args in
-    let e : outcome r.result.number r.result.place a.0.now r.exit.1.1.1.1.0.now r.result.blocks
+    let e : outcome (code_of r.result) 0 a.0.now r.exit.1.1.1.1.0.now (blocks_of r.result)
     ≡ write_of a.1.1.0 a.1.1.1.0 a.0.now a.1.0.now a.1.1.1.1.0.now = r.learnt in
     cc
 
 pub ran_fold : (u : ℕ) (log base : List ℕ) (m : ℕ) (work : List ℕ) (o : Outcome) (x : List ℕ) → RanFold u log base m work o x → o ≡ fold_of u log base m work
 ran_fold u log base m work o x r =
     let a = r.args in
-    let e : outcome r.result.number 0 r.exit.0.now r.exit.1.0.now r.result.records
+    let e : outcome (code_of r.result) 0 r.exit.0.now r.exit.1.0.now (records_folded r.result)
     ≡ fold_of a.1.1.1.0 a.0.now a.1.0.now a.1.1.1.1.0 a.1.1.1.1.1.0.now = r.learnt.0 in
     cc
 
@@ -130,5 +134,5 @@ ran_fold_worked u log base m work o x r =
 pub ran_show : (log base lent : List ℕ) (o : Outcome) → RanShow log base lent o → o ≡ show_of log base lent
 ran_show log base lent o r =
     let a = r.args in
-    let e : outcome r.result.number r.result.place a.0.now r.exit.1.1.0.now 0 ≡ show_of a.0.now a.1.0.now a.1.1.0.now = r.learnt in
+    let e : outcome (code_of r.result) 0 a.0.now r.exit.1.1.0.now 0 ≡ show_of a.0.now a.1.0.now a.1.1.0.now = r.learnt in
     cc

@@ -6,6 +6,10 @@ use borrow.Fn.Kinds.{Dens, res_t, ended_of}
 use denote.Triple.Clauses.{AtExit}
 use Rattle.call_model.specs.Outcome.{Outcome, outcome}
 use Rattle.index_model.specs.Kept.{RowKept, row_kept}
+use Rattle.refusal.specs.Refusals.{code_of}
+use Rattle.write_file.specs.Told.{blocks_of}
+use Rattle.fold.specs.Records.{records_folded}
+use Rattle.take_row.specs.Answer.{taken_of, stopped_of}
 use Rattle.keep_act.proofs.act.Kinds as Act
 use Rattle.keep_act.proofs.act.Reads.{Learnt as ActLearnt}
 use Rattle.keep_take.proofs.take.Kinds as Take
@@ -31,7 +35,7 @@ pub record RanStart (u : ℕ) (log base i : List ℕ) (o : Outcome) (j : List �
   pub exit : AtExit (ended_of 3 Start.ps Start.r) κs
   pub learnt : StartLearnt κs args result exit
   pub given : (args.0.now ≡ log) × (args.1.0.now ≡ base) × (args.1.1.0.now ≡ i) × (args.1.1.1.1.0 ≡ u)
-  pub gave : o ≡ outcome result.number result.place exit.0.now exit.1.0.now 0
+  pub gave : o ≡ outcome (code_of result) 0 exit.0.now exit.1.0.now 0
   pub kept : j ≡ exit.1.1.0.now
 
 -- `hand_out` at unit u, on a log and a base, to a vector asked for, into a lent block
@@ -42,7 +46,7 @@ pub record RanHandOut (archive u : ℕ) (log base v lent : List ℕ) (o : Outcom
   pub exit : AtExit (ended_of 3 Hand.ps Hand.r) κs
   pub learnt : HandLearnt κs args result exit
   pub given : (args.0.now ≡ log) × (args.1.0.now ≡ base) × (args.1.1.0 ≡ archive) × (args.1.1.1.0 ≡ u) × (args.1.1.1.1.0.counts ≡ v) × (args.1.1.1.1.1.0.now ≡ lent)
-  pub gave : o ≡ outcome result.number result.place args.0.now exit.1.1.1.1.1.0.now 0
+  pub gave : o ≡ outcome (code_of result) 0 args.0.now exit.1.1.1.1.1.0.now 0
 
 -- `write_file` at unit u, on a log and a base, into a lent file
 pub record RanWriteFile (archive u : ℕ) (log base lent : List ℕ) (o : Outcome) : Type 0 where
@@ -52,7 +56,7 @@ pub record RanWriteFile (archive u : ℕ) (log base lent : List ℕ) (o : Outcom
   pub exit : AtExit (ended_of 3 Write.ps Write.r) κs
   pub learnt : WriteLearnt κs args result exit
   pub given : (args.0.now ≡ log) × (args.1.0.now ≡ base) × (args.1.1.0 ≡ archive) × (args.1.1.1.0 ≡ u) × (args.1.1.1.1.0.now ≡ lent)
-  pub gave : o ≡ outcome result.number result.place args.0.now exit.1.1.1.1.0.now result.blocks
+  pub gave : o ≡ outcome (code_of result) 0 args.0.now exit.1.1.1.1.0.now (blocks_of result)
 
 -- `act` at unit u, on a log, a base and an index, which becomes j, with a wish, in work memory, which becomes x
 pub record RanAct (u : ℕ) (log base i w work : List ℕ) (o : Outcome) (j x : List ℕ) : Type 0 where
@@ -62,7 +66,7 @@ pub record RanAct (u : ℕ) (log base i w work : List ℕ) (o : Outcome) (j x : 
   pub exit : AtExit (ended_of 5 Act.ps Act.r) κs
   pub learnt : ActLearnt κs args result exit
   pub given : (args.0.now ≡ log) × (args.1.0.now ≡ base) × (args.1.1.0.now ≡ i) × (args.1.1.1.1.0 ≡ u) × (args.1.1.1.1.1.0.now ≡ w) × (args.1.1.1.1.1.1.0.now ≡ work)
-  pub gave : o ≡ outcome result.number result.place exit.0.now [] 0
+  pub gave : o ≡ outcome (code_of result) 0 exit.0.now [] 0
   pub kept : j ≡ exit.1.1.0.now
   pub worked : x ≡ exit.1.1.1.1.1.1.0.now
 
@@ -74,7 +78,7 @@ pub record RanTake (archive u : ℕ) (log base i b work : List ℕ) (o : Outcome
   pub exit : AtExit (ended_of 5 Take.ps Take.r) κs
   pub learnt : TakeLearnt κs args result exit
   pub given : (args.0.now ≡ log) × (args.1.0.now ≡ base) × (args.1.1.0.now ≡ i) × (args.1.1.1.0.now ≡ work) × (args.1.1.1.1.0 ≡ archive) × (args.1.1.1.1.1.0 ≡ u) × (args.1.1.1.1.1.1.0.now ≡ b)
-  pub gave : o ≡ outcome result.number result.place exit.0.now [] 0
+  pub gave : o ≡ outcome (code_of result) 0 exit.0.now [] 0
   pub kept : j ≡ exit.1.1.0.now
   pub worked : x ≡ exit.1.1.1.0.now
 
@@ -86,7 +90,7 @@ pub record RanTakeRow (archive u : ℕ) (log base i row work : List ℕ) (o : Ro
   pub exit : AtExit (ended_of 5 TakeRow.ps TakeRow.r) κs
   pub learnt : TakeRowLearnt κs args result exit
   pub given : (args.0.now ≡ log) × (args.1.0.now ≡ base) × (args.1.1.0.now ≡ i) × (args.1.1.1.0.now ≡ work) × (args.1.1.1.1.0 ≡ archive) × (args.1.1.1.1.1.0 ≡ u) × (args.1.1.1.1.1.1.0.now ≡ row)
-  pub gave : o ≡ row_kept result.number result.place result.taken result.stopped exit.0.now exit.1.1.0.now
+  pub gave : o ≡ row_kept (code_of result) 0 (taken_of result) (stopped_of result) exit.0.now exit.1.1.0.now
   pub worked : x ≡ exit.1.1.1.0.now
 
 -- `fold` at unit u, on a log and a base, by a list, in work memory, which becomes x
@@ -97,7 +101,7 @@ pub record RanFold (u : ℕ) (log base : List ℕ) (m : ℕ) (work : List ℕ) (
   pub exit : AtExit (ended_of 3 Fold.ps Fold.r) κs
   pub learnt : FoldLearnt κs args result exit
   pub given : (args.0.now ≡ log) × (args.1.0.now ≡ base) × (args.1.1.1.0 ≡ u) × (args.1.1.1.1.0 ≡ m) × (args.1.1.1.1.1.0.now ≡ work)
-  pub gave : o ≡ outcome result.number 0 exit.0.now exit.1.0.now result.records
+  pub gave : o ≡ outcome (code_of result) 0 exit.0.now exit.1.0.now (records_folded result)
   pub worked : x ≡ exit.1.1.1.1.1.0.now
 
 -- `show_tree` of a log and a base, into a lent tree table
@@ -108,4 +112,4 @@ pub record RanShow (log base lent : List ℕ) (o : Outcome) : Type 0 where
   pub exit : AtExit (ended_of 3 Show.ps Show.r) κs
   pub learnt : ShowLearnt κs args result exit
   pub given : (args.0.now ≡ log) × (args.1.0.now ≡ base) × (args.1.1.0.now ≡ lent)
-  pub gave : o ≡ outcome result.number result.place args.0.now exit.1.1.0.now 0
+  pub gave : o ≡ outcome (code_of result) 0 args.0.now exit.1.1.0.now 0

@@ -100,6 +100,3 @@ module _ (f lent : List ℕ) where
 pub none_faulty : (f : List ℕ) (m q : ℕ) → fault m q ≡ checked_sab2 f → m ≡ 0 → (checked_sab2 f).number ≡ 0
 unfolding fault
 none_faulty f m q e z = sym (ap (λ (x : Fault). x.number) e) ∙ z
-
-pub base_kept : (f : List ℕ) (m : ℕ) (b : List ℕ) → (m ≡ 0 → b ≡ sab2_base f) → m ≡ 0 → b ≡ sab2_base f
-base_kept f m b h z = h z

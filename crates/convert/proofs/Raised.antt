@@ -92,16 +92,16 @@ module _ (f : List ℕ) (z : (checked_fault f).number ≡ 0) where
     unfolding sab2_blocks
     raised_blocks = omega (arith, one_block, for_is total, ap blocks_for length_is)
 
-    pub raised : (a u : ℕ) (v d : List ℕ) {b d₁ d₂ o : List ℕ} → v ≡ vector_of (file_records f) → length d ≡ 95232
+    pub raised : (a u : ℕ) (v d : List ℕ) {b d₁ d₂ o : List ℕ} → v ≡ vector_of (file_records f) → length d ≡ 95232 → length d₂ ≡ 95232
         → b ≡ run_block letters2 (header_of a u 0 v) (base_rows empty_base) 0 → d₁ ≡ put_at d (512 * 0) b
         → d₂ ≡ put_at d₁ (512 * 1) (run_to letters2 (header_of a u 1 v) (file_records f) ((total + 5) / 6))
-        → o ≡ put_at d₂ (512 * (1 + (total + 5) / 6)) (replicate (95232 - 512 * (1 + (total + 5) / 6)) 0)
+        → o ≡ put_at d₂ (512 * (1 + (total + 5) / 6)) (replicate (length d₂ - 512 * (1 + (total + 5) / 6)) 0)
         → o ≡ padded 95232 (sab2_of a u empty_base (file_records f))
     unfolding run_to
-    raised a u v d ev long eb e₁ e₂ e =
+    raised a u v d ev long long₂ eb e₁ e₂ e =
         let w : v ≡ vector_on (base_vector empty_base) (file_records f) = ev ∙ sym (rw empty_vector (vector_on-none (file_records f))) in
         let n : (total + 5) / 6 ≡ blocks_for (length (file_records f)) = rw length_is (for_is total) in
-        file_whole a u empty_base v d (file_records f) (records_sized f total et total_inside) long one_block n (omega arith) (omega (arith, total_few)) w (e₁ ∙ rw eb) e₂ e
+        file_whole a u empty_base v d (file_records f) (records_sized f total et total_inside) long one_block n (omega arith) (omega (arith, total_few)) w (e₁ ∙ rw eb) e₂ (rw long₂ at e)
 
 pub raised_as : (f : List ℕ) {a u : ℕ} {o : List ℕ} → a ≡ archive_in (take (512 - 0) (drop 0 f)) → u ≡ sender_in (take (512 - 0) (drop 0 f))
     → o ≡ padded 95232 (sab2_of a u empty_base (file_records f)) → o ≡ padded 95232 (as_sab2 f)

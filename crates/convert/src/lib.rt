@@ -11,17 +11,21 @@ ghost use Rattle.run_model.specs.Runs.{letters2, run_block, run_to};
 ghost use Rattle.sab2_model.specs.Rows.{base_rows};
 ghost use Rattle.sab2_model.specs.Sab2.{sab2_of, sab2_blocks, sab2_base, sab2_records, checked_sab2};
 ghost use Rattle.sab2_model.specs.Calls.{sab2_size, converted, as_sab2, as_sab1, to_sab2_of, to_sab1_of};
+ghost use Rattle.refusal.specs.Refusals.{fault_code, fault_place};
+ghost use Rattle.sab2_check.specs.Told.{file_code, file_place};
+ghost use Rattle.convert.specs.Told.{blocks_of};
 
 use base_head::head_of;
 use block_read::{archive_in, sender_in, vector_in};
 use block_write::{Block, block_as};
 use model::{BASE_BYTES, BLOCK_BYTES, FILE_BYTES};
 use read_file_check::{checked_fault, records_counted};
-use sab2_check::{checked_sab2, row_blocks};
+use refusal::{Fault, Refusal};
+use sab2_check::{FileFault, checked_sab2, row_blocks};
 use sab2_model::SAB2_BYTES;
 use vector::Vector;
-use write_file::{Written, is_zero};
-use write_file_blocks::{block_count, count_at, write_at};
+use write_file::is_zero;
+use write_file_blocks::{block_count, clear_behind, count_at, write_at};
 
 // Block k of so many records that stand in blocks, with other letters, archive, unit, place and vector.
 fn recast_block(
@@ -76,11 +80,9 @@ fn recast(
     requires { (total ≡ records_counted part.now) × (total ≤ 512) × (total ≤ 6 * (length part.now / 512)) × (n ≤ block_count total) × (length letters.now ≡ 4) × (first ≤ 100) × (512 * (first + n) ≤ length out.old) }
     ensures { out.new ≡ put_at out.old (512 * first) (run_to letters.now (header_of archive unit first v.counts) (file_records part.now) n) }
 {
-    let mut k: usize = 0;
-    while k < n {
+    for k in 0..n {
         let b = recast_block(part, total, letters, archive, unit, v, first, k);
         write_at(out, first + k, b);
-        k += 1;
     }
 }
 
@@ -101,7 +103,7 @@ fn write_raised(file: &[u8], total: usize, archive: u32, unit: u8, v: Vector, ou
     let n = (total + 5) / 6;
     write_at(out, 0, empty_rows(archive, unit, v));
     recast(file, total, n, b"SAB2", archive, unit, v, 1, out);
-    write_sab2::clear_behind(out, 1 + n);
+    clear_behind(out, 1 + n);
     (1 + n) as u8
 }
 
@@ -120,30 +122,17 @@ fn raise(file: &[u8], out: &mut [u8]) -> u8
 
 // An SAB1 file becomes an SAB2 file of the same archive and unit in the lent bytes, with zeros behind the last block: an empty base, all eight
 // units listed. Checked in this order: 1, then the file. A refusal leaves the lent bytes.
-pub fn to_sab2(file: &[u8], out: &mut [u8]) -> Written
-    ensures { converted result.number result.place result.blocks out.new ≡ to_sab2_of file.now out.old }
+pub fn to_sab2(file: &[u8], out: &mut [u8]) -> Result<u8, Fault<u8>>
+    ensures { converted (fault_code result) (fault_place result) (blocks_of result) out.new ≡ to_sab2_of file.now out.old }
 {
     if out.len() != SAB2_BYTES {
-        return Written {
-            number: 1,
+        return Err(Fault {
+            refusal: Refusal::BadBuffer,
             place: 0,
-            blocks: 0,
-        };
+        });
     }
-    let e = checked_fault(file);
-    if e.number != 0 {
-        return Written {
-            number: e.number,
-            place: e.place,
-            blocks: 0,
-        };
-    }
-    let n = raise(file, out);
-    Written {
-        number: 0,
-        place: 0,
-        blocks: n,
-    }
+    checked_fault(file)?;
+    Ok(raise(file, out))
 }
 
 // An SAB2 file without a fault and without folded records becomes an SAB1 file; the count of its blocks is returned.
@@ -166,48 +155,32 @@ fn lower(file: &[u8], out: &mut [u8]) -> u8
     n as u8
 }
 
-// The records of a checked SAB2 file and its base: 29 if any is folded, else the way back.
-fn back(file: &[u8], base: &[u8], out: &mut [u8]) -> Written
+// The records of a checked SAB2 file and its base: FoldedRecords if any is folded, else the way back.
+fn back(file: &[u8], base: &[u8], out: &mut [u8]) -> Result<u8, Fault<u8>>
     requires { ((checked_sab2 file.now).number ≡ 0) × (base.now ≡ sab2_base file.now) × (length base.now ≡ base_size) × (length out.old ≡ file_size) }
-    ensures { converted result.number result.place result.blocks out.new ≡ to_sab1_of file.now out.old }
+    ensures { converted (fault_code result) (fault_place result) (blocks_of result) out.new ≡ to_sab1_of file.now out.old }
 {
-    let head = head_of(base);
-    let folded = head.folded;
-    if !is_zero(folded) {
-        return Written {
-            number: 29,
+    if !is_zero(head_of(base).folded) {
+        return Err(Fault {
+            refusal: Refusal::FoldedRecords,
             place: 0,
-            blocks: 0,
-        };
+        });
     }
-    let n = lower(file, out);
-    Written {
-        number: 0,
-        place: 0,
-        blocks: n,
-    }
+    Ok(lower(file, out))
 }
 
 // An SAB2 file without folded records becomes an SAB1 file of the same archive and unit in the lent bytes, with zeros behind the last block; its
 // list is lost. Checked in this order: 1, then the file, then 29. A refusal leaves the lent bytes.
-pub fn to_sab1(file: &[u8], out: &mut [u8]) -> Written
-    ensures { converted result.number result.place result.blocks out.new ≡ to_sab1_of file.now out.old }
+pub fn to_sab1(file: &[u8], out: &mut [u8]) -> Result<u8, FileFault>
+    ensures { converted (file_code result) (file_place result) (blocks_of result) out.new ≡ to_sab1_of file.now out.old }
 {
     if out.len() != FILE_BYTES {
-        return Written {
-            number: 1,
+        return Err(FileFault::Block(Fault {
+            refusal: Refusal::BadBuffer,
             place: 0,
-            blocks: 0,
-        };
+        }));
     }
     let mut base = [0u8; BASE_BYTES];
-    let e = checked_sab2(file, &mut base);
-    if e.number != 0 {
-        return Written {
-            number: e.number,
-            place: e.place,
-            blocks: 0,
-        };
-    }
-    back(file, &base, out)
+    checked_sab2(file, &mut base)?;
+    Ok(back(file, &base, out)?)
 }

@@ -3,14 +3,13 @@
 use Prim.Native.Nat.{ℕ, ◌+◌, ◌-◌, ◌*◌, ◌/◌, ◌%◌, ◌≤◌, ◌<◌}
 use native.Mathlib.Numerals.{add-one}
 use native.Mathlib.Omega.{arith}
-use mathlib.Core.Path.{◌≡◌, refl, sym, ap, ◌∙◌}
+use mathlib.Core.Path.{◌≡◌, refl, ◌∙◌}
 use mathlib.Core.List.{List}
-use lib.ListN.{length, replicate, take, drop, length-replicate}
+use lib.ListN.{length, replicate, take, drop}
 use borrow.Author.Tests.{lt-leb, le-leb, lt-ltb, le-ltb}
-use Rattle.model.specs.Bytes.{part, put_at}
+use Rattle.model.specs.Bytes.{put_at}
 use Rattle.model.specs.File.{file_record}
-use Rattle.byte_slice.proofs.Parts.{part_is, part_length}
-use Rattle.byte_slice.proofs.PutAt.{put_whole}
+use Rattle.byte_slice.proofs.Parts.{part_is}
 use Rattle.file_reader.specs.Walk.{record_or_zeros, walked_to}
 
 module _ (f : List ℕ) (i : ℕ) where
@@ -23,13 +22,12 @@ module _ (f : List ℕ) (i : ℕ) where
   too_short h g = rw (lt-leb 516 i h, lt-ltb (length f) (512 * (i / 6) + (28 + 80 * (i % 6)) + 80) g)
 
   pub copied : (b : List ℕ) → i < 516 → 512 * (i / 6) + (28 + 80 * (i % 6)) + 80 ≤ length f
-      → b ≡ put_at (replicate 80 0) 0 (take (512 * (i / 6) + (28 + 80 * (i % 6)) + 80 - (512 * (i / 6) + (28 + 80 * (i % 6)))) (drop (512 * (i / 6) + (28 + 80 * (i % 6))) f))
+      → b ≡ take (512 * (i / 6) + (28 + 80 * (i % 6)) + 80 - (512 * (i / 6) + (28 + 80 * (i % 6)))) (drop (512 * (i / 6) + (28 + 80 * (i % 6))) f)
       → b ≡ record_or_zeros f i
   unfolding record_or_zeros file_record
   copied b h g e =
       let at : ℕ = 512 * (i / 6) + (28 + 80 * (i % 6)) in
-      let n : length (part f at 80) ≡ length (replicate {A = ℕ} 80 0) = part_length f at 80 g in
-      rw (lt-leb 516 i h, le-ltb (length f) (at + 80) g) (e ∙ ap (put_at (replicate 80 0) 0) (part_is f at 80) ∙ put_whole (replicate 80 0) (part f at 80) n)
+      rw (lt-leb 516 i h, le-ltb (length f) (at + 80) g) (e ∙ part_is f at 80)
 
 -- a record fits its place
 pub record_fits : (i : ℕ) (d s : List ℕ) → 80 * i + 80 ≤ length d → length s ≡ 80 → 80 * i + length s ≤ length d

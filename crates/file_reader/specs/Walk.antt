@@ -1,6 +1,6 @@
 -- The record that a reader of a file stands before.
 -- Assumes nothing.
-use Rattle.std.specs.Prelude.{ℕ, zero, suc, ◌+◌, ◌*◌, ◌/◌, ◌%◌, Bool, true, false, cond, List, leb, ltb, length, replicate}
+use Rattle.std.specs.Prelude.{ℕ, zero, suc, ◌+◌, ◌*◌, ◌/◌, ◌%◌, cond, List, leb, ltb, length, replicate}
 use Rattle.model.specs.Bytes.{put_at}
 use Rattle.model.specs.File.{file_record}
 

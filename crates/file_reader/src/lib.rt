@@ -31,7 +31,7 @@ fn record_at(file: &[u8], i: usize) -> Record
     if file.len() < at + 80 {
         return Record { bytes };
     }
-    byte_slice::put(&mut bytes, 0, &file[at..at + 80]);
+    bytes.copy_from_slice(&file[at..at + 80]);
     Record { bytes }
 }
 
@@ -61,8 +61,7 @@ fn lay(log: &mut [u8], i: usize, r: Record) -> usize
     requires { 80 * i + 80 ≤ length log.old }
     ensures { (result ≡ i + 1) × (log.new ≡ put_at log.old (80 * i) r.bytes) }
 {
-    let bytes = r.bytes;
-    byte_slice::put(log, 80 * i, &bytes);
+    byte_slice::put(log, 80 * i, &r.bytes);
     i + 1
 }
 
@@ -81,6 +80,7 @@ pub fn walk(file: &[u8], log: &mut [u8], total: usize)
     ensures { log.new ≡ walked_to log.old file.now total }
 {
     let mut r = begin(file, 0);
+    // The reader has its own position, so no index is counted here.
     while r.at < total {
         r = advance(r, log);
     }

@@ -36,14 +36,6 @@ use Rattle.fold.specs.Stands.{Stands}
 
 -- ---- a list
 
-pub lists_not : (m u : ℕ) (v : List ℕ) (b : Bool) → b ≡ is_listed m u → not b ≡ true → false ≡ list_fits m u v
-unfolding list_fits
-lists_not m u v b e h = rw (← e, not-true b h)
-
-pub lists_so : (m u : ℕ) (v : List ℕ) (b t : Bool) → b ≡ is_listed m u → not b ≡ false → t ≡ lists_all m v → t ≡ list_fits m u v
-unfolding list_fits
-lists_so m u v b t e h q = rw (← e, not-false b h) q
-
 pub fits_own : (m u : ℕ) (v : List ℕ) (b : Bool) → b ≡ list_fits m u v → not b ≡ false → is_listed m u ≡ true
 unfolding list_fits
 fits_own m u v b e h = (and_true (is_listed m u) (lists_all m v) (sym e ∙ not-false b h)).0

@@ -9,30 +9,24 @@ ghost use Rattle.model.specs.Table.{work_bytes};
 ghost use Rattle.base_model.specs.Base.{is_listed, base_bytes, base_vector, base_tree};
 ghost use Rattle.call_model.specs.Outcome.{outcome};
 ghost use Rattle.call_model.specs.Fold.{run_in, folded_base, list_fits, fold_of, fold_work};
+ghost use Rattle.refusal.specs.Refusals.{code_of};
 ghost use Rattle.fold_tree.specs.Table.{Table};
+ghost use Rattle.fold.specs.Records.{records_folded};
 ghost use Rattle.fold.specs.Stands.{Stands};
 
 use fold_tree::Folded;
 use model::TREE_BYTES;
+use refusal::Refusal;
 use tree_table::Size;
 use vector::Vector;
 
-// What folding answers: the number, 0 for success, and how many records were folded.
-#[derive(Drop)]
-pub struct Answer {
-    pub number: u8,
-    pub records: u16,
-}
-
 // A list names the own unit and each unit of which records are held.
+#[tactic(auto, unfolding(call_model::specs::Fold::list_fits))]
 fn list_fits(list: u8, unit: u8, held: Vector) -> bool
     requires { unit < 8 }
     ensures { result ≡ list_fits list unit held.counts }
 {
-    if !base_head::is_listed(list, unit as usize) {
-        return false;
-    }
-    base_head::lists_all(list, held)
+    base_head::is_listed(list, usize::from(unit)) && base_head::lists_all(list, held)
 }
 
 // The run that folds, replayed into the work memory.
@@ -81,8 +75,8 @@ fn fold_state(
     n
 }
 
-// Records are folded by a given list, which is stored also where none is. Checked in this order: 1, 21, 19, 26. A refusal leaves log, base and
-// work memory as they were. The archive is not asked.
+// Records are folded by a given list, which is stored also where none is; how many were is told. Checked in this order: 1, 21, 19, 26. A refusal
+// leaves log, base and work memory as they were. The archive is not asked.
 pub fn fold(
     log: &mut [u8],
     base: &mut [u8],
@@ -90,34 +84,21 @@ pub fn fold(
     unit: u8,
     list: u8,
     work: &mut [u8],
-) -> Answer
-    ensures folded { outcome result.number 0 log.new base.new result.records ≡ fold_of unit log.old base.old list work.old }
+) -> Result<u16, Refusal>
+    ensures folded { outcome (code_of result) 0 log.new base.new (records_folded result) ≡ fold_of unit log.old base.old list work.old }
     ensures worked { work.new ≡ fold_work unit log.old base.old list work.old }
 {
-    let o = call_guard::open(log, base, unit, work.len() == TREE_BYTES, true);
-    if o.number != 0 {
-        return Answer {
-            number: o.number,
-            records: 0,
-        };
-    }
-    let head = o.head;
-    let held = o.held;
-    let used = o.used;
-    if !list_fits(list, unit, held) {
-        return Answer {
-            number: 26,
-            records: 0,
-        };
+    let state = call_guard::open(log, base, unit, work.len() == TREE_BYTES, true)?;
+    if !list_fits(list, unit, state.held) {
+        return Err(Refusal::Unlisted);
     }
     let size = Size {
-        entries: head.entries,
-        asides: head.asides,
+        entries: state.head.entries,
+        asides: state.head.asides,
     };
-    let folded = head.folded;
-    let n = fold_state(log, base, used, unit, list, folded, held, size, work);
-    Answer {
-        number: 0,
-        records: n as u16,
-    }
+    let folded = state.head.folded;
+    let n = fold_state(
+        log, base, state.used, unit, list, folded, state.held, size, work,
+    );
+    Ok(n as u16)
 }

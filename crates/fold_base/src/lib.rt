@@ -24,15 +24,12 @@ fn keep_rows(base: &mut [u8], table: &[u8], n: usize) -> usize
     ensures laid { base.new ≡ put_at base.old 24 (kept_to table.now n) }
 {
     let mut j: usize = 0;
-    let mut i: usize = 0;
-    while i < n {
+    for i in 0..n {
         let at = 4 + 72 * i;
-        i += 1;
-        if table[at] == 0 {
-            continue;
+        if table[at] != 0 {
+            put(base, 24 + 72 * j, &table[at..at + 72]);
+            j += 1;
         }
-        put(base, 24 + 72 * j, &table[at..at + 72]);
-        j += 1;
     }
     j
 }
@@ -42,8 +39,7 @@ fn keep_asides(base: &mut [u8], table: &[u8], m: usize)
     requires { (length base.old ≡ base_size) × (length table.now ≡ tree_size) × (m ≤ base_places) }
     ensures { base.new ≡ put_at base.old 36888 (part table.now 73732 (12 * m)) }
 {
-    let n = 12 * m;
-    put(base, 36888, &table[73732..73732 + n]);
+    put(base, 36888, &table[73732..73732 + 12 * m]);
 }
 
 // The head: the list, the counts of the rows, the vector.
@@ -51,8 +47,7 @@ fn fill_head(base: &mut [u8], list: u8, entries: usize, asides: usize, v: Vector
     requires { (length base.old ≡ base_size) × (entries ≤ base_places) × (asides ≤ base_places) }
     ensures { base.new ≡ headed base.old list entries asides v.counts }
 {
-    let first = [list, 0u8];
-    put(base, 0, &first);
+    put(base, 0, &[list, 0]);
     put16(base, 2, entries as u16);
     put16(base, 4, asides as u16);
     vector::put_vector(base, 8, v);
@@ -63,7 +58,7 @@ pub fn write_base(base: &mut [u8], list: u8, v: Vector, table: &[u8], size: Size
     requires { (length base.old ≡ base_size) × (length table.now ≡ tree_size) × (table.now ≡ work_bytes (tree_in table.now size.entries size.asides)) × AllProper (tree_in table.now size.entries size.asides).entries × (size.entries ≤ 1024) × (size.asides ≤ base_places) × (present_count (tree_in table.now size.entries size.asides) ≤ base_places) }
     ensures { base.new ≡ base_bytes (base_of list v.counts (trim (tree_in table.now size.entries size.asides))) }
 {
-    byte_slice::clear(base);
+    base.fill(0);
     let present = keep_rows(base, table, size.entries);
     keep_asides(base, table, size.asides);
     fill_head(base, list, present, size.asides, v);

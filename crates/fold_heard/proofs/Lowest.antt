@@ -1,6 +1,6 @@
 -- One vector in the place of the rows of all listed units, and the run that it counts.
 -- Assumes nothing.
-use Prim.Native.Nat.{ℕ, zero, suc, ◌+◌, ◌-◌, ◌*◌, ◌≤◌, ◌<◌}
+use Prim.Native.Nat.{ℕ, zero, suc, ◌+◌, ◌-◌, ◌*◌, ◌≤◌, ◌<◌, min}
 use native.Mathlib.Numerals.{add-one}
 use native.Mathlib.Nat.{zero-add}
 use native.Mathlib.Omega.{arith}
@@ -25,13 +25,9 @@ use Rattle.fold_heard.proofs.Rows.{rows_at}
 
 -- ---- the lower of two
 
-pub lower_first : (a b : ℕ) → a < b → a ≡ lower_of a b
+pub lower_least : (a b : ℕ) {c : ℕ} → c ≡ min a b → c ≡ lower_of a b
 unfolding lower_of
-lower_first a b h = rw (lt-ltb a b h)
-
-pub lower_second : (a b : ℕ) → b ≤ a → b ≡ lower_of a b
-unfolding lower_of
-lower_second a b h = rw (le-ltb a b h)
+lower_least a b e = ⊎_elim (λ (h : a < b). rw (lt-ltb a b h) (omega arith)) (λ (h : b ≤ a). rw (le-ltb a b h) (omega arith)) (lt_or_ge a b)
 
 -- a number is within the lower of two if it is within both
 leb_lower : (k a b : ℕ) → leb k (lower_of a b) ≡ (leb k a && leb k b)
@@ -124,13 +120,13 @@ heard_least m u v l r h own below =
 -- ---- what `least` is asked
 
 module _ (m : ℕ) (rows : List (List ℕ)) (h : List ℕ) (w : ℕ) (t : Bool) (named : t ≡ is_listed m w) where
-  pub least_skips : {v : List ℕ} → v ≡ least_to m rows h w → not t ≡ true → v ≡ least_to m rows h (w + 1)
+  pub least_skips : {v : List ℕ} → v ≡ least_to m rows h w → t ≡ false → v ≡ least_to m rows h (w + 1)
   unfolding least_to
-  least_skips e f = rw (add-one w, ← named, not-true t f) e
+  least_skips e f = rw (add-one w, ← named, f) e
 
-  pub least_lowers : {v o : List ℕ} → v ≡ least_to m rows h w → not t ≡ false → o ≡ lowers_to v (get_or rows w []) 8 → o ≡ least_to m rows h (w + 1)
+  pub least_lowers : {v o : List ℕ} → v ≡ least_to m rows h w → t ≡ true → o ≡ lowers_to v (get_or rows w []) 8 → o ≡ least_to m rows h (w + 1)
   unfolding least_to
-  least_lowers e f g = rw (add-one w, ← named, not-false t f, ← e) g
+  least_lowers e f g = rw (add-one w, ← named, f, ← e) g
 
 pub least_ends : (m : ℕ) (rows : List (List ℕ)) (h : List ℕ) (w : ℕ) {v : List ℕ} → w ≤ 8 → 8 ≤ w → v ≡ least_to m rows h w → v ≡ least_of m rows h
 unfolding least_of

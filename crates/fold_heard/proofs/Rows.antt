@@ -114,10 +114,10 @@ module _ (v b : List ℕ) (i used : ℕ) (whole : used ≡ length (records_of b)
       let q = record_at_lem v b long sound i k in
       o ∙ rw (e, q, add-one i, take-suc (records_of b) i [] k) (sym (all_append from (take i (records_of b)) (get_or (records_of b) i [])))
 
-  pub hears_own : (u : ℕ) {from rows o : List (List ℕ)} {held : List ℕ} → u < 8 → i ≤ used → used ≤ i → from ≡ replicate 8 v → rows ≡ heard_all_lem from (take i (records_of b))
-      → held ≡ vector_on v (records_of b) → o ≡ set rows u held → o ≡ heard_rows u v (records_of b)
-  hears_own u h a c g e f o =
-      o ∙ rw (e, g, f, take_all i (records_of b) (omega arith), told_none v, all_told v [] (records_of b) (units_below v b long sound)) (told_own u v (records_of b) h)
+  pub hears_own : (u : ℕ) {w : ℕ} {from rows o : List (List ℕ)} {held : List ℕ} → u < 8 → w ≡ u → i ≤ used → used ≤ i → from ≡ replicate 8 v → rows ≡ heard_all_lem from (take i (records_of b))
+      → held ≡ vector_on v (records_of b) → o ≡ set rows w held → o ≡ heard_rows u v (records_of b)
+  hears_own u h d a c g e f o =
+      o ∙ rw (d, e, g, f, take_all i (records_of b) (omega arith), told_none v, all_told v [] (records_of b) (units_below v b long sound)) (told_own u v (records_of b) h)
 
 pub hears_none : (b : List ℕ) (from : List (List ℕ)) → from ≡ heard_all_lem from (take 0 (records_of b))
 unfolding heard_all_lem

@@ -28,10 +28,9 @@ fn told(rec: &[u8]) -> Vector
     requires { (length rec.now ≡ 80) × (unit rec.now < 8) }
     ensures { result.counts ≡ set (seen_vector rec.now) (unit rec.now) (num rec.now) }
 {
-    let u = unit_of(rec) as usize;
-    let n = number_of(rec);
+    let u = usize::from(unit_of(rec));
     let mut v = seen_vector(rec);
-    v.counts[u] = n;
+    v.counts[u] = number_of(rec);
     v
 }
 
@@ -51,8 +50,7 @@ fn hear(rows: [[u16; 8]; 8], rec: &[u8]) -> [[u16; 8]; 8]
     requires { (length rec.now ≡ 80) × (unit rec.now < 8) }
     ensures { result ≡ set rows (unit rec.now) (set (seen_vector rec.now) (unit rec.now) (num rec.now)) }
 {
-    let u = unit_of(rec) as usize;
-    with_row(rows, u, told(rec))
+    with_row(rows, usize::from(unit_of(rec)), told(rec))
 }
 
 // What each unit has heard, as the own unit can tell from a sound log and its base vector; of itself it is the held vector.
@@ -61,28 +59,15 @@ pub fn heard(log: &[u8], used: usize, unit: u8, base: Vector, held: Vector) -> [
     ensures { result ≡ heard_rows unit base.counts (records_of log.now) }
 {
     let mut rows = fresh(base);
-    let mut i: usize = 0;
-    while i < used {
+    for i in 0..used {
         let at = 80 * i;
         let next = hear(rows, &log[at..at + 80]);
         rows = next;
-        i += 1;
     }
-    let u = unit as usize;
-    with_row(rows, u, held)
+    with_row(rows, usize::from(unit), held)
 }
 
 // ---- the least
-
-// The lower of two counts.
-fn lower_count(a: u16, b: u16) -> u16
-    ensures { result ≡ lower_of a b }
-{
-    if a < b {
-        return a;
-    }
-    b
-}
 
 // Of each unit the lower of two counts.
 fn lower(a: Vector, b: [u16; 8]) -> Vector
@@ -90,14 +75,14 @@ fn lower(a: Vector, b: [u16; 8]) -> Vector
 {
     Vector {
         counts: [
-            lower_count(a.counts[0], b[0]),
-            lower_count(a.counts[1], b[1]),
-            lower_count(a.counts[2], b[2]),
-            lower_count(a.counts[3], b[3]),
-            lower_count(a.counts[4], b[4]),
-            lower_count(a.counts[5], b[5]),
-            lower_count(a.counts[6], b[6]),
-            lower_count(a.counts[7], b[7]),
+            a.counts[0].min(b[0]),
+            a.counts[1].min(b[1]),
+            a.counts[2].min(b[2]),
+            a.counts[3].min(b[3]),
+            a.counts[4].min(b[4]),
+            a.counts[5].min(b[5]),
+            a.counts[6].min(b[6]),
+            a.counts[7].min(b[7]),
         ],
     }
 }
@@ -107,16 +92,10 @@ pub fn least(rows: [[u16; 8]; 8], held: Vector, list: u8) -> Vector
     ensures { result.counts ≡ least_of list rows held.counts }
 {
     let mut v = held;
-    let mut w: usize = 0;
-    while w < 8 {
-        let row = rows[w];
-        let named = is_listed(list, w);
-        w += 1;
-        if !named {
-            continue;
+    for w in 0..8 {
+        if is_listed(list, w) {
+            v = lower(v, rows[w]);
         }
-        let next = lower(v, row);
-        v = next;
     }
     v
 }
@@ -128,8 +107,7 @@ fn counts(v: Vector, rec: &[u8]) -> bool
     requires { (length rec.now ≡ 80) × (unit rec.now < 8) }
     ensures { result ≡ leb (num rec.now) (get_or v.counts (unit rec.now) 0) }
 {
-    let u = unit_of(rec) as usize;
-    number_of(rec) <= v.counts[u]
+    number_of(rec) <= v.counts[usize::from(unit_of(rec))]
 }
 
 // How many records from the first on a vector counts.
@@ -137,13 +115,11 @@ fn run_within(log: &[u8], used: usize, base: Vector, v: Vector) -> usize
     requires { (length log.now ≡ log_size) × (sound_log_on base.counts log.now ≡ true) × (used ≡ length (records_of log.now)) }
     ensures { (result ≡ run_within v.counts (records_of log.now)) × (result ≤ used) }
 {
-    let mut i: usize = 0;
-    while i < used {
+    for i in 0..used {
         let at = 80 * i;
         if !counts(v, &log[at..at + 80]) {
             return i;
         }
-        i += 1;
     }
     used
 }

@@ -7,7 +7,7 @@ use mathlib.Core.Path.{◌≡◌, refl, ap, ◌∙◌}
 use mathlib.Core.Bool.{true}
 use mathlib.Core.List.{List, ◌++◌, append_assoc}
 use lib.ListN.{length, take, drop, replicate, length-append, length-drop, length-replicate, replicate-append-replicate}
-use lib.Seq.{take_all, drop_at}
+use lib.Seq.{paste, take_all, drop_at}
 use borrow.Rule.Slice.PartMut.{put_mid}
 use Rattle.model.specs.Bytes.{part, put_at, padded, joined}
 use Rattle.model.specs.Record.{Rec}
@@ -43,25 +43,27 @@ front_gone l n m z h few e =
     let count : 80 * n + (40960 - length (joined l)) ≡ 40960 - length j = omega arith in
     rw (front, two, put_start b (j ++ gone), behind, append_assoc j gone t, replicate-append-replicate {A = ℕ} (80 * n) (40960 - length (joined l)) 0, count)
 
+-- bytes copied within
+pasted : (d : List ℕ) (from to n : ℕ) → from + n ≤ length d → paste d to (drop from d) n ≡ put_at d to (part d from n)
+unfolding put_at part
+pasted d from to n h = rw (part_length d from n h, append_assoc)
+
 -- ---- what `drop_front` is asked, over plain values
 
-pub front_dropped : (v b : List ℕ) (used n : ℕ) {x y : List ℕ} → length b ≡ 40960 → sound_log_on v b ≡ true → used ≡ length (records_of b) → n ≤ used → x ≡ put_at b 0 (part b (80 * n) (80 * (used - n)))
-    → y ≡ replicate (length (take (80 * (used - n) + 80 * n - 80 * (used - n)) (drop (80 * (used - n)) x))) 0
-    → put_mid (80 * (used - n)) (80 * (used - n) + 80 * n - 80 * (used - n)) x y ≡ log_bytes (drop n (records_of b))
+pub front_dropped : (v b : List ℕ) (used n : ℕ) {x y : List ℕ} → length b ≡ 40960 → sound_log_on v b ≡ true → used ≡ length (records_of b) → n ≤ used → x ≡ paste b 0 (drop (80 * n) b) (80 * used - 80 * n)
+    → y ≡ replicate (length (take (80 * used - 80 * (used - n)) (drop (80 * (used - n)) x))) 0
+    → put_mid (80 * (used - n)) (80 * used - 80 * (used - n)) x y ≡ log_bytes (drop n (records_of b))
 front_dropped v b used n {x} {y} long sound e h f g =
     let l = records_of b in
     let m = used - n in
     let few = sound_few b in
     let same = sound_bytes_on v b long sound in
+    let moved : 80 * used - 80 * n ≡ 80 * m = omega arith in
+    let all : 80 * used ≡ 80 * m + 80 * n = omega arith in
+    let x-is : x ≡ put_at b 0 (part b (80 * n) (80 * m)) = f ∙ rw moved (pasted b (80 * n) 0 (80 * m) (omega arith)) in
     let part-long : length (part b (80 * n) (80 * m)) ≡ 80 * m = part_length b (80 * n) (80 * m) (omega arith) in
-    let x-long : length x ≡ 40960 = rw f (length-put b 0 (part b (80 * n) (80 * m)) (omega arith) ∙ long) in
-    let y-is : y ≡ replicate (80 * n) 0 = g ∙ ap (λ (k : ℕ). replicate k 0) (lent_length x (80 * m) (80 * n) (omega arith)) in
+    let x-long : length x ≡ 40960 = rw x-is (length-put b 0 (part b (80 * n) (80 * m)) (omega arith) ∙ long) in
+    let y-is : y ≡ replicate (80 * n) 0 = (rw all at g) ∙ ap (λ (k : ℕ). replicate k 0) (lent_length x (80 * m) (80 * n) (omega arith)) in
     let zeros : length y ≡ 80 * n = rw y-is (length-replicate {A = ℕ} (80 * n) 0) in
     let whole = front_gone l n m (proper_sized l (sound_proper_on v l (sound_records_on v b sound))) (omega arith) few (omega arith) in
-    mid_put (80 * m) (80 * n) x y zeros ∙ rw (y-is, f) (rw same at whole)
-
-pub moves_fit : (b : List ℕ) (used n : ℕ) → length b ≡ 40960 → used ≡ length (records_of b) → n ≤ used → 80 * n + 80 * (used - n) ≤ length b
-moves_fit b used n e f h = omega (arith, sound_few b)
-
-pub few_used : (b : List ℕ) (used : ℕ) → used ≡ length (records_of b) → used ≤ 512
-few_used b used e = omega (arith, sound_few b)
+    rw all (mid_put (80 * m) (80 * n) x y zeros ∙ rw (y-is, x-is) (rw same at whole))

@@ -15,10 +15,9 @@ fn count_to(v: Vector, rec: &[u8]) -> Vector
     requires { (length rec.now ≡ 80) × (unit rec.now < 8) }
     ensures { result.counts ≡ set v.counts (unit rec.now) (num rec.now) }
 {
-    let u = unit_of(rec) as usize;
-    let n = number_of(rec);
+    let u = usize::from(unit_of(rec));
     let mut w = v;
-    w.counts[u] = n;
+    w.counts[u] = number_of(rec);
     w
 }
 
@@ -28,12 +27,9 @@ pub fn counted(base: Vector, log: &[u8], n: usize) -> Vector
     ensures { result.counts ≡ vector_on base.counts (take n (records_of log.now)) }
 {
     let mut v = base;
-    let mut i: usize = 0;
-    while i < n {
+    for i in 0..n {
         let at = 80 * i;
-        let next = count_to(v, &log[at..at + 80]);
-        v = next;
-        i += 1;
+        v = count_to(v, &log[at..at + 80]);
     }
     v
 }
@@ -44,7 +40,6 @@ pub fn drop_front(base: Vector, log: &mut [u8], used: usize, n: usize)
     ensures { log.new ≡ log_bytes (drop n (records_of log.old)) }
 {
     let left = 80 * (used - n);
-    tree_finish::move_down(log, 80 * n, 0, left);
-    let gone = 80 * n;
-    byte_slice::clear(&mut log[left..left + gone]);
+    log.copy_within(80 * n..80 * used, 0);
+    log[left..80 * used].fill(0);
 }

@@ -15,6 +15,7 @@ ghost use Rattle.log_check.specs.Places.{laid_at, Laid};
 ghost use Rattle.tree_replay.specs.Playable.{Playable};
 
 use log_check::Layout;
+use model::BASE_PLACES;
 use tree_table::Size;
 
 // The longest run that counts, and how many rows the table has after all records.
@@ -25,6 +26,7 @@ pub struct Run {
 }
 
 // What a record does.
+#[tactic(auto, unfolding(model::specs::Record::op))]
 fn op_of(rec: &[u8]) -> u8
     requires { length rec.now ≡ 80 }
     ensures { result ≡ op rec.now }
@@ -33,36 +35,32 @@ fn op_of(rec: &[u8]) -> u8
 }
 
 // How many entries are present after a record, of n before it: by what it does, unless there is an aside more.
+#[tactic(auto, unfolding(fold_count_laws::specs::Counted::count_after))]
 fn count_after(o: u8, before: usize, after: usize, n: usize) -> usize
     requires { n ≤ 1024 }
     ensures { result ≡ count_after o (ltb before after) n }
 {
     if before < after {
-        return n;
+        n
+    } else if o <= 2 {
+        n + 1
+    } else if o == 4 {
+        n.saturating_sub(1)
+    } else {
+        n
     }
-    if o <= 2 {
-        return n + 1;
-    }
-    if o != 4 {
-        return n;
-    }
-    if n == 0 {
-        return 0;
-    }
-    n - 1
 }
 
 // The longer run, if so many entries and asides have room in a base.
+#[tactic(auto, unfolding(fold_count_laws::specs::Counted::room_in))]
 fn better(entries: usize, asides: usize, longer: usize, best: usize) -> usize
     ensures { result ≡ cond (room_in entries asides) longer best }
 {
-    if 512 < entries {
-        return best;
+    if entries <= BASE_PLACES && asides <= BASE_PLACES {
+        longer
+    } else {
+        best
     }
-    if 512 < asides {
-        return best;
-    }
-    longer
 }
 
 // The first n records of a log are replayed from the tree that a table holds on, all of whose entries are present.
@@ -74,15 +72,12 @@ pub fn longest_run(log: &[u8], n: usize, table: &mut [u8], register: &mut [u16],
     let mut size = start;
     let mut present = start.entries;
     let mut best: usize = 0;
-    let mut i: usize = 0;
-    while i < n {
+    for i in 0..n {
         let at = log_check::offset(Layout::Log, i);
-        let o = op_of(&log[at..at + 80]);
-        let next = tree_replay::step(&log[at..at + 80], table, register, size);
-        let shown = count_after(o, size.asides, next.asides, present);
-        i += 1;
-        best = better(shown, next.asides, i, best);
-        present = shown;
+        let rec = &log[at..at + 80];
+        let next = tree_replay::step(rec, table, register, size);
+        present = count_after(op_of(rec), size.asides, next.asides, present);
+        best = better(present, next.asides, i + 1, best);
         size = next;
     }
     Run { best, size }

@@ -69,7 +69,7 @@ fn find_run(log: &[u8], n: usize, base: &[u8], held: Vector, size: Size, work: &
     ensures best { (result.best ≡ longest (base_tree base.now) (records_of log.now) n) × (result.best ≤ n) }
     ensures laid { Table work.new result.size.entries result.size.asides (replay_from (base_tree base.now) (take n (records_of log.now))) }
 {
-    byte_slice::clear(work);
+    work.fill(0);
     let mut register = [0u16; REGISTER];
     run_state(log, n, base, held, size, work, &mut register)
 }
@@ -79,7 +79,7 @@ fn lay_run(log: &[u8], n: usize, base: &[u8], held: Vector, size: Size, work: &m
     requires { (length log.now ≡ log_size) × (length base.now ≡ base_size) × (sound_state log.now base.now ≡ true) × (n ≤ length (records_of log.now)) × (held.counts ≡ held_on log.now base.now) × (size.entries ≡ word base.now 2) × (size.asides ≡ word base.now 4) × (length work.old ≡ tree_size) }
     ensures { Table work.new result.entries result.asides (replay_from (base_tree base.now) (take n (records_of log.now))) }
 {
-    byte_slice::clear(work);
+    work.fill(0);
     let mut register = [0u16; REGISTER];
     replay_run(log, n, base, held, size, work, &mut register)
 }
@@ -98,17 +98,13 @@ pub fn fold_tree(
     ensures laid { Table work.new result.size.entries result.size.asides (replay_from (base_tree base.now) (take result.records (records_of log.now))) }
 {
     let run = find_run(log, n, base, held, size, work);
-    if run.best == n {
-        let all = run.size;
+    let records = run.best;
+    if records == n {
         return Folded {
-            records: n,
-            size: all,
+            records,
+            size: run.size,
         };
     }
-    let records = run.best;
-    let rows = lay_run(log, records, base, held, size, work);
-    Folded {
-        records,
-        size: rows,
-    }
+    let size = lay_run(log, records, base, held, size, work);
+    Folded { records, size }
 }

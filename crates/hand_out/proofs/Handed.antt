@@ -1,6 +1,6 @@
 -- The block that is handed out, and the ways out of handing out, over plain values.
 -- Assumes nothing.
-use Prim.Native.Nat.{ℕ, ◌+◌, ◌-◌, ◌≤◌}
+use Prim.Native.Nat.{ℕ, ◌-◌}
 use native.Mathlib.Omega.{arith}
 use mathlib.Core.Path.{◌≡◌, refl, sym, ◌∙◌}
 use mathlib.Core.Bool.{Bool, true, false, not}
@@ -8,7 +8,7 @@ use mathlib.Core.List.{List, [], ◌∷◌, ◌++◌, append-nil}
 use lib.Dec.{eqb}
 use lib.ListN.{length, take, replicate, length-append, length-replicate}
 use borrow.Author.Tests.{not-true, not-false}
-use Rattle.model.specs.Bytes.{padded, joined, put_at}
+use Rattle.model.specs.Bytes.{padded, joined}
 use Rattle.model.specs.Vector.{covers}
 use Rattle.model.specs.Record.{Rec}
 use Rattle.model.specs.Log.{records_of, sound_log_on, lacking}
@@ -16,7 +16,6 @@ use Rattle.model.specs.Block.{head_bytes, body_bytes, sealed, block_of}
 use Rattle.model.specs.File.{header_of}
 use Rattle.base_model.specs.Base.{base_vector}
 use Rattle.call_model.specs.Outcome.{outcome, refusal, hand_block, handed, hand_of}
-use Rattle.byte_slice.proofs.PutAt.{put_whole}
 use Rattle.base_head.specs.Head.{headed}
 use Rattle.call_guard.specs.Opened.{opened, open_of}
 use Rattle.call_guard.proofs.Opening.{open_sound, open_held, open_folded, open_buffer, call_refused, call_passes}
@@ -63,12 +62,11 @@ module _ (a u : ℕ) (log base v lent : List ℕ) {n m k j : ℕ} {folded held :
         let d : refusal 27 log lent ≡ handed a u log base v lent = rw (asks, not-true t h) in
         d ∙ call_passes u log base lent (eqb (length lent) 512) e (handed a u log base v lent) z
 
-    module _ (g : not t ≡ false) (bytes : List ℕ) (long : length bytes ≡ 512) where
-      pub handed_out : (o : List ℕ) → o ≡ put_at lent 0 bytes → bytes ≡ hand_block a u held (records_of log) v → outcome 0 0 log o 0 ≡ hand_of a u log base v lent
+    module _ (g : not t ≡ false) (bytes : List ℕ) where
+      pub handed_out : (o : List ℕ) → o ≡ bytes → bytes ≡ hand_block a u held (records_of log) v → outcome 0 0 log o 0 ≡ hand_of a u log base v lent
       unfolding hand_of handed
       handed_out o p q =
-          let w : put_at lent 0 bytes ≡ bytes = put_whole lent bytes (long ∙ sym (open_buffer u log base true lent 512 e z)) in
-          let d : outcome 0 0 log o 0 ≡ handed a u log base v lent = rw (p, w, q, open_held u log base (eqb (length lent) 512) true e z, asks, not-false t g) in
+          let d : outcome 0 0 log o 0 ≡ handed a u log base v lent = rw (p, q, open_held u log base (eqb (length lent) 512) true e z, asks, not-false t g) in
           d ∙ call_passes u log base lent (eqb (length lent) 512) e (handed a u log base v lent) z
 
 -- the log is sound behind the base vector that the call is told
@@ -77,5 +75,5 @@ pub told_sound : (u : ℕ) (log base : List ℕ) (ok row : Bool) {n m k j : ℕ}
 told_sound u log base ok row e z = rw (open_folded u log base ok row e z) (open_sound u log base ok row e z)
 
 pub block_fits : (u : ℕ) (log base lent bytes : List ℕ) {n m k j : ℕ} {folded held : List ℕ} {used : ℕ} → opened n (headed m folded k j) held used ≡ open_of u log base (eqb (length lent) 512) true → n ≡ 0
-    → length bytes ≡ 512 → 0 + length bytes ≤ length lent
+    → length bytes ≡ 512 → length lent ≡ length bytes
 block_fits u log base lent bytes e z long = omega (arith, open_buffer u log base true lent 512 e z)

@@ -5,13 +5,13 @@ ghost use Rattle.std.specs.Prelude.{◌≡◌, true, length};
 ghost use Rattle.model.specs.Lengths.{log_size};
 ghost use Rattle.model.specs.Log.{records_of, sound_log_on};
 ghost use Rattle.call_model.specs.Outcome.{outcome, hand_block, hand_of};
+ghost use Rattle.refusal.specs.Refusals.{code_of};
 
 use block_write::{Block, block_of, empty_block};
-use byte_slice::put;
-use call_answer::Answer;
 use call_guard::open;
 use hand_out_pick::gather;
 use model::BLOCK_BYTES;
+use refusal::Refusal;
 use vector::{Vector, covers};
 
 // The block that is handed out, with the held vector in its header. The base vector only says behind which records the log is sound.
@@ -44,29 +44,15 @@ pub fn hand_out(
     unit: u8,
     asked: Vector,
     block: &mut [u8],
-) -> Answer
-    ensures { outcome result.number result.place log.now block.new 0 ≡ hand_of archive unit log.now base.now asked.counts block.old }
+) -> Result<(), Refusal>
+    ensures { outcome (code_of result) 0 log.now block.new 0 ≡ hand_of archive unit log.now base.now asked.counts block.old }
 {
-    let o = open(log, base, unit, block.len() == BLOCK_BYTES, true);
-    if o.number != 0 {
-        return Answer {
-            number: o.number,
-            place: 0,
-        };
-    }
-    let head = o.head;
-    let folded = head.folded;
+    let state = open(log, base, unit, block.len() == BLOCK_BYTES, true)?;
+    let folded = state.head.folded;
     if !covers(asked, folded) {
-        return Answer {
-            number: 27,
-            place: 0,
-        };
+        return Err(Refusal::BelowBase);
     }
-    let b = block_for(folded, log, o.used, o.held, archive, unit, asked);
-    let bytes = b.bytes;
-    put(block, 0, &bytes);
-    Answer {
-        number: 0,
-        place: 0,
-    }
+    let b = block_for(folded, log, state.used, state.held, archive, unit, asked);
+    block.copy_from_slice(&b.bytes);
+    Ok(())
 }

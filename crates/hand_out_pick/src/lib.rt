@@ -27,18 +27,17 @@ pub fn gather(base: Vector, log: &[u8], used: usize, v: Vector, recs: &mut [u8])
     ensures laid { recs.new ≡ padded 480 (joined (take 6 (lacking v.counts (records_of log.now)))) }
 {
     let mut n: u8 = 0;
-    let mut to: usize = 0;
-    let mut i: usize = 0;
-    while i < used {
+    let mut to = 0;
+    for i in 0..used {
         if n == 6 {
             return 6;
         }
         let at = 80 * i;
-        i += 1;
-        if !lacks(v, &log[at..at + 80]) {
+        let rec = &log[at..at + 80];
+        if !lacks(v, rec) {
             continue;
         }
-        put(recs, to, &log[at..at + 80]);
+        put(recs, to, rec);
         to += 80;
         n += 1;
     }
@@ -51,15 +50,14 @@ pub fn gather_all(base: Vector, log: &[u8], used: usize, v: Vector, recs: &mut [
     ensures counted { (result ≡ length (lacking v.counts (records_of log.now))) × (result ≤ 512) }
     ensures laid { recs.new ≡ padded 40960 (joined (lacking v.counts (records_of log.now))) }
 {
-    let mut n: usize = 0;
-    let mut i: usize = 0;
-    while i < used {
+    let mut n = 0;
+    for i in 0..used {
         let at = 80 * i;
-        i += 1;
-        if !lacks(v, &log[at..at + 80]) {
+        let rec = &log[at..at + 80];
+        if !lacks(v, rec) {
             continue;
         }
-        put(recs, 80 * n, &log[at..at + 80]);
+        put(recs, 80 * n, rec);
         n += 1;
     }
     n

@@ -8,13 +8,16 @@ ghost use Rattle.model.specs.Bytes.{padded, joined};
 ghost use Rattle.model.specs.Log.{records_of, sound_log_on, lacking};
 ghost use Rattle.call_model.specs.Outcome.{outcome};
 ghost use Rattle.row_model.specs.Row.{row_block, row_of, hand_row_of};
+ghost use Rattle.refusal.specs.Refusals.{code_of};
+ghost use Rattle.write_file.specs.Told.{blocks_of};
 
 use block_write::{Block, block_of};
 use call_guard::open;
 use hand_out_pick::gather_all;
 use model::FILE_BYTES;
+use refusal::Refusal;
 use vector::{Vector, covers};
-use write_file::{Written, clear_behind};
+use write_file::clear_behind;
 use write_file_blocks::{count_at, write_at};
 
 // How many blocks n records are.
@@ -74,18 +77,16 @@ fn write_row(
 {
     let m = gather_behind(folded, log, used, asked, out);
     let n = row_count(m);
-    let mut k: usize = 0;
-    while k < n {
+    for k in 0..n {
         let b = row_block(folded, log, asked, out, m, k, held, archive, unit);
         write_at(out, k, b);
-        k += 1;
     }
     clear_behind(out, n);
     n as u8
 }
 
-// All blocks of what the asked vector lacks are written into the lent row, with zeros behind the last. Checked in this order: 1, 21, 19, 27.
-// Log and base are only read.
+// All blocks of what the asked vector lacks are written into the lent row, with zeros behind the last; their count is returned. Checked in
+// this order: 1, 21, 19, 27. Log and base are only read.
 pub fn hand_out_row(
     log: &[u8],
     base: &[u8],
@@ -93,30 +94,15 @@ pub fn hand_out_row(
     unit: u8,
     asked: Vector,
     out: &mut [u8],
-) -> Written
-    ensures { outcome result.number result.place log.now out.new result.blocks ≡ hand_row_of archive unit log.now base.now asked.counts out.old }
+) -> Result<u8, Refusal>
+    ensures { outcome (code_of result) 0 log.now out.new (blocks_of result) ≡ hand_row_of archive unit log.now base.now asked.counts out.old }
 {
-    let o = open(log, base, unit, out.len() == FILE_BYTES, true);
-    if o.number != 0 {
-        return Written {
-            number: o.number,
-            place: 0,
-            blocks: 0,
-        };
-    }
-    let head = o.head;
-    let folded = head.folded;
+    let state = open(log, base, unit, out.len() == FILE_BYTES, true)?;
+    let folded = state.head.folded;
     if !covers(asked, folded) {
-        return Written {
-            number: 27,
-            place: 0,
-            blocks: 0,
-        };
+        return Err(Refusal::BelowBase);
     }
-    let n = write_row(folded, log, o.used, o.held, archive, unit, asked, out);
-    Written {
-        number: 0,
-        place: 0,
-        blocks: n,
-    }
+    Ok(write_row(
+        folded, log, state.used, state.held, archive, unit, asked, out,
+    ))
 }

@@ -344,3 +344,6 @@ module _ (from : ℕ) where
     pop_first x f g e z v p m y =
         y
         ∙ rw (ne_eqb (first_of from l h) 0 (λ (y : first_of from l h ≡ 0). z (e ∙ y)), eq-eqb (row_at from l (first_of from l h)) row ((rw e at (sym f)) ∙ g), p, e)
+
+-- what the goals of this crate ask for
+pub ruleset ways = (nodes_few, first_is, behind_is, pop_empty, pop_other, pop_first)

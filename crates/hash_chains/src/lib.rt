@@ -1,22 +1,15 @@
 // Chains of rows in a part of a register: a row is put first, and taken from the front.
-#![tactic(auto)]
+#![tactic(auto, using(crate::proofs::Links::ways), unfolding(crate::specs::Chains::nodes_in, crate::specs::Chains::first_of, crate::specs::Chains::behind, crate::specs::Chains::row_at, crate::specs::Chains::pushed))]
 
 ghost use Rattle.std.specs.Prelude.{◌≡◌, ◌+◌, ◌≤◌, ◌<◌, length, get_or, set};
 ghost use Rattle.hash_chains.specs.Chains.{nodes_in, first_of, behind, row_at, pushed, popped, Chains};
-
-// A 16-bit number as an index.
-fn index(x: u16) -> usize
-    ensures { (result ≡ x) × (result < 65536) }
-{
-    x as usize
-}
 
 // The number at a place.
 pub fn number_at(register: &[u16], at: usize) -> usize
     requires { at < length register.now }
     ensures { (result ≡ get_or register.now at 0) × (result < 65536) }
 {
-    index(register[at])
+    usize::from(register[at])
 }
 
 // A number is written at a place.

@@ -2,11 +2,12 @@
 -- Assumes nothing.
 use Prim.Native.Nat.{ℕ, ◌+◌, ◌-◌, ◌*◌, ◌≤◌, ◌<◌}
 use native.Mathlib.Omega.{arith}
-use mathlib.Core.Path.{◌≡◌, ◌∙◌}
-use mathlib.Core.Logic.{◌⊎◌, ⊎_elim}
+use mathlib.Core.Path.{◌≡◌, sym, ◌∙◌}
+use mathlib.Core.Logic.{⊎_elim}
 use mathlib.Core.List.{List}
+use Rattle.std.proofs.Math.Option.{none, some}
 use lib.ListN.{get_or, take, drop}
-use borrow.Author.Tests.{le-leb, lt-leb, eq-eqb, ne_eqb, lt-ltb, le-ltb}
+use borrow.Author.Tests.{le-leb, lt-leb, ne_eqb, lt-ltb, le-ltb}
 use Rattle.byte_slice.proofs.Parts.{part_is}
 use Rattle.model.specs.Bytes.{part}
 use Rattle.model.specs.Record.{Rec, op, self_of, object_of, folder_of, label_of, uses_folder}
@@ -16,51 +17,42 @@ use Rattle.tree_table.specs.Rows.{InRange, entries_from, row_in, tree_in}
 use Rattle.tree_judge.specs.Judged.{Asks}
 use Rattle.index_model.specs.Change.{put_in, take_out, move_in}
 use Rattle.index_model.specs.Acting.{removed_in, renamed_in, moved_in, change_in}
+use Rattle.index_laws.specs.Copied.{entry_row_at}
 use Rattle.index_act.specs.Inside.{Inside}
+use Rattle.index_act.specs.Moved.{put_elsewhere}
 
 -- ---- the entry in a row
 
-module _ (b T : List ℕ) (n row : ℕ) where
-  pub remove_none : n ≤ row → b ≡ removed_in b (row_in T n row)
-  unfolding removed_in row_in
-  remove_none h = rw (le-ltb row n h)
-
-  pub rename_none : (r : Rec) → n ≤ row → b ≡ renamed_in r b (row_in T n row)
-  unfolding renamed_in row_in
-  rename_none r h = rw (le-ltb row n h)
-
-  label_lent : take (4 + 72 * row + 24 + 32 - (4 + 72 * row + 24)) (drop (4 + 72 * row + 24) T) ≡ (entry_in T (4 + 72 * row)).label
+module _ (b T : List ℕ) (row : ℕ) where
+  label_lent : take (4 + 72 * row + 24 + 32 - (4 + 72 * row + 24)) (drop (4 + 72 * row + 24) T) ≡ (entry_row_at T row).label
   unfolding entry_in
   label_lent = part_is T (4 + 72 * row + 24) 32
 
-  pub remove_there : row < n → (x : List ℕ) (k : ℕ) → k ≡ (entry_in T (4 + 72 * row)).inside
+  pub removed : (x : List ℕ) (k : ℕ) → k ≡ (entry_row_at T row).inside
       → x ≡ take_out b k (take (4 + 72 * row + 24 + 32 - (4 + 72 * row + 24)) (drop (4 + 72 * row + 24) T))
-      → x ≡ removed_in b (row_in T n row)
-  unfolding removed_in row_in
-  remove_there h x k e q = rw (lt-ltb row n h) (q ∙ rw (e, label_lent))
+      → x ≡ removed_in b (some (entry_row_at T row))
+  unfolding removed_in
+  removed x k e q = q ∙ rw (e, label_lent)
 
-  pub rename_there : row < n → (r : Rec) (x : List ℕ) (k m : ℕ) → k ≡ (entry_in T (4 + 72 * row)).inside → m ≡ (entry_in T (4 + 72 * row)).made
-      → x ≡ move_in b k (take (4 + 72 * row + 24 + 32 - (4 + 72 * row + 24)) (drop (4 + 72 * row + 24) T)) k (take 32 (drop 32 r)) m
-      → x ≡ renamed_in r b (row_in T n row)
-  unfolding renamed_in row_in label_of part
-  rename_there h r x k m e f q = rw (lt-ltb row n h) (q ∙ rw (e, f, label_lent))
-
-module _ (b T : List ℕ) (n row : ℕ) (r : Rec) where
-  pub move_none : n ≤ row → b ≡ moved_in r b (row_in T n row)
-  unfolding moved_in row_in
-  move_none h = rw (le-ltb row n h)
-
-  pub move_there : row < n → (x : List ℕ) (k m g : ℕ) → k ≡ (entry_in T (4 + 72 * row)).inside → m ≡ (entry_in T (4 + 72 * row)).made → g ≡ folder_of r
+  pub moved : (r : Rec) (x : List ℕ) (k m g : ℕ) → k ≡ (entry_row_at T row).inside → m ≡ (entry_row_at T row).made
       → x ≡ move_in b k (take (4 + 72 * row + 24 + 32 - (4 + 72 * row + 24)) (drop (4 + 72 * row + 24) T)) g (take 32 (drop 32 r)) m
-      → x ≡ moved_in r b (row_in T n row)
-  unfolding moved_in row_in label_of part
-  move_there h x k m g e f p q = rw (lt-ltb row n h) (q ∙ rw (e, f, p, label_lent b T n row))
+      → x ≡ put_elsewhere r g b (entry_row_at T row)
+  unfolding put_elsewhere label_of part
+  moved r x k m g e f q = q ∙ rw (e, f, label_lent)
 
-pub folder_low : (T : List ℕ) (n row k : ℕ) → Inside T n → row < n → k ≡ (entry_in T (4 + 72 * row)).inside → k < 524288
+pub row_there : (T : List ℕ) (n row : ℕ) → row < n → row_in T n row ≡ some (entry_row_at T row)
+unfolding row_in
+row_there T n row h = rw (lt-ltb row n h)
+
+pub row_absent : (T : List ℕ) (n : ℕ) → row_in T n n ≡ none
+unfolding row_in
+row_absent T n = rw (le-ltb n n (omega arith))
+
+pub folder_low : (T : List ℕ) (n row k : ℕ) → Inside T n → row < n → k ≡ (entry_row_at T row).inside → k < 524288
 folder_low T n row k w h e = rw e (w.folder row h)
 
-pub entry_low : (T : List ℕ) (n row k : ℕ) → Inside T n → row < n → k ≡ (entry_in T (4 + 72 * row)).made → k < 524288
-entry_low T n row k w h e = rw e (w.entry row h)
+pub entry_low : (T : List ℕ) (n row : ℕ) → Inside T n → row < n → (entry_row_at T row).made < 524288
+entry_low T n row w h = w.entry row h
 
 -- ---- by operation
 
@@ -84,19 +76,38 @@ module _ (r : Rec) (T : List ℕ) (n m : ℕ) (b x : List ℕ) where
   unfolding change_in op label_of part
   change_make o f k p q e = e ∙ rw (p, q, le-leb (get_or r 1 0) 2 o)
 
-  module _ (o : 2 < get_or r 1 0) where
-    pub change_remove : get_or r 1 0 ≡ 4 → (k row : ℕ) → k ≡ object_of r → row_in T n row ≡ entry_of k (entries_from T 0 n) → x ≡ removed_in b (row_in T n row) → x ≡ change_in r (tree_in T n m) b
-    unfolding change_in op tree_in
-    change_remove h k row p q e = e ∙ rw (q, p, lt-leb (get_or r 1 0) 2 o, eq-eqb (get_or r 1 0) 4 h)
+-- an entry that is not there leaves the index
+module _ (r : Rec) (T : List ℕ) (n m : ℕ) (b : List ℕ) (k : ℕ) (p : k ≡ object_of r) (q : row_in T n n ≡ entry_of k (entries_from T 0 n)) where
+  gone : entry_of (object_of r) (entries_from T 0 n) ≡ none
+  gone = rw p at (sym q ∙ row_absent T n)
 
-    module _ (g : get_or r 1 0 ≡ 4 → ⊥) where
-      pub change_rename : get_or r 1 0 ≡ 5 → (k row : ℕ) → k ≡ object_of r → row_in T n row ≡ entry_of k (entries_from T 0 n) → x ≡ renamed_in r b (row_in T n row) → x ≡ change_in r (tree_in T n m) b
-      unfolding change_in op tree_in
-      change_rename h k row p q e = e ∙ rw (q, p, lt-leb (get_or r 1 0) 2 o, ne_eqb (get_or r 1 0) 4 g, eq-eqb (get_or r 1 0) 5 h)
+  pub remove-absent : get_or r 1 0 ≡ 4 → b ≡ change_in r (tree_in T n m) b
+  unfolding change_in op tree_in removed_in
+  remove-absent h = rw (h, gone)
 
-pub change_move : (r : Rec) (T : List ℕ) (n m : ℕ) (b x : List ℕ) → get_or r 1 0 ≡ 7 → (k row : ℕ) → k ≡ object_of r → row_in T n row ≡ entry_of k (entries_from T 0 n) → x ≡ moved_in r b (row_in T n row) → x ≡ change_in r (tree_in T n m) b
-unfolding change_in op tree_in
-change_move r T n m b x h k row p q e = e ∙ rw (q, p, h)
+  pub rename-absent : get_or r 1 0 ≡ 5 → b ≡ change_in r (tree_in T n m) b
+  unfolding change_in op tree_in renamed_in
+  rename-absent h = rw (h, gone)
+
+  pub move-absent : get_or r 1 0 ≡ 7 → b ≡ change_in r (tree_in T n m) b
+  unfolding change_in op tree_in moved_in
+  move-absent h = rw (h, gone)
+
+module _ (r : Rec) (T : List ℕ) (n m : ℕ) (b : List ℕ) (k row : ℕ) (p : k ≡ object_of r) (h : row < n) (q : row_in T n row ≡ entry_of k (entries_from T 0 n)) (x : List ℕ) where
+  there : entry_of (object_of r) (entries_from T 0 n) ≡ some (entry_row_at T row)
+  there = rw p at (sym q ∙ row_there T n row h)
+
+  pub change_remove : get_or r 1 0 ≡ 4 → x ≡ removed_in b (some (entry_row_at T row)) → x ≡ change_in r (tree_in T n m) b
+  unfolding change_in op tree_in
+  change_remove g e = e ∙ rw (g, there)
+
+  pub change_rename : get_or r 1 0 ≡ 5 → (f : ℕ) → f ≡ (entry_row_at T row).inside → x ≡ put_elsewhere r f b (entry_row_at T row) → x ≡ change_in r (tree_in T n m) b
+  unfolding change_in op tree_in renamed_in put_elsewhere
+  change_rename g f w e = e ∙ rw (g, there, w)
+
+  pub change_move : get_or r 1 0 ≡ 7 → (f : ℕ) → f ≡ folder_of r → x ≡ put_elsewhere r f b (entry_row_at T row) → x ≡ change_in r (tree_in T n m) b
+  unfolding change_in op tree_in moved_in put_elsewhere
+  change_move g f w e = e ∙ rw (g, there, w)
 
 pub change_none : (r : Rec) (T : List ℕ) (n m : ℕ) (b : List ℕ) → Asks r → 2 < get_or r 1 0 → (get_or r 1 0 ≡ 4 → ⊥) → (get_or r 1 0 ≡ 5 → ⊥) → (get_or r 1 0 ≡ 7 → ⊥) → b ≡ change_in r (tree_in T n m) b
 unfolding change_in op tree_in

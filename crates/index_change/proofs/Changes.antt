@@ -6,11 +6,13 @@ use mathlib.Core.Path.{◌≡◌, refl, sym, ap, ◌∙◌}
 use mathlib.Core.Bool.{Bool, true, false, ◌&&◌}
 use mathlib.Core.List.{List, ◌++◌, append_assoc}
 use lib.Dec.{ltb, eqb}
-use lib.ListN.{length, replicate, length-append}
+use lib.ListN.{length, take, drop, replicate, length-append, length-replicate}
+use borrow.Rule.Slice.PartMut.{put_mid}
+use lib.Seq.{paste}
 use borrow.Author.Tests.{lt-ltb, le-ltb, ltb-true}
 use Rattle.byte_slice.proofs.Numbers.{and_true}
-use Rattle.byte_slice.proofs.Parts.{part_length}
-use Rattle.byte_slice.proofs.PutAt.{length-put, put_more, put_front}
+use Rattle.byte_slice.proofs.Parts.{lent_length, part_length}
+use Rattle.byte_slice.proofs.PutAt.{mid_put, length-put, put_more, put_front}
 use Rattle.model.specs.Bytes.{two, part, put_at}
 use Rattle.model.specs.Replay.{same_label}
 use Rattle.model.specs.Table.{identity_bytes}
@@ -59,18 +61,30 @@ row_put d a z w n i f k t ld h g lt p q u =
     let v : put_at (put_at d (at + 40) B) at R ≡ put_at d at (R ++ B) = rw lR at (put_front d at R B (omega arith)) in
     u ∙ ap (λ (l : List ℕ). put_at l 0 (two (n + 1))) (q ∙ rw (a1, v))
 
-pub row_taken_lem : (d a x w : List ℕ) (n i : ℕ) → length d ≡ index_size → n ≤ index_places → i < n
-    → a ≡ put_at d (4 + 40 * i) (part d (4 + 40 * i + 40) (40 * (n - i - 1)))
-    → x ≡ put_at a (4 + 40 * i + 40 * (n - i - 1)) (replicate 40 0)
-    → w ≡ put_at x 0 (two (n - 1))
+-- bytes copied within
+pasted : (d : List ℕ) (from to n : ℕ) → from + n ≤ length d → paste d to (drop from d) n ≡ put_at d to (part d from n)
+unfolding put_at part
+pasted d from to n h = rw (part_length d from n h, append_assoc)
+
+pub row_taken_lem : (d a y w : List ℕ) (n i : ℕ) → length d ≡ index_size → n ≤ index_places → i < n
+    → a ≡ paste d (4 + 40 * i) (drop (4 + 40 * i + 40) d) (4 + 40 * (n - 1) + 40 - (4 + 40 * i + 40))
+    → y ≡ replicate (length (take (4 + 40 * (n - 1) + 40 - (4 + 40 * (n - 1))) (drop (4 + 40 * (n - 1)) a))) 0
+    → w ≡ put_at (put_mid (4 + 40 * (n - 1)) (4 + 40 * (n - 1) + 40 - (4 + 40 * (n - 1))) a y) 0 (two (n - 1))
     → w ≡ take_row d n i
 unfolding take_row
-row_taken_lem d a x w n i ld h g p q r =
+row_taken_lem d a y w n i ld h g p q r =
     let at : ℕ = 4 + 40 * i in
+    let last : ℕ = 4 + 40 * (n - 1) in
     let C = part d (at + 40) (40 * (n - i - 1)) in
     let lC : length C ≡ 40 * (n - i - 1) = part_length d (at + 40) (40 * (n - i - 1)) (omega arith) in
+    let m : 4 + 40 * (n - 1) + 40 - (at + 40) ≡ 40 * (n - i - 1) = omega arith in
+    let a1 : a ≡ put_at d at C = p ∙ rw m (pasted d (at + 40) at (40 * (n - i - 1)) (omega arith)) in
+    let la : length a ≡ length d = ap length a1 ∙ length-put d at C (omega arith) in
+    let y1 : y ≡ replicate 40 0 = q ∙ ap (λ (k : ℕ). replicate k 0) (lent_length a last 40 (omega arith)) in
+    let x1 : put_mid last (last + 40 - last) a y ≡ put_at a last y = mid_put last 40 a y (ap length y1 ∙ length-replicate {A = ℕ} 40 0) in
+    let z : last ≡ at + 40 * (n - i - 1) = omega arith in
     let v : put_at (put_at d at C) (at + 40 * (n - i - 1)) (replicate 40 0) ≡ put_at d at (C ++ replicate 40 0) = rw lC at (put_more d at C (replicate 40 0) (omega arith)) in
-    r ∙ ap (λ (l : List ℕ). put_at l 0 (two (n - 1))) (q ∙ rw (p, v))
+    r ∙ ap (λ (l : List ℕ). put_at l 0 (two (n - 1))) (x1 ∙ rw (y1, z, a1, v))
 
 pub taken_low : (b : List ℕ) (f : ℕ) (t : List ℕ) (n i : ℕ) (r : Bool) → n ≡ rows_in b → r ≡ row_is b f t i → r ≡ true → i < n
 unfolding row_is

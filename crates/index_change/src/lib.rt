@@ -35,11 +35,10 @@ pub fn put_in(index: &mut [u8], folder: u32, label: &[u8], entry: u32)
     ensures { index.new ≡ put_in index.old folder label.now entry }
 {
     let n = index_find::rows_in(index);
-    if INDEX_PLACES <= n {
-        return;
+    if n < INDEX_PLACES {
+        let i = index_find::seek(index, n, index_find::folder_key(folder), label);
+        put_row(index, n, i, folder, label, entry);
     }
-    let i = index_find::seek(index, n, index_find::folder_key(folder), label);
-    put_row(index, n, i, folder, label, entry);
 }
 
 // Row i of n goes.
@@ -48,10 +47,9 @@ fn take_row(index: &mut [u8], n: usize, i: usize)
     ensures { index.new ≡ take_row index.old n i }
 {
     let at = 4 + 40 * i;
-    let behind = 40 * (n - i - 1);
-    tree_finish::move_down(index, at + 40, at, behind);
-    let zeros = [0u8; 40];
-    byte_slice::put(index, at + behind, &zeros);
+    let last = 4 + 40 * (n - 1);
+    index.copy_within(at + 40..last + 40, at);
+    index[last..last + 40].fill(0);
     byte_slice::put16(index, 0, (n - 1) as u16);
 }
 

@@ -98,10 +98,6 @@ module _ (b : List ℕ) (f : ℕ) (h : length b ≡ index_size) {n k a z : ℕ} 
   unfolding end_in seek
   end_is = y ∙ rw (p, q)
 
-  pub list_none : z < a → range 0 a 0 ≡ range_of b f
+  pub list_there : (k : ℕ) → k ≡ z - a → range 0 a k ≡ range_of b f
   unfolding range_of
-  list_none g = let m : z - a ≡ 0 = omega arith in rw (eq-eqb (length b) index_size h, ← first_is, ← end_is, m)
-
-  pub list_there : range 0 a (z - a) ≡ range_of b f
-  unfolding range_of
-  list_there = rw (eq-eqb (length b) index_size h, ← first_is, ← end_is)
+  list_there k e = rw (eq-eqb (length b) index_size h, e, ← first_is, ← end_is)

@@ -3,24 +3,19 @@
 
 ghost use Rattle.std.specs.Prelude.{◌≡◌, ◌+◌, ◌*◌, ◌≤◌, ◌<◌, length};
 ghost use Rattle.model.specs.Replay.{label_key};
-ghost use Rattle.index_model.specs.Index.{index_size, index_places, comes_before, folder_key, key_before, row_before, rows_in, row_is, entry_at, halve, found, find_of, range, range_of};
+ghost use Rattle.index_model.specs.Index.{index_size, index_places, comes_before, folder_key, key_before, row_before, rows_in, row_is, entry_at, halve, find_of, range_of};
+ghost use Rattle.index_find.specs.Answers.{found_by, listed_by};
 
 use index_model::{INDEX_BYTES, INDEX_PLACES};
+use record_label::lower;
+use refusal::Refusal;
 
 // So often at most are the rows of an index halved.
 pub const HALVINGS: usize = 11;
 
-// What looking up answers: 1 for a wrong length, and the entry; 0 for none.
-#[derive(Drop)]
-pub struct Found {
-    pub number: u8,
-    pub entry: u32,
-}
-
-// What listing answers: 1 for a wrong length, the first row of the folder, and how many it has.
-#[derive(Drop)]
+// The rows of a folder: the first, and how many they are.
+#[derive(Clone, Copy, Debug, PartialEq, Eq)]
 pub struct Range {
-    pub number: u8,
     pub first: usize,
     pub count: usize,
 }
@@ -29,26 +24,21 @@ pub struct Range {
 pub fn comes_before(a: &[u8], b: &[u8]) -> bool
     ensures { result ≡ comes_before (label_key a.now) (label_key b.now) }
 {
-    let mut i: usize = 0;
-    while i < a.len() {
-        if b.len() <= i {
-            return false;
+    for (x, y) in a.iter().zip(b) {
+        let p = lower(*x);
+        let q = lower(*y);
+        if p != q {
+            return p < q;
         }
-        let x = record_label::lower(a[i]);
-        let y = record_label::lower(b[i]);
-        if x != y {
-            return x < y;
-        }
-        i += 1;
     }
-    i < b.len()
+    a.len() < b.len()
 }
 
 // A folder's identity as one number, by unit, then by number.
 pub fn folder_key(k: u32) -> u64
     ensures { (result ≡ folder_key k) × (result < 4294967296) }
 {
-    let wide = k as u64;
+    let wide = u64::from(k);
     536870912 * (wide % 8) + wide / 8
 }
 
@@ -70,8 +60,7 @@ pub fn rows_in(index: &[u8]) -> usize
     requires { length index.now ≡ index_size }
     ensures { (result ≡ rows_in index.now) × (result ≤ index_places) }
 {
-    let n = byte_slice::le16(index, 0) as usize;
-    if n < INDEX_PLACES { n } else { INDEX_PLACES }
+    INDEX_PLACES.min(usize::from(byte_slice::le16(index, 0)))
 }
 
 // Row i comes before a label in the folder of a key.
@@ -92,8 +81,7 @@ pub fn seek(index: &[u8], n: usize, key: u64, label: &[u8]) -> usize
 {
     let mut lo: usize = 0;
     let mut hi = n;
-    let mut k: usize = 0;
-    while k < HALVINGS {
+    for _ in 0..HALVINGS {
         if hi <= lo {
             return lo;
         }
@@ -103,7 +91,6 @@ pub fn seek(index: &[u8], n: usize, key: u64, label: &[u8]) -> usize
         } else {
             hi = mid;
         }
-        k += 1;
     }
     lo
 }
@@ -135,62 +122,38 @@ pub fn entry_at(index: &[u8], i: usize) -> u32
     tree_table::identity_at(index, 4 + 40 * i + 36)
 }
 
-// The entry of a folder that has a label, or none.
-pub fn find(index: &[u8], folder: u32, label: &[u8]) -> Found
-    ensures { found result.number result.entry ≡ find_of index.now folder label.now }
+// The entry of a folder that has a label, 0 for none. 1 for a wrong length.
+pub fn find(index: &[u8], folder: u32, label: &[u8]) -> Result<u32, Refusal>
+    ensures { found_by result ≡ find_of index.now folder label.now }
 {
     if index.len() != INDEX_BYTES {
-        return Found {
-            number: 1,
-            entry: 0,
-        };
+        return Err(Refusal::BadBuffer);
     }
     if label.len() != 32 {
-        return Found {
-            number: 1,
-            entry: 0,
-        };
+        return Err(Refusal::BadBuffer);
     }
     let n = rows_in(index);
     let i = seek(index, n, folder_key(folder), label);
     if !row_is(index, n, i, folder, label) {
-        return Found {
-            number: 0,
-            entry: 0,
-        };
+        return Ok(0);
     }
-    Found {
-        number: 0,
-        entry: entry_at(index, i),
-    }
+    Ok(entry_at(index, i))
 }
 
-// The rows of a folder: the first, and how many.
-pub fn list(index: &[u8], folder: u32) -> Range
-    ensures { range result.number result.first result.count ≡ range_of index.now folder }
+// The rows of a folder. 1 for a wrong length.
+pub fn list(index: &[u8], folder: u32) -> Result<Range, Refusal>
+    ensures { listed_by result ≡ range_of index.now folder }
 {
     if index.len() != INDEX_BYTES {
-        return Range {
-            number: 1,
-            first: 0,
-            count: 0,
-        };
+        return Err(Refusal::BadBuffer);
     }
     let n = rows_in(index);
     let key = folder_key(folder);
     let zeros = [0u8; 32];
     let first = seek(index, n, key, &zeros);
     let end = seek(index, n, key + 1, &zeros);
-    if end < first {
-        return Range {
-            number: 0,
-            first,
-            count: 0,
-        };
-    }
-    Range {
-        number: 0,
+    Ok(Range {
         first,
-        count: end - first,
-    }
+        count: end.saturating_sub(first),
+    })
 }

@@ -2,7 +2,7 @@
 -- Assumes nothing.
 use Prim.Native.Nat.{ℕ, ◌≤◌}
 use native.Mathlib.Omega.{arith}
-use mathlib.Core.Path.{◌≡◌, refl, sym, ap, ◌∙◌}
+use mathlib.Core.Path.{◌≡◌, sym, ap, ◌∙◌}
 use mathlib.Core.Bool.{Bool, true}
 use mathlib.Core.List.{List}
 use lib.Dec.{eqb}
@@ -12,7 +12,6 @@ use borrow.Author.Tests.{eqb-true, ne_eqb}
 use Rattle.byte_slice.proofs.Numbers.{and_true}
 use Rattle.model.specs.Lengths.{tree_size}
 use Rattle.model.specs.Bytes.{word}
-use Rattle.model.specs.Record.{Rec}
 use Rattle.model.specs.Log.{vector_on, records_of, sound_log_on}
 use Rattle.model.specs.Table.{table_bytes}
 use Rattle.base_model.specs.Base.{base_vector, held_on, sound_state, tree_of}
@@ -23,9 +22,10 @@ use Rattle.state_tree.specs.Small.{Small}
 use Rattle.call_guard.specs.Opened.{opened, open_of}
 use Rattle.call_guard.proofs.Opening.{open_lent, call_refused, call_passes}
 use Rattle.index_model.specs.Index.{index_size, index_places}
-use Rattle.index_model.specs.Kept.{index_of_log, index_lent, indexed_of, indexed_work}
+use Rattle.index_model.specs.Kept.{index_of_log, index_lent, indexed_of, indexed_work, table_if, both_fit}
 use Rattle.index_laws.specs.Copied.{index_from}
 use Rattle.index_state.proofs.States.{table_few, index_made}
+use Rattle.keep_lent.proofs.Lent.{both_lent}
 
 -- ---- an index laid
 
@@ -57,6 +57,14 @@ module _ (base : List ℕ) {m k j : ℕ} {v : List ℕ} (e : headed m v k j ≡ 
 
     pub head_held : (h : List ℕ) (n : ℕ) → n ≡ length (records_of log) → h ≡ vector_on v (take n (records_of log)) → h ≡ held_on log base
     head_held h n q p = p ∙ rw (folded_is, take_all n (records_of log) (omega arith))
+
+-- ---- the memory to work in
+
+pub work_laid : (log base i work : List ℕ) {y : List ℕ} → both_fit i work ≡ true → (length i ≡ 0 → ⊥) → y ≡ table_bytes (tree_of log base) → y ≡ table_if (index_lent i work) log base work
+work_laid log base i work f h e = rw (both_lent i work f h) e
+
+pub work_kept : (log base i work : List ℕ) → length i ≡ 0 → work ≡ table_if (index_lent i work) log base work
+work_kept log base i work h = rw h
 
 -- ---- the call
 

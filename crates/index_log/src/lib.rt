@@ -9,9 +9,10 @@ ghost use Rattle.model.specs.Table.{table_bytes};
 ghost use Rattle.base_model.specs.Base.{sound_state, held_on, tree_of};
 ghost use Rattle.call_model.specs.Outcome.{outcome};
 ghost use Rattle.index_model.specs.Index.{index_size};
-ghost use Rattle.index_model.specs.Kept.{index_of_log, indexed_of, indexed_work};
+ghost use Rattle.index_model.specs.Kept.{index_of_log, index_lent, indexed_of, indexed_work, table_if, if_lent, both_fit};
+ghost use Rattle.refusal.specs.Refusals.{code_of};
 
-use call_answer::Answer;
+use refusal::Refusal;
 use tree_table::Size;
 use vector::Vector;
 
@@ -50,28 +51,29 @@ pub fn renew(log: &[u8], base: &[u8], index: &mut [u8], work: &mut [u8])
     lay_index(log, n, base, held, size, index, work);
 }
 
+// The same, if an index is lent.
+pub fn renew_lent(log: &[u8], base: &[u8], index: &mut [u8], work: &mut [u8])
+    requires { (length log.now ≡ log_size) × (length base.now ≡ base_size) × (sound_state log.now base.now ≡ true) × (both_fit index.old work.old ≡ true) }
+    ensures index { index.new ≡ if_lent index.old (index_of_log log.now base.now) }
+    ensures work { work.new ≡ table_if (index_lent index.old work.old) log.now base.now work.old }
+{
+    if !index.is_empty() {
+        renew(log, base, index, work);
+    }
+}
+
 // The lent index becomes that of the lent state, and the memory to work in the table of its tree. A refusal leaves both as they were. No
 // unit is asked: 0 passes.
-pub fn index_log(log: &[u8], base: &[u8], index: &mut [u8], work: &mut [u8]) -> Answer
-    ensures answer { outcome result.number result.place log.now index.new 0 ≡ indexed_of log.now base.now index.old work.old }
+pub fn index_log(log: &[u8], base: &[u8], index: &mut [u8], work: &mut [u8]) -> Result<(), Refusal>
+    ensures answer { outcome (code_of result) 0 log.now index.new 0 ≡ indexed_of log.now base.now index.old work.old }
     ensures work { work.new ≡ indexed_work log.now base.now index.old work.old }
 {
     let lent = keep_lent::index_lent(index, work);
-    let o = call_guard::open(log, base, 0, lent, true);
-    if o.number != 0 {
-        return Answer {
-            number: o.number,
-            place: 0,
-        };
-    }
-    let head = o.head;
+    let state = call_guard::open(log, base, 0, lent, true)?;
     let size = Size {
-        entries: head.entries,
-        asides: head.asides,
+        entries: state.head.entries,
+        asides: state.head.asides,
     };
-    lay_index(log, o.used, base, o.held, size, index, work);
-    Answer {
-        number: 0,
-        place: 0,
-    }
+    lay_index(log, state.used, base, state.held, size, index, work);
+    Ok(())
 }

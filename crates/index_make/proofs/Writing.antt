@@ -11,7 +11,7 @@ use Rattle.byte_slice.proofs.Parts.{part_is, part_length}
 use Rattle.byte_slice.proofs.PutAt.{put-nil, put_more, put-padded, padded-nil, put_in_front, put_in_back}
 use Rattle.model.specs.Lengths.{tree_size}
 use Rattle.index_model.specs.Index.{index_size, index_places}
-use Rattle.model.specs.Bytes.{word, two, part, put_at, padded}
+use Rattle.model.specs.Bytes.{two, part, put_at, padded}
 use Rattle.index_laws.specs.Copied.{ordered_rows, copied_row, copied_rows, index_from, Low}
 
 -- ---- one row
@@ -81,9 +81,6 @@ module _ (b o : List ℕ) (n : ℕ) (lb : length b ≡ tree_size) (room : n ≤ 
       let u : put_at (put_at d 4 s) (4 + 40 * j) t ≡ put_at d 4 (s ++ t) = rw m at (put_more d 4 s t (omega arith)) in
       q ∙ rw (p, g, u, copied_more j h)
 
-  pub write_end : (d x : List ℕ) (j : ℕ) → j ≤ n → n ≤ j → x ≡ put_at d 4 (copied_rows b (take j o)) → x ≡ put_at d 4 (copied_rows b (take n o))
-  write_end d x j h g e = let q : j ≡ n = omega arith in rw q at e
-
 -- ---- the whole
 
 head : List ℕ
@@ -104,6 +101,3 @@ index_made b d x y z o n ld p q r s =
 
 pub part_copied : (d x s : List ℕ) (at from n : ℕ) → x ≡ put_at d at (take (from + n - from) (drop from s)) → x ≡ put_at d at (part s from n)
 part_copied d x s at from n e = e ∙ rw (part_is s from n)
-
-pub counted : (b z : List ℕ) (n : ℕ) → n ≡ word b 0 → z ≡ index_from b n → z ≡ index_from b (word b 0)
-counted b z n e q = q ∙ rw e

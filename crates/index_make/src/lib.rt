@@ -1,7 +1,7 @@
 // The ordered index made afresh from a tree table: its rows put in order by their numbers, then a row written for each.
 #![tactic(auto)]
 
-ghost use Rattle.std.specs.Prelude.{◌≡◌, ◌∷◌, ◌+◌, ◌-◌, ◌*◌, ◌≤◌, ◌<◌, get_or, length, take};
+ghost use Rattle.std.specs.Prelude.{◌≡◌, ◌∷◌, ◌+◌, ◌-◌, ◌*◌, ◌≤◌, ◌<◌, length, take};
 ghost use Rattle.model.specs.Lengths.{tree_size};
 ghost use Rattle.model.specs.Bytes.{word, part, put_at};
 ghost use Rattle.index_model.specs.Index.{index_size, index_places, key_before, folder_key, halve};
@@ -25,14 +25,6 @@ fn row_before(table: &[u8], i: usize, key: u64, label: &[u8]) -> bool
     )
 }
 
-// The row in a place of an order.
-fn row_in(order: &[u16], i: usize) -> usize
-    requires { i < length order.now }
-    ensures { result ≡ get_or order.now i 0 }
-{
-    order[i] as usize
-}
-
 // Where a row goes among the first k of an order, by halving.
 fn place(table: &[u8], order: &[u16], k: usize, row: usize) -> usize
     requires { (length table.now ≡ tree_size) × (row < index_places) × (k ≤ index_places) × (k ≤ length order.now) × Low order.now k }
@@ -42,18 +34,16 @@ fn place(table: &[u8], order: &[u16], k: usize, row: usize) -> usize
     let from = 4 + 72 * row + 24;
     let mut lo: usize = 0;
     let mut hi = k;
-    let mut turn: usize = 0;
-    while turn < HALVINGS {
+    for _ in 0..HALVINGS {
         if hi <= lo {
             return lo;
         }
         let mid = lo + (hi - lo) / 2;
-        if row_before(table, row_in(order, mid), key, &table[from..from + 32]) {
+        if row_before(table, usize::from(order[mid]), key, &table[from..from + 32]) {
             lo = mid + 1;
         } else {
             hi = mid;
         }
-        turn += 1;
     }
     lo
 }
@@ -63,11 +53,7 @@ fn insert(order: &mut [u16], at: usize, k: usize, row: usize)
     requires { (at ≤ k) × (k < length order.old) × (row < index_places) }
     ensures { order.new ≡ put_at order.old at (row ∷ part order.old at (k - at)) }
 {
-    let mut i = k;
-    while at < i {
-        i -= 1;
-        order[i + 1] = order[i];
-    }
+    order.copy_within(at..k, at + 1);
     order[at] = row as u16;
 }
 
@@ -76,12 +62,10 @@ fn order_rows(table: &[u8], n: usize, order: &mut [u16])
     requires { (length table.now ≡ tree_size) × (n ≤ index_places) × (length order.old ≡ index_places) }
     ensures { (take n order.new ≡ ordered_rows table.now 0 n) × (length order.new ≡ index_places) }
 {
-    let mut k: usize = 0;
-    while k < n {
+    for k in 0..n {
         let row = n - k - 1;
         let at = place(table, order, k, row);
         insert(order, at, k, row);
-        k += 1;
     }
 }
 
@@ -110,10 +94,8 @@ fn write_rows(table: &[u8], order: &[u16], n: usize, index: &mut [u8])
     requires { (length table.now ≡ tree_size) × (n ≤ index_places) × (n ≤ length order.now) × Low order.now n × (length index.old ≡ index_size) }
     ensures { index.new ≡ put_at index.old 4 (copied_rows table.now (take n order.now)) }
 {
-    let mut j: usize = 0;
-    while j < n {
-        copy_row(table, row_in(order, j), index, j);
-        j += 1;
+    for j in 0..n {
+        copy_row(table, usize::from(order[j]), index, j);
     }
 }
 
@@ -122,7 +104,7 @@ fn write_index(table: &[u8], n: usize, index: &mut [u8], order: &mut [u16])
     requires { (length table.now ≡ tree_size) × (n ≤ index_places) × (length index.old ≡ index_size) × (length order.old ≡ index_places) }
     ensures { index.new ≡ index_from table.now n }
 {
-    byte_slice::clear(index);
+    index.fill(0);
     order_rows(table, n, order);
     write_rows(table, order, n, index);
     byte_slice::put16(index, 0, n as u16);
@@ -133,7 +115,7 @@ pub fn make_index(table: &[u8], index: &mut [u8])
     requires { (length table.now ≡ tree_size) × (word table.now 0 ≤ index_places) × (length index.old ≡ index_size) }
     ensures { index.new ≡ index_from table.now (word table.now 0) }
 {
-    let n = byte_slice::le16(table, 0) as usize;
+    let n = usize::from(byte_slice::le16(table, 0));
     let mut order = [0u16; INDEX_PLACES];
     write_index(table, n, index, &mut order);
 }

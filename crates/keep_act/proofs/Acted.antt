@@ -12,7 +12,7 @@ use Rattle.model.specs.Record.{Rec, identity, self_of}
 use Rattle.model.specs.Log.{records_of}
 use Rattle.model.specs.Replay.{Tree, Verdict, fits, aside, judge, reason_of}
 use Rattle.base_model.specs.Base.{base_vector, held_on, sound_state, tree_of}
-use Rattle.call_model.specs.Outcome.{Outcome, stamped, act_lent, act_of, act_work}
+use Rattle.call_model.specs.Outcome.{Outcome, stamped, act_lent, act_of}
 use Rattle.act_laws.proofs.Act.{stamped-unit, stamped-num, wish_fits_lem}
 use Rattle.tree_laws.proofs.Verdicts.{Under, Reason, reason_least, reason_range}
 use Rattle.tree_table.specs.Rows.{InRange, tree_in}

@@ -16,25 +16,32 @@ ghost use Rattle.act.specs.Acted.{worked_on};
 ghost use Rattle.index_model.specs.Acting.{step_in};
 ghost use Rattle.index_model.specs.Kept.{index_fits, if_lent, kept, act_kept, act_kept_work};
 ghost use Rattle.index_act.specs.Inside.{Inside};
+ghost use Rattle.refusal.specs.Refusals.{code_of};
 ghost use Rattle.keep_act.specs.Acted.{acted_kept};
 
 use act::put_behind;
-use act_wish::{early_wish, stamp};
+use act_wish::{check_early, stamp};
 use base_head::Head;
-use call_answer::Answer;
 use call_guard::open;
 use model::{RECORD_BYTES, TREE_BYTES};
+use refusal::Refusal;
 use tree_maps::REGISTER;
 use tree_table::Size;
 use vector::Vector;
 
 // ---- the reason, and the change of the index
 
-// The reason under which a record would stand aside behind the tree that a table and a register hold, or 0; and then its change is put into
-// the index, if one is lent.
-fn change_on(rec: &[u8], table: &[u8], register: &[u16], size: Size, index: &mut [u8]) -> u8
+// The reason under which a record would stand aside behind the tree that a table and a register hold; if there is none, its change is put
+// into the index, if one is lent.
+fn change_on(
+    rec: &[u8],
+    table: &[u8],
+    register: &[u16],
+    size: Size,
+    index: &mut [u8],
+) -> Result<(), Refusal>
     requires { (well_formed rec.now ≡ true) × InRange (self_of rec.now) × Holds table.now register.now size.entries size.asides × Inside table.now size.entries × (index_fits index.old ≡ true) }
-    ensures tells { result ≡ reason_of (judge_of rec.now (tree_in table.now size.entries size.asides)) }
+    ensures tells { code_of result ≡ reason_of (judge_of rec.now (tree_in table.now size.entries size.asides)) }
     ensures changes { index.new ≡ if_lent index.old (step_in (judge_of rec.now (tree_in table.now size.entries size.asides)) rec.now (tree_in table.now size.entries size.asides) index.old) }
 {
     index_act::judge_and_change(rec, table, register, size, index)
@@ -51,9 +58,9 @@ fn change_behind(
     index: &mut [u8],
     work: &mut [u8],
     register: &mut [u16],
-) -> u8
+) -> Result<(), Refusal>
     requires { (length log.now ≡ log_size) × (length base.now ≡ base_size) × (sound_state log.now base.now ≡ true) × (used ≡ length (records_of log.now)) × (held.counts ≡ held_on log.now base.now) × (size.entries ≡ word base.now 2) × (size.asides ≡ word base.now 4) × (well_formed rec.now ≡ true) × InRange (self_of rec.now) × (index_fits index.old ≡ true) × (work.old ≡ replicate tree_size 0) × (register.old ≡ replicate register_size 0) }
-    ensures tells { result ≡ reason_of (judge_of rec.now (tree_of log.now base.now)) }
+    ensures tells { code_of result ≡ reason_of (judge_of rec.now (tree_of log.now base.now)) }
     ensures changes { index.new ≡ if_lent index.old (step_in (judge_of rec.now (tree_of log.now base.now)) rec.now (tree_of log.now base.now) index.old) }
     ensures lays { work.new ≡ work_bytes (tree_of log.now base.now) }
 {
@@ -72,21 +79,20 @@ fn change(
     rec: &[u8],
     index: &mut [u8],
     work: &mut [u8],
-) -> u8
+) -> Result<(), Refusal>
     requires { (length log.now ≡ log_size) × (length base.now ≡ base_size) × (sound_state log.now base.now ≡ true) × (used ≡ length (records_of log.now)) × (held.counts ≡ held_on log.now base.now) × (size.entries ≡ word base.now 2) × (size.asides ≡ word base.now 4) × (well_formed rec.now ≡ true) × InRange (self_of rec.now) × (index_fits index.old ≡ true) × (length work.old ≡ tree_size) }
-    ensures tells { result ≡ reason_of (judge_of rec.now (tree_of log.now base.now)) }
+    ensures tells { code_of result ≡ reason_of (judge_of rec.now (tree_of log.now base.now)) }
     ensures changes { index.new ≡ if_lent index.old (step_in (judge_of rec.now (tree_of log.now base.now)) rec.now (tree_of log.now base.now) index.old) }
     ensures lays { work.new ≡ work_bytes (tree_of log.now base.now) }
 {
-    byte_slice::clear(work);
+    work.fill(0);
     let mut register = [0u16; REGISTER];
     change_behind(log, used, base, held, size, rec, index, work, &mut register)
 }
 
 // ---- the act
 
-// A wish in a sound state: its record is put behind the others, its change into the index, and 0 is answered; or it is refused and log and
-// index are left.
+// A wish in a sound state: its record is put behind the others, its change into the index; or it is refused and log and index are left.
 fn act_on(
     log: &mut [u8],
     used: usize,
@@ -97,27 +103,20 @@ fn act_on(
     unit: u8,
     wish: &[u8],
     work: &mut [u8],
-) -> u8
+) -> Result<(), Refusal>
     requires { (length log.old ≡ log_size) × (length base.now ≡ base_size) × (sound_state log.old base.now ≡ true) × (used ≡ length (records_of log.old)) × (held.counts ≡ held_on log.old base.now) × (head.list ≡ get_or base.now 0 0) × (head.entries ≡ word base.now 2) × (head.asides ≡ word base.now 4) × (index_fits index.old ≡ true) × (unit < 8) × (length wish.now ≡ record_size) × (length work.old ≡ tree_size) }
-    ensures acted { kept result 0 log.new index.new [] ≡ acted_kept unit log.old base.now index.old wish.now }
+    ensures acted { kept (code_of result) 0 log.new index.new [] ≡ acted_kept unit log.old base.now index.old wish.now }
     ensures worked { work.new ≡ worked_on unit log.old base.now wish.now work.old }
 {
-    let s = stamp(wish, unit, held);
-    let rec = s.bytes;
-    let k = early_wish(head.list, unit, held, used, wish, &rec);
-    if k != 0 {
-        return k;
-    }
+    let rec = stamp(wish, unit, held);
+    check_early(head.list, unit, held, used, wish, &rec)?;
     let size = Size {
         entries: head.entries,
         asides: head.asides,
     };
-    let n = change(log, used, base, held, size, &rec, index, work);
-    if n != 0 {
-        return n;
-    }
+    change(log, used, base, held, size, &rec, index, work)?;
     put_behind(log, used, &rec);
-    0
+    Ok(())
 }
 
 // One act of the own unit: its record is put behind those of the log, and its change into the index, if one is lent; or it is refused and
@@ -131,26 +130,17 @@ pub fn act(
     unit: u8,
     wish: &[u8],
     work: &mut [u8],
-) -> Answer
-    ensures acted { kept result.number result.place log.new index.new [] ≡ act_kept unit log.old base.now index.old wish.now work.old }
+) -> Result<(), Refusal>
+    ensures acted { kept (code_of result) 0 log.new index.new [] ≡ act_kept unit log.old base.now index.old wish.now work.old }
     ensures worked { work.new ≡ act_kept_work unit log.old base.now index.old wish.now work.old }
 {
     if !keep_lent::index_fits(index) {
-        return Answer {
-            number: 1,
-            place: 0,
-        };
+        return Err(Refusal::BadBuffer);
     }
     let lent = (wish.len() == RECORD_BYTES) & (work.len() == TREE_BYTES);
-    let o = open(log, base, unit, lent, true);
-    if o.number != 0 {
-        return Answer {
-            number: o.number,
-            place: 0,
-        };
-    }
-    let head = o.head;
-    let held = o.held;
-    let number = act_on(log, o.used, base, head, held, index, unit, wish, work);
-    Answer { number, place: 0 }
+    let state = open(log, base, unit, lent, true)?;
+    let head = state.head;
+    act_on(
+        log, state.used, base, head, state.held, index, unit, wish, work,
+    )
 }

@@ -2,7 +2,7 @@
 -- Assumes nothing.
 use Prim.Native.Nat.{ℕ}
 use mathlib.Core.Path.{◌≡◌, refl, sym, ◌∙◌}
-use mathlib.Core.Bool.{Bool, true, false, cond, not, ◌||◌}
+use mathlib.Core.Bool.{Bool, true, false, cond, not, ◌&&◌, ◌||◌, false≢true}
 use mathlib.Core.List.{List}
 use lib.Dec.{eqb}
 use lib.ListN.{length}
@@ -16,14 +16,6 @@ use Rattle.index_model.specs.Kept.{index_of_log, index_lent, index_fits, both_fi
 
 -- ---- the two lengths
 
-pub no_bytes : (i : List ℕ) → length i ≡ 0 → true ≡ index_fits i
-unfolding index_fits
-no_bytes i h = rw (eq-eqb (length i) 0 h)
-
-pub some_bytes : (i : List ℕ) → (length i ≡ 0 → ⊥) → eqb (length i) index_size ≡ index_fits i
-unfolding index_fits
-some_bytes i h = rw (ne_eqb (length i) 0 h)
-
 pub fits_by : {fit : Bool} (b : Bool) → b ≡ fit → not b ≡ false → fit ≡ true
 fits_by b e h = sym e ∙ not-false b h
 
@@ -33,35 +25,27 @@ lent_long i f h = eqb-true (length i) index_size (rw (ne_eqb (length i) 0 h) at 
 
 -- ---- an index and memory to work in
 
-or_false : (b : Bool) → b ≡ (b || false)
-or_false true = refl
-or_false false = refl
+or_none : (a b : Bool) → (a || b) ≡ false → b ≡ false
+or_none true b h = absurd (false≢true (sym h))
+or_none false b h = h
 
-module _ (i work : List ℕ) where
-  pub both_none : length i ≡ 0 → eqb (length work) 0 ≡ both_fit i work
+pub not_lent : (i work : List ℕ) → both_fit i work ≡ false → index_lent i work ≡ false
+unfolding both_fit
+not_lent i work h = or_none (eqb (length i) 0 && eqb (length work) 0) (index_lent i work) h
+
+pub none_both : (i work : List ℕ) → length i ≡ 0 → index_lent i work ≡ false
+none_both i work h = rw h
+
+module _ (i work : List ℕ) (f : both_fit i work ≡ true) (h : length i ≡ 0 → ⊥) where
+  pub both_lent : index_lent i work ≡ true
   unfolding both_fit
-  both_none h = rw h (or_false (eqb (length work) 0))
+  both_lent = rw (ne_eqb (length i) 0 h) at f
 
-  pub lent_wrong : (length i ≡ index_size → ⊥) → false ≡ index_lent i work
-  lent_wrong g = rw (ne_eqb (length i) index_size g)
+  pub both_index : length i ≡ index_size
+  both_index = eqb-true (length i) index_size (and_true (eqb (length i) index_size) (eqb (length work) tree_size) both_lent).0
 
-  pub lent_some : length i ≡ index_size → eqb (length work) tree_size ≡ index_lent i work
-  lent_some g = rw g
-
-  pub both_some : (length i ≡ 0 → ⊥) → (b : Bool) → b ≡ index_lent i work → b ≡ both_fit i work
-  unfolding both_fit
-  both_some h b e = rw (ne_eqb (length i) 0 h) e
-
-  module _ (f : both_fit i work ≡ true) (h : length i ≡ 0 → ⊥) where
-    pub both_lent : index_lent i work ≡ true
-    unfolding both_fit
-    both_lent = rw (ne_eqb (length i) 0 h) at f
-
-    pub both_index : length i ≡ index_size
-    both_index = eqb-true (length i) index_size (and_true (eqb (length i) index_size) (eqb (length work) tree_size) both_lent).0
-
-    pub both_work : length work ≡ tree_size
-    both_work = eqb-true (length work) tree_size (and_true (eqb (length i) index_size) (eqb (length work) tree_size) both_lent).1
+  pub both_work : length work ≡ tree_size
+  both_work = eqb-true (length work) tree_size (and_true (eqb (length i) index_size) (eqb (length work) tree_size) both_lent).1
 
 -- ---- what becomes of a lent index
 
@@ -81,6 +65,15 @@ pub lent_same : (i : List ℕ) → i ≡ if_lent i i
 unfolding if_lent
 lent_same i = same_cond (eqb (length i) 0) i
 
+-- the memory to work in, where the index is made afresh, and where it is not
+pub laid_if : (t : Bool) (table work y : List ℕ) → y ≡ cond t table work → y ≡ cond (t && true) table work
+laid_if true table work y e = e
+laid_if false table work y e = e
+
+pub left_if : (t : Bool) (table work : List ℕ) → work ≡ cond (t && false) table work
+left_if true table work = refl
+left_if false table work = refl
+
 -- ---- a call's ways out
 
 module _ (fit : Bool) (log lent i : List ℕ) (o : Outcome) (j : List ℕ) where
@@ -97,10 +90,6 @@ module _ (fit : Bool) (log lent i : List ℕ) (o : Outcome) (j : List ℕ) where
     unfolding kept_of
     kept_refused a = rw (f, ← e, ne_eqb n 0 a)
 
-    pub kept-none : length i ≡ 0 → kept n p x i z ≡ kept_of fit log lent i o j
-    unfolding kept_of
-    kept-none h = rw (f, ← e, ← none_lent i j h, ← same_cond (eqb n 0) i)
-
 -- ---- and those of a row
 
 module _ (fit : Bool) (log base i : List ℕ) (o : RowTaken) where
@@ -116,7 +105,3 @@ module _ (fit : Bool) (log base i : List ℕ) (o : RowTaken) where
     pub row-left : k ≡ 0 → row_kept n p k s x i ≡ row_kept_of fit log base i o
     unfolding row_kept_of
     row-left z = rw (f, ← e, z)
-
-    pub row-none : length i ≡ 0 → row_kept n p k s x i ≡ row_kept_of fit log base i o
-    unfolding row_kept_of
-    row-none h = rw (f, ← e, ← none_lent i (index_of_log x base) h, ← same_cond (eqb k 0) i)

@@ -3,23 +3,25 @@
 #![tactic(auto)]
 
 ghost use Rattle.std.specs.Prelude.{◌≡◌};
+ghost use Rattle.refusal.specs.Refusals.{code_of};
 ghost use Rattle.index_model.specs.Kept.{kept, start_kept};
 
-use call_answer::Answer;
+use refusal::Refusal;
 
 // The lent log and base are emptied, and the index with them, if one is lent. A refusal leaves all as they were. The archive is not asked.
-pub fn start(log: &mut [u8], base: &mut [u8], index: &mut [u8], archive: u32, unit: u8) -> Answer
-    ensures { kept result.number result.place log.new index.new base.new ≡ start_kept unit log.old base.old index.old }
+pub fn start(
+    log: &mut [u8],
+    base: &mut [u8],
+    index: &mut [u8],
+    archive: u32,
+    unit: u8,
+) -> Result<(), Refusal>
+    ensures { kept (code_of result) 0 log.new index.new base.new ≡ start_kept unit log.old base.old index.old }
 {
     if !keep_lent::index_fits(index) {
-        return Answer {
-            number: 1,
-            place: 0,
-        };
+        return Err(Refusal::BadBuffer);
     }
-    let a = start::start(log, base, archive, unit);
-    if a.number == 0 {
-        byte_slice::clear(index);
-    }
-    a
+    start::start(log, base, archive, unit)?;
+    index.fill(0);
+    Ok(())
 }

@@ -2,9 +2,10 @@
 #![tactic(auto)]
 
 ghost use Rattle.std.specs.Prelude.{◌≡◌, []};
+ghost use Rattle.refusal.specs.Refusals.{code_of};
 ghost use Rattle.index_model.specs.Kept.{kept, take_kept, take_kept_work};
 
-use call_answer::Answer;
+use refusal::Refusal;
 
 // A block is taken into the log, and a lent index becomes that of log and base, by way of the memory to work in that is lent with it. A
 // refusal leaves all as they were.
@@ -16,22 +17,14 @@ pub fn take(
     archive: u32,
     unit: u8,
     b: &[u8],
-) -> Answer
-    ensures answer { kept result.number result.place log.new index.new [] ≡ take_kept archive unit log.old base.now index.old b.now work.old }
+) -> Result<(), Refusal>
+    ensures answer { kept (code_of result) 0 log.new index.new [] ≡ take_kept archive unit log.old base.now index.old b.now work.old }
     ensures work { work.new ≡ take_kept_work archive unit log.old base.now index.old b.now work.old }
 {
     if !keep_lent::both_fit(index, work) {
-        return Answer {
-            number: 1,
-            place: 0,
-        };
+        return Err(Refusal::BadBuffer);
     }
-    if index.len() == 0 {
-        return take::take(log, base, archive, unit, b);
-    }
-    let t = take::take(log, base, archive, unit, b);
-    if t.number == 0 {
-        index_log::renew(log, base, index, work);
-    }
-    t
+    take::take(log, base, archive, unit, b)?;
+    index_log::renew_lent(log, base, index, work);
+    Ok(())
 }

@@ -2,8 +2,11 @@
 #![tactic(auto)]
 
 ghost use Rattle.std.specs.Prelude.{◌≡◌};
+ghost use Rattle.refusal.specs.Refusals.{code_of};
+ghost use Rattle.take_row.specs.Answer.{taken_of, stopped_of};
 ghost use Rattle.index_model.specs.Kept.{row_kept, take_row_kept, take_row_kept_work};
 
+use refusal::Refusal;
 use take_row::RowTaken;
 
 // The blocks of a row are taken in turn, up to the first refusal. If any was taken, a lent index becomes that of log and base, by way of
@@ -16,24 +19,16 @@ pub fn take_row(
     archive: u32,
     unit: u8,
     row: &[u8],
-) -> RowTaken
-    ensures answer { row_kept result.number result.place result.taken result.stopped log.new index.new ≡ take_row_kept archive unit log.old base.now index.old row.now work.old }
+) -> Result<RowTaken, Refusal>
+    ensures answer { row_kept (code_of result) 0 (taken_of result) (stopped_of result) log.new index.new ≡ take_row_kept archive unit log.old base.now index.old row.now work.old }
     ensures work { work.new ≡ take_row_kept_work archive unit log.old base.now index.old row.now work.old }
 {
     if !keep_lent::both_fit(index, work) {
-        return RowTaken {
-            number: 1,
-            place: 0,
-            taken: 0,
-            stopped: 0,
-        };
+        return Err(Refusal::BadBuffer);
     }
-    if index.len() == 0 {
-        return take_row::take_row(log, base, archive, unit, row);
-    }
-    let t = take_row::take_row(log, base, archive, unit, row);
+    let t = take_row::take_row(log, base, archive, unit, row)?;
     if t.taken != 0 {
-        index_log::renew(log, base, index, work);
+        index_log::renew_lent(log, base, index, work);
     }
-    t
+    Ok(t)
 }

@@ -54,10 +54,8 @@ fn put_counts(out: &mut [u8], at: usize, v: Vector) -> usize
     ensures { Wrote out.old out.new at result (counts_text v.counts) }
 {
     let mut m = at;
-    let mut u: usize = 0;
-    while u < 8 {
-        m = put_count(out, m, v.counts[u]);
-        u += 1;
+    for &count in &v.counts {
+        m = put_count(out, m, count);
     }
     m
 }

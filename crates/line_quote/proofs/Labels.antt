@@ -1,4 +1,4 @@
--- A label between quotes: bytes that want a backslash, the room for each part, and the whole once all are written.
+-- A label between quotes: bytes that want a backslash, and the parts of a label.
 -- Assumes nothing.
 use Prim.Native.Nat.{ℕ, ◌+◌, ◌-◌, ◌≤◌}
 use native.Mathlib.Nat.{sub-zero}
@@ -12,7 +12,7 @@ use borrow.Author.Tests.{eq-eqb, ne_eqb}
 use Rattle.model.specs.Record.{text_length}
 use Rattle.model.specs.Listing.{escaped, label_text}
 use Rattle.line_text.specs.Written.{Wrote}
-use Rattle.line_text.proofs.Written.{room_first, room_rest, wrote_then, wrote_more}
+use Rattle.line_text.proofs.Chains.{InThree}
 
 -- ---- a byte that may want a backslash
 
@@ -55,23 +55,6 @@ escaped-append (x ∷ s) t = go (eqb x 34 || eqb x 92) (escaped-append s t)
 
 -- ---- a label
 
-module _ (t a b c : List ℕ) (at m k n : ℕ) (e : n ≡ text_length t) (room : at + length (label_text t) ≤ length a) where
-  label_parts : label_text t ≡ (34 ∷ []) ++ (escaped (take (n - 0) t) ++ (34 ∷ []))
-  unfolding label_text
-  label_parts = rw (sub-zero n, e)
-
-  label_room : at + length ((34 ∷ []) ++ (escaped (take (n - 0) t) ++ (34 ∷ []))) ≤ length a
-  label_room = rw label_parts at room
-
-  pub text_fits : Wrote a b at m (34 ∷ []) → m + length (escaped (take (n - 0) t)) ≤ length b
-  text_fits x = room_first m (length b) (escaped (take (n - 0) t)) (34 ∷ []) (room_rest (escaped (take (n - 0) t) ++ (34 ∷ [])) label_room x)
-
-  pub quote_fits : Wrote a b at m (34 ∷ []) → Wrote b c m k (escaped (take (n - 0) t)) → k + 1 ≤ length c
-  quote_fits x y = room_rest (34 ∷ []) (room_rest (escaped (take (n - 0) t) ++ (34 ∷ [])) label_room x) y
-
-  pub wrote_label : (d : List ℕ) (r : ℕ) → Wrote a b at m (34 ∷ []) → Wrote b c m k (escaped (take (n - 0) t)) → Wrote c d k r (34 ∷ []) → Wrote a d at r (label_text t)
-  wrote_label d r x y z = rw label_parts (wrote_then label_room x (λ q. wrote_more q y z))
-
-pub first_quote_fits : (t a : List ℕ) (at : ℕ) → at + length (label_text t) ≤ length a → at + 1 ≤ length a
+pub label_is : (t : List ℕ) (n : ℕ) → n ≡ text_length t → InThree (label_text t) (34 ∷ []) (escaped (take (n - 0) t)) (34 ∷ [])
 unfolding label_text
-first_quote_fits t a at room = omega arith
+label_is t n e = record { parts = rw (sub-zero n, e) }

@@ -30,10 +30,8 @@ pub fn put_hex(out: &mut [u8], at: usize, b: &[u8]) -> usize
     ensures { Wrote out.old out.new at result (hex_text b.now) }
 {
     let mut m = at;
-    let mut i: usize = 0;
-    while i < b.len() {
-        m = put_hex_byte(out, m, b[i]);
-        i += 1;
+    for &x in b {
+        m = put_hex_byte(out, m, x);
     }
     m
 }
@@ -42,10 +40,7 @@ pub fn put_hex(out: &mut [u8], at: usize, b: &[u8]) -> usize
 fn needs_escape(x: u8) -> bool
     ensures { result ≡ (eqb x 34 || eqb x 92) }
 {
-    if x == b'"' {
-        return true;
-    }
-    x == b'\\'
+    x == b'"' || x == b'\\'
 }
 
 // One byte of a label is written; quote and backslash get a backslash before them.
@@ -66,10 +61,8 @@ pub fn put_escaped(out: &mut [u8], at: usize, t: &[u8]) -> usize
     ensures { Wrote out.old out.new at result (escaped t.now) }
 {
     let mut m = at;
-    let mut i: usize = 0;
-    while i < t.len() {
-        m = put_escaped_byte(out, m, t[i]);
-        i += 1;
+    for &x in t {
+        m = put_escaped_byte(out, m, x);
     }
     m
 }

@@ -66,5 +66,12 @@ module _ (f : List ℕ → List ℕ) (over : (s t : List ℕ) → f (s ++ t) ≡
       let n = length-append (f (take i t)) (f (get_or t i 0 ∷ [])) in
       rw (next_text f over t i h) (wrote_more (omega (arith, text_room f over t i h)) v w)
 
+  -- the room for the next element
+  pub next_fits : at + length (f t) ≤ length a → i < length t → Wrote a b at m (f (take i t)) → m + length (f (get_or t i 0 ∷ [])) ≤ length b
+  next_fits room h v =
+      let n = text_room f over t i h in
+      let l = wrote_length (omega arith) v in
+      omega (arith, v.next)
+
 pub wrote_all : (f : List ℕ → List ℕ) (a b t : List ℕ) (at r i : ℕ) → length t ≤ i → Wrote a b at r (f (take i t)) → Wrote a b at r (f t)
 wrote_all f a b t at r i h w = rw (← take_all i t h) w

@@ -30,6 +30,7 @@ fn digits(n: u32) -> usize
 {
     let mut k: usize = 1;
     let mut left = n;
+    // A walk by tenths, not by one index.
     while 10 <= left {
         left = left / 10;
         k += 1;
@@ -51,9 +52,7 @@ fn put_digits(out: &mut [u8], at: usize, n: u32, k: usize)
     ensures { out.new ≡ put_at out.old at (decimal n) }
 {
     let mut left = n;
-    let mut i = k;
-    while 0 < i {
-        i -= 1;
+    for i in (0..k).rev() {
         out[at + i] = digit(left % 10);
         left = left / 10;
     }
@@ -74,7 +73,7 @@ pub fn put_small(out: &mut [u8], at: usize, x: u8) -> usize
     requires { at + length (decimal x) ≤ length out.old }
     ensures { Wrote out.old out.new at result (decimal x) }
 {
-    put_decimal(out, at, byte_slice::wide32(x))
+    put_decimal(out, at, u32::from(x))
 }
 
 // A 16-bit number in decimal.
@@ -82,7 +81,7 @@ pub fn put_number(out: &mut [u8], at: usize, x: u16) -> usize
     requires { at + length (decimal x) ≤ length out.old }
     ensures { Wrote out.old out.new at result (decimal x) }
 {
-    put_decimal(out, at, byte_slice::wider(x))
+    put_decimal(out, at, u32::from(x))
 }
 
 // The identity in four bytes is written as unit.number.
@@ -90,11 +89,9 @@ pub fn put_identity(out: &mut [u8], at: usize, b: &[u8]) -> usize
     requires { (length b.now ≡ 4) × (at + length (identity_text b.now) ≤ length out.old) }
     ensures { Wrote out.old out.new at result (identity_text b.now) }
 {
-    let unit = byte_slice::wide32(b[0]);
-    let number = byte_slice::wider(byte_slice::le16(b, 2));
-    let dot = put_decimal(out, at, unit);
+    let dot = put_small(out, at, b[0]);
     let rest = put_byte(out, dot, b'.');
-    put_decimal(out, rest, number)
+    put_number(out, rest, byte_slice::le16(b, 2))
 }
 
 // The date in four bytes is written as 2025-03-03.
@@ -102,9 +99,9 @@ pub fn put_date(out: &mut [u8], at: usize, b: &[u8]) -> usize
     requires { (length b.now ≡ 4) × (at + length (date_text b.now) ≤ length out.old) }
     ensures { Wrote out.old out.new at result (date_text b.now) }
 {
-    let y = byte_slice::wider(byte_slice::le16(b, 0));
-    let m = byte_slice::wide32(b[2]);
-    let d = byte_slice::wide32(b[3]);
+    let y = u32::from(byte_slice::le16(b, 0));
+    let m = u32::from(b[2]);
+    let d = u32::from(b[3]);
     let text = [
         digit(y / 1000 % 10),
         digit(y / 100 % 10),

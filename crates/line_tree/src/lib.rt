@@ -12,11 +12,9 @@ fn entry_lines(out: &mut [u8], at: usize, table: &[u8], n: usize) -> usize
     ensures { Wrote out.old out.new at result (entry_lines table.now n) }
 {
     let mut m = at;
-    let mut i: usize = 0;
-    while i < n {
+    for i in 0..n {
         let from = 4 + 72 * i;
         m = line_entry::entry_line(out, m, &table[from..from + 72]);
-        i += 1;
     }
     m
 }
@@ -27,11 +25,9 @@ fn aside_lines(out: &mut [u8], at: usize, table: &[u8], n: usize) -> usize
     ensures { Wrote out.old out.new at result (aside_lines table.now n) }
 {
     let mut m = at;
-    let mut i: usize = 0;
-    while i < n {
+    for i in 0..n {
         let from = 73732 + 12 * i;
         m = line_aside::aside_line(out, m, &table[from..from + 12]);
-        i += 1;
     }
     m
 }
@@ -41,7 +37,7 @@ fn rows_at(table: &[u8], at: usize) -> usize
     requires { at + 1 < length table.now }
     ensures { result ≡ word table.now at }
 {
-    byte_slice::le16(table, at) as usize
+    usize::from(byte_slice::le16(table, at))
 }
 
 // The entries by rank of their makers, then the asides by rank.

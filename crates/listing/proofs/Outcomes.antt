@@ -2,14 +2,14 @@
 -- Assumes nothing.
 use Prim.Native.Nat.{ℕ, ◌+◌, ◌≤◌, ◌<◌}
 use native.Mathlib.Omega.{arith}
-use mathlib.Core.Path.{◌≡◌, refl, sym, ap, ap₂, ◌∙◌}
+use mathlib.Core.Path.{◌≡◌, sym, ap, ap₂, ◌∙◌}
 use mathlib.Core.Logic.{⊎_elim}
 use mathlib.Core.Bool.{true, false}
 use mathlib.Core.List.{List, ◌++◌}
 use lib.Dec.{eqb}
 use lib.ListN.{length, replicate}
 use borrow.Author.Tests.{eq-eqb, ne_eqb}
-use Rattle.model.specs.Bytes.{word, put_at}
+use Rattle.model.specs.Bytes.{word}
 use Rattle.model.specs.Log.{records_of}
 use Rattle.model.specs.Table.{table_bytes}
 use Rattle.model.specs.File.{block_at}
@@ -103,6 +103,9 @@ refused_fits n p text e = omega (arith, refused_line_length n p)
 
 pub refused_small : {text text' : List ℕ} {r : ℕ} (n p : ℕ) → Wrote text text' 0 r (refused_line n p) → r < 4294967296
 refused_small n p w = omega (arith, refused_line_length n p, w.next)
+
+pub refused_same : {text text' : List ℕ} {r m n p q : ℕ} → m ≡ n → q ≡ p → Wrote text text' 0 r (refused_line m q) → Wrote text text' 0 r (refused_line n p)
+refused_same e f w = rw (← e, ← f) w
 
 pub table_cleared : (tree : List ℕ) {o : List ℕ} → length tree ≡ 86020 → o ≡ replicate (length tree) 0 → o ≡ replicate 86020 0
 table_cleared tree h e = e ∙ rw h

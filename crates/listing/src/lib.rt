@@ -9,12 +9,15 @@ ghost use Rattle.model.specs.Listing.{head_line, seen_line, tree_lines, refused_
 ghost use Rattle.model.specs.Table.{table_bytes};
 ghost use Rattle.base_model.specs.Base.{sound_state, held_on, tree_of};
 ghost use Rattle.sab2_model.specs.Calls.{read_either_of, listing_size, listed, either_listed};
-ghost use Rattle.read_file_check.specs.Outcome.{read_back_of};
+ghost use Rattle.sab2_check.specs.Told.{number_told, place_told, file_code, file_place};
+ghost use Rattle.read_either.specs.Told.{either_told};
 ghost use Rattle.line_text.specs.Written.{Wrote};
 ghost use Rattle.listing.specs.Lists.{Lists};
 
 use model::{BASE_BYTES, LOG_BYTES, TREE_BYTES};
 use read_file::ReadFile;
+use refusal::{Fault, Refusal};
+use sab2_check::FileFault;
 use sab2_model::LISTING_BYTES;
 use tree_table::Size;
 use vector::Vector;
@@ -63,38 +66,44 @@ fn state_lines(
 }
 
 // A file of either form is read by way of the tree table, whose bytes are not promised.
-fn read_by(file: &[u8], log: &mut [u8], base: &mut [u8], tree: &mut [u8]) -> ReadFile
+fn read_by(
+    file: &[u8],
+    log: &mut [u8],
+    base: &mut [u8],
+    tree: &mut [u8],
+) -> Result<ReadFile, FileFault>
     requires { length tree.old ≡ tree_size }
-    ensures { read_back_of result.number result.place result.archive result.unit result.records result.vector.counts log.new base.new ≡ read_either_of log.old base.old file.now }
+    ensures { either_told result log.new base.new ≡ read_either_of log.old base.old file.now }
 {
     read_either::read_beside(log, base, file, &mut tree[0..43032])
 }
 
 // The line of a refused file; the tree table is cleared.
-fn refuse(text: &mut [u8], tree: &mut [u8], number: u8, place: u8) -> u32
+fn refuse(text: &mut [u8], tree: &mut [u8], fault: FileFault) -> u32
     requires { (length text.old ≡ listing_size) × (length tree.old ≡ tree_size) }
-    ensures line { Wrote text.old text.new 0 result (refused_line number place) }
+    ensures line { Wrote text.old text.new 0 result (refused_line (number_told fault) (place_told fault)) }
     ensures cleared { tree.new ≡ replicate tree_size 0 }
 {
-    byte_slice::clear(tree);
-    line_refusal::refused_line(text, 0, number, place) as u32
+    tree.fill(0);
+    line_refusal::refused_line(text, 0, fault.number(), u16::from(fault.place())) as u32
 }
 
-// What listing a file answers: the number and place of the file's check, and the length of the listing.
-#[derive(Drop)]
+// What listing a file answers: whether the file was refused, with the place, and the length of the listing.
+#[derive(Clone, Copy, Debug, PartialEq, Eq)]
 pub struct Listed {
-    pub number: u8,
-    pub place: u8,
+    pub judged: Result<(), FileFault>,
     pub length: u32,
 }
 
 // Lent memory that is not of its stated length.
 fn wrong_lent() -> Listed
-    ensures { (result.number ≡ 1) × (result.place ≡ 0) × (result.length ≡ 0) }
+    ensures { (file_code result.judged ≡ 1) × (file_place result.judged ≡ 0) × (result.length ≡ 0) }
 {
     Listed {
-        number: 1,
-        place: 0,
+        judged: Err(FileFault::Block(Fault {
+            refusal: Refusal::BadBuffer,
+            place: 0,
+        })),
         length: 0,
     }
 }
@@ -108,28 +117,30 @@ fn list_file(
     text: &mut [u8],
 ) -> Listed
     requires { (length log.old ≡ log_size) × (length base.old ≡ base_size) × (length tree.old ≡ tree_size) × (length text.old ≡ listing_size) }
-    ensures { listed result.number result.place result.length log.new base.new tree.new text.new ≡ either_listed file.now log.old base.old tree.old text.old }
+    ensures { listed (file_code result.judged) (file_place result.judged) result.length log.new base.new tree.new text.new ≡ either_listed file.now log.old base.old tree.old text.old }
 {
-    let r = read_by(file, log, base, tree);
-    if r.number != 0 {
-        let n = refuse(text, tree, r.number, r.place);
-        return Listed {
-            number: r.number,
-            place: r.place,
-            length: n,
-        };
-    }
-    let v = r.vector;
-    let n = state_lines(text, log, base, tree, r.archive, r.unit, r.records, v);
-    Listed {
-        number: 0,
-        place: 0,
-        length: n,
+    match read_by(file, log, base, tree) {
+        Ok(r) => {
+            let length = state_lines(
+                text, log, base, tree, r.archive, r.unit, r.records, r.vector,
+            );
+            Listed {
+                judged: Ok(()),
+                length,
+            }
+        }
+        Err(fault) => {
+            let length = refuse(text, tree, fault);
+            Listed {
+                judged: Err(fault),
+                length,
+            }
+        }
     }
 }
 
 // A file of either form is listed into the lent text, by way of the lent log, base and tree table; a refused one gives its line, leaves log
-// and base, and clears the table. Lent memory that is not of its stated length is 1, and then all is left as it was.
+// and base, and clears the table. Lent memory that is not of its stated length is refused, and then all is left as it was.
 pub fn listing(
     file: &[u8],
     log: &mut [u8],
@@ -137,7 +148,7 @@ pub fn listing(
     tree: &mut [u8],
     text: &mut [u8],
 ) -> Listed
-    ensures { listed result.number result.place result.length log.new base.new tree.new text.new ≡ either_listed file.now log.old base.old tree.old text.old }
+    ensures { listed (file_code result.judged) (file_place result.judged) result.length log.new base.new tree.new text.new ≡ either_listed file.now log.old base.old tree.old text.old }
 {
     if log.len() != LOG_BYTES {
         return wrong_lent();

@@ -3,7 +3,7 @@
 use Prim.Native.Nat.{ℕ, suc, ◌≤◌, ◌<◌}
 use native.Mathlib.Numerals.{add-one}
 use native.Mathlib.Omega.{arith}
-use mathlib.Core.Path.{◌≡◌, refl, sym, ap, ◌∙◌}
+use mathlib.Core.Path.{◌≡◌, sym, ap, ◌∙◌}
 use mathlib.Core.Logic.{⊎_elim}
 use mathlib.Core.List.{List, ◌∷◌}
 use lib.ListN.{length}
@@ -41,7 +41,7 @@ module _ (base : List ℕ) (at : ℕ → Rec) (top : ℕ) (m : List Rec) (held p
     -- without a fault its number is its unit's next
     pub admit_next : o.number ≡ 0 → num r ≡ suc (count_on base (unit r) m)
     admit_next z =
-        let (w, n) = no_fault r base floor held places seens 0 (sym (sym same_fault_lem ∙ z)) refl in
+        let (w, n) = no_fault r base floor held places seens (sym (sym same_fault_lem ∙ z)) in
         n ∙ ap suc (held_at base at top m held places seens h (unit r) (well_unit r w))
 
     -- without a fault the record is held, and the next must rank above it
@@ -52,7 +52,7 @@ module _ (base : List ℕ) (at : ℕ → Rec) (top : ℕ) (m : List Rec) (held p
       pub admit_indexed : Indexed base at (suc p) (r ∷ m) o.held o.places o.seens
       unfolding admit_of
       admit_indexed =
-          let u8 = well_unit r (no_fault r base floor held places seens 0 (sym zero_fault) refl).0 in
+          let u8 = well_unit r (no_fault r base floor held places seens (sym zero_fault)).0 in
           rw (e, zero_fault) (indexed_note base at top m held places seens h r p u8 (admit_next z) k lo hi q)
 
       pub admit_floor : o.floor ≡ floor_of (r ∷ m)

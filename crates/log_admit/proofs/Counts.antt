@@ -1,7 +1,6 @@
 -- Record counts, and the record of an identity, in a list that gets one record more.
 -- Assumes nothing.
 use Prim.Native.Nat.{ℕ, zero, suc, ◌+◌, ◌≤◌, ◌<◌}
-use native.Mathlib.Numerals.{add-one}
 use native.Mathlib.Omega.{arith}
 use mathlib.Core.Path.{◌≡◌, refl, sym, ◌∙◌}
 use mathlib.Core.Logic.{◌⊎◌, inl, inr, ⊎_elim}
@@ -13,7 +12,7 @@ use lib.ListN.{get_or, length, set, length-set}
 use lib.Seq.{get_or-set_same, get_or-set_other, ext_get_or}
 use borrow.Author.Tests.{eq-eqb, ne_eqb}
 use Rattle.model.specs.Record.{Rec, unit, num}
-use Rattle.model.specs.Log.{count, count_on, counts_on_to, vector_on, by_id}
+use Rattle.model.specs.Log.{count, counts_on_to, vector_on, by_id}
 use Rattle.byte_slice.proofs.Numbers.{eq_or_ne}
 use Rattle.log_laws.proofs.Counts.{count-cons}
 use Rattle.log_laws.proofs.Tests.{vector_on-length, vector_on_get_d}

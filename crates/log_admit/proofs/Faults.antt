@@ -7,7 +7,7 @@ use mathlib.Core.Bool.{Bool, true, false, cond, not, ◌&&◌}
 use mathlib.Core.List.{List}
 use lib.Dec.{leb, eqb}
 use lib.ListN.{get_or, set}
-use borrow.Author.Tests.{le-leb, lt-leb, eq-eqb, ne_eqb, eqb-true, not-true, not-false}
+use borrow.Author.Tests.{le-leb, lt-leb, ne_eqb, eqb-true, not-true, not-false}
 use Rattle.model.specs.Bytes.{put_at}
 use Rattle.model.specs.Vector.{covers}
 use Rattle.model.specs.Record.{Rec, unit, num, seen_vector, well_formed}
@@ -15,14 +15,6 @@ use Rattle.model.specs.Log.{rank}
 use Rattle.vector.proofs.Dominance.{covers_at}
 use Rattle.log_closure.specs.Tables.{slot_of, closed_by, join_fault, fault_by, Placed, Spare, noted, admit_of}
 use Rattle.log_laws.proofs.Formed.{well_unit}
-
--- the next number, as the code compares it
-module _ (n c a t : ℕ) (e : a ≡ n) (f : t ≡ c) where
-  pub next_yes : a ≡ t + 1 → true ≡ eqb n (suc c)
-  next_yes h = sym (eq-eqb n (suc c) (omega arith))
-
-  pub next_no : (a ≡ t + 1 → ⊥) → false ≡ eqb n (suc c)
-  next_no h = sym (ne_eqb n (suc c) (λ k. h (omega arith)))
 
 pub formed : (r : Rec) (t : Bool) → t ≡ well_formed r → not t ≡ false → well_formed r ≡ true
 formed r t e g = sym e ∙ not-false t g
@@ -98,39 +90,39 @@ module _ (r : Rec) (base : List ℕ) (floor : ℕ) (held places seens : List ℕ
   unfolding admit_of
   admit_refuses p h = rw (← e, ne_eqb n 0 h)
 
-  module _ (z : n ≡ 0) where
-    pub no_fault : (well_formed r ≡ true) × (num r ≡ suc (get_or held (unit r) 0))
-    unfolding fault_by
-    no_fault = go (well_formed r) (leb floor (rank r)) refl (sym e ∙ z)
-      where
-        go : (a b : Bool) → well_formed r ≡ a → ◌≡◌ {A = ℕ} (cond a (cond b (join_fault base held places seens r) 20) 7) 0 → (well_formed r ≡ true) × (num r ≡ suc (get_or held (unit r) 0))
-        go true true p x = (p, join_next r base held places seens x)
-        go true false p x = absurd (omega arith)
-        go false b p x = absurd (omega arith)
+module _ (r : Rec) (base : List ℕ) (floor : ℕ) (held places seens : List ℕ) (e : 0 ≡ fault_by base floor held places seens r) where
+  pub no_fault : (well_formed r ≡ true) × (num r ≡ suc (get_or held (unit r) 0))
+  unfolding fault_by
+  no_fault = go (well_formed r) (leb floor (rank r)) refl (sym e)
+    where
+      go : (a b : Bool) → well_formed r ≡ a → ◌≡◌ {A = ℕ} (cond a (cond b (join_fault base held places seens r) 20) 7) 0 → (well_formed r ≡ true) × (num r ≡ suc (get_or held (unit r) 0))
+      go true true p x = (p, join_next r base held places seens x)
+      go true false p x = absurd (omega arith)
+      go false b p x = absurd (omega arith)
 
-    module _ (u : ℕ) (a : u ≡ unit r) where
-      pub unit_admitted : u < 8
-      unit_admitted = rw a (well_unit r no_fault.0)
+  module _ (u : ℕ) (a : u ≡ unit r) where
+    pub unit_admitted : u < 8
+    unit_admitted = rw a (well_unit r no_fault.0)
 
-      module _ (c : ℕ) (b : c ≡ num r) where
-        next-held : c ≡ suc (get_or held u 0)
-        next-held = b ∙ rw a no_fault.1
+    module _ (c : ℕ) (b : c ≡ num r) where
+      next-held : c ≡ suc (get_or held u 0)
+      next-held = b ∙ rw a no_fault.1
 
-        pub number_above : Spare base held → get_or held u 0 < c
-        number_above s = omega (arith, next-held)
+      pub number_above : Spare base held → get_or held u 0 < c
+      number_above s = omega (arith, next-held)
 
-        module _ (s : Spare base held) where
-          pub number_behind : get_or base u 0 ≤ c
-          number_behind = omega (arith, next-held, s.behind u unit_admitted)
+      module _ (s : Spare base held) where
+        pub number_behind : get_or base u 0 ≤ c
+        number_behind = omega (arith, next-held, s.behind u unit_admitted)
 
-          pub number_least : 1 ≤ c - get_or base u 0
-          number_least = omega (arith, next-held, s.behind u unit_admitted)
+        pub number_least : 1 ≤ c - get_or base u 0
+        number_least = omega (arith, next-held, s.behind u unit_admitted)
 
-          pub number_most : c - get_or base u 0 ≤ 512
-          number_most = omega (arith, next-held, s.below u unit_admitted)
+        pub number_most : c - get_or base u 0 ≤ 512
+        number_most = omega (arith, next-held, s.below u unit_admitted)
 
-    pub admit_notes : (p u c d k : ℕ) (s held' places' seens' : List ℕ) → u ≡ unit r → c ≡ num r → d ≡ c - get_or base u 0 → k ≡ rank r → s ≡ seen_vector r
-        → held' ≡ set held u (get_or held u 0 + 1) → places' ≡ set places (slot_of u d) p → seens' ≡ put_at seens (8 * p) s
-        → noted 0 held' (k + 1) places' seens' ≡ admit_of base r p held floor places seens
-    unfolding admit_of
-    admit_notes p u c d k s held' places' seens' a b q o f g h i = rw (← e, z, g, h, i, q, a, b, o, f)
+  pub admit_notes : (p u c d k : ℕ) (s held' places' seens' : List ℕ) → u ≡ unit r → c ≡ num r → d ≡ c - get_or base u 0 → k ≡ rank r → s ≡ seen_vector r
+      → held' ≡ set held u (get_or held u 0 + 1) → places' ≡ set places (slot_of u d) p → seens' ≡ put_at seens (8 * p) s
+      → noted 0 held' (k + 1) places' seens' ≡ admit_of base r p held floor places seens
+  unfolding admit_of
+  admit_notes p u c d k s held' places' seens' a b q o f g h i = rw (← e, g, h, i, q, a, b, o, f)

@@ -1,11 +1,11 @@
 -- What the pass over records in order is asked, over plain values.
 -- Assumes nothing.
-use Prim.Native.Nat.{ℕ, zero, suc, ◌+◌, ◌-◌, ◌≤◌, ◌<◌}
+use Prim.Native.Nat.{ℕ, suc, ◌+◌, ◌-◌, ◌≤◌, ◌<◌}
 use native.Mathlib.Nat.{sub-zero, sub_self, zero-add}
 use native.Mathlib.Numerals.{add-one}
 use native.Mathlib.Omega.{arith}
 use mathlib.Core.Path.{◌≡◌, refl, sym, ap, ◌∙◌}
-use mathlib.Core.Bool.{Bool, true, false, cond}
+use mathlib.Core.Bool.{cond}
 use mathlib.Core.Option.{none}
 use mathlib.Core.List.{List, [], ◌∷◌, ◌++◌, append-nil}
 use lib.Dec.{eqb}
@@ -15,7 +15,7 @@ use Rattle.model.specs.Bytes.{part}
 use Rattle.model.specs.Record.{Rec, unit, num}
 use Rattle.model.specs.Log.{by_id, record_fault}
 use Rattle.byte_slice.proofs.Parts.{part_is}
-use Rattle.log_closure.specs.Tables.{Indexed, Placed, Spare, floor_of, Noted, noted, admit_of}
+use Rattle.log_closure.specs.Tables.{Indexed, Placed, Spare, floor_of, noted, admit_of}
 use Rattle.log_admit.proofs.Counts.{Alike, alike-cons, alike_trans, alike_inside}
 use Rattle.log_admit.proofs.Tables.{indexed_placed, indexed_alike, indexed_none}
 use Rattle.log_admit.proofs.Admits.{indexed_spare, admit_fault, admit_indexed, admit_floor, admit_next}
@@ -84,25 +84,6 @@ module _ (base : List ℕ) (at : ℕ → Rec) (i : ℕ) (held : List ℕ) (floor
 pub left-none : (base : List ℕ) (at : ℕ → Rec) (n : ℕ) (held places seens : List ℕ) → held ≡ base → scan_from base at 0 (n - 0) held 0 places seens ≡ scan_of base at n places seens
 unfolding scan_of
 left-none base at n held places seens e = rw (e, sub-zero n)
-
--- with a fault the counts are zeros
-either_zeros : (t : Bool) (x y : Scan) → ((x.number ≡ 0 → ⊥) → x.held ≡ replicate 8 0) → y.held ≡ replicate 8 0 → ((cond t x y).number ≡ 0 → ⊥) → (cond t x y).held ≡ replicate 8 0
-either_zeros true x y p q = p
-either_zeros false x y p q = λ _. q
-
-zeros_from : (base : List ℕ) (at : ℕ → Rec) (i n : ℕ) (held : List ℕ) (floor : ℕ) (places seens : List ℕ)
-    → ((scan_from base at i n held floor places seens).number ≡ 0 → ⊥) → (scan_from base at i n held floor places seens).held ≡ replicate 8 0
-unfolding scan_from
-zeros_from base at i zero held floor places seens = λ z. absurd (z refl)
-zeros_from base at i (suc n) held floor places seens =
-    let a : Noted = admit_of base (at i) i held floor places seens in
-    either_zeros (eqb a.number 0) (scan_from base at (suc i) n a.held a.floor a.places a.seens) (scanned a.number i (replicate 8 0) a.places a.seens)
-    (zeros_from base at (suc i) n a.held a.floor a.places a.seens)
-    refl
-
-pub fault-zeros : (base : List ℕ) (at : ℕ → Rec) (n : ℕ) (places seens : List ℕ) (s : Scan) → s ≡ scan_of base at n places seens → (s.number ≡ 0 → ⊥) → s.held ≡ replicate 8 0
-unfolding scan_of
-fault-zeros base at n places seens s e = rw e (zeros_from base at 0 n base 0 places seens)
 
 module _ (base : List ℕ) (at : ℕ → Rec) (i n : ℕ) (held : List ℕ) (floor : ℕ) (places seens : List ℕ) (s : Scan) (f : scan_from base at i (n - i) held floor places seens ≡ s) where
   pub left_ends : i ≤ n → n ≤ i → scanned 0 0 held places seens ≡ s

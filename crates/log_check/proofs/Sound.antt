@@ -5,23 +5,24 @@ use native.Mathlib.Nat.{zero-add, add-zero}
 use native.Mathlib.Omega.{arith}
 use mathlib.Core.Path.{◌≡◌, refl, sym, ap, ◌∙◌, subst}
 use mathlib.Core.Logic.{⊎_elim}
-use mathlib.Core.Bool.{Bool, true, false, cond, not}
+use mathlib.Core.Bool.{Bool, true, false, cond, false≢true}
 use mathlib.Core.List.{List, [], ◌∷◌}
 use lib.Dec.{eqb}
-use lib.ListN.{length, take, drop, replicate, length-drop}
+use lib.ListN.{length, take, drop, length-drop}
 use lib.Seq.{drop-drop, take_all}
-use borrow.Author.Tests.{eq-eqb, ne_eqb, eqb-true, not-false}
+use borrow.Author.Tests.{eq-eqb, ne_eqb}
 use Rattle.model.specs.Bytes.{blank, part}
 use Rattle.model.specs.Record.{Rec}
-use Rattle.model.specs.Log.{vector_of, no_counts, record_fault, sound_after, records_in, records_of, sound_log_on, sound_log}
-use Rattle.byte_slice.proofs.Numbers.{cond_cases, eq_or_ne, and_true}
+use Rattle.model.specs.Log.{no_counts, record_fault, sound_after, records_in, records_of, sound_log_on, sound_log}
+use Rattle.byte_slice.proofs.Numbers.{cond_cases, eq_or_ne}
 use Rattle.byte_slice.proofs.Parts.{part_is}
-use Rattle.log_laws.proofs.Tests.{vector_on-none}
 use Rattle.encoding_laws.proofs.Logs.{sound_few}
 use Rattle.log_closure.specs.Tables.{Indexed}
 use Rattle.log_check.specs.declared.Layout.TheVariants.{Log}
 use Rattle.log_check.specs.Places.{offset_of, laid_at, Laid}
-use Rattle.log_check.proofs.Scans.{fault-zeros}
+use Rattle.std.proofs.Common.{Option, None, Some, IsSome, IfSome, ◌↔◌, rules}
+use Rattle.log_check.specs.declared.Checked.{Checked}
+use Rattle.log_check.specs.Told.{check_told}
 use Rattle.log_check.specs.InOrder.{listed, before, Found, first_fault, scanned, scan_of, ScanGives, held_of, Check, checked, check_of}
 
 -- ---- the records of a log, place by place
@@ -104,25 +105,25 @@ module _ (b : List ℕ) (n : ℕ) (e : n ≡ length (records_of b)) where
         rw (← listed_records b n e) (sound_pass base (laid_at Log b) 0 n)
         ∙ ap (λ (x : Found). eqb x.number 0) (sym g.first)
 
-    pub fault-unsound : (number ≡ 0 → ⊥) → sound_log_on base b ≡ true → ⊥
-    unfolding sound_log_on
-    fault-unsound z t = z (eqb-true number 0 (sym pass_is ∙ (and_true (sound_after base [] (records_of b)) (blank (drop (80 * length (records_of b)) b)) t).0))
-
     pub records_indexed : number ≡ 0 → Indexed base (laid_at Log b) n (records_of b) held places seens
     records_indexed z = subst (λ (l : List Rec). Indexed base (laid_at Log b) n l held places seens) (listed_records b n e) (g.holds z)
 
     module _ (places₀ seens₀ : List ℕ) (o : scanned number place held places seens ≡ scan_of base (laid_at Log b) n places₀ seens₀) where
-      pub fault-left : (number ≡ 0 → ⊥) → checked false n held places seens ≡ check_of base b places₀ seens₀
-      unfolding check_of held_of sound_log_on
-      fault-left z =
-          let h : held ≡ replicate 8 0 = fault-zeros base (laid_at Log b) n places₀ seens₀ (scanned number place held places seens) o z in
-          rw (h, pass_is, ne_eqb number 0 z, ← e, ← o)
+      pub fault-left : (number ≡ 0 → ⊥) → checked false (length (records_of b)) (held_of base b) places seens ≡ check_of base b places₀ seens₀
+      unfolding check_of sound_log_on
+      fault-left z = rw (pass_is, ne_eqb number 0 z, ← e, ← o)
 
-      pub records_left_lem : length b ≡ 40960 → number ≡ 0 → (t : Bool) → t ≡ blank (take (40960 - 80 * n) (drop (80 * n) b)) → checked t n held places seens ≡ check_of base b places₀ seens₀
-      unfolding check_of held_of sound_log_on
-      records_left_lem k z t q =
-          let d : take (40960 - 80 * n) (drop (80 * n) b) ≡ drop (80 * n) b = take_all (40960 - 80 * n) (drop (80 * n) b) (simp length-drop (omega arith)) in
-          rw (q, d, pass_is, eq-eqb number 0 z, ← e, ← o, ← (records_indexed z).counts)
+      module _ (k : length b ≡ 40960) (z : number ≡ 0) (t : Bool) (q : t ≡ blank (take (40960 - 80 * n) (drop (80 * n) b))) where
+        tail_is : t ≡ blank (drop (80 * length (records_of b)) b)
+        tail_is = q ∙ rw (← e, take_all (40960 - 80 * n) (drop (80 * n) b) (simp length-drop (omega arith)))
+
+        pub tail-left : t ≡ false → checked false (length (records_of b)) (held_of base b) places seens ≡ check_of base b places₀ seens₀
+        unfolding check_of sound_log_on
+        tail-left w = rw (pass_is, eq-eqb number 0 z, ← tail_is, w, ← e, ← o)
+
+        pub records-left : t ≡ true → checked true n held places seens ≡ check_of base b places₀ seens₀
+        unfolding check_of held_of sound_log_on
+        records-left w = rw (pass_is, eq-eqb number 0 z, ← tail_is, w, ← e, ← o, ← (records_indexed z).counts)
 
 -- what `check_into` leaves, told apart
 module _ (base b places₀ seens₀ : List ℕ) {t : Bool} {n : ℕ} {held places seens : List ℕ} (o : checked t n held places seens ≡ check_of base b places₀ seens₀) where
@@ -138,17 +139,19 @@ module _ (base b places₀ seens₀ : List ℕ) {t : Bool} {n : ℕ} {held place
   unfolding check_of
   checked-held = ap (λ (x : Check). x.held) o
 
+-- what `check` tells
+module _ (base b places₀ seens₀ places seens : List ℕ) where
+  pub told_sound : (answer : Option Checked) → check_told base b answer places seens ≡ check_of base b places₀ seens₀ → IsSome answer ↔ (sound_log_on base b ≡ true)
+  told_sound None o = (λ s. search rules, λ t. let e : false ≡ sound_log_on base b = checked_sound base b places₀ seens₀ o in absurd (false≢true (e ∙ t)))
+  told_sound (Some told) o = (λ s. sym (checked_sound base b places₀ seens₀ o), λ t. search rules)
+
+  pub told_known : (answer : Option Checked) → check_told base b answer places seens ≡ check_of base b places₀ seens₀
+      → IfSome answer (λ told. (told.used ≡ length (records_of b)) × (told.held.counts ≡ held_of base b))
+  told_known None o = search rules
+  told_known (Some told) o = (checked_used base b places₀ seens₀ o, checked-held base b places₀ seens₀ o)
+
 -- ---- with no record before
 
 pub plain_sound : (b : List ℕ) → sound_log_on no_counts b ≡ sound_log b
 unfolding sound_log
 plain_sound b = refl
-
--- what is known of a log that was checked and found sound
-module _ (b : List ℕ) {s : Bool} (judged : s ≡ sound_log b) (holds : not s ≡ false) where
-  pub known_sound : sound_log b ≡ true
-  known_sound = sym judged ∙ not-false s holds
-
-  pub known_held : {h : List ℕ} → h ≡ held_of no_counts b → h ≡ vector_of (records_of b)
-  unfolding held_of sound_log sound_log_on
-  known_held e = e ∙ rw (and_true (sound_after no_counts [] (records_of b)) (blank (drop (80 * length (records_of b)) b)) known_sound).0 (vector_on-none (records_of b))

@@ -1,7 +1,6 @@
 -- Records judged one after another, behind a base vector.
 -- Assumes nothing.
-use Rattle.std.specs.Prelude.{ℕ, zero, suc, ◌*◌, ◌≡◌, Bool, cond, ◌&&◌, List, [], ◌∷◌, length, drop, replicate, eqb}
-use Rattle.model.specs.Bytes.{blank}
+use Rattle.std.specs.Prelude.{ℕ, zero, suc, ◌≡◌, Bool, cond, List, [], ◌∷◌, length, replicate, eqb}
 use Rattle.model.specs.Record.{Rec}
 use Rattle.model.specs.Log.{record_fault, sound_after, vector_on, records_of, sound_log_on}
 use Rattle.log_closure.specs.Tables.{Noted, admit_of, Indexed}

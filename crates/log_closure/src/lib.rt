@@ -13,19 +13,12 @@ pub const PLACES: usize = 4096;
 // The table of what was seen: a row of eight for each position.
 pub const SEENS: usize = 4144;
 
-// A 16-bit number as an index.
-fn index(x: u16) -> usize
-    ensures { result ≡ x }
-{
-    x as usize
-}
-
 // Where the position of the record of unit u with the relative number c stands.
 pub fn slot(u: usize, c: u16) -> usize
     requires { (u < 8) × (1 ≤ c) × (c ≤ 512) }
     ensures { (result ≡ slot_of u c) × (result < 4096) }
 {
-    512 * u + (index(c) - 1)
+    512 * u + (usize::from(c) - 1)
 }
 
 // The position of the record of unit u with the relative number c.
@@ -33,8 +26,7 @@ pub fn position(places: &[u16], u: usize, c: u16) -> usize
     requires { (length places.now ≡ 4096) × (u < 8) × (1 ≤ c) × (c ≤ 512) }
     ensures { result ≡ position_of places.now u c }
 {
-    let i = slot(u, c);
-    index(places[i])
+    usize::from(places[slot(u, c)])
 }
 
 // What the record at a position has seen.

@@ -116,7 +116,7 @@ module _ (log₀ recs : List ℕ) (n k : ℕ) (long : length log₀ ≡ 40960) (
           let f : 80 * (end - p) ≡ 80 * end - 80 * p = omega arith in
           rw (joined-listed log₀ p (end - p), f) (sym (part-take log (80 * end) (80 * p) (80 * end - 80 * p) (omega arith)) ∙ rw m.front (part-take log₀ (80 * end) (80 * p) (80 * end - 80 * p) (omega arith)))
 
-      module _ (u o : List ℕ) (u-is : u ≡ put_at log (80 * p + 80 * left) (part log (80 * p) (80 * end - 80 * p)))
+      module _ (u o : List ℕ) (u-is : u ≡ put_at log (80 * p + 80 * (left - 1 + 1)) (part log (80 * p) (80 * end - 80 * p)))
           (o_is : o ≡ put_at u (80 * (p + (left - 1))) (take (80 * (left - 1) + 80 - 80 * (left - 1)) (drop (80 * (left - 1)) recs))) (sized : length recs ≡ 80 * k) where
         r_long : length r ≡ 80
         unfolding r laid_at offset_of
@@ -128,7 +128,7 @@ module _ (log₀ recs : List ℕ) (n k : ℕ) (long : length log₀ ≡ 40960) (
         once : o ≡ put_at log (80 * (p + (left - 1))) (r ++ joined moved)
         once =
             let w = place_within in
-            let f : 80 * p + 80 * left ≡ 80 * (p + (left - 1)) + 80 = omega arith in
+            let f : 80 * p + 80 * (left - 1 + 1) ≡ 80 * (p + (left - 1)) + 80 = omega arith in
             o_is ∙ rw (u-is, lent_is, bytes, f) (rw r_long at (put_front log (80 * (p + (left - 1))) r (joined moved) (omega (arith, r_long, moved-long))))
 
         new_front : take (80 * p) o ≡ take (80 * p) log₀

@@ -147,8 +147,8 @@ module _ (b : List ℕ) (k n i : ℕ) (inv : place_behind (laid_at Log b) k i �
     unfolding place_behind
     step = let s : i ≡ suc (i - 1) = omega arith in (rw lent_rank at (ap (λ (x : ℕ). place_behind (laid_at Log b) k x) s)) ∙ ap (λ (x : ℕ). cond (leb q k) x (place_behind (laid_at Log b) k (i - 1))) (sym s)
 
-    pub behind_stops : q ≤ k → i ≡ place_behind (laid_at Log b) k n
-    behind_stops l = sym (rw (le-leb q k l) at step) ∙ inv
+    pub behind_stops : q ≤ k → i - 1 + 1 ≡ place_behind (laid_at Log b) k n
+    behind_stops l = let s : i - 1 + 1 ≡ i = omega arith in s ∙ sym (rw (le-leb q k l) at step) ∙ inv
 
     pub behind-next : k < q → place_behind (laid_at Log b) k (i - 1) ≡ place_behind (laid_at Log b) k n
     behind-next l = sym (rw (lt-leb q k l) at step) ∙ inv

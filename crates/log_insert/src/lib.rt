@@ -13,13 +13,11 @@ pub fn place_behind(log: &[u8], n: usize, k: u32) -> usize
     requires { (length log.now ≡ log_size) × (n ≤ log_places) }
     ensures { (result ≡ place_behind (laid_at Log log.now) k n) × (result ≤ n) }
 {
-    let mut i = n;
-    while 0 < i {
-        let at = 80 * (i - 1);
+    for i in (0..n).rev() {
+        let at = 80 * i;
         if record::rank_of(&log[at..at + 80]) <= k {
-            return i;
+            return i + 1;
         }
-        i -= 1;
     }
     0
 }
@@ -31,14 +29,11 @@ pub fn insert_records(log: &mut [u8], n: usize, recs: &[u8], k: usize)
     ensures { log.new ≡ log_bytes (insert_to (records_of log.old) (laid_at Log recs.now) k) }
 {
     let mut end = n;
-    let mut left = k;
-    while 0 < left {
-        let last = left - 1;
-        let at = 80 * last;
+    for j in (0..k).rev() {
+        let at = 80 * j;
         let i = place_behind(log, end, record::rank_of(&recs[at..at + 80]));
-        byte_slice::move_up(log, 80 * i, 80 * end, 80 * left);
-        byte_slice::put(log, 80 * (i + last), &recs[at..at + 80]);
+        byte_slice::move_up(log, 80 * i, 80 * end, 80 * (j + 1));
+        byte_slice::put(log, 80 * (i + j), &recs[at..at + 80]);
         end = i;
-        left = last;
     }
 }

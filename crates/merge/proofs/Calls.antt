@@ -13,7 +13,7 @@ use Rattle.model.specs.Record.{Rec}
 use Rattle.model.specs.Log.{vector_of, no_counts}
 use Rattle.model.specs.Block.{vector_in}
 use Rattle.model.specs.File.{block_at, Fault, fault, records_counted, file_records, checked_fault}
-use Rattle.model.specs.Merge.{union, union_fault, merged, unless, unless_any, joined_file, merge_of}
+use Rattle.model.specs.Merge.{union, union_fault, Merged, merged, unless, unless_any, joined_file, merge_of}
 use Rattle.log_laws.specs.Members.{Has}
 use Rattle.log_laws.proofs.Counts.{no_counts_lem, formed}
 use Rattle.log_laws.proofs.Tests.{vector_on-none}
@@ -32,11 +32,10 @@ use Rattle.merge_check.specs.Tables.{Positioned, AllFormed, Fine}
 -- ---- the first file
 
 -- the tables that a check leaves have the positions
-pub positions : (f : List ℕ) (n : ℕ) (places seens : List ℕ)
-    → (n ≡ 0 → Indexed no_counts (laid_at File f) (records_counted f) (file_records f) (vector_of (file_records f)) places seens)
-    → n ≡ 0 → Positioned (laid_at File f) (records_counted f) (file_records f) (vector_of (file_records f)) places
-positions f n places seens h z =
-    let i = h z in
+pub positions : (f : List ℕ) (places seens : List ℕ)
+    → Indexed no_counts (laid_at File f) (records_counted f) (file_records f) (vector_of (file_records f)) places seens
+    → Positioned (laid_at File f) (records_counted f) (file_records f) (vector_of (file_records f)) places
+positions f places seens i =
     record {
       counts = i.counts ∙ vector_on-none (file_records f);
       long = i.places_long;
@@ -141,10 +140,9 @@ module _ (f g log lent : List ℕ) where
         unfolding merge_of unless_any unless fault
         second_refused_lem h = rw (eq-eqb (length log) 40960 l, eq-eqb (length lent) 44032 m, ← e, z, ← e₂, ne_eqb n₂ 0 h)
 
-        pub both_joined : n₂ ≡ 0 → (x y w k : ℕ) (o q : List ℕ) → merged x y w k o q ≡ unless (union_fault f g) 2 log lent (joined_file f (union (file_records f) (file_records g)))
-            → merged x y w k o q ≡ merge_of f g log lent
+        pub both_joined : n₂ ≡ 0 → (x : Merged) → x ≡ unless (union_fault f g) 2 log lent (joined_file f (union (file_records f) (file_records g))) → x ≡ merge_of f g log lent
         unfolding merge_of unless_any fault unless
-        both_joined z₂ x y w k o q r = r ∙ rw (eq-eqb (length log) 40960 l, eq-eqb (length lent) 44032 m, ← e, z, ← e₂, z₂)
+        both_joined z₂ x r = r ∙ rw (eq-eqb (length log) 40960 l, eq-eqb (length lent) 44032 m, ← e, z, ← e₂, z₂)
 
   module _ (n p : ℕ) (e : fault n p ≡ union_fault f g) where
     pub union_refused : (n ≡ 0 → ⊥) → merged n p 2 0 log lent ≡ unless (union_fault f g) 2 log lent (joined_file f (union (file_records f) (file_records g)))

@@ -5,7 +5,7 @@ use native.Mathlib.Numerals.{add-one}
 use native.Mathlib.Omega.{arith}
 use mathlib.Core.Path.{◌≡◌, ap, ◌∙◌}
 use mathlib.Core.Bool.{Bool, true, false, cond, not}
-use mathlib.Core.Option.{none, some}
+use mathlib.Core.Option.{some}
 use mathlib.Core.List.{List}
 use lib.Dec.{ltb}
 use lib.ListN.{get_or, length, take, drop}
@@ -43,7 +43,10 @@ module _ (g : List ℕ) (i at : ℕ) (e : at ≡ offset_of File i) where
 pub places_long : {at : ℕ → Rec} {n : ℕ} {m : List Rec} {held : List ℕ} (places : List ℕ) → Positioned at n m held places → length places ≡ 4096
 places_long places p = p.long
 
-module _ (f places rec held : List ℕ) (n : ℕ) (p : Positioned (laid_at File f) n (file_records f) held places) (w : well_formed rec ≡ true) (u c : ℕ) (eu : u ≡ unit rec) (ec : c ≡ num rec) where
+module _ (f places rec held : List ℕ) (n : ℕ) (p : Positioned (laid_at File f) n (file_records f) held places) (w : well_formed rec ≡ true) (u b c : ℕ) (wide : u ≡ b) (eb : b ≡ unit rec) (ec : c ≡ num rec) where
+  eu : u ≡ unit rec
+  eu = wide ∙ eb
+
   pub unit_small : u < 8
   unit_small = omega (arith, well_unit rec w)
 

@@ -11,6 +11,7 @@ ghost use Rattle.model.specs.Merge.{differs, bytes_fault, room_fault, records_cl
 ghost use Rattle.log_check.specs.declared.Layout.TheVariants.{File};
 ghost use Rattle.log_check.specs.Places.{laid_at, Laid};
 ghost use Rattle.log_check.specs.InOrder.{listed};
+ghost use Rattle.refusal.specs.Refusals.{fault_code, fault_place};
 ghost use Rattle.merge_check.specs.Tables.{Positioned, AllFormed, Fine};
 
 use block_read::archive_in;
@@ -19,8 +20,8 @@ use hand_out_pick::lacks;
 use log_check::{Layout, offset};
 use log_closure::position;
 use model::LOG_PLACES;
-use read_file_blocks::Fault;
 use record::{number_of, unit_of};
+use refusal::{Fault, Refusal};
 use vector::Vector;
 
 // The first file has the record's identity with other bytes.
@@ -28,7 +29,7 @@ fn clashes(first: &[u8], n: usize, held: Vector, places: &[u16], rec: &[u8]) -> 
     requires { (length rec.now ≡ 80) × (well_formed rec.now ≡ true) × Laid File first.now n × Positioned (laid_at File first.now) n (file_records first.now) held.counts places.now }
     ensures { result ≡ differs (by_id (unit rec.now) (num rec.now) (file_records first.now)) rec.now }
 {
-    let u = unit_of(rec) as usize;
+    let u = usize::from(unit_of(rec));
     let c = number_of(rec);
     if held.counts[u] < c {
         return false;
@@ -46,56 +47,45 @@ fn bytes_fault(
     places: &[u16],
     second: &[u8],
     total: usize,
-) -> Fault
+) -> Result<(), Fault<u8>>
     requires { (total ≤ log_places) × Laid File first.now n × Positioned (laid_at File first.now) n (file_records first.now) held.counts places.now × Laid File second.now total × AllFormed (laid_at File second.now) total }
-    ensures { fault result.number result.place ≡ bytes_fault (file_records first.now) 0 (listed (laid_at File second.now) 0 total) }
+    ensures { fault (fault_code result) (fault_place result) ≡ bytes_fault (file_records first.now) 0 (listed (laid_at File second.now) 0 total) }
 {
-    let mut i: usize = 0;
-    while i < total {
+    for i in 0..total {
         let at = offset(Layout::File, i);
         if clashes(first, n, held, places, &second[at..at + 80]) {
-            return Fault {
-                number: 10,
+            return Err(Fault {
+                refusal: Refusal::OtherBytes,
                 place: (i / 6) as u8,
-            };
+            });
         }
-        i += 1;
     }
-    Fault {
-        number: 0,
-        place: 0,
-    }
+    Ok(())
 }
 
 // The first of the second file's records that is one too many behind the used ones of the first.
-fn room_fault(second: &[u8], total: usize, held: Vector, used: usize) -> Fault
+fn room_fault(second: &[u8], total: usize, held: Vector, used: usize) -> Result<(), Fault<u8>>
     requires { (total ≤ log_places) × (used ≤ log_places) × Laid File second.now total × AllFormed (laid_at File second.now) total }
-    ensures { fault result.number result.place ≡ room_fault held.counts used 0 (listed (laid_at File second.now) 0 total) }
+    ensures { fault (fault_code result) (fault_place result) ≡ room_fault held.counts used 0 (listed (laid_at File second.now) 0 total) }
 {
     let mut n = used;
-    let mut i: usize = 0;
-    while i < total {
+    for i in 0..total {
         let at = offset(Layout::File, i);
         if !lacks(held, &second[at..at + 80]) {
-            i += 1;
             continue;
         }
         if n == LOG_PLACES {
-            return Fault {
-                number: 11,
+            return Err(Fault {
+                refusal: Refusal::FullLog,
                 place: (i / 6) as u8,
-            };
+            });
         }
         n += 1;
-        i += 1;
     }
-    Fault {
-        number: 0,
-        place: 0,
-    }
+    Ok(())
 }
 
-// The first of 10 and 11 that holds of the records of two files.
+// The first of OtherBytes and FullLog that holds of the records of two files.
 fn records_clash(
     first: &[u8],
     used: usize,
@@ -103,14 +93,11 @@ fn records_clash(
     places: &[u16],
     second: &[u8],
     total: usize,
-) -> Fault
+) -> Result<(), Fault<u8>>
     requires { Fine first.now used × Positioned (laid_at File first.now) used (file_records first.now) held.counts places.now × Fine second.now total }
-    ensures { fault result.number result.place ≡ records_clash (file_records first.now) (length (file_records first.now)) (file_records second.now) }
+    ensures { fault (fault_code result) (fault_place result) ≡ records_clash (file_records first.now) (length (file_records first.now)) (file_records second.now) }
 {
-    let b = bytes_fault(first, used, held, places, second, total);
-    if b.number != 0 {
-        return b;
-    }
+    bytes_fault(first, used, held, places, second, total)?;
     room_fault(second, total, held, used)
 }
 
@@ -122,7 +109,8 @@ pub fn archive_of(file: &[u8]) -> u32
     archive_in(&file[0..512])
 }
 
-// The first of 6, 10 and 11 that holds of two files without a fault. The table has the positions of the first's records.
+// The first of OtherArchive, OtherBytes and FullLog that holds of two files without a fault. The table has the positions of the first's
+// records.
 pub fn union_fault(
     first: &[u8],
     used: usize,
@@ -130,15 +118,15 @@ pub fn union_fault(
     places: &[u16],
     second: &[u8],
     total: usize,
-) -> Fault
+) -> Result<(), Fault<u8>>
     requires { (512 ≤ length first.now) × (512 ≤ length second.now) × Fine first.now used × Positioned (laid_at File first.now) used (file_records first.now) held.counts places.now × Fine second.now total }
-    ensures { fault result.number result.place ≡ union_fault first.now second.now }
+    ensures { fault (fault_code result) (fault_place result) ≡ union_fault first.now second.now }
 {
     if archive_of(second) != archive_of(first) {
-        return Fault {
-            number: 6,
+        return Err(Fault {
+            refusal: Refusal::OtherArchive,
             place: 0,
-        };
+        });
     }
     records_clash(first, used, held, places, second, total)
 }

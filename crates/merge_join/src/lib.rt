@@ -1,7 +1,7 @@
 // Two files that go together become one: the records of both by rank in a lent log, and the file of them.
 #![tactic(auto)]
 
-ghost use Rattle.std.specs.Prelude.{◌≡◌, ◌+◌, ◌*◌, ◌≤◌, max, length};
+ghost use Rattle.std.specs.Prelude.{◌≡◌, ◌+◌, ◌*◌, ◌≤◌, length};
 ghost use Rattle.model.specs.Lengths.{log_size, file_size, log_places};
 ghost use Rattle.model.specs.Bytes.{joined, put_at};
 ghost use Rattle.model.specs.Log.{vector_of, log_bytes, lacking};
@@ -31,10 +31,8 @@ fn gather_new(second: &[u8], total: usize, held: Vector, recs: &mut [u8]) -> usi
     ensures laid { recs.new ≡ put_at recs.old 0 (joined (lacking held.counts (listed (laid_at File second.now) 0 total))) }
 {
     let mut k: usize = 0;
-    let mut i: usize = 0;
-    while i < total {
+    for i in 0..total {
         let at = offset(Layout::File, i);
-        i += 1;
         if !lacks(held, &second[at..at + 80]) {
             continue;
         }
@@ -44,30 +42,20 @@ fn gather_new(second: &[u8], total: usize, held: Vector, recs: &mut [u8]) -> usi
     k
 }
 
-// The higher of two counts.
-fn higher_count(a: u16, b: u16) -> u16
-    ensures { result ≡ max a b }
-{
-    if a < b {
-        return b;
-    }
-    a
-}
-
 // Of each unit the higher count.
 fn higher(a: Vector, b: Vector) -> Vector
     ensures { result.counts ≡ highest a.counts b.counts }
 {
     Vector {
         counts: [
-            higher_count(a.counts[0], b.counts[0]),
-            higher_count(a.counts[1], b.counts[1]),
-            higher_count(a.counts[2], b.counts[2]),
-            higher_count(a.counts[3], b.counts[3]),
-            higher_count(a.counts[4], b.counts[4]),
-            higher_count(a.counts[5], b.counts[5]),
-            higher_count(a.counts[6], b.counts[6]),
-            higher_count(a.counts[7], b.counts[7]),
+            a.counts[0].max(b.counts[0]),
+            a.counts[1].max(b.counts[1]),
+            a.counts[2].max(b.counts[2]),
+            a.counts[3].max(b.counts[3]),
+            a.counts[4].max(b.counts[4]),
+            a.counts[5].max(b.counts[5]),
+            a.counts[6].max(b.counts[6]),
+            a.counts[7].max(b.counts[7]),
         ],
     }
 }

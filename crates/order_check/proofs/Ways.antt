@@ -1,14 +1,13 @@
 -- The ways out of checking an order, over plain values.
 -- Assumes nothing.
-use Prim.Native.Nat.{ℕ, zero, suc, ◌≤◌, ◌<◌}
+use Prim.Native.Nat.{ℕ, zero, suc, ◌≤◌}
 use native.Mathlib.Omega.{arith}
-use mathlib.Core.Path.{◌≡◌, refl, sym, ap, ◌∙◌}
-use mathlib.Core.Bool.{Bool, true, false, cond, not, ◌&&◌}
+use mathlib.Core.Path.{◌≡◌, refl, sym, ◌∙◌}
+use mathlib.Core.Bool.{Bool, true, false, not}
 use mathlib.Core.List.{List}
 use lib.Dec.{eqb}
 use lib.ListN.{length, replicate}
-use borrow.Author.Tests.{eq-eqb, ne_eqb, eqb-true, not-true, not-false}
-use Rattle.model.specs.Numbers.{first_of}
+use borrow.Author.Tests.{eqb-true, not-true, not-false}
 use Rattle.model.specs.Bytes.{blank}
 use Rattle.model.specs.Record.{Rec}
 use Rattle.model.specs.Log.{no_counts, vector_of, records_of, sound_log}
@@ -18,7 +17,6 @@ use Rattle.base_model.specs.Base.{base_vector}
 use Rattle.call_model.specs.Outcome.{guard_number, whole_number}
 use Rattle.order_model.specs.Order.{names_given, each_once, all_held, names_all, in_order_of, seen_first, shown_alike, failed_of, Ordered, ordered, judged_order, order_lent, order_number, or_ordered, order_of}
 use Rattle.byte_slice.proofs.Numbers.{and_true, first_stops}
-use Rattle.log_laws.specs.Members.{Has as Member}
 use Rattle.log_laws.proofs.Tests.{vector_on-none}
 use Rattle.encoding_laws.proofs.Logs.{sound_records, sound_few}
 use Rattle.log_closure.specs.Tables.{Indexed}
@@ -30,7 +28,7 @@ use Rattle.tree_laws.specs.Replayed.{Distinct, selves}
 use Rattle.tree_laws.proofs.Seen.{sound_distinct}
 use Rattle.tree_replay.specs.Playable.{Playable}
 use Rattle.base_head.specs.Head.{headed}
-use Rattle.call_guard.specs.Opened.{Opening, opened, open_of}
+use Rattle.call_guard.specs.Opened.{opened, open_of}
 use Rattle.call_guard.proofs.Opening.{number_is, open_lent, open_sound, open_held, open_folded}
 use Rattle.order_laws.specs.Marking.{covers_each}
 use Rattle.order_laws.proofs.Marks.{names_apart}
@@ -47,19 +45,10 @@ use Rattle.order_check.specs.Given.{Given}
 -- ---- the lent tables
 
 module _ (ours theirs : List ℕ) where
-  pub ours_wrong : (length ours ≡ 86020 → ⊥) → false ≡ order_lent ours theirs
-  ours_wrong h = rw (ne_eqb (length ours) 86020 h)
-
-  pub theirs_decide : length ours ≡ 86020 → eqb (length theirs) 86020 ≡ order_lent ours theirs
-  theirs_decide h = rw (eq-eqb (length ours) 86020 h)
-
   both_lent : order_lent ours theirs ≡ true → (length ours ≡ 86020) × (length theirs ≡ 86020)
   both_lent h =
       let (a, b) = and_true (eqb (length ours) 86020) (eqb (length theirs) 86020) h in
       (eqb-true (length ours) 86020 a, eqb-true (length theirs) 86020 b)
-
-pub opens : (log base ours theirs : List ℕ) {lent : Bool} {o : Opening} → lent ≡ order_lent ours theirs → o ≡ open_of 0 log base lent true → o ≡ open_of 0 log base (order_lent ours theirs) true
-opens log base ours theirs l e = rw l at e
 
 -- ---- a list that meets the first condition
 
@@ -172,9 +161,9 @@ module _ (log base : List ℕ) (lent : Bool) {n m k j used : ℕ} {folded held :
   none : blank (base_vector base) ≡ t
   none = sym (rw (open_folded 0 log base lent true e z) at c)
 
-  module _ (h : not t ≡ false) where
+  module _ (h : t ≡ true) where
     plain : base_vector base ≡ no_counts
-    plain = no_vector base (none ∙ not-false t h)
+    plain = no_vector base (none ∙ h)
 
     pub order_sound : sound_log log ≡ true
     unfolding sound_log
@@ -183,8 +172,8 @@ module _ (log base : List ℕ) (lent : Bool) {n m k j used : ℕ} {folded held :
     pub order_held : held ≡ vector_of (records_of log)
     order_held = open_held 0 log base lent true e z ∙ rw plain (vector_on-none (records_of log))
 
-    pub order_places : (places seens : List ℕ) → (n ≡ 0 → Indexed (base_vector base) (laid_at Log log) used (records_of log) held places seens) → Positions log places used
-    order_places places seens f = indexed_positions log (base_vector base) held places seens used plain (f z)
+    pub order_places : (places seens : List ℕ) → Indexed (base_vector base) (laid_at Log log) used (records_of log) held places seens → Positions log places used
+    order_places places seens f = indexed_positions log (base_vector base) held places seens used plain f
 
 module _ (log base ours theirs : List ℕ) {n m k j used : ℕ} {folded held : List ℕ} (e : opened n (headed m folded k j) held used ≡ open_of 0 log base (order_lent ours theirs) true) where
   guard : n ≡ guard_number 0 log base (order_lent ours theirs) true
@@ -203,10 +192,10 @@ module _ (log base ours theirs : List ℕ) {n m k j used : ℕ} {folded held : L
       whole : blank (base_vector base) ≡ t
       whole = none log base (order_lent ours theirs) e z t c
 
-      pub order_folded : (list : List ℕ) → not t ≡ true → ordered 29 0 0 ours theirs ≡ order_of log base list ours theirs
+      pub order_folded : (list : List ℕ) → t ≡ false → ordered 29 0 0 ours theirs ≡ order_of log base list ours theirs
       unfolding order_of order_number
-      order_folded list h = rw (← guard, z, whole, not-true t h)
+      order_folded list h = rw (← guard, z, whole, h)
 
-      pub order_passes : not t ≡ false → (list : List ℕ) (o : Ordered) → o ≡ judged_order (names_given list) (records_of log) ours theirs → o ≡ order_of log base list ours theirs
+      pub order_passes : t ≡ true → (list : List ℕ) (o : Ordered) → o ≡ judged_order (names_given list) (records_of log) ours theirs → o ≡ order_of log base list ours theirs
       unfolding order_of order_number
-      order_passes h list o q = q ∙ rw (← guard, z, whole, not-false t h)
+      order_passes h list o q = q ∙ rw (← guard, z, whole, h)

@@ -1,7 +1,7 @@
 // Checking another maker's order: the log and its base, the three conditions, and the two trees for the caller to see what differs.
 #![tactic(auto)]
 
-ghost use Rattle.std.specs.Prelude.{◌≡◌, true, length};
+ghost use Rattle.std.specs.Prelude.{◌≡◌, true, length, IfOk};
 ghost use Rattle.model.specs.Lengths.{log_size, tree_size};
 ghost use Rattle.model.specs.Bytes.{blank};
 ghost use Rattle.model.specs.Log.{vector_of, records_of, sound_log};
@@ -12,31 +12,39 @@ ghost use Rattle.order_model.specs.Order.{names_given, in_order_of, seen_first, 
 ghost use Rattle.log_closure.specs.Tables.{places_size, seens_size, Indexed};
 ghost use Rattle.log_check.specs.declared.Layout.TheVariants.{Log};
 ghost use Rattle.log_check.specs.Places.{laid_at};
-ghost use Rattle.base_head.specs.Head.{headed};
-ghost use Rattle.call_guard.specs.Opened.{opened, open_of};
+ghost use Rattle.call_guard.specs.Opened.{open_of};
+ghost use Rattle.call_guard.specs.Told.{opening};
 ghost use Rattle.order_names.specs.Named.{Positions};
 ghost use Rattle.order_check.specs.Given.{Given};
+ghost use Rattle.order_check.specs.Failed.{condition_number, failed_number, ordered_by};
 
-use call_guard::Opened;
 use model::TREE_BYTES;
+use refusal::Refusal;
+use state_check::State;
 use vector::Vector;
 
-// What checking an order answers: the number, 0 for success, and which of the three conditions failed first, 0 where the order is accepted.
-#[derive(Drop)]
-pub struct Ordered {
-    pub number: u8,
-    pub place: u8,
-    pub failed: u8,
+// The three conditions of an order, with their numbers: each record is named once, none stands before one that it has seen, and the tree
+// is ours.
+#[derive(Clone, Copy, Debug, PartialEq, Eq)]
+pub enum Condition {
+    Names = 1,
+    Seen = 2,
+    Tree = 3,
+}
+
+impl From<Condition> for u8 {
+    ghost from_gives = { λ condition number. number ≡ condition_number condition };
+
+    fn from(condition: Condition) -> u8 {
+        condition as u8
+    }
 }
 
 // The two lent tables have their stated lengths.
 fn lent_fits(ours: &[u8], theirs: &[u8]) -> bool
     ensures { result ≡ order_lent ours.now theirs.now }
 {
-    if ours.len() != TREE_BYTES {
-        return false;
-    }
-    theirs.len() == TREE_BYTES
+    ours.len() == TREE_BYTES && theirs.len() == TREE_BYTES
 }
 
 // The state, checked in this order: 1 (the two tables too), 19; the records of its log are noted in the tables of positions.
@@ -47,10 +55,10 @@ fn open_order(
     theirs: &[u8],
     places: &mut [u16],
     seens: &mut [u16],
-) -> Opened
+) -> Result<State, Refusal>
     requires { (length places.old ≡ places_size) × (length seens.old ≡ seens_size) }
-    ensures outright { opened result.number (headed result.head.list result.head.folded.counts result.head.entries result.head.asides) result.held.counts result.used ≡ open_of 0 log.now base.now (order_lent ours.now theirs.now) true }
-    ensures holds { result.number ≡ 0 → Indexed (base_vector base.now) (laid_at Log log.now) result.used (records_of log.now) result.held.counts places.new seens.new }
+    ensures outright { opening result ≡ open_of 0 log.now base.now (order_lent ours.now theirs.now) true }
+    ensures holds { IfOk result (λ state. Indexed (base_vector base.now) (laid_at Log log.now) state.used (records_of log.now) state.held.counts places.new seens.new) }
 {
     let lent = lent_fits(ours, theirs);
     call_guard::open_into(log, base, 0, lent, true, places, seens)
@@ -91,7 +99,7 @@ fn trees_alike(
     order_rows::tables_alike(ours, theirs)
 }
 
-// The condition that fails first, of a list that meets the first one; 0 for none.
+// The condition that fails first, of a list that meets the first one.
 fn judge_named(
     log: &[u8],
     list: &[u8],
@@ -99,20 +107,20 @@ fn judge_named(
     places: &[u16],
     ours: &mut [u8],
     theirs: &mut [u8],
-) -> u8
+) -> Option<Condition>
     requires { Given log.now list.now places.now n × (length ours.old ≡ tree_size) × (length theirs.old ≡ tree_size) }
-    ensures { ordered 0 0 result ours.new theirs.new ≡ judged_order (names_given list.now) (records_of log.now) ours.old theirs.old }
+    ensures { ordered 0 0 (failed_number result) ours.new theirs.new ≡ judged_order (names_given list.now) (records_of log.now) ours.old theirs.old }
 {
     if !seen_first(log, list, n, places) {
-        return 2;
+        return Some(Condition::Seen);
     }
     if !trees_alike(log, list, n, places, ours, theirs) {
-        return 3;
+        return Some(Condition::Tree);
     }
-    0
+    None
 }
 
-// The condition that fails first of the n records of a sound log that stands alone, whose counts and positions are given; 0 for none.
+// The condition that fails first of the n records of a sound log that stands alone, whose counts and positions are given.
 fn judge_order(
     log: &[u8],
     list: &[u8],
@@ -121,51 +129,33 @@ fn judge_order(
     places: &[u16],
     ours: &mut [u8],
     theirs: &mut [u8],
-) -> u8
+) -> Option<Condition>
     requires { (length log.now ≡ log_size) × (sound_log log.now ≡ true) × (n ≡ length (records_of log.now)) × (held.counts ≡ vector_of (records_of log.now)) × Positions log.now places.now n × (length ours.old ≡ tree_size) × (length theirs.old ≡ tree_size) }
-    ensures { ordered 0 0 result ours.new theirs.new ≡ judged_order (names_given list.now) (records_of log.now) ours.old theirs.old }
+    ensures { ordered 0 0 (failed_number result) ours.new theirs.new ≡ judged_order (names_given list.now) (records_of log.now) ours.old theirs.old }
 {
     if !order_names::names_all(log, list, n, held) {
-        return 1;
+        return Some(Condition::Names);
     }
     judge_named(log, list, n, places, ours, theirs)
 }
 
-// Another maker's order is checked against a log. Checked in this order: 1, 19, 29 where records are folded; then the conditions. Where the
-// first two hold, our tree and that of the order stand in the lent tables; otherwise both are left as they were. Log, base and list are
-// only read. No unit is asked: 0 passes.
+// Another maker's order is checked against a log: the condition that fails first, none where the order is accepted. Checked in this order:
+// 1, 19, 29 where records are folded; then the conditions. Where the first two hold, our tree and that of the order stand in the lent
+// tables; otherwise both are left as they were. Log, base and list are only read. No unit is asked: 0 passes.
 pub fn check_order(
     log: &[u8],
     base: &[u8],
     list: &[u8],
     ours: &mut [u8],
     theirs: &mut [u8],
-) -> Ordered
-    ensures { ordered result.number result.place result.failed ours.new theirs.new ≡ order_of log.now base.now list.now ours.old theirs.old }
+) -> Result<Option<Condition>, Refusal>
+    ensures { ordered_by result ours.new theirs.new ≡ order_of log.now base.now list.now ours.old theirs.old }
 {
     let mut places = log_check::fresh_places();
     let mut seens = log_check::fresh_seens();
-    let o = open_order(log, base, ours, theirs, &mut places, &mut seens);
-    if o.number != 0 {
-        return Ordered {
-            number: o.number,
-            place: 0,
-            failed: 0,
-        };
+    let state = open_order(log, base, ours, theirs, &mut places, &mut seens)?;
+    if !is_zero(state.head.folded) {
+        return Err(Refusal::FoldedRecords);
     }
-    let head = o.head;
-    let folded = head.folded;
-    if !is_zero(folded) {
-        return Ordered {
-            number: 29,
-            place: 0,
-            failed: 0,
-        };
-    }
-    let failed = judge_order(log, list, o.used, o.held, &places, ours, theirs);
-    Ordered {
-        number: 0,
-        place: 0,
-        failed,
-    }
+    Ok(judge_order(log, list, state.used, state.held, &places, ours, theirs))
 }

@@ -1,12 +1,12 @@
 -- Names in bytes, and marks.
 -- Assumes nothing.
-use Prim.Native.Nat.{ℕ, zero, suc, ◌+◌, ◌-◌, ◌*◌, ◌/◌, ◌%◌, ◌≤◌, ◌<◌}
+use Prim.Native.Nat.{ℕ, suc, ◌+◌, ◌-◌, ◌*◌, ◌≤◌, ◌<◌}
 use native.Mathlib.Omega.{arith}
 use mathlib.Core.Path.{◌≡◌, refl, sym, ap, ◌∙◌, subst}
 use mathlib.Core.Bool.{Bool, true, false, cond, ◌&&◌}
 use mathlib.Core.List.{List, [], ◌∷◌}
 use lib.Dec.{leb, eqb}
-use lib.ListN.{get_or, length, take, drop, set, length-set, length-take, length-drop}
+use lib.ListN.{get_or, length, take, drop, set, length-take, length-drop}
 use borrow.Author.Tests.{eq-eqb, ne_eqb, le-leb, lt-leb}
 use Rattle.model.specs.Bytes.{word, part}
 use Rattle.model.specs.Record.{identity, unit_of, number_of}
@@ -112,13 +112,6 @@ marks_go held m b i n k t r m' h q f z w e =
     let g : true ≡ is_new held m (name_at b i) = sym z ∙ f ∙ ap (is_new held m) q in
     let v : m' ≡ set m (mark_slot (name_at b i)) 1 = w ∙ ap (λ (x : Bool). cond x (set m (mark_slot k) 1) m) (sym f ∙ z) ∙ ap (λ (x : ℕ). set m (mark_slot x) 1) q in
     ap (λ (x : List ℕ). marks_all held x (names_from b (i + 1) (n - (i + 1)))) v ∙ sym (marks_next held m b i n true h g) ∙ e
-
-pub marks_long : (held m : List ℕ) (k : ℕ) (m' : List ℕ) → m' ≡ cond (is_new held m k) (set m (mark_slot k) 1) m → length m ≡ 4096 → length m' ≡ 4096
-marks_long held m k m' w n = ap length w ∙ go (is_new held m k)
-  where
-    go : (t : Bool) → length (cond t (set m (mark_slot k) 1) m) ≡ 4096
-    go true = length-set m (mark_slot k) 1 ∙ n
-    go false = n
 
 pub marks_end : (held m : List ℕ) (b : List ℕ) (i n : ℕ) (t : Bool) → i ≡ n → marks_all held m (names_from b i (n - i)) ≡ t → true ≡ t
 unfolding marks_all names_from

@@ -8,7 +8,7 @@ ghost use Rattle.order_model.specs.Order.{name_at, names_from, name_count, names
 ghost use Rattle.order_laws.specs.Marking.{mark_slot, is_new, marks_all};
 ghost use Rattle.order_names.specs.Named.{marks_size, Few, place_named, Named};
 
-use byte_slice::{le16, wide32, wider};
+use byte_slice::le16;
 use log_closure::{position, slot};
 use vector::Vector;
 
@@ -19,14 +19,10 @@ const MARKS: usize = 4096;
 fn count_names(list: &[u8]) -> usize
     ensures { result ≡ name_count list.now }
 {
-    let n = list.len() / 4;
-    if list.len() % 4 == 0 {
-        return n;
-    }
-    n + 1
+    list.len().div_ceil(4)
 }
 
-// The name at place i of the list, or 0, which is no record's.
+// The name at place i of the list, or 0, which is no record's: the tables of the definitions hold it so.
 fn name_at(list: &[u8], i: usize) -> u32
     requires { 4 * i < length list.now }
     ensures { (result ≡ name_at list.now i) × (result < 524288) }
@@ -42,7 +38,7 @@ fn name_at(list: &[u8], i: usize) -> u32
     if list[at + 1] != 0 {
         return 0;
     }
-    8 * wider(le16(list, at + 2)) + wide32(u)
+    8 * u32::from(le16(list, at + 2)) + u32::from(u)
 }
 
 // The name k is marked, if it is ours and has no mark yet.
@@ -71,13 +67,11 @@ fn mark_names(list: &[u8], n: usize, held: Vector, marks: &mut [u8]) -> bool
     requires { (n ≤ log_places) × (4 * n < length list.now + 4) × (length marks.old ≡ marks_size) × Few held.counts }
     ensures { result ≡ marks_all held.counts marks.old (names_from list.now 0 n) }
 {
-    let mut i: usize = 0;
-    while i < n {
+    for i in 0..n {
         let k = name_at(list, i);
         if !mark(k, held, marks) {
             return false;
         }
-        i += 1;
     }
     true
 }

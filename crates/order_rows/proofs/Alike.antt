@@ -1,11 +1,11 @@
 -- Rows whose bytes are the same, but for the last contents and the last place record, show the same entry or aside.
 -- Assumes nothing.
-use Prim.Native.Nat.{ℕ, ◌+◌, ◌/◌, ◌%◌}
+use Prim.Native.Nat.{ℕ, ◌/◌, ◌%◌}
 use native.Mathlib.Omega.{arith}
 use mathlib.Core.Path.{◌≡◌, refl, sym, ap, ◌∙◌}
 use mathlib.Core.Bool.{Bool, true, false, cond, ◌&&◌}
 use mathlib.Core.List.{List, [], ◌∷◌, ◌++◌}
-use lib.ListN.{get_or, length, take, drop, length-append}
+use lib.ListN.{get_or, take, drop, length-append}
 use lib.Seq.{take_all, take_at, drop_at}
 use Rattle.model.specs.Bytes.{same_bytes, part}
 use Rattle.model.specs.Replay.{Entry, Aside, is_disputed}

@@ -1,13 +1,12 @@
 -- The rows of a table noted by the slots of their identities.
 -- Assumes nothing.
-use Prim.Native.Nat.{ℕ, suc, ◌+◌, ◌-◌, ◌≤◌, ◌<◌}
+use Prim.Native.Nat.{ℕ, suc, ◌+◌, ◌-◌, ◌<◌}
 use native.Mathlib.Numerals.{add-one}
 use native.Mathlib.Omega.{arith}
-use mathlib.Core.Path.{◌≡◌, refl, sym, ap, ◌∙◌}
+use mathlib.Core.Path.{◌≡◌, sym, ap, ◌∙◌}
 use mathlib.Core.Logic.{⊎_elim}
-use mathlib.Core.Bool.{Bool, true, false, cond, not, ◌&&◌}
+use mathlib.Core.Bool.{Bool, false}
 use mathlib.Core.List.{List}
-use lib.Dec.{eqb}
 use lib.ListN.{get_or, length, set, replicate, length-set, length-replicate}
 use lib.Seq.{get_or-set_same, get_or-set_other}
 use borrow.Author.Tests.{eq-eqb, ne_eqb}
@@ -47,23 +46,8 @@ notes_none p b notes e =
       at = λ k w. rw e (blank_get_d (replicate 4096 0) (mark_slot k) (blank-zeros 4096));
     }
 
-pub notes_long : (p : Rows) (b notes : List ℕ) (n : ℕ) → Noted p b n notes → length notes ≡ 4096
-notes_long p b notes n w = w.long
-
-pub row_slotted : (p : Rows) (b : List ℕ) (i n k : ℕ) → Rowed p b → n ≡ row_count p b → i < n → k ≡ key_in p b i → Slotted k
-row_slotted p b i n k w c h e = rw e (w.slots i (omega arith))
-
-pub row_low : (p : Rows) (b : List ℕ) (i n : ℕ) → Rowed p b → n ≡ row_count p b → i < n → i < 1024
-row_low p b i n w c h = omega (arith, w.few)
-
-pub row_short : (p : Rows) (b : List ℕ) (i n : ℕ) → Rowed p b → n ≡ row_count p b → i < n → i + 1 ≤ 1024
-row_short p b i n w c h = omega (arith, w.few)
-
 pub key_slotted : (p : Rows) (b : List ℕ) (i k : ℕ) → Rowed p b → i < row_count p b → k ≡ key_in p b i → Slotted k
 key_slotted p b i k w h e = rw e (w.slots i h)
-
-pub row-long : (p : Rows) (b : List ℕ) → Rowed p b → length b ≡ 86020
-row-long p b w = w.long
 
 -- one row more
 pub notes_more : (p : Rows) (b notes : List ℕ) (i n k s x : ℕ) → Rowed p b → n ≡ row_count p b → i < n → k ≡ key_in p b i → s ≡ mark_slot k → x ≡ i + 1 → Noted p b i notes → Noted p b (i + 1) (set notes s x)
@@ -83,12 +67,6 @@ notes_more p b notes i n k s x w c h e q y v =
           (get_or-set_other notes (mark_slot (key_in p b i)) (mark_slot j) (suc i) 0 (slots_apart j (key_in p b i) u own (λ y. z (sym y))) ∙ v.at j u))
           (eq_or_ne (key_in p b i) j);
     }
-
-pub notes_keep : (p : Rows) (b notes₀ notes : List ℕ) (n : ℕ) → notes₀ ≡ replicate 4096 0 → Noted p b n notes → length notes ≡ length notes₀
-notes_keep p b notes₀ notes n e w = w.long ∙ sym (ap (λ (l : List ℕ). length l) e ∙ length-replicate {A = ℕ} 4096 0)
-
-pub notes_all : (p : Rows) (b notes : List ℕ) (i n : ℕ) → n ≡ row_count p b → i ≤ n → n ≤ i → Noted p b i notes → Noted p b (row_count p b) notes
-notes_all p b notes i n c h g w = let e : i ≡ row_count p b = omega arith in rw e at w
 
 -- ---- one row looked for
 

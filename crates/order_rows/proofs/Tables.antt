@@ -9,13 +9,13 @@ use mathlib.Core.Bool.{Bool, true, false, not, ◌&&◌}
 use mathlib.Core.List.{List, [], ◌∷◌, ◌++◌}
 use lib.Dec.{eqb}
 use lib.ListN.{get_or, length}
-use Rattle.model.specs.Bytes.{word, two, same_bytes, part, padded}
-use Rattle.model.specs.Record.{Rec, identity, number_of, unit, num, identity_at, self_of}
+use Rattle.model.specs.Bytes.{word, two, part, padded}
+use Rattle.model.specs.Record.{Rec, identity, number_of, unit, num, identity_at}
 use Rattle.model.specs.Log.{all_to}
 use Rattle.model.specs.Replay.{Entry, Aside, Tree, is_present, step, empty_tree, replay_from, replay, present_ones}
 use Rattle.model.specs.Table.{identity_bytes, entry_row, aside_row, entry_rows, aside_rows, table_bytes, flagged, entry_in, aside_in}
 use Rattle.base_model.specs.Base.{last_to}
-use Rattle.byte_slice.proofs.Numbers.{lt_or_ge, bool_cases}
+use Rattle.byte_slice.proofs.Numbers.{bool_cases}
 use Rattle.byte_slice.proofs.Parts.{part-part, part-behind, get_d_part}
 use Rattle.byte_slice.proofs.Words.{word_two, word_at, word-part}
 use Rattle.log_laws.specs.Members.{Has as Member}
@@ -31,7 +31,7 @@ use Rattle.tree_laws.proofs.Seen.{selves_member}
 use Rattle.tree_laws.proofs.Steps.{all_present}
 use Rattle.tree_laws.proofs.Tables.{Filled, filled-replay, entries_few}
 use Rattle.tree_laws.proofs.Trees.{present_has}
-use Rattle.tree_table.specs.Rows.{flag_of, InRange, Proper, AllProper}
+use Rattle.tree_table.specs.Rows.{flag_of, AllProper}
 use Rattle.tree_table.proofs.Writes.{flagged-long, part-entry, part-aside}
 use Rattle.tree_lookup.proofs.Working.{blank_entry, blank_aside, proper_at}
 use Rattle.tree_replay.proofs.Stepping.{step_grows}
@@ -41,7 +41,7 @@ use Rattle.order_laws.proofs.Rank.{self_num}
 use Rattle.order_laws.proofs.Marks.{both_ways}
 use Rattle.order_rows.specs.declared.Rows.{Rows}
 use Rattle.order_rows.specs.declared.Rows.TheVariants.{Entries, Asides}
-use Rattle.order_rows.specs.Compared.{Slotted, key_in, row_count, row_alike, is_key, row_by, row_shown, rows_within, table_within, tables_alike, Rowed, Table}
+use Rattle.order_rows.specs.Compared.{Slotted, key_in, row_count, row_alike, is_key, row_by, row_shown, rows_within, table_within, tables_alike, Table}
 use Rattle.order_rows.proofs.Alike.{rows_alike, asides_alike}
 use Rattle.order_rows.proofs.Finding.{has_at, found_in, in_found}
 

@@ -3,21 +3,21 @@
 use Prim.Native.Nat.{ℕ, ◌+◌, ◌-◌, ◌*◌, ◌≤◌, ◌<◌}
 use native.Mathlib.Numerals.{add-one}
 use native.Mathlib.Omega.{arith}
-use mathlib.Core.Path.{◌≡◌, refl, sym, ap, ◌∙◌}
-use mathlib.Core.Bool.{Bool, true, false, not, ◌&&◌, true≢false}
+use mathlib.Core.Path.{◌≡◌, refl, sym, ◌∙◌}
+use mathlib.Core.Bool.{Bool, true, false, not, true≢false}
 use mathlib.Core.List.{List}
-use lib.ListN.{length, take, drop}
+use lib.ListN.{take, drop}
 use borrow.Author.Tests.{not-true, not-false}
 use Rattle.model.specs.Bytes.{word, same_bytes, part}
 use Rattle.model.specs.Record.{identity_at}
 use Rattle.model.specs.Log.{all_to}
 use Rattle.model.specs.Table.{entry_in, aside_in}
-use Rattle.byte_slice.proofs.Numbers.{test_false, and_wrong}
+use Rattle.byte_slice.proofs.Numbers.{test_false}
 use Rattle.byte_slice.proofs.Parts.{part_is}
 use Rattle.log_laws.proofs.Tests.{all_to-at}
 use Rattle.order_rows.specs.declared.Rows.{Rows}
 use Rattle.order_rows.specs.declared.Rows.TheVariants.{Entries, Asides}
-use Rattle.order_rows.specs.Compared.{key_in, row_count, row_alike, row_shown, rows_within, table_within, tables_alike, Rowed, Table}
+use Rattle.order_rows.specs.Compared.{key_in, row_count, row_alike, row_shown, rows_within}
 
 -- ---- by cases of the rows
 
@@ -36,12 +36,6 @@ key_entry p b i k e q = q ∙ rw e
 pub key_aside : (p : Rows) (b : List ℕ) (i k : ℕ) → p ≡ Asides → k ≡ identity_at b (73732 + 12 * i) → k ≡ key_in p b i
 unfolding key_in aside_in
 key_aside p b i k e q = q ∙ rw e
-
-pub alike_entries : (p : Rows) (a b : List ℕ) (i j : ℕ) (r : Bool) → p ≡ Entries → r ≡ row_alike Entries a i b j → r ≡ row_alike p a i b j
-alike_entries p a b i j r e q = q ∙ rw e
-
-pub alike_asides : (p : Rows) (a b : List ℕ) (i j : ℕ) (r : Bool) → p ≡ Asides → r ≡ row_alike Asides a i b j → r ≡ row_alike p a i b j
-alike_asides p a b i j r e q = q ∙ rw e
 
 -- ---- two rows
 
@@ -86,28 +80,3 @@ module _ (p : Rows) (a b : List ℕ) (i n : ℕ) (t : Bool) (c : n ≡ row_count
 pub all_done : (p : Rows) (a b : List ℕ) (i n : ℕ) → n ≡ row_count p a → i ≤ n → n ≤ i → all_to i (row_shown p a b) ≡ true → true ≡ rows_within p a b
 unfolding rows_within
 all_done p a b i n c h g y = let e : i ≡ row_count p a = omega arith in sym (rw e at y)
-
--- ---- whole tables
-
-module _ (a b : List ℕ) (t : Bool) where
-  pub entries_differ : t ≡ rows_within Entries a b → not t ≡ true → false ≡ table_within a b
-  unfolding table_within
-  entries_differ e z = let f : rows_within Entries a b ≡ false = sym e ∙ not-true t z in rw f
-
-  pub asides_decide : t ≡ rows_within Entries a b → not t ≡ false → (r : Bool) → r ≡ rows_within Asides a b → r ≡ table_within a b
-  unfolding table_within
-  asides_decide e z r q = let f : rows_within Entries a b ≡ true = sym e ∙ not-false t z in rw f q
-
-  pub one_differs : t ≡ table_within a b → not t ≡ true → false ≡ tables_alike a b
-  unfolding tables_alike
-  one_differs e z = let f : table_within a b ≡ false = sym e ∙ not-true t z in rw f
-
-  pub other_decides : t ≡ table_within a b → not t ≡ false → (r : Bool) → r ≡ table_within b a → r ≡ tables_alike a b
-  unfolding tables_alike
-  other_decides e z r q = let f : table_within a b ≡ true = sym e ∙ not-false t z in rw f q
-
-pub table_entries : (b : List ℕ) → Table b → Rowed Entries b
-table_entries b w = w.entries
-
-pub table_asides : (b : List ℕ) → Table b → Rowed Asides b
-table_asides b w = w.asides

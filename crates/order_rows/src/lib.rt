@@ -12,7 +12,7 @@ use byte_slice::{le16, same};
 use log_closure::slot;
 
 // The rows of entries of a table, or those of asides.
-#[derive(Clone, Copy, Drop)]
+#[derive(Clone, Copy, Debug, PartialEq, Eq)]
 pub enum Rows {
     Entries,
     Asides,
@@ -21,29 +21,14 @@ pub enum Rows {
 // A row for each unit and number.
 const SLOTS: usize = 4096;
 
-// A 16-bit number as an index.
-fn index(x: u16) -> usize
-    ensures { result ≡ x }
-{
-    x as usize
-}
-
-// The number of a row in 16 bits.
-fn short(x: usize) -> u16
-    requires { x ≤ 1024 }
-    ensures { result ≡ x }
-{
-    x as u16
-}
-
 // How many rows are used.
 fn count_rows(table: &[u8], rows: Rows) -> usize
     requires { length table.now ≡ tree_size }
     ensures { result ≡ row_count rows table.now }
 {
     match rows {
-        Rows::Entries => index(le16(table, 0)),
-        Rows::Asides => index(le16(table, 2)),
+        Rows::Entries => usize::from(le16(table, 0)),
+        Rows::Asides => usize::from(le16(table, 2)),
     }
 }
 
@@ -107,11 +92,9 @@ fn note_rows(table: &[u8], rows: Rows, n: usize, notes: &mut [u16])
     requires { Rowed rows table.now × (n ≡ row_count rows table.now) × (notes.old ≡ replicate slots_size 0) }
     ensures { Noted rows table.now (row_count rows table.now) notes.new }
 {
-    let mut i: usize = 0;
-    while i < n {
+    for i in 0..n {
         let s = slot_of(key_at(table, rows, i));
-        i += 1;
-        notes[s] = short(i);
+        notes[s] = (i + 1) as u16;
     }
 }
 
@@ -121,7 +104,7 @@ fn is_shown(a: &[u8], b: &[u8], rows: Rows, i: usize, notes: &[u16]) -> bool
     ensures { result ≡ row_shown rows a.now b.now i }
 {
     let s = slot_of(key_at(a, rows, i));
-    let j = index(notes[s]);
+    let j = usize::from(notes[s]);
     if j == 0 {
         return false;
     }
@@ -133,12 +116,10 @@ fn all_shown(a: &[u8], b: &[u8], rows: Rows, n: usize, notes: &[u16]) -> bool
     requires { Rowed rows a.now × Rowed rows b.now × Noted rows b.now (row_count rows b.now) notes.now × (n ≡ row_count rows a.now) }
     ensures { result ≡ rows_within rows a.now b.now }
 {
-    let mut i: usize = 0;
-    while i < n {
+    for i in 0..n {
         if !is_shown(a, b, rows, i, notes) {
             return false;
         }
-        i += 1;
     }
     true
 }
@@ -154,23 +135,19 @@ fn rows_within(a: &[u8], b: &[u8], rows: Rows) -> bool
 }
 
 // Each row of a is shown by b.
+#[tactic(auto, unfolding(crate::specs::Compared::table_within))]
 fn table_within(a: &[u8], b: &[u8]) -> bool
     requires { Table a.now × Table b.now }
     ensures { result ≡ table_within a.now b.now }
 {
-    if !rows_within(a, b, Rows::Entries) {
-        return false;
-    }
-    rows_within(a, b, Rows::Asides)
+    rows_within(a, b, Rows::Entries) && rows_within(a, b, Rows::Asides)
 }
 
 // Two tables show the same entries and the same set of asides.
+#[tactic(auto, unfolding(crate::specs::Compared::tables_alike))]
 pub fn tables_alike(a: &[u8], b: &[u8]) -> bool
     requires { Table a.now × Table b.now }
     ensures { result ≡ tables_alike a.now b.now }
 {
-    if !table_within(a, b) {
-        return false;
-    }
-    table_within(b, a)
+    table_within(a, b) && table_within(b, a)
 }

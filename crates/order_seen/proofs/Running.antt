@@ -1,19 +1,17 @@
 -- Running counts over the records that are named.
 -- Assumes nothing.
 use Prim.Native.Nat.{ℕ, suc, ◌+◌, ◌-◌, ◌*◌, ◌≤◌, ◌<◌}
-use native.Mathlib.Nat.{sub-zero}
 use native.Mathlib.Omega.{arith}
-use mathlib.Core.Path.{◌≡◌, refl, sym, ap, ◌∙◌, subst}
+use mathlib.Core.Path.{◌≡◌, sym, ap, ◌∙◌, subst}
 use mathlib.Core.Logic.{◌⊎◌, inl, inr}
 use mathlib.Core.Bool.{Bool, true, false, not, ◌&&◌}
-use mathlib.Core.List.{List, [], ◌∷◌}
-use lib.ListN.{get_or, length, take, drop, set, replicate}
+use mathlib.Core.List.{List, ◌∷◌}
+use lib.ListN.{get_or, length, take, drop, set}
 use lib.Seq.{get_or-set_same, get_or-set_other, set_out}
 use borrow.Author.Tests.{not-true, not-false}
 use Rattle.model.specs.Vector.{covers}
 use Rattle.model.specs.Record.{Rec, unit, seen_vector}
 use Rattle.byte_slice.proofs.Numbers.{lt_or_ge, eq_or_ne}
-use Rattle.byte_slice.proofs.Compare.{blank-zeros, blank_get_d}
 use Rattle.log_check.specs.InOrder.{listed}
 use Rattle.order_laws.specs.Marking.{covers_each}
 use Rattle.order_names.specs.Named.{place_named, named_at}
@@ -28,9 +26,6 @@ unit_low log list places n i p u w h e q = omega (arith, w.small i h, q ∙ ap u
 
 pub record Low (had : List ℕ) (i : ℕ) : Type 0 where
   pub low : (v : ℕ) → get_or had v 0 ≤ i
-
-pub low_none : (had : List ℕ) → had ≡ replicate 8 0 → Low had 0
-low_none had e = record { low = λ v. rw e (omega (arith, blank_get_d (replicate 8 0) v (blank-zeros 8))) }
 
 pub low_room : (had : List ℕ) (i n u : ℕ) → Low had i → i < n → n ≤ 512 → get_or had u 0 < 65535
 low_room had i n u w h f = omega (arith, w.low u)
@@ -53,9 +48,6 @@ covers-next : (had : List ℕ) (at : ℕ → Rec) (i n : ℕ) → i < n
     → covers_each had (listed at i (n - i)) ≡ (covers had (seen_vector (at i)) && covers_each (set had (unit (at i)) (get_or had (unit (at i)) 0 + 1)) (listed at (i + 1) (n - (i + 1))))
 unfolding covers_each
 covers-next had at i n h = ap (covers_each had) (listed_next at i n h)
-
-pub covers_start : (had : List ℕ) (at : ℕ → Rec) (n : ℕ) → had ≡ replicate 8 0 → covers_each had (listed at 0 (n - 0)) ≡ covers_each (replicate 8 0) (listed at 0 n)
-covers_start had at n e = rw (sub-zero, e)
 
 module _ (log list places : List ℕ) (i n p : ℕ) (h : i < n) (e : p ≡ place_named list places i) (had s : List ℕ) (r t : Bool) (q : s ≡ seen_vector (take (80 * p + 80 - 80 * p) (drop (80 * p) log))) (f : r ≡ covers had s) (inv : covers_each had (listed (named_at log list places) i (n - i)) ≡ t) where
   test : covers had (seen_vector (named_at log list places i)) ≡ r

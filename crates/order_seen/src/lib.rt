@@ -16,17 +16,14 @@ pub fn seen_first(log: &[u8], list: &[u8], n: usize, places: &[u16]) -> bool
     ensures { result ≡ covers_each (replicate 8 0) (listed (named_at log.now list.now places.now) 0 n) }
 {
     let mut had = vector::zero_vector();
-    let mut i: usize = 0;
-    while i < n {
+    for i in 0..n {
         let at = 80 * place_named(list, i, places, n);
         let s = record::seen_vector(&log[at..at + 80]);
         if !vector::covers(had, s) {
             return false;
         }
-        let u = record::unit_of(&log[at..at + 80]) as usize;
-        let more = vector::bump(had, u);
-        had = more;
-        i += 1;
+        let u = usize::from(record::unit_of(&log[at..at + 80]));
+        had = vector::bump(had, u);
     }
     true
 }

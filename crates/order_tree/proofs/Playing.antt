@@ -3,11 +3,11 @@
 use Prim.Native.Nat.{ℕ, zero, suc, ◌+◌, ◌-◌, ◌*◌, ◌≤◌, ◌<◌}
 use native.Mathlib.Numerals.{add-one}
 use native.Mathlib.Omega.{arith}
-use mathlib.Core.Path.{◌≡◌, refl, sym, ap, ◌∙◌}
+use mathlib.Core.Path.{◌≡◌, refl, ap, ◌∙◌}
 use mathlib.Core.Logic.{inl, inr, ⊎_elim}
-use mathlib.Core.List.{List, [], ◌∷◌}
+use mathlib.Core.List.{List, []}
 use lib.ListN.{length, take, drop, replicate}
-use Rattle.model.specs.Record.{Rec, identity, unit, num, self_of}
+use Rattle.model.specs.Record.{Rec, identity, unit, self_of}
 use Rattle.model.specs.Replay.{Tree, empty_tree, step, replay_from, replay}
 use Rattle.model.specs.Table.{table_bytes}
 use Rattle.byte_slice.proofs.Numbers.{eq_or_ne}

@@ -31,12 +31,9 @@ fn replay_order(
         entries: 0,
         asides: 0,
     };
-    let mut i: usize = 0;
-    while i < n {
+    for i in 0..n {
         let at = 80 * place_named(list, i, places, n);
-        let next = tree_replay::step(&log[at..at + 80], table, register, size);
-        size = next;
-        i += 1;
+        size = tree_replay::step(&log[at..at + 80], table, register, size);
     }
     size
 }
@@ -62,7 +59,7 @@ pub fn lay_order(log: &[u8], list: &[u8], n: usize, places: &[u16], tree: &mut [
     requires { (length log.now ≡ log_size) × (n ≤ log_places) × Named list.now places.now n × Playable empty_tree (named_at log.now list.now places.now) n × (length tree.old ≡ tree_size) }
     ensures { tree.new ≡ table_bytes (replay (listed (named_at log.now list.now places.now) 0 n)) }
 {
-    byte_slice::clear(tree);
+    tree.fill(0);
     let mut register = [0u16; REGISTER];
     fill_order(log, list, n, places, tree, &mut register);
 }

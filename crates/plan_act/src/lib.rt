@@ -5,21 +5,30 @@ ghost use Rattle.std.specs.Prelude.{◌≡◌, [], ◌+◌, ◌<◌, length, rep
 ghost use Rattle.model.specs.Lengths.{record_size, tree_size};
 ghost use Rattle.base_model.specs.Base.{empty_base};
 ghost use Rattle.call_model.specs.Outcome.{outcome, act_of};
+ghost use Rattle.refusal.specs.Refusals.{code_of};
 ghost use Rattle.call_laws.specs.Keeps.{Good};
 ghost use Rattle.plan_model.specs.Plan.{round, act_tried, act_done};
 ghost use Rattle.plan_units.specs.Units.{Units};
 
+use refusal::Refusal;
+
 // How many records the acts have made, and how many acts were skipped.
-#[derive(Drop)]
+#[derive(Clone, Copy, Debug, PartialEq, Eq)]
 pub struct Tally {
     pub made: u16,
     pub skipped: u16,
 }
 
 // The act of one unit, whose log is good: it is not checked again.
-fn act_unit(log: &mut [u8], base: &[u8], unit: u8, wish: &[u8], work: &mut [u8]) -> u8
+fn act_unit(
+    log: &mut [u8],
+    base: &[u8],
+    unit: u8,
+    wish: &[u8],
+    work: &mut [u8],
+) -> Result<(), Refusal>
     requires { Good log.old empty_base × (base.now ≡ empty_base) × (unit < 8) × (length wish.now ≡ record_size) × (length work.old ≡ tree_size) }
-    ensures { outcome result 0 log.new [] 0 ≡ act_of unit log.old empty_base wish.now (replicate tree_size 0) }
+    ensures { outcome (code_of result) 0 log.new [] 0 ≡ act_of unit log.old empty_base wish.now (replicate tree_size 0) }
 {
     let head = base_head::head_of(base);
     let used = log_check::used(log);
@@ -47,12 +56,11 @@ pub fn act(logs: &mut [u8], base: &[u8], unit: u8, wish: &[u8], work: &mut [u8],
         return skip(t);
     }
     let at = 40960 * (unit as usize);
-    let n = act_unit(&mut logs[at..at + 40960], base, unit, wish, work);
-    if n != 0 {
-        return skip(t);
-    }
-    Tally {
-        made: t.made + 1,
-        skipped: t.skipped,
+    match act_unit(&mut logs[at..at + 40960], base, unit, wish, work) {
+        Ok(_) => Tally {
+            made: t.made + 1,
+            skipped: t.skipped,
+        },
+        Err(_) => skip(t),
     }
 }

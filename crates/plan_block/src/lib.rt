@@ -1,16 +1,17 @@
-// A plan's block and its events, judged: 3, 4, 5, 6 and 30, and 2 for what is no block or one too many.
+// A plan's block and its events, judged: letters, sums, header, archive, events; and the length of what is no block or one too many.
 #![tactic(auto)]
 
-ghost use Rattle.std.specs.Prelude.{◌≡◌, ◌≤◌, length, take};
+ghost use Rattle.std.specs.Prelude.{◌≡◌, ◌≤◌, length};
 ghost use Rattle.model.specs.Lengths.{block_size};
-ghost use Rattle.model.specs.Bytes.{same_bytes};
 ghost use Rattle.model.specs.Block.{count_in};
-ghost use Rattle.plan_model.specs.Plan.{act_holds, pass_holds, event_holds, events_hold, plan_letters, plan_header_holds, plan_body_fault, plan_block_fault, piece_fault};
+ghost use Rattle.refusal.specs.Refusals.{code_of};
+ghost use Rattle.plan_model.specs.Plan.{act_holds, pass_holds, event_holds, events_hold, plan_header_holds, plan_body_fault, plan_block_fault, piece_fault};
 
-use block_read::{archive_in, count_in, sender_in, sums_hold};
-use byte_slice::{is_blank, same};
+use block_read::{archive_in, count_in, has_letters, sender_in, sums_hold};
+use byte_slice::is_blank;
 use model::BLOCK_BYTES;
 use plan_model::{EVENT_BYTES, PLAN_BLOCKS};
+use refusal::Refusal;
 
 // ---- an event
 
@@ -71,33 +72,23 @@ fn events_hold(b: &[u8], n: usize) -> bool
     requires { (length b.now ≡ block_size) × (n ≤ 5) }
     ensures { result ≡ events_hold b.now 0 n }
 {
-    let mut i: usize = 0;
-    while i < n {
+    for i in 0..n {
         let at = 28 + 84 * i;
         if !event_holds(&b[at..at + EVENT_BYTES]) {
             return false;
         }
-        i += 1;
     }
     true
 }
 
 // ---- a block
 
-// The letters PLN1 stand first.
-fn has_letters(b: &[u8]) -> bool
-    requires { 4 ≤ length b.now }
-    ensures { result ≡ same_bytes (take 4 b.now) plan_letters }
-{
-    same(&b[0..4], b"PLN1")
-}
-
 // At most five events; unit, place and vector zero, and zeros behind the events.
 fn header_holds(b: &[u8]) -> bool
     requires { length b.now ≡ block_size }
     ensures { result ≡ plan_header_holds b.now }
 {
-    let n = count_in(b);
+    let n = usize::from(count_in(b));
     if 5 < n {
         return false;
     }
@@ -107,50 +98,51 @@ fn header_holds(b: &[u8]) -> bool
     if !is_blank(&b[10..28]) {
         return false;
     }
-    let at = 28 + 84 * n as usize;
+    let at = 28 + 84 * n;
     is_blank(&b[at..508])
 }
 
-// The first of 5, 6 and 30 that holds of a block, or 0; the archive is the first block's.
-fn body_fault(archive: u32, b: &[u8]) -> u8
+// The first of header, archive and events that is refused; the archive is the first block's.
+fn body_fault(archive: u32, b: &[u8]) -> Result<(), Refusal>
     requires { length b.now ≡ block_size }
-    ensures { result ≡ plan_body_fault archive b.now }
+    ensures { code_of result ≡ plan_body_fault archive b.now }
 {
     if !header_holds(b) {
-        return 5;
+        return Err(Refusal::BadHeader);
     }
     if archive_in(b) != archive {
-        return 6;
+        return Err(Refusal::OtherArchive);
     }
-    if !events_hold(b, count_in(b) as usize) {
-        return 30;
+    let n = usize::from(count_in(b));
+    if !events_hold(b, n) {
+        return Err(Refusal::NotAnEvent);
     }
-    0
+    Ok(())
 }
 
-// The same, and before them 3 and 4.
-pub fn block_fault(archive: u32, b: &[u8]) -> u8
+// The same, and before them letters and sums.
+pub fn block_fault(archive: u32, b: &[u8]) -> Result<(), Refusal>
     requires { length b.now ≡ block_size }
-    ensures { result ≡ plan_block_fault archive b.now }
+    ensures { code_of result ≡ plan_block_fault archive b.now }
 {
-    if !has_letters(b) {
-        return 3;
+    if !has_letters(b, b"PLN1") {
+        return Err(Refusal::BadLetters);
     }
     if !sums_hold(b) {
-        return 4;
+        return Err(Refusal::BadSum);
     }
     body_fault(archive, b)
 }
 
-// The k-th block of a plan, counted from 0: 2 if it is a part of one, or one too many; else what holds of the block.
-pub fn piece_fault(archive: u32, k: usize, b: &[u8]) -> u8
-    ensures { result ≡ piece_fault archive k b.now }
+// The k-th block of a plan, counted from 0: of a bad length if it is a part of one, or one too many; else what holds of the block.
+pub fn piece_fault(archive: u32, k: usize, b: &[u8]) -> Result<(), Refusal>
+    ensures { code_of result ≡ piece_fault archive k b.now }
 {
     if PLAN_BLOCKS <= k {
-        return 2;
+        return Err(Refusal::BadLength);
     }
     if b.len() != BLOCK_BYTES {
-        return 2;
+        return Err(Refusal::BadLength);
     }
     block_fault(archive, b)
 }

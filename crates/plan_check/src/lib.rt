@@ -3,18 +3,13 @@
 
 ghost use Rattle.std.specs.Prelude.{◌≡◌, ◌+◌, ◌*◌, ◌/◌, ◌<◌, length};
 ghost use Rattle.model.specs.File.{fault, block_at};
+ghost use Rattle.refusal.specs.Refusals.{number_of, code_of, fault_code, fault_place};
 ghost use Rattle.plan_model.specs.Plan.{plan_archive, piece_fault, piece_fault_at, plan_fault};
 
 use block_read::archive_in;
 use model::BLOCK_BYTES;
 use plan_block::piece_fault;
-
-// The number of the first fault, or 0, and the place of its block; 2 has the place 0.
-#[derive(Drop)]
-pub struct Fault {
-    pub number: u8,
-    pub place: u16,
-}
+use refusal::{Fault, Refusal};
 
 // The archive of a plan; 0 where it has no whole block.
 pub fn archive_of(plan: &[u8]) -> u32
@@ -38,9 +33,9 @@ pub fn pieces(n: usize) -> usize
 }
 
 // The k-th block.
-fn fault_at(plan: &[u8], archive: u32, k: usize) -> u8
+fn fault_at(plan: &[u8], archive: u32, k: usize) -> Result<(), Refusal>
     requires { 512 * k < length plan.now }
-    ensures { result ≡ piece_fault archive k (block_at plan.now k) }
+    ensures { code_of result ≡ piece_fault archive k (block_at plan.now k) }
 {
     let at = 512 * k;
     let end = plan.len();
@@ -50,36 +45,27 @@ fn fault_at(plan: &[u8], archive: u32, k: usize) -> u8
     piece_fault(archive, k, &plan[at..at + 512])
 }
 
-// A fault of the k-th block, with its place.
-pub fn placed(number: u8, k: usize) -> Fault
+// A fault of the k-th block, with its place; a bad length has the place 0.
+pub fn placed(refusal: Refusal, k: usize) -> Fault<u16>
     requires { k < 65536 }
-    ensures { fault result.number result.place ≡ piece_fault_at number k }
+    ensures { fault (number_of result.refusal) result.place ≡ piece_fault_at (number_of refusal) k }
 {
-    if number == 2 {
-        return Fault { number, place: 0 };
-    }
-    Fault {
-        number,
-        place: k as u16,
-    }
+    let place = match refusal {
+        Refusal::BadLength => 0,
+        _ => k as u16,
+    };
+    Fault { refusal, place }
 }
 
 // The first fault of a plan.
-pub fn plan_fault(plan: &[u8]) -> Fault
-    ensures { fault result.number result.place ≡ plan_fault plan.now }
+pub fn plan_fault(plan: &[u8]) -> Result<(), Fault<u16>>
+    ensures { fault (fault_code result) (fault_place result) ≡ plan_fault plan.now }
 {
     let archive = archive_of(plan);
-    let n = pieces(plan.len());
-    let mut k: usize = 0;
-    while k < n {
-        let number = fault_at(plan, archive, k);
-        if number != 0 {
-            return placed(number, k);
+    for k in 0..pieces(plan.len()) {
+        if let Err(refusal) = fault_at(plan, archive, k) {
+            return Err(placed(refusal, k));
         }
-        k += 1;
     }
-    Fault {
-        number: 0,
-        place: 0,
-    }
+    Ok(())
 }

@@ -68,9 +68,9 @@ module _ (n p k a : ℕ) (st : Round) (b : List ℕ) where
 -- ---- the end
 
 module _ (n p k a : ℕ) {text after : List ℕ} {r : ℕ} where
-  pub prints_refusal : (st : Round) → (n ≡ 0 → ⊥) → Wrote text after 0 r (refused_line n p) → Wrote text after 0 r (fed_text (fed n p k a st))
+  pub prints_refusal : (st : Round) {m : ℕ} → m ≡ n → (n ≡ 0 → ⊥) → Wrote text after 0 r (refused_line m p) → Wrote text after 0 r (fed_text (fed n p k a st))
   unfolding fed_text fault
-  prints_refusal st z w = rw (ne_eqb n 0 z) w
+  prints_refusal st e z w = rw (ne_eqb n 0 z, ← e) w
 
   pub prints_round : (logs : List ℕ) (m s : ℕ) → n ≡ 0 → Wrote text after 0 r (round_text (round logs 0 s)) → Wrote text after 0 r (fed_text (fed n p k a (round logs m s)))
   unfolding fed_text fault round_text

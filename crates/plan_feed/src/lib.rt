@@ -7,34 +7,35 @@ ghost use Rattle.base_model.specs.Base.{empty_base};
 ghost use Rattle.line_text.specs.Written.{Wrote};
 ghost use Rattle.plan_model.specs.Plan.{round_size, plan_text_size, round, plan_archive};
 ghost use Rattle.plan_model.specs.Feed.{begun, feed_of, fed_text};
+ghost use Rattle.refusal.specs.Refusals.{fault_code, fault_place};
 ghost use Rattle.plan_feed.specs.Going.{fed, Going};
 
 use plan_act::Tally;
 use plan_block::piece_fault;
 use plan_check::{archive_of, placed};
+use refusal::Fault;
 
-// The refusal and its place, or 0; how many blocks have passed, the archive of the first; records made and acts skipped.
-#[derive(Clone, Copy, Drop)]
+// Whether a block was refused, with its place; how many blocks have passed, the archive of the first; records made and acts skipped.
+#[derive(Clone, Copy, Debug, PartialEq, Eq)]
 pub struct Fed {
-    pub number: u8,
-    pub place: u16,
+    pub judged: Result<(), Fault<u16>>,
     pub blocks: u16,
     pub archive: u32,
-    pub made: u16,
-    pub skipped: u16,
+    pub tally: Tally,
 }
 
 // Nothing is fed yet, and all eight logs are zeros.
 pub fn begin() -> Fed
-    ensures { fed result.number result.place result.blocks result.archive (round (replicate round_size 0) result.made result.skipped) ≡ begun }
+    ensures { fed (fault_code result.judged) (fault_place result.judged) result.blocks result.archive (round (replicate round_size 0) result.tally.made result.tally.skipped) ≡ begun }
 {
     Fed {
-        number: 0,
-        place: 0,
+        judged: Ok(()),
         blocks: 0,
         archive: 0,
-        made: 0,
-        skipped: 0,
+        tally: Tally {
+            made: 0,
+            skipped: 0,
+        },
     }
 }
 
@@ -50,53 +51,38 @@ fn archive_for(f: Fed, b: &[u8]) -> u32
 
 // One block, or a part of one at the end. It is checked wholly and then done; behind a refusal nothing happens. The base is that of a start.
 pub fn feed(f: Fed, logs: &mut [u8], base: &[u8], b: &[u8], work: &mut [u8]) -> Fed
-    requires { Going (fed f.number f.place f.blocks f.archive (round logs.old f.made f.skipped)) × (base.now ≡ empty_base) × (length work.old ≡ tree_size) }
-    ensures { fed result.number result.place result.blocks result.archive (round logs.new result.made result.skipped) ≡ feed_of (fed f.number f.place f.blocks f.archive (round logs.old f.made f.skipped)) b.now }
+    requires { Going (fed (fault_code f.judged) (fault_place f.judged) f.blocks f.archive (round logs.old f.tally.made f.tally.skipped)) × (base.now ≡ empty_base) × (length work.old ≡ tree_size) }
+    ensures { fed (fault_code result.judged) (fault_place result.judged) result.blocks result.archive (round logs.new result.tally.made result.tally.skipped) ≡ feed_of (fed (fault_code f.judged) (fault_place f.judged) f.blocks f.archive (round logs.old f.tally.made f.tally.skipped)) b.now }
 {
-    if f.number != 0 {
+    if let Err(_) = f.judged {
         return f;
     }
     let archive = archive_for(f, b);
-    let number = piece_fault(archive, f.blocks as usize, b);
-    if number != 0 {
-        let p = placed(number, f.blocks as usize);
+    let k = f.blocks as usize;
+    if let Err(refusal) = piece_fault(archive, k, b) {
         return Fed {
-            number: p.number,
-            place: p.place,
+            judged: Err(placed(refusal, k)),
             blocks: f.blocks,
             archive: f.archive,
-            made: f.made,
-            skipped: f.skipped,
+            tally: f.tally,
         };
     }
-    let t = plan_round::block(
-        logs,
-        base,
-        archive,
-        b,
-        work,
-        Tally {
-            made: f.made,
-            skipped: f.skipped,
-        },
-    );
+    let tally = plan_round::block(logs, base, archive, b, work, f.tally);
     Fed {
-        number: 0,
-        place: 0,
+        judged: Ok(()),
         blocks: f.blocks + 1,
         archive,
-        made: t.made,
-        skipped: t.skipped,
+        tally,
     }
 }
 
 // What is printed at the end, into the lent text.
 pub fn finish(f: Fed, logs: &[u8], text: &mut [u8]) -> usize
-    requires { Going (fed f.number f.place f.blocks f.archive (round logs.now f.made f.skipped)) × (length text.old ≡ plan_text_size) }
-    ensures { Wrote text.old text.new 0 result (fed_text (fed f.number f.place f.blocks f.archive (round logs.now f.made f.skipped))) }
+    requires { Going (fed (fault_code f.judged) (fault_place f.judged) f.blocks f.archive (round logs.now f.tally.made f.tally.skipped)) × (length text.old ≡ plan_text_size) }
+    ensures { Wrote text.old text.new 0 result (fed_text (fed (fault_code f.judged) (fault_place f.judged) f.blocks f.archive (round logs.now f.tally.made f.tally.skipped))) }
 {
-    if f.number != 0 {
-        return plan_lines::refused_line(text, 0, f.number, f.place);
+    match f.judged {
+        Ok(_) => plan_lines::round_text(text, logs, f.tally.skipped),
+        Err(fault) => line_refusal::refused_line(text, 0, u8::from(fault.refusal), fault.place),
     }
-    plan_lines::round_text(text, logs, f.skipped)
 }

@@ -2,7 +2,7 @@
 -- Assumes nothing.
 use Prim.Native.Nat.{ℕ, zero, suc, ◌+◌, ◌-◌, ◌*◌, ◌≤◌, ◌<◌}
 use native.Mathlib.Omega.{arith}
-use mathlib.Core.Path.{◌≡◌, refl, ap, ◌∙◌}
+use mathlib.Core.Path.{◌≡◌}
 use mathlib.Core.Logic.{⊎_elim}
 use mathlib.Core.Bool.{Bool, true, false, cond}
 use mathlib.Core.List.{List, [], ◌∷◌, ◌++◌}
@@ -11,7 +11,7 @@ use Rattle.model.specs.Record.{Rec}
 use Rattle.model.specs.Vector.{covers, compare_of}
 use Rattle.model.specs.Log.{count, records_of}
 use Rattle.model.specs.Listing.{decimal, seen_word, counts_text, seen_line, refused_line}
-use Rattle.base_model.specs.Base.{empty_base, base_vector, held_on}
+use Rattle.base_model.specs.Base.{empty_base, base_vector}
 use Rattle.line_text.proofs.Decimal.{decimal-length, one_digit}
 use Rattle.log_laws.proofs.Counts.{count-nil, count-cons, no_counts_lem}
 use Rattle.log_laws.proofs.Tests.{vector_on-length, vector_on_get_d}
@@ -20,7 +20,7 @@ use Rattle.listing_laws.proofs.Texts.{three_digits}
 use Rattle.listing_laws.proofs.Lines.{refused_line_length}
 use Rattle.line_text.specs.Written.{Wrote}
 use Rattle.call_laws.proofs.States.{empty_vector}
-use Rattle.plan_model.specs.Plan.{Round, round, log_at, true_vector, unit_start, pair_start, answer_word, skipped_start, unit_line, pair_line, skipped_line, unit_lines, pairs_of, pair_lines, round_text}
+use Rattle.plan_model.specs.Plan.{Round, round, log_at, true_vector, answer_word, skipped_start, unit_line, pair_line, skipped_line, unit_lines, pairs_of, pair_lines, round_text}
 
 -- ---- the counts of a log
 

@@ -1,12 +1,11 @@
-// What is printed of a plan: a line for each unit, one for each pair, the acts skipped; or the line of a refusal. Each function answers the
-// place behind what it wrote.
+// What is printed of a plan that is not refused: a line for each unit, one for each pair, the acts skipped. Each function answers the place
+// behind what it wrote.
 #![tactic(auto)]
 
 ghost use Rattle.std.specs.Prelude.{◌≡◌, ◌∷◌, ◌+◌, ◌≤◌, ◌<◌, length};
 ghost use Rattle.model.specs.Vector.{compare_of};
-ghost use Rattle.model.specs.Listing.{seen_line, refused_line};
+ghost use Rattle.model.specs.Listing.{seen_line};
 ghost use Rattle.line_text.specs.Written.{Wrote};
-ghost use Rattle.line_refusal.specs.Parts.{refused_place};
 ghost use Rattle.plan_model.specs.Plan.{round, true_vector, unit_line, pair_line, skipped_line, unit_lines, pairs_of, pair_lines, round_text};
 ghost use Rattle.plan_units.specs.Units.{Units};
 ghost use Rattle.plan_lines.specs.Parts.{pair_answer, pair_other, pairs_skipped};
@@ -16,28 +15,6 @@ use line_text::{put_byte, put_number, put_small, put_word};
 use plan_units::true_vector;
 use vector::Vector;
 use vector_compare::compare;
-
-// ---- a refusal
-
-// A refusal from its place on: a plan has more blocks than a byte can say.
-fn refused_place(out: &mut [u8], at: usize, p: u16) -> usize
-    requires { at + length (refused_place p) ≤ length out.old }
-    ensures { Wrote out.old out.new at result (refused_place p) }
-{
-    let a = put_word(out, at, b" at ");
-    let b = put_number(out, a, p);
-    put_byte(out, b, b'\n')
-}
-
-// The number and the place of a refused plan.
-pub fn refused_line(out: &mut [u8], at: usize, n: u8, p: u16) -> usize
-    requires { at + length (refused_line n p) ≤ length out.old }
-    ensures { Wrote out.old out.new at result (refused_line n p) }
-{
-    let a = put_word(out, at, b"refused ");
-    let b = put_small(out, a, n);
-    refused_place(out, b, p)
-}
 
 // ---- lines
 
@@ -108,11 +85,8 @@ fn unit_lines(out: &mut [u8], at: usize, logs: &[u8], n: usize) -> usize
     ensures { Wrote out.old out.new at result (unit_lines logs.now n) }
 {
     let mut m = at;
-    let mut u: usize = 0;
-    while u < n {
-        let v = true_vector(logs, u);
-        m = unit_line(out, m, u as u8, v);
-        u += 1;
+    for u in 0..n {
+        m = unit_line(out, m, u as u8, true_vector(logs, u));
     }
     m
 }
@@ -125,7 +99,7 @@ fn pair_is(logs: &[u8], a: usize, b: usize) -> u8
     let v = true_vector(logs, a);
     let w = true_vector(logs, b);
     let c = compare(v, w);
-    c.answer
+    u8::from(c.answer)
 }
 
 // Unit a with the first n units above it.
@@ -134,12 +108,9 @@ fn pairs_of(out: &mut [u8], at: usize, logs: &[u8], a: usize, n: usize) -> usize
     ensures { Wrote out.old out.new at result (pairs_of logs.now a n) }
 {
     let mut m = at;
-    let mut i: usize = 0;
-    while i < n {
-        i += 1;
-        let b = a + i;
-        let answer = pair_is(logs, a, b);
-        m = pair_line(out, m, a as u8, b as u8, answer);
+    for i in 0..n {
+        let b = a + (i + 1);
+        m = pair_line(out, m, a as u8, b as u8, pair_is(logs, a, b));
     }
     m
 }
@@ -150,10 +121,8 @@ fn pair_lines(out: &mut [u8], at: usize, logs: &[u8], n: usize) -> usize
     ensures { Wrote out.old out.new at result (pair_lines logs.now n) }
 {
     let mut m = at;
-    let mut a: usize = 0;
-    while a < n {
+    for a in 0..n {
         m = pairs_of(out, m, logs, a, 7 - a);
-        a += 1;
     }
     m
 }

@@ -18,7 +18,7 @@ fn pass_block(logs: &mut [u8], base: &[u8], archive: u32, a: u8, b: u8, asked: V
     let from = 40960 * (a as usize);
     let to = 40960 * (b as usize);
     let mut block = [0u8; 512];
-    hand_out::hand_out(
+    let _ = hand_out::hand_out(
         &logs[from..from + 40960],
         base,
         archive,
@@ -26,7 +26,7 @@ fn pass_block(logs: &mut [u8], base: &[u8], archive: u32, a: u8, b: u8, asked: V
         asked,
         &mut block,
     );
-    take::take(&mut logs[to..to + 40960], base, archive, b, &block);
+    let _ = take::take(&mut logs[to..to + 40960], base, archive, b, &block);
 }
 
 // The second unit has all that the first holds: its counts cover the first's.

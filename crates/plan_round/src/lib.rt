@@ -37,12 +37,9 @@ pub fn block(
 {
     let n = block_read::count_in(b) as usize;
     let mut tally = t;
-    let mut i: usize = 0;
-    while i < n {
+    for i in 0..n {
         let at = 28 + 84 * i;
-        let next = event(logs, base, archive, &b[at..at + 84], work, tally);
-        tally = next;
-        i += 1;
+        tally = event(logs, base, archive, &b[at..at + 84], work, tally);
     }
     tally
 }

@@ -52,11 +52,11 @@ module _ (f logs base work text : List ℕ) (t : length text ≡ 1024) (b : leng
   unfolding planned_of
   lent = rw (eq-eqb (length text) 1024 t, eq-eqb (length base) 43032 b, eq-eqb (length work) 86020 w, eq-eqb (length logs) 327680 l)
 
-  pub refuses : {r : ℕ} {after : List ℕ} → (n ≡ 0 → ⊥) → Wrote text after 0 r (refused_line n p) → planned n p r logs base work after ≡ planned_of f logs base work text
+  pub refuses : {m r : ℕ} {after : List ℕ} → m ≡ n → (n ≡ 0 → ⊥) → Wrote text after 0 r (refused_line m p) → planned n p r logs base work after ≡ planned_of f logs base work text
   unfolding planned_refusal fault
-  refuses {r} {after} z x =
-      let k : r ≡ length (refused_line n p) = omega (arith, x.next) in
-      rw (lent, ← ef, ne_eqb n 0 z, x.bytes, k)
+  refuses {m} {r} {after} em z x =
+      let k : r ≡ length (refused_line m p) = omega (arith, x.next) in
+      rw (lent, ← ef, ne_eqb n 0 z, x.bytes, k, em)
 
   pub comes_to_lem : {r s : ℕ} {logs' base' work' after : List ℕ} → n ≡ 0 → logs' ≡ (round_of f).logs → s ≡ (round_of f).skipped → base' ≡ empty_base → work' ≡ replicate 86020 0
       → Wrote text after 0 r (round_text (round logs' 0 s)) → planned 0 0 r logs' base' work' after ≡ planned_of f logs base work text

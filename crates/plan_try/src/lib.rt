@@ -5,18 +5,19 @@ ghost use Rattle.std.specs.Prelude.{◌≡◌, length, replicate};
 ghost use Rattle.model.specs.Lengths.{tree_size, base_size};
 ghost use Rattle.base_model.specs.Base.{empty_base};
 ghost use Rattle.plan_model.specs.Plan.{round_size, Round, round, plan_fault, round_of, planned, planned_of};
+ghost use Rattle.refusal.specs.Refusals.{fault_code, fault_place};
 ghost use Rattle.plan_units.specs.Units.{Units};
 
 use byte_slice::clear;
 use model::{BASE_BYTES, TREE_BYTES};
 use plan_act::Tally;
 use plan_model::{PLAN_TEXT_BYTES, ROUND_BYTES};
+use refusal::{Fault, Refusal};
 
-// What trying a plan answers: the number and place of its refusal, or 0, and how long the text is.
-#[derive(Drop)]
+// What trying a plan answers: whether it was refused, with the place, and how long the text is.
+#[derive(Clone, Copy, Debug, PartialEq, Eq)]
 pub struct Planned {
-    pub number: u8,
-    pub place: u16,
+    pub judged: Result<(), Fault<u16>>,
     pub length: u16,
 }
 
@@ -32,12 +33,9 @@ fn run_blocks(plan: &[u8], logs: &mut [u8], base: &[u8], work: &mut [u8]) -> Tal
         made: 0,
         skipped: 0,
     };
-    let mut k: usize = 0;
-    while k < n {
+    for k in 0..n {
         let at = 512 * k;
-        let next = plan_round::block(logs, base, archive, &plan[at..at + 512], work, t);
-        t = next;
-        k += 1;
+        t = plan_round::block(logs, base, archive, &plan[at..at + 512], work, t);
     }
     t
 }
@@ -58,16 +56,18 @@ fn run(plan: &[u8], logs: &mut [u8], base: &mut [u8], work: &mut [u8]) -> u16
 
 // A refusal of what is lent: nothing is written.
 fn not_lent() -> Planned
-    ensures { (result.number ≡ 1) × (result.place ≡ 0) × (result.length ≡ 0) }
+    ensures { (fault_code result.judged ≡ 1) × (fault_place result.judged ≡ 0) × (result.length ≡ 0) }
 {
     Planned {
-        number: 1,
-        place: 0,
+        judged: Err(Fault {
+            refusal: Refusal::BadBuffer,
+            place: 0,
+        }),
         length: 0,
     }
 }
 
-// A plan is tried. Lent memory that is not of its stated length is 1, and then all is left as it was. A refused plan writes its line into
+// A plan is tried. Lent memory that is not of its stated length is refused, and then all is left as it was. A refused plan writes its line into
 // the text and nothing else. Otherwise the logs are those of the units at the end, the base is that of a start, and the work memory is zero.
 pub fn try_plan(
     plan: &[u8],
@@ -76,7 +76,7 @@ pub fn try_plan(
     work: &mut [u8],
     text: &mut [u8],
 ) -> Planned
-    ensures { planned result.number result.place result.length logs.new base.new work.new text.new ≡ planned_of plan.now logs.old base.old work.old text.old }
+    ensures { planned (fault_code result.judged) (fault_place result.judged) result.length logs.new base.new work.new text.new ≡ planned_of plan.now logs.old base.old work.old text.old }
 {
     if text.len() != PLAN_TEXT_BYTES {
         return not_lent();
@@ -90,20 +90,17 @@ pub fn try_plan(
     if logs.len() != ROUND_BYTES {
         return not_lent();
     }
-    let f = plan_check::plan_fault(plan);
-    if f.number != 0 {
-        let n = plan_lines::refused_line(text, 0, f.number, f.place);
+    if let Err(fault) = plan_check::plan_fault(plan) {
+        let n = line_refusal::refused_line(text, 0, u8::from(fault.refusal), fault.place);
         return Planned {
-            number: f.number,
-            place: f.place,
+            judged: Err(fault),
             length: n as u16,
         };
     }
     let skipped = run(plan, logs, base, work);
     let n = plan_lines::round_text(text, logs, skipped);
     Planned {
-        number: 0,
-        place: 0,
+        judged: Ok(()),
         length: n as u16,
     }
 }

@@ -1,24 +1,20 @@
 -- What reading answers and leaves, over plain values.
 -- Assumes nothing.
-use Prim.Native.Nat.{ℕ, ◌-◌, ◌*◌, ◌/◌, ◌≤◌, ◌<◌}
+use Prim.Native.Nat.{ℕ, ◌-◌, ◌*◌, ◌/◌, ◌<◌}
 use native.Mathlib.Omega.{arith}
-use mathlib.Core.Path.{◌≡◌, refl, sym, ap, ◌∙◌}
-use mathlib.Core.Bool.{Bool, true, false, ◌&&◌}
+use mathlib.Core.Path.{◌≡◌, sym, ap, ◌∙◌}
+use mathlib.Core.Bool.{Bool, true, false}
 use mathlib.Core.List.{List}
-use lib.Dec.{eqb}
 use lib.ListN.{length, take, drop, replicate, length-take}
 use borrow.Author.Tests.{eq-eqb, ne_eqb}
-use Rattle.model.specs.Bytes.{same_bytes, part, put_at}
+use Rattle.model.specs.Bytes.{same_bytes, part}
 use Rattle.model.specs.File.{block_at, Fault, fault}
 use Rattle.base_model.specs.Base.{empty_base}
 use Rattle.call_model.specs.Read.{ReadBack, not_read, read_of}
 use Rattle.run_model.specs.Runs.{letters2}
-use Rattle.sab2_model.specs.Sab2.{row_blocks, sab2_base, record_part, sab2_counted, sab2_records, checked_sab2, is_sab2, either_fault}
+use Rattle.sab2_model.specs.Sab2.{row_blocks, sab2_base, record_part, sab2_counted, sab2_records, checked_sab2, is_sab2}
 use Rattle.sab2_model.specs.Calls.{read_sab2, read_either, read_either_of}
-use Rattle.byte_slice.proofs.Numbers.{and_wrong}
-use Rattle.byte_slice.proofs.PutAt.{put_whole}
 use Rattle.sab2_laws.proofs.Forms.{short_begins, sab1_read, sab2_fault_lem}
-use Rattle.sab2_laws.proofs.Rewritten.{base_long}
 use Rattle.sab2_check.proofs.Behind.{first_block, part_is}
 use Rattle.read_file_check.specs.Outcome.{read_back_of}
 use Rattle.read_file.specs.From.{read_from}
@@ -45,39 +41,32 @@ behind-loaded f z ep e = e ∙ rw (part_is f z ep)
 -- ---- the ways out of reading an SAB2 file
 
 module _ (log base f : List ℕ) (two : is_sab2 f ≡ true) where
-  refused_is : {n p a u k : ℕ} {v : List ℕ} → a ≡ 0 → u ≡ 0 → k ≡ 0 → v ≡ replicate 8 0 → read_back_of n p a u k v log base ≡ not_read log base n p
-  unfolding not_read
-  refused_is ea eu ek ev = rw (ea, eu, ek, ev)
+  pub wrong_log : (length log ≡ 40960 → ⊥) → read_back_of 1 0 0 0 0 (replicate 8 0) log base ≡ read_either_of log base f
+  unfolding read_either_of not_read
+  wrong_log h = rw (ne_eqb (length log) 40960 h)
 
-  module _ {n p a u k : ℕ} {v : List ℕ} (ea : a ≡ 0) (eu : u ≡ 0) (ek : k ≡ 0) (ev : v ≡ replicate 8 0) where
-    pub wrong_log : n ≡ 1 → p ≡ 0 → (length log ≡ 40960 → ⊥) → read_back_of n p a u k v log base ≡ read_either_of log base f
-    unfolding read_either_of
-    wrong_log en ep h = refused_is ea eu ek ev ∙ rw (en, ep, ne_eqb (length log) 40960 h)
+  module _ (l : length log ≡ 40960) where
+    pub wrong_base : (length base ≡ 43032 → ⊥) → read_back_of 1 0 0 0 0 (replicate 8 0) log base ≡ read_either_of log base f
+    unfolding read_either_of not_read
+    wrong_base h = rw (eq-eqb (length log) 40960 l, ne_eqb (length base) 43032 h)
 
-    pub wrong_base : n ≡ 1 → p ≡ 0 → length log ≡ 40960 → (length base ≡ 43032 → ⊥) → read_back_of n p a u k v log base ≡ read_either_of log base f
-    unfolding read_either_of
-    wrong_base en ep l h = refused_is ea eu ek ev ∙ rw (en, ep, eq-eqb (length log) 40960 l, ne_eqb (length base) 43032 h)
+    module _ (h : length base ≡ 43032) (m q : ℕ) (e : fault m q ≡ checked_sab2 f) where
+      pub file_refused : (m ≡ 0 → ⊥) → read_back_of m q 0 0 0 (replicate 8 0) log base ≡ read_either_of log base f
+      unfolding read_either_of not_read fault
+      file_refused z = rw (eq-eqb (length log) 40960 l, eq-eqb (length base) 43032 h, sab2_fault_lem f two, ← e, ne_eqb m 0 z)
 
-    pub file_refused : (m q : ℕ) → n ≡ m → p ≡ q → length log ≡ 40960 → length base ≡ 43032 → fault m q ≡ checked_sab2 f → (m ≡ 0 → ⊥) → read_back_of n p a u k v log base ≡ read_either_of log base f
-    unfolding read_either_of fault
-    file_refused m q en ep l b e z =
-        refused_is ea eu ek ev ∙ rw (en, ep, eq-eqb (length log) 40960 l, eq-eqb (length base) 43032 b, sab2_fault_lem f two, ← e, ne_eqb m 0 z)
+      pub no_fault : m ≡ 0 → (checked_sab2 f).number ≡ 0
+      unfolding fault
+      no_fault z = sym (ap (λ (x : Fault). x.number) e) ∙ z
 
-  pub no_fault : (m q : ℕ) → fault m q ≡ checked_sab2 f → m ≡ 0 → (checked_sab2 f).number ≡ 0
-  unfolding fault
-  no_fault m q e z = sym (ap (λ (x : Fault). x.number) e) ∙ z
-
-  pub file_read : {n p a u k : ℕ} {v o b s : List ℕ} (m q : ℕ) → length log ≡ 40960 → length base ≡ 43032 → fault m q ≡ checked_sab2 f → m ≡ 0
-      → (m ≡ 0 → s ≡ sab2_base f) → b ≡ put_at base 0 s → read_back_of n p a u k v o empty_base ≡ read_from (block_at f 0) (record_part f) empty_base
-      → read_back_of n p a u k v o b ≡ read_either_of log base f
-  unfolding read_either_of read_either read_sab2 read_from fault sab2_counted sab2_records
-  file_read {n} {p} {a} {u} {k} {v} {o} {b} {s} m q l h e z es eb r =
-      let sb : s ≡ sab2_base f = es z in
-      let long : length s ≡ length base = ap (λ (x : List ℕ). length x) sb ∙ (base_long f (no_fault m q e z) ∙ sym h) in
-      let bb : b ≡ sab2_base f = eb ∙ (put_whole base s long ∙ sb) in
-      let moved : read_back_of n p a u k v o b ≡ read_from (block_at f 0) (record_part f) b =
-      ap (λ (y : ReadBack). read_back_of y.number y.place y.archive y.sender y.records y.vector y.log b) r in
-      moved ∙ rw (bb, eq-eqb (length log) 40960 l, eq-eqb (length base) 43032 h, sab2_fault_lem f two, ← e, z, two)
+      pub file_read : {a u k : ℕ} {v o b s : List ℕ} → m ≡ 0 → s ≡ sab2_base f → b ≡ s → read_back_of 0 0 a u k v o empty_base ≡ read_from (block_at f 0) (record_part f) empty_base
+          → read_back_of 0 0 a u k v o b ≡ read_either_of log base f
+      unfolding read_either_of read_either read_sab2 read_from fault sab2_counted sab2_records
+      file_read {a} {u} {k} {v} {o} {b} {s} z sb eb r =
+          let bb : b ≡ sab2_base f = eb ∙ sb in
+          let moved : read_back_of 0 0 a u k v o b ≡ read_from (block_at f 0) (record_part f) b =
+          ap (λ (y : ReadBack). read_back_of y.number y.place y.archive y.sender y.records y.vector y.log b) r in
+          moved ∙ rw (bb, eq-eqb (length log) 40960 l, eq-eqb (length base) 43032 h, sab2_fault_lem f two, ← e, z, two)
 
 -- ---- an SAB1 file
 

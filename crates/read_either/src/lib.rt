@@ -7,14 +7,15 @@ ghost use Rattle.base_model.specs.Base.{empty_base};
 ghost use Rattle.sab2_model.specs.Sab2.{record_part, checked_sab2, is_sab2};
 ghost use Rattle.sab2_model.specs.Calls.{read_either_of};
 ghost use Rattle.model.specs.File.{block_at};
-ghost use Rattle.read_file_check.specs.Outcome.{read_back_of};
 ghost use Rattle.read_file.specs.From.{read_from};
+ghost use Rattle.read_file.specs.Told.{told_of};
+ghost use Rattle.read_either.specs.Told.{either_told};
 
 use block_read::has_letters;
-use byte_slice::put;
 use model::{BASE_BYTES, BLOCK_BYTES, LOG_BYTES};
-use read_file::{ReadFile, load, refused};
-use sab2_check::{checked_sab2, row_blocks};
+use read_file::{ReadFile, load};
+use refusal::{Fault, Refusal};
+use sab2_check::{FileFault, checked_sab2, row_blocks};
 
 // The first four bytes are SAB2; else a file is SAB1.
 pub fn is_sab2(file: &[u8]) -> bool
@@ -29,7 +30,7 @@ pub fn is_sab2(file: &[u8]) -> bool
 // The log of an SAB2 file without a fault.
 fn load_behind(log: &mut [u8], file: &[u8]) -> ReadFile
     requires { (length log.old ≡ log_size) × ((checked_sab2 file.now).number ≡ 0) }
-    ensures { read_back_of result.number result.place result.archive result.unit result.records result.vector.counts log.new empty_base ≡ read_from (block_at file.now 0) (record_part file.now) empty_base }
+    ensures { told_of result log.new empty_base ≡ read_from (block_at file.now 0) (record_part file.now) empty_base }
 {
     let n = file.len() / BLOCK_BYTES;
     let p = row_blocks(file);
@@ -38,40 +39,53 @@ fn load_behind(log: &mut [u8], file: &[u8]) -> ReadFile
     load(log, &file[0..512], &file[at..end], n - p)
 }
 
+// A lent buffer is not of its length.
+const BAD_BUFFER: FileFault = FileFault::Block(Fault {
+    refusal: Refusal::BadBuffer,
+    place: 0,
+});
+
 // An SAB2 file: its list and base are gathered and judged in a buffer beside, and copied out once all checks have passed.
-fn read_sab2(log: &mut [u8], base: &mut [u8], file: &[u8], beside: &mut [u8]) -> ReadFile
+fn read_sab2(
+    log: &mut [u8],
+    base: &mut [u8],
+    file: &[u8],
+    beside: &mut [u8],
+) -> Result<ReadFile, FileFault>
     requires { (is_sab2 file.now ≡ true) × (length beside.old ≡ base_size) }
-    ensures { read_back_of result.number result.place result.archive result.unit result.records result.vector.counts log.new base.new ≡ read_either_of log.old base.old file.now }
+    ensures { either_told result log.new base.new ≡ read_either_of log.old base.old file.now }
 {
     if log.len() != LOG_BYTES {
-        return refused(1, 0);
+        return Err(BAD_BUFFER);
     }
     if base.len() != BASE_BYTES {
-        return refused(1, 0);
+        return Err(BAD_BUFFER);
     }
-    let e = checked_sab2(file, beside);
-    if e.number != 0 {
-        return refused(e.number, e.place);
-    }
-    put(base, 0, beside);
-    load_behind(log, file)
+    checked_sab2(file, beside)?;
+    base.copy_from_slice(beside);
+    Ok(load_behind(log, file))
 }
 
 // A file of either form, as read_either reads it, by way of a lent buffer, whose bytes are neither judged nor promised.
-pub fn read_beside(log: &mut [u8], base: &mut [u8], file: &[u8], beside: &mut [u8]) -> ReadFile
+pub fn read_beside(
+    log: &mut [u8],
+    base: &mut [u8],
+    file: &[u8],
+    beside: &mut [u8],
+) -> Result<ReadFile, FileFault>
     requires { length beside.old ≡ base_size }
-    ensures { read_back_of result.number result.place result.archive result.unit result.records result.vector.counts log.new base.new ≡ read_either_of log.old base.old file.now }
+    ensures { either_told result log.new base.new ≡ read_either_of log.old base.old file.now }
 {
     if is_sab2(file) {
         return read_sab2(log, base, file, beside);
     }
-    read_file::read_file(log, base, file)
+    Ok(read_file::read_file(log, base, file)?)
 }
 
 // An SAB2 file, by way of a buffer of its own.
-fn read_alone(log: &mut [u8], base: &mut [u8], file: &[u8]) -> ReadFile
+fn read_alone(log: &mut [u8], base: &mut [u8], file: &[u8]) -> Result<ReadFile, FileFault>
     requires { is_sab2 file.now ≡ true }
-    ensures { read_back_of result.number result.place result.archive result.unit result.records result.vector.counts log.new base.new ≡ read_either_of log.old base.old file.now }
+    ensures { either_told result log.new base.new ≡ read_either_of log.old base.old file.now }
 {
     let mut beside = [0u8; BASE_BYTES];
     read_sab2(log, base, file, &mut beside)
@@ -79,11 +93,11 @@ fn read_alone(log: &mut [u8], base: &mut [u8], file: &[u8]) -> ReadFile
 
 // A file of either form and any archive is read into a lent log and base, whose old bytes are not judged. An SAB1 file leaves the base empty,
 // with all eight units listed. A refusal leaves both as they were.
-pub fn read_either(log: &mut [u8], base: &mut [u8], file: &[u8]) -> ReadFile
-    ensures { read_back_of result.number result.place result.archive result.unit result.records result.vector.counts log.new base.new ≡ read_either_of log.old base.old file.now }
+pub fn read_either(log: &mut [u8], base: &mut [u8], file: &[u8]) -> Result<ReadFile, FileFault>
+    ensures { either_told result log.new base.new ≡ read_either_of log.old base.old file.now }
 {
     if is_sab2(file) {
         return read_alone(log, base, file);
     }
-    read_file::read_file(log, base, file)
+    Ok(read_file::read_file(log, base, file)?)
 }

@@ -10,7 +10,7 @@ use borrow.Author.Tests.{lt-leb, le-ltb}
 use Rattle.model.specs.Bytes.{part, joined, put_at}
 use Rattle.model.specs.Log.{log_bytes}
 use Rattle.model.specs.Block.{archive_in, sender_in, vector_in}
-use Rattle.model.specs.File.{blocks_in, block_at, Fault, fault, blocks_fault, records_counted, file_record, file_records_from, file_records, records_fault, counts_fault, or_else, file_fault, checked_fault}
+use Rattle.model.specs.File.{blocks_in, block_at, fault, blocks_fault, records_counted, file_record, file_records_from, file_records, records_fault, counts_fault, or_else, file_fault, checked_fault}
 use Rattle.base_model.specs.Base.{empty_base}
 use Rattle.call_model.specs.Read.{read_back, read_of}
 use Rattle.byte_slice.proofs.Parts.{part_length}
@@ -112,6 +112,6 @@ module _ (f : List ℕ) (m q : ℕ) (e : fault m q ≡ checked_fault f) (z : m �
   pub first_lent : length (take (512 - 0) (drop 0 f)) ≡ 512
   first_lent = omega (arith, first_block, length-take 512 f)
 
-  pub file_loaded : (log : List ℕ) {n p a u k : ℕ} {v o : List ℕ} → length log ≡ 40960 → read_back_of n p a u k v o empty_base ≡ read_from (take (512 - 0) (drop 0 f)) f empty_base
-      → read_back_of n p a u k v o empty_base ≡ read_of log empty_base f
-  file_loaded log l r = file_read log f m q l e z (r ∙ from_whole f)
+  pub file_loaded : (log : List ℕ) {a u k : ℕ} {v o : List ℕ} → length log ≡ 40960 → read_back_of 0 0 a u k v o empty_base ≡ read_from (take (512 - 0) (drop 0 f)) f empty_base
+      → read_back_of 0 0 a u k v o empty_base ≡ read_of log empty_base f
+  file_loaded log l r = file_read log f l m q e z (r ∙ from_whole f)

@@ -4,24 +4,21 @@ use Prim.Native.Nat.{ℕ, suc, ◌+◌, ◌-◌, ◌*◌, ◌/◌, ◌%◌, ◌�
 use native.Mathlib.Nat.{sub_self}
 use native.Mathlib.Numerals.{add-one}
 use native.Mathlib.Omega.{arith}
-use mathlib.Core.Path.{◌≡◌, refl, sym, ◌∙◌}
-use mathlib.Core.Logic.{⊎_elim}
+use mathlib.Core.Path.{◌≡◌, refl, sym, ap, ◌∙◌}
 use mathlib.Core.Bool.{Bool, true, false, cond, not, ◌&&◌, ◌||◌}
-use mathlib.Core.List.{List}
+use mathlib.Core.List.{List, [], ◌∷◌}
 use lib.Dec.{leb, ltb, eqb}
 use lib.ListN.{length, take, drop}
+use lib.Pointwise.{pointwise}
 use borrow.Author.Tests.{eq-eqb, ne_eqb, le-leb, lt-leb, lt-ltb, le-ltb, not-true, not-false}
 use Rattle.model.specs.Bytes.{same_bytes, part}
-use Rattle.model.specs.Vector.{blocks_for, covers}
+use Rattle.model.specs.Vector.{blocks_for}
 use Rattle.model.specs.Block.{letters, archive_in, sender_in, place_in, count_in, vector_in}
 use Rattle.model.specs.File.{Fault, file_length, blocks_in, block_at, count_fits, fault, blocks_fault}
 use Rattle.run_model.specs.Runs.{block_fault_as}
 use Rattle.run_model.specs.Blocks.{count_fits_as, agrees_as, file_block_fault_as, blocks_fault_as}
-use Rattle.byte_slice.proofs.Numbers.{bool_cases, and_true, true_and, not_both}
 use Rattle.byte_slice.proofs.Parts.{part_is}
-use Rattle.byte_slice.proofs.Compare.{eq_same, ne_same}
 use Rattle.run_laws.proofs.Sab1.{blocks_fault_sab1}
-use Rattle.vector.proofs.Dominance.{covers_refl, covers_antisym}
 
 -- ---- the length
 
@@ -41,17 +38,12 @@ few_blocks f e = e
 
 -- ---- the vectors
 
-pub both_cover : (a b : List ℕ) → length a ≡ 8 → length b ≡ 8 → {g l : Bool} → g ≡ covers a b → l ≡ covers b a → g && l ≡ same_bytes a b
-both_cover a b p q e f = rw (e, f) (⊎_elim holds fails (bool_cases (covers a b && covers b a)))
-  where
-    holds : covers a b && covers b a ≡ true → covers a b && covers b a ≡ same_bytes a b
-    holds t =
-        let (g, l) = and_true (covers a b) (covers b a) t in
-        t ∙ sym (eq_same a b (covers_antisym a b p q g l))
-
-    fails : covers a b && covers b a ≡ false → covers a b && covers b a ≡ same_bytes a b
-    fails t =
-        t ∙ sym (ne_same a b (λ (g : a ≡ b). not_both (covers a b && covers b a) (rw g (true_and (covers b b) (covers b b) (covers_refl b) (covers_refl b))) t))
+pub pointwise_same : (a b : List ℕ) → pointwise eqb a b ≡ same_bytes a b
+unfolding same_bytes
+pointwise_same [] [] = refl
+pointwise_same [] (y ∷ b) = refl
+pointwise_same (x ∷ a) [] = refl
+pointwise_same (x ∷ a) (y ∷ b) = ap (λ (t : Bool). eqb x y && t) (pointwise_same a b)
 
 -- ---- the count
 
@@ -75,14 +67,17 @@ module _ (r n k c : ℕ) where
   unfolding count_fits_as blocks_for
   behind_rows_lem h e = e ∙ rw (le-ltb k ((r + 5) / 6) h)
 
-  module _ {m : ℕ} (h : k < (r + 5) / 6) (e : m ≡ min 6 (r - 6 * k)) where
-    pub not_filled : (c ≡ m → ⊥) → false ≡ count_fits_as r n k c
-    unfolding count_fits_as blocks_for
-    not_filled d = rw (lt-ltb k ((r + 5) / 6) h, ← e, ne_eqb c m d)
+  module _ {b m : ℕ} (eb : b ≡ c) (h : k < (r + 5) / 6) (e : m ≡ min (r - 6 * k) 6) where
+    six_left : min 6 (r - 6 * k) ≡ m
+    six_left = omega arith
 
-    pub filled : c ≡ m → (ltb (k + 1) n || eqb (k + 1) ((r + 5) / 6)) ≡ count_fits_as r n k c
+    pub not_filled : (b ≡ m → ⊥) → false ≡ count_fits_as r n k c
     unfolding count_fits_as blocks_for
-    filled d = rw (lt-ltb k ((r + 5) / 6) h, ← e, eq-eqb c m d, add-one k)
+    not_filled d = rw (lt-ltb k ((r + 5) / 6) h, six_left, ← eb, ne_eqb b m d)
+
+    pub filled : b ≡ m → (ltb (k + 1) n || eqb (k + 1) ((r + 5) / 6)) ≡ count_fits_as r n k c
+    unfolding count_fits_as blocks_for
+    filled d = rw (lt-ltb k ((r + 5) / 6) h, six_left, ← eb, eq-eqb b m d, add-one k)
 
 -- ---- a block against its place and the first
 
@@ -133,17 +128,17 @@ module _ (a : List ℕ) (w : ℕ) (f : List ℕ) (n k : ℕ) (whole : length f �
     unfolding file_block_fault_as
     faulty_alone h = rw (← alone, ne_eqb x 0 h)
 
-    module _ {t : Bool} (z : x ≡ 0) (et : t ≡ agrees_as w n k (take (512 - 0) (drop 0 f)) (take (512 * k + 512 - 512 * k) (drop (512 * k) f))) where
-      beside : t ≡ agrees_as w (blocks_in f) k (block_at f 0) (block_at f k)
-      beside = rw (blocks_counted f n whole, ← lent, ← lent_first) et
+  module _ {t : Bool} (z : 0 ≡ block_fault_as a (take (512 * k + 512 - 512 * k) (drop (512 * k) f))) (et : t ≡ agrees_as w n k (take (512 - 0) (drop 0 f)) (take (512 * k + 512 - 512 * k) (drop (512 * k) f))) where
+    beside : t ≡ agrees_as w (blocks_in f) k (block_at f 0) (block_at f k)
+    beside = rw (blocks_counted f n whole, ← lent, ← lent_first) et
 
-      pub disagrees : not t ≡ true → 20 ≡ file_block_fault_as a w f k
-      unfolding file_block_fault_as
-      disagrees h = rw (← alone, eq-eqb x 0 z, ← beside, not-true t h)
+    pub disagrees : not t ≡ true → 20 ≡ file_block_fault_as a w f k
+    unfolding file_block_fault_as
+    disagrees h = rw (← alone z, ← beside, not-true t h)
 
-      pub passes : not t ≡ false → 0 ≡ file_block_fault_as a w f k
-      unfolding file_block_fault_as
-      passes h = rw (← alone, eq-eqb x 0 z, ← beside, not-false t h)
+    pub passes : not t ≡ false → 0 ≡ file_block_fault_as a w f k
+    unfolding file_block_fault_as
+    passes h = rw (← alone z, ← beside, not-false t h)
 
 -- ---- block after block
 
@@ -156,8 +151,8 @@ module _ (a : List ℕ) (w : ℕ) (f : List ℕ) (n k : ℕ) (inv : blocks_fault
     pub stops : (x ≡ 0 → ⊥) → fault x k ≡ blocks_fault_as a w f 0 n
     stops z = rw (ne_eqb x 0 z) at step
 
-    pub goes_on_lem : x ≡ 0 → blocks_fault_as a w f (k + 1) (n - (k + 1)) ≡ blocks_fault_as a w f 0 n
-    goes_on_lem z = rw (eq-eqb x 0 z) at step
+  pub goes_on_lem : k < n → 0 ≡ file_block_fault_as a w f k → blocks_fault_as a w f (k + 1) (n - (k + 1)) ≡ blocks_fault_as a w f 0 n
+  goes_on_lem h z = step h z
 
   pub ends : k ≤ n → n ≤ k → fault 0 0 ≡ blocks_fault_as a w f 0 n
   unfolding blocks_fault_as

@@ -2,20 +2,15 @@
 // letters, and how many rows stand in front of the records: none in an SAB1 file.
 #![tactic(auto)]
 
-ghost use Rattle.std.specs.Prelude.{◌≡◌, ◌&&◌, ◌-◌, ◌*◌, ◌/◌, ◌%◌, ◌<◌, ◌≤◌, min, leb, eqb, length};
+ghost use Rattle.std.specs.Prelude.{◌≡◌, ◌&&◌, ◌-◌, ◌*◌, ◌/◌, ◌%◌, ◌<◌, ◌≤◌, leb, eqb, length};
 ghost use Rattle.model.specs.Bytes.{same_bytes};
 ghost use Rattle.model.specs.File.{file_length, count_fits, fault, blocks_fault};
 ghost use Rattle.run_model.specs.Blocks.{count_fits_as, agrees_as, file_block_fault_as, blocks_fault_as};
+ghost use Rattle.refusal.specs.Refusals.{code_of, fault_code, fault_place};
 
 use block_read::{archive_in, block_fault_as, count_in, place_in, sender_in, vector_in};
-use vector::{Vector, covers};
-
-// A refusal and the place of its block; number 0 for none.
-#[derive(Drop)]
-pub struct Fault {
-    pub number: u8,
-    pub place: u8,
-}
+use refusal::{Fault, Refusal};
+use vector::Vector;
 
 // The file has whole blocks, at least one and at most so many.
 pub fn whole_blocks_to(file: &[u8], most: usize) -> bool
@@ -38,11 +33,11 @@ pub fn whole_blocks(file: &[u8]) -> bool
     whole_blocks_to(file, 86)
 }
 
-// The same counts: each covers the other.
+// The same counts.
 pub fn same_counts(a: Vector, b: Vector) -> bool
     ensures { result ≡ same_bytes a.counts b.counts }
 {
-    covers(a, b) & covers(b, a)
+    a.counts == b.counts
 }
 
 // A block of records before the last is full; a count of 0 stands only in an only block.
@@ -59,16 +54,6 @@ fn count_fits(n: usize, k: usize, count: u8) -> bool
     1 <= count
 }
 
-// Six, or as many as are left.
-fn six_of(left: usize) -> usize
-    ensures { result ≡ min 6 left }
-{
-    if left < 6 {
-        return left;
-    }
-    6
-}
-
 // A block of the rows is as full as they ask, and not the last before they end; behind them stand blocks of records.
 fn count_fits_as(rows: usize, n: usize, k: usize, count: u8) -> bool
     requires { (k < n) × (n ≤ 186) × (rows < 131072) }
@@ -78,7 +63,7 @@ fn count_fits_as(rows: usize, n: usize, k: usize, count: u8) -> bool
     if p <= k {
         return count_fits(n, k, count);
     }
-    if count as usize != six_of(rows - 6 * k) {
+    if usize::from(count) != (rows - 6 * k).min(6) {
         return false;
     }
     (k + 1 < n) | (k + 1 == p)
@@ -104,48 +89,50 @@ fn agrees(first: &[u8], b: &[u8], rows: usize, n: usize, k: usize) -> bool
     count_fits_as(rows, n, k, count_in(b))
 }
 
-// The first of the refusals 3, 4, 5 and 20 that holds of block k, or 0.
-fn file_block_fault(file: &[u8], letters: &[u8; 4], rows: usize, n: usize, k: usize) -> u8
+// The first refusal that holds of block k: of the block alone, then BadFile if it does not agree with its place and the first block.
+fn file_block_fault(
+    file: &[u8],
+    letters: &[u8; 4],
+    rows: usize,
+    n: usize,
+    k: usize,
+) -> Result<(), Refusal>
     requires { (length file.now ≡ 512 * n) × (k < n) × (n ≤ 186) × (rows < 131072) }
-    ensures { result ≡ file_block_fault_as letters.now rows file.now k }
+    ensures { code_of result ≡ file_block_fault_as letters.now rows file.now k }
 {
     let at = 512 * k;
-    let number = block_fault_as(&file[at..at + 512], letters);
-    if number != 0 {
-        return number;
-    }
+    block_fault_as(&file[at..at + 512], letters)?;
     if !agrees(&file[0..512], &file[at..at + 512], rows, n, k) {
-        return 20;
+        return Err(Refusal::BadFile);
     }
-    0
+    Ok(())
 }
 
 // The first fault of the n blocks of a file with these letters and so many rows, with the place of its block.
-pub fn blocks_fault_as(file: &[u8], letters: &[u8; 4], rows: usize, n: usize) -> Fault
+pub fn blocks_fault_as(
+    file: &[u8],
+    letters: &[u8; 4],
+    rows: usize,
+    n: usize,
+) -> Result<(), Fault<u8>>
     requires { (length file.now ≡ 512 * n) × (n ≤ 186) × (rows < 131072) }
-    ensures { fault result.number result.place ≡ blocks_fault_as letters.now rows file.now 0 n }
+    ensures { fault (fault_code result) (fault_place result) ≡ blocks_fault_as letters.now rows file.now 0 n }
 {
-    let mut k: usize = 0;
-    while k < n {
-        let number = file_block_fault(file, letters, rows, n, k);
-        if number != 0 {
-            return Fault {
-                number,
+    for k in 0..n {
+        if let Err(refusal) = file_block_fault(file, letters, rows, n, k) {
+            return Err(Fault {
+                refusal,
                 place: k as u8,
-            };
+            });
         }
-        k += 1;
     }
-    Fault {
-        number: 0,
-        place: 0,
-    }
+    Ok(())
 }
 
 // The same of an SAB1 file.
-pub fn blocks_fault(file: &[u8], n: usize) -> Fault
+pub fn blocks_fault(file: &[u8], n: usize) -> Result<(), Fault<u8>>
     requires { (length file.now ≡ 512 * n) × (n ≤ 86) }
-    ensures { fault result.number result.place ≡ blocks_fault file.now 0 n }
+    ensures { fault (fault_code result) (fault_place result) ≡ blocks_fault file.now 0 n }
 {
     blocks_fault_as(file, b"SAB1", 0, n)
 }

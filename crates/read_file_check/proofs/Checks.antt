@@ -12,7 +12,7 @@ use borrow.Author.Tests.{eq-eqb, ne_eqb, eqb-true, eqb-false, leb-true, not-true
 use Rattle.model.specs.Bytes.{same_bytes, part}
 use Rattle.model.specs.Log.{vector_of, vector_on, no_counts}
 use Rattle.model.specs.Block.{letters, vector_in}
-use Rattle.model.specs.File.{file_length, blocks_in, block_at, Fault, fault, blocks_fault, records_counted, file_records, records_fault, counts_fault, or_else, file_fault, checked_fault}
+use Rattle.model.specs.File.{file_length, blocks_in, block_at, Fault, fault, blocks_fault, records_counted, file_records, counts_fault, or_else, file_fault, checked_fault}
 use Rattle.sab2_model.specs.Sab2.{records_fault_on, counts_fault_on}
 use Rattle.call_model.specs.Read.{ReadBack, not_read, read_back, read_of}
 use Rattle.byte_slice.proofs.Numbers.{bool_cases, and_true, and_wrong}
@@ -116,9 +116,9 @@ module _ (f : List ℕ) (n : ℕ) (whole : length f ≡ 512 * n) where
       unfolding file_tables fault
       read_left places₀ seens₀ places seens e = e ∙ rw (none, blocks_counted f n whole, ← eb, z)
 
-pub file_indexed : (f : List ℕ) {v : List ℕ} (x : ℕ) (places seens : List ℕ) → v ≡ no_counts → (x ≡ 0 → Indexed v (laid_at File f) (records_counted f) (file_records f) (vector_on v (file_records f)) places seens) → x ≡ 0
+pub file_indexed : (f : List ℕ) {v : List ℕ} (places seens : List ℕ) → v ≡ no_counts → Indexed v (laid_at File f) (records_counted f) (file_records f) (vector_on v (file_records f)) places seens
     → Indexed no_counts (laid_at File f) (records_counted f) (file_records f) (vector_of (file_records f)) places seens
-file_indexed f x places seens none h z = rw (← vector_on-none (file_records f)) (rw none at (h z))
+file_indexed f places seens none h = rw (← vector_on-none (file_records f)) (rw none at h)
 
 -- ---- the ways out of `checked_fault`
 
@@ -132,30 +132,23 @@ module _ (f : List ℕ) {t : Bool} (e : t ≡ file_length f) where
 -- ---- what reading answers, where no base is lent
 
 module _ (log f : List ℕ) where
-  refused_is : {n p a u k : ℕ} {v : List ℕ} → a ≡ 0 → u ≡ 0 → k ≡ 0 → v ≡ replicate 8 0 → (base : List ℕ) → read_back_of n p a u k v log base ≡ not_read log base n p
-  unfolding not_read
-  refused_is ea eu ek ev base = rw (ea, eu, ek, ev)
+  pub log_length : (length log ≡ 40960 → ⊥) → read_back_of 1 0 0 0 0 (replicate 8 0) log empty_base ≡ read_of log empty_base f
+  unfolding read_of not_read
+  log_length h = rw (ne_eqb (length log) 40960 h)
 
-  module _ {n p a u k : ℕ} {v : List ℕ} (ea : a ≡ 0) (eu : u ≡ 0) (ek : k ≡ 0) (ev : v ≡ replicate 8 0) where
-    pub log_length : n ≡ 1 → p ≡ 0 → (length log ≡ 40960 → ⊥) → read_back_of n p a u k v log empty_base ≡ read_of log empty_base f
-    unfolding read_of
-    log_length en ep h = refused_is ea eu ek ev empty_base ∙ rw (en, ep, ne_eqb (length log) 40960 h)
+  -- a base of another length
+  pub base_length : (base : List ℕ) → (length base ≡ 43032 → ⊥) → read_back_of 1 0 0 0 0 (replicate 8 0) log base ≡ read_of log base f
+  unfolding read_of not_read
+  base_length base h = rw (ne_eqb (length base) 43032 h, and_wrong (eqb (length log) 40960))
 
-    pub file_refused : (m q : ℕ) → n ≡ m → p ≡ q → length log ≡ 40960 → fault m q ≡ checked_fault f → (m ≡ 0 → ⊥) → read_back_of n p a u k v log empty_base ≡ read_of log empty_base f
+  module _ (l : length log ≡ 40960) (m q : ℕ) (e : fault m q ≡ checked_fault f) where
+    pub file_refused : (m ≡ 0 → ⊥) → read_back_of m q 0 0 0 (replicate 8 0) log empty_base ≡ read_of log empty_base f
+    unfolding read_of not_read fault
+    file_refused z = rw (eq-eqb (length log) 40960 l, eq-eqb (length empty_base) 43032 empty_length, ← e, ne_eqb m 0 z)
+
+    pub file_read : {a u k : ℕ} {v o : List ℕ} → m ≡ 0 → read_back_of 0 0 a u k v o empty_base ≡ read_back f → read_back_of 0 0 a u k v o empty_base ≡ read_of log empty_base f
     unfolding read_of fault
-    file_refused m q en ep l e z =
-        refused_is ea eu ek ev empty_base ∙ rw (en, ep, eq-eqb (length log) 40960 l, eq-eqb (length empty_base) 43032 empty_length, ← e, ne_eqb m 0 z)
-
-    -- a base of another length
-    pub base_length : (base : List ℕ) → n ≡ 1 → p ≡ 0 → (length base ≡ 43032 → ⊥) → read_back_of n p a u k v log base ≡ read_of log base f
-    unfolding read_of
-    base_length base en ep h =
-        refused_is ea eu ek ev base ∙ rw (en, ep, ne_eqb (length base) 43032 h, and_wrong (eqb (length log) 40960))
-
-  pub file_read : {n p a u k : ℕ} {v o : List ℕ} (m q : ℕ) → length log ≡ 40960 → fault m q ≡ checked_fault f → m ≡ 0 → read_back_of n p a u k v o empty_base ≡ read_back f
-      → read_back_of n p a u k v o empty_base ≡ read_of log empty_base f
-  unfolding read_of fault
-  file_read m q l e z r = r ∙ rw (eq-eqb (length log) 40960 l, eq-eqb (length empty_base) 43032 empty_length, ← e, z)
+    file_read z r = r ∙ rw (eq-eqb (length log) 40960 l, eq-eqb (length empty_base) 43032 empty_length, ← e, z)
 
 -- ---- what reading answers, where a base is lent
 

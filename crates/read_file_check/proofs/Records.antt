@@ -6,6 +6,13 @@ use native.Mathlib.Nat.{add-zero, sub-zero, sub_self}
 use native.Mathlib.Numerals.{add-one}
 use native.Mathlib.Omega.{arith}
 use mathlib.Core.Path.{◌≡◌, refl, sym, ap, ◌∙◌}
+use Rattle.std.specs.Prelude.{Result, Ok, Err}
+use Rattle.refusal.specs.declared.Fault.{Fault}
+use Rattle.refusal.specs.declared.Refusal.{Refusal}
+use Rattle.refusal.specs.declared.Refusal.TheVariants.{BadBuffer, BadLength, BadLetters, BadSum, BadHeader, OtherArchive, Malformed, NotNext, NotClosed, OtherBytes, FullLog, NoObject, NoFolder, WrongKind, LabelHeld, NotEmpty, UnseenChange, NotAside, UnsoundState, BadFile, BadUnit, StrokeInLabel, IntoItself, Unlisted, BelowBase, LastNumber, FoldedRecords, NotAnEvent}
+use Rattle.refusal.specs.Refusals.{number_of, fault_code, fault_place}
+use Rattle.refusal.proofs.Refusals.{not_zero}
+use Rattle.vector.specs.declared.Vector.{Vector}
 use mathlib.Core.Logic.{◌⊎◌, inl, inr, ⊎_elim}
 use mathlib.Core.Bool.{Bool, true, false, cond, not, ◌&&◌}
 use mathlib.Core.List.{List, [], ◌∷◌}
@@ -19,7 +26,7 @@ use Rattle.model.specs.Block.{count_in}
 use Rattle.model.specs.File.{block_at, fault, records_counted, file_record, file_records_from, file_records}
 use Rattle.base_model.specs.Base.{bits, is_listed}
 use Rattle.sab2_model.specs.Sab2.{read_fault, records_fault_on}
-use Rattle.byte_slice.proofs.Numbers.{eq_or_ne, lt_or_ge, bool_cases}
+use Rattle.byte_slice.proofs.Numbers.{eq_or_ne, bool_cases}
 use Rattle.byte_slice.proofs.Parts.{part_is, get_d_part}
 use Rattle.run_laws.proofs.Written.{none_counted}
 use Rattle.log_check.specs.declared.Layout.TheVariants.{File}
@@ -31,9 +38,9 @@ use Rattle.read_file_check.specs.Outcome.{Judges, left, records_left}
 
 -- ---- how many
 
-pub records_counted_lem : (f : List ℕ) (n : ℕ) {c : ℕ} → length f ≡ 512 * n → c ≡ count_in (take (512 * (n - 1) + 512 - 512 * (n - 1)) (drop (512 * (n - 1)) f)) → 6 * (n - 1) + c ≡ records_counted f
+pub records_counted_lem : (f : List ℕ) (n : ℕ) {b c : ℕ} → b ≡ c → length f ≡ 512 * n → c ≡ count_in (take (512 * (n - 1) + 512 - 512 * (n - 1)) (drop (512 * (n - 1)) f)) → 6 * (n - 1) + b ≡ records_counted f
 unfolding records_counted block_at
-records_counted_lem f n whole e = rw (blocks_counted f n whole, e, part_is f (512 * (n - 1)) 512)
+records_counted_lem f n wide whole e = rw (blocks_counted f n whole, wide, e, part_is f (512 * (n - 1)) 512)
 
 pub no_records : (f : List ℕ) (n : ℕ) → length f ≡ 512 * n → n ≡ 0 → 0 ≡ records_counted f
 unfolding records_counted
@@ -95,6 +102,52 @@ module _ (x a n : ℕ) where
   pub asked_too : (x ≡ 0 → ⊥) → (x ≡ 7 → ⊥) → a + 1 ≡ asked_to (found x a) n
   unfolding asked_to
   asked_too h g = rw (ne_eqb x 0 h, ne_eqb x 7 g, add-one a)
+
+-- over an answer
+
+-- one refusal alone has the number 7
+only_malformed : (r : Refusal) → number_of r ≡ 7 → r ≡ Malformed
+only_malformed BadBuffer e = absurd (omega arith)
+only_malformed BadLength e = absurd (omega arith)
+only_malformed BadLetters e = absurd (omega arith)
+only_malformed BadSum e = absurd (omega arith)
+only_malformed BadHeader e = absurd (omega arith)
+only_malformed OtherArchive e = absurd (omega arith)
+only_malformed Malformed e = refl
+only_malformed NotNext e = absurd (omega arith)
+only_malformed NotClosed e = absurd (omega arith)
+only_malformed OtherBytes e = absurd (omega arith)
+only_malformed FullLog e = absurd (omega arith)
+only_malformed NoObject e = absurd (omega arith)
+only_malformed NoFolder e = absurd (omega arith)
+only_malformed WrongKind e = absurd (omega arith)
+only_malformed LabelHeld e = absurd (omega arith)
+only_malformed NotEmpty e = absurd (omega arith)
+only_malformed UnseenChange e = absurd (omega arith)
+only_malformed NotAside e = absurd (omega arith)
+only_malformed UnsoundState e = absurd (omega arith)
+only_malformed BadFile e = absurd (omega arith)
+only_malformed BadUnit e = absurd (omega arith)
+only_malformed StrokeInLabel e = absurd (omega arith)
+only_malformed IntoItself e = absurd (omega arith)
+only_malformed Unlisted e = absurd (omega arith)
+only_malformed BelowBase e = absurd (omega arith)
+only_malformed LastNumber e = absurd (omega arith)
+only_malformed FoldedRecords e = absurd (omega arith)
+only_malformed NotAnEvent e = absurd (omega arith)
+
+module _ (n : ℕ) (s : Result Vector (Fault ℕ)) where
+  pub asked_ok : (v : Vector) → s ≡ Ok v → n ≡ asked_to (found (fault_code s) (fault_place s)) n
+  unfolding asked_to
+  asked_ok v e = rw e
+
+  module _ (f : Fault ℕ) (e : s ≡ Err f) where
+    pub asked_ill : f.refusal ≡ Malformed → f.place ≡ asked_to (found (fault_code s) (fault_place s)) n
+    unfolding asked_to
+    asked_ill m = rw (e, m)
+
+    pub asked_well : (f.refusal ≡ Malformed → ⊥) → f.place + 1 ≡ asked_to (found (fault_code s) (fault_place s)) n
+    asked_well m = rw e (asked_too (number_of f.refusal) f.place n (not_zero f.refusal) (λ q. m (only_malformed f.refusal q)))
 
 -- ---- in order
 
@@ -312,17 +365,17 @@ module _ (v f : List ℕ) (total n number place : ℕ) (held places seens : List
           let z : 0 + n ≡ n = omega arith in
           rw (← et, file_listed f 0 total) (rw (decided, z) at (in_order m v (laid_at File f) p n 0 total (omega arith) (omega arith)))
 
-      pub record_unlisted : u < k → Judges m v p f 26 (p + u / 6) held places seens
-      record_unlisted h = record { first = sym (all ∙ rw (lt-ltb u k h)); holds = λ (x : ◌≡◌ {A = ℕ} 26 0). absurd (omega arith) }
+      pub record_unlisted : (h₀ : List ℕ) → u < k → Judges m v p f 26 (p + u / 6) h₀ places seens
+      record_unlisted h₀ h = record { first = sym (all ∙ rw (lt-ltb u k h)); holds = λ (x : ◌≡◌ {A = ℕ} 26 0). absurd (omega arith) }
 
       module _ (h : k ≤ u) where
-        pub record_faulty : (number ≡ 0 → ⊥) → Judges m v p f number (p + place / 6) held places seens
-        record_faulty z = record { first = sym (all ∙ rw (le-ltb u k h, ne_eqb number 0 z)); holds = λ e. absurd (z e) }
+        pub record_faulty : (h₀ : List ℕ) → (number ≡ 0 → ⊥) → Judges m v p f number (p + place / 6) h₀ places seens
+        record_faulty h₀ z = record { first = sym (all ∙ rw (le-ltb u k h, ne_eqb number 0 z)); holds = λ e. absurd (z e) }
 
         module _ (z : number ≡ 0) where
-          pub one_too_many : 512 < total → Judges m v p f 11 (p + 85) held places seens
+          pub one_too_many : (h₀ : List ℕ) → 512 < total → Judges m v p f 11 (p + 85) h₀ places seens
           unfolding records_fault_on listed
-          one_too_many q =
+          one_too_many h₀ q =
               let e : n ≡ 512 = omega arith in
               let s : total - 512 ≡ suc (total - 513) = omega arith in
               record { first = sym (all ∙ rw (le-ltb u k h, z, e, s)); holds = λ (x : ◌≡◌ {A = ℕ} 11 0). absurd (omega arith) }
@@ -335,9 +388,13 @@ module _ (v f : List ℕ) (total n number place : ℕ) (held places seens : List
 
 -- ---- what it leaves
 
-pub records_left_lem : (v f : List ℕ) (total m number place : ℕ) (held places seens places₀ seens₀ : List ℕ)
-    → scanned number place held places seens ≡ scan_of v (laid_at File f) m places₀ seens₀ → m ≡ min total 512 → total ≡ records_counted f → left held places seens ≡ records_left v f places₀ seens₀
-unfolding records_left
-records_left_lem v f total m number place held places seens places₀ seens₀ o em et =
-    let e : scanned number place held places seens ≡ scan_of v (laid_at File f) (min (records_counted f) 512) places₀ seens₀ = rw (em, et) at o in
-    ap (λ (x : Scan). left x.held x.places x.seens) e
+module _ (v f : List ℕ) (total m number place : ℕ) (held places seens places₀ seens₀ : List ℕ)
+    (o : scanned number place held places seens ≡ scan_of v (laid_at File f) m places₀ seens₀) (em : m ≡ min total 512) (et : total ≡ records_counted f) where
+  pub all_left : left held places seens ≡ records_left v f places₀ seens₀
+  unfolding records_left
+  all_left =
+      let e : scanned number place held places seens ≡ scan_of v (laid_at File f) (min (records_counted f) 512) places₀ seens₀ = rw (em, et) at o in
+      ap (λ (x : Scan). left x.held x.places x.seens) e
+
+  pub fault_left : left (records_left v f places₀ seens₀).held places seens ≡ records_left v f places₀ seens₀
+  fault_left = rw (← all_left)

@@ -31,12 +31,13 @@ fn report(out: &impl Print, failed: bool, file: &[u8]) -> bool {
 // One byte more than an SAB2 file may have shows that it is longer.
 fn main(rt: HostRuntime) {
     let mut file = [0u8; 95233];
-    let got = input::read_into(&mut rt.stdin(), &mut file);
-    if got.failed {
+    let read = input::read_into(&mut rt.stdin(), &mut file);
+    let broken = read.is_err();
+    if broken {
         let _ = rt.eprint("readout: standard input could not be read\n");
     }
-    let n = got.count;
-    if !report(&rt, got.failed, &file[0..n]) {
+    let n = read.unwrap_or(0);
+    if !report(&rt, broken, &file[0..n]) {
         let _ = rt.eprint("readout: cannot write\n");
     }
 }

@@ -39,8 +39,10 @@ fn load(files: &impl Files, path: &[u8], buf: &mut [u8]) -> usize
     let Ok(mut file) = fs::open(files, name) else {
         return 0;
     };
-    let got = input::read_into(&mut file, buf);
-    got.count
+    match input::read_into(&mut file, buf) {
+        Ok(n) => n,
+        Err(broken) => broken.count,
+    }
 }
 
 // The file that an argument names is read.
@@ -60,7 +62,7 @@ fn lists(file: &[u8], expected: &[u8]) -> bool {
     let mut text = [0u8; 172544];
     let listed = listing::listing(file, &mut log, &mut base, &mut tree, &mut text);
     let n = listed.length as usize;
-    byte_slice::same(&text[0..n], expected)
+    &text[0..n] == expected
 }
 
 // The case whose two files the arguments i and j name.
@@ -90,10 +92,8 @@ fn run(rt: &(impl Files + Env + Print), i: usize, j: usize) -> usize
 fn main(rt: HostRuntime) {
     let cases = arg_count(&rt) / 2;
     let mut passed: usize = 0;
-    let mut i: usize = 0;
-    while i < cases {
+    for i in 0..cases {
         passed += run(&rt, 2 * i + 1, 2 * i + 2);
-        i += 1;
     }
     let _ = rt.print(passed as u64);
     let _ = rt.write_all(b" passed, ");

@@ -8,7 +8,7 @@ use mathlib.Core.Bool.{Bool, true, false, ◌||◌}
 use lib.ListN.{get_or, length}
 use borrow.Author.Tests.{le-leb}
 use Rattle.model.specs.Bytes.{word, part}
-use Rattle.model.specs.Record.{Rec, identity, root, identity_at, object_of, folder_of, unit, op, num, seen, label_of, uses_object, uses_folder, uses_label, uses_mark, unused, names, object_fits, folder_fits, date_fits, label_fits, mark_fits, well_formed}
+use Rattle.model.specs.Record.{Rec, identity, root, identity_at, object_of, folder_of, unit, op, num, label_of, uses_object, uses_folder, uses_label, uses_mark, unused, names, object_fits, folder_fits, date_fits, label_fits, mark_fits, well_formed}
 use Rattle.byte_slice.proofs.Numbers.{eq_or_ne}
 use Rattle.record_date.proofs.Claims.{date_means, real_date}
 use Rattle.record_label.proofs.Claims.{label_means, a_label}

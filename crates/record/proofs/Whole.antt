@@ -1,40 +1,41 @@
 -- What `well_formed` is asked at each way out, over plain values.
 -- Assumes nothing.
 use mathlib.Core.Path.{◌≡◌}
-use mathlib.Core.Bool.{Bool, true, false, not}
+use mathlib.Core.Bool.{Bool, true, false}
+use lib.Dec.{eqb}
 use lib.ListN.{length}
-use borrow.Author.Tests.{eq-eqb, ne_eqb, not-true, not-false}
+use borrow.Author.Tests.{eq-eqb, ne_eqb}
 use Rattle.model.specs.Record.{Rec, head_fits, object_fits, folder_fits, date_fits, label_fits, mark_fits, well_formed}
 
-pub other_length : (r : Rec) → (length r ≡ 80 → ⊥) → false ≡ well_formed r
+pub other_length : (r : Rec) → (length r ≡ 80 → ⊥) → eqb (length r) 80 ≡ well_formed r
 unfolding well_formed
 other_length r n = rw (ne_eqb (length r) 80 n)
 
 module _ (r : Rec) {h : Bool} (n : length r ≡ 80) (eh : h ≡ head_fits r) where
-  pub bad_head : not h ≡ true → false ≡ well_formed r
+  pub bad_head : h ≡ false → h ≡ well_formed r
   unfolding well_formed
-  bad_head f = rw (eq-eqb (length r) 80 n, ← eh, not-true h f)
+  bad_head f = rw (eq-eqb (length r) 80 n, ← eh, f)
 
-  module _ {o : Bool} (gh : not h ≡ false) (eo : o ≡ object_fits r) where
-    pub bad_object : not o ≡ true → false ≡ well_formed r
+  module _ {o : Bool} (gh : h ≡ true) (eo : o ≡ object_fits r) where
+    pub bad_object : o ≡ false → o ≡ well_formed r
     unfolding well_formed
-    bad_object f = rw (eq-eqb (length r) 80 n, ← eh, not-false h gh, ← eo, not-true o f)
+    bad_object f = rw (eq-eqb (length r) 80 n, ← eh, gh, ← eo, f)
 
-    module _ {p : Bool} (go : not o ≡ false) (ep : p ≡ folder_fits r) where
-      pub bad_folder : not p ≡ true → false ≡ well_formed r
+    module _ {p : Bool} (go : o ≡ true) (ep : p ≡ folder_fits r) where
+      pub bad_folder : p ≡ false → p ≡ well_formed r
       unfolding well_formed
-      bad_folder f = rw (eq-eqb (length r) 80 n, ← eh, not-false h gh, ← eo, not-false o go, ← ep, not-true p f)
+      bad_folder f = rw (eq-eqb (length r) 80 n, ← eh, gh, ← eo, go, ← ep, f)
 
-      module _ {d : Bool} (gp : not p ≡ false) (ed : d ≡ date_fits r) where
-        pub bad_date : not d ≡ true → false ≡ well_formed r
+      module _ {d : Bool} (gp : p ≡ true) (ed : d ≡ date_fits r) where
+        pub bad_date : d ≡ false → d ≡ well_formed r
         unfolding well_formed
-        bad_date f = rw (eq-eqb (length r) 80 n, ← eh, not-false h gh, ← eo, not-false o go, ← ep, not-false p gp, ← ed, not-true d f)
+        bad_date f = rw (eq-eqb (length r) 80 n, ← eh, gh, ← eo, go, ← ep, gp, ← ed, f)
 
-        module _ {l : Bool} (gd : not d ≡ false) (el : l ≡ label_fits r) where
-          pub bad_label : not l ≡ true → false ≡ well_formed r
+        module _ {l : Bool} (gd : d ≡ true) (el : l ≡ label_fits r) where
+          pub bad_label : l ≡ false → l ≡ well_formed r
           unfolding well_formed
-          bad_label f = rw (eq-eqb (length r) 80 n, ← eh, not-false h gh, ← eo, not-false o go, ← ep, not-false p gp, ← ed, not-false d gd, ← el, not-true l f)
+          bad_label f = rw (eq-eqb (length r) 80 n, ← eh, gh, ← eo, go, ← ep, gp, ← ed, gd, ← el, f)
 
-          pub mark_last : {m : Bool} → not l ≡ false → m ≡ mark_fits r → m ≡ well_formed r
+          pub mark_last : {m : Bool} → l ≡ true → m ≡ mark_fits r → m ≡ well_formed r
           unfolding well_formed
-          mark_last gl em = rw (eq-eqb (length r) 80 n, ← eh, not-false h gh, ← eo, not-false o go, ← ep, not-false p gp, ← ed, not-false d gd, ← el, not-false l gl, em)
+          mark_last gl em = rw (eq-eqb (length r) 80 n, ← eh, gh, ← eo, go, ← ep, gp, ← ed, gd, ← el, gl, em)

@@ -1,11 +1,11 @@
 // The 80-byte record: read, ranked and judged.
-#![tactic(auto)]
+#![tactic(auto, using(crate::proofs::Ways::ways), unfolding(model::specs::Record::unit, model::specs::Record::num, model::specs::Record::seen_vector))]
 
 ghost use Rattle.std.specs.Prelude.{◌≡◌, ◌<◌, length};
 ghost use Rattle.model.specs.Record.{unit, num, seen_vector, well_formed};
 ghost use Rattle.model.specs.Log.{rank};
 
-use byte_slice::{le16, wide32, wider};
+use byte_slice::le16;
 use vector::Vector;
 
 // ---- the fields
@@ -40,25 +40,13 @@ pub fn seen_vector(rec: &[u8]) -> Vector
 pub fn well_formed(rec: &[u8]) -> bool
     ensures { result ≡ well_formed rec.now }
 {
-    if rec.len() != 80 {
-        return false;
-    }
-    if !record_fields::head_fits(rec) {
-        return false;
-    }
-    if !record_fields::object_fits(rec) {
-        return false;
-    }
-    if !record_fields::folder_fits(rec) {
-        return false;
-    }
-    if !record_fields::date_fits(rec) {
-        return false;
-    }
-    if !record_fields::label_fits(rec) {
-        return false;
-    }
-    record_fields::mark_fits(rec)
+    rec.len() == 80
+        && record_fields::head_fits(rec)
+        && record_fields::object_fits(rec)
+        && record_fields::folder_fits(rec)
+        && record_fields::date_fits(rec)
+        && record_fields::label_fits(rec)
+        && record_fields::mark_fits(rec)
 }
 
 // ---- rank
@@ -70,7 +58,7 @@ pub fn rank_of(rec: &[u8]) -> u32
 {
     let mut sum: u32 = 0;
     for u in 0..8 {
-        sum += wider(le16(rec, 4 + 2 * u));
+        sum += u32::from(le16(rec, 4 + 2 * u));
     }
-    8 * sum + wide32(rec[0])
+    8 * sum + u32::from(rec[0])
 }

@@ -171,3 +171,6 @@ module _ (y m d : ℕ) where
             (λ (l : is_leap y ≡ true). q ∙ l ∙ day_in (omega (arith, february_leap y m k refl l)))
             (λ (l : is_leap y ≡ false). q ∙ l ∙ day_out (omega (arith, february y m k refl l)))
             (bool_cases (is_leap y))
+
+-- what the goals of this crate ask for
+pub ruleset ways = (leap_four, leap_hundred, not_four, common_february, short_month, key_month, july_august, before_months, behind_months, too_early, too_late, month_below, month_above, no_day, day_within, day_above, february_above, leap_day)

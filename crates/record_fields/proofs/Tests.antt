@@ -2,59 +2,59 @@
 -- Assumes nothing.
 use Prim.Native.Nat.{ℕ, ◌+◌, ◌-◌, ◌*◌, ◌≤◌, ◌<◌}
 use mathlib.Core.Path.{◌≡◌, refl, sym}
-use mathlib.Core.Bool.{Bool, true, false, cond, not, ◌&&◌}
+use mathlib.Core.Bool.{Bool, true, false, cond, ◌&&◌}
 use lib.Dec.{leb, eqb}
 use lib.ListN.{get_or, take, drop}
-use borrow.Author.Tests.{eq-eqb, ne_eqb, le-leb, lt-leb, not-true, not-false}
+use borrow.Author.Tests.{eq-eqb, ne_eqb, le-leb, lt-leb}
 use Rattle.model.specs.Bytes.{word, blank, part}
 use Rattle.model.specs.Date.{is_date}
 use Rattle.model.specs.Record.{Rec, unit, op, num, seen, label_of, is_label, uses_object, uses_folder, uses_label, uses_mark, unused, names, head_fits, object_fits, folder_fits, date_fits, label_fits, mark_fits}
-use Rattle.record_fields.proofs.Blanks.{two_sixteens}
+use Rattle.record_fields.proofs.Blanks.{two_sixteens, four_zero, sixteen_zero}
 
 -- ---- a named identity
 
 module _ (r : Rec) (at : ℕ) where
-  pub unit_above : 7 < get_or r at 0 → false ≡ names r at
+  pub unit_above : 7 < get_or r at 0 → leb (get_or r at 0) 7 ≡ names r at
   unfolding names
   unit_above a = rw (lt-leb (get_or r at 0) 7 a)
 
-  pub byte_used : get_or r at 0 ≤ 7 → (get_or r (at + 1) 0 ≡ 0 → ⊥) → false ≡ names r at
+  pub byte_used : get_or r at 0 ≤ 7 → (get_or r (at + 1) 0 ≡ 0 → ⊥) → eqb (get_or r (at + 1) 0) 0 ≡ names r at
   unfolding names
   byte_used a b = rw (le-leb (get_or r at 0) 7 a, ne_eqb (get_or r (at + 1) 0) 0 b)
 
   module _ {n : ℕ} (a : get_or r at 0 ≤ 7) (b : get_or r (at + 1) 0 ≡ 0) (e : n ≡ word r (at + 2)) where
-    pub number_none : n < 1 → false ≡ names r at
+    pub number_none : n < 1 → leb 1 n ≡ names r at
     unfolding names
     number_none h = rw (le-leb (get_or r at 0) 7 a, eq-eqb (get_or r (at + 1) 0) 0 b, ← e, lt-leb 1 n h)
 
-    pub number_seen : {s : ℕ} → 1 ≤ n → s ≡ word r (4 + 2 * get_or r at 0) → leb n s ≡ names r at
+    pub number_seen : {s u : ℕ} → 1 ≤ n → u ≡ get_or r at 0 → s ≡ word r (4 + 2 * u) → leb n s ≡ names r at
     unfolding names seen
-    number_seen h f = rw (le-leb (get_or r at 0) 7 a, eq-eqb (get_or r (at + 1) 0) 0 b, ← e, le-leb 1 n h, ← f)
+    number_seen h same k = let f = rw same at k in rw (le-leb (get_or r at 0) 7 a, eq-eqb (get_or r (at + 1) 0) 0 b, ← e, le-leb 1 n h, ← f)
 
 -- ---- unit, operation and number
 
 module _ (r : Rec) where
-  pub head_unit_lem : 7 < get_or r 0 0 → false ≡ head_fits r
+  pub head_unit_lem : 7 < get_or r 0 0 → leb (get_or r 0 0) 7 ≡ head_fits r
   unfolding head_fits unit
   head_unit_lem a = rw (lt-leb (get_or r 0 0) 7 a)
 
   module _ (a : get_or r 0 0 ≤ 7) where
-    pub head_no_op : get_or r 1 0 < 1 → false ≡ head_fits r
+    pub head_no_op : get_or r 1 0 < 1 → leb 1 (get_or r 1 0) ≡ head_fits r
     unfolding head_fits unit op
     head_no_op b = rw (le-leb (get_or r 0 0) 7 a, lt-leb 1 (get_or r 1 0) b)
 
-    pub head_op_above : 1 ≤ get_or r 1 0 → 7 < get_or r 1 0 → false ≡ head_fits r
+    pub head_op_above : 1 ≤ get_or r 1 0 → 7 < get_or r 1 0 → leb (get_or r 1 0) 7 ≡ head_fits r
     unfolding head_fits unit op
     head_op_above b d = rw (le-leb (get_or r 0 0) 7 a, le-leb 1 (get_or r 1 0) b, lt-leb (get_or r 1 0) 7 d)
 
     module _ {n : ℕ} (b : 1 ≤ get_or r 1 0) (d : get_or r 1 0 ≤ 7) (e : n ≡ word r 2) where
-      pub head_number : n < 1 → false ≡ head_fits r
+      pub head_number : n < 1 → leb 1 n ≡ head_fits r
       unfolding head_fits unit op num
       head_number h = rw (le-leb (get_or r 0 0) 7 a, le-leb 1 (get_or r 1 0) b, le-leb (get_or r 1 0) 7 d, ← e, lt-leb 1 n h)
 
-      pub head_seen : {s : ℕ} → 1 ≤ n → s ≡ word r (4 + 2 * get_or r 0 0) → eqb s (n - 1) ≡ head_fits r
+      pub head_seen : {s u : ℕ} → 1 ≤ n → u ≡ get_or r 0 0 → s ≡ word r (4 + 2 * u) → eqb s (n - 1) ≡ head_fits r
       unfolding head_fits unit op num seen
-      head_seen h f = rw (le-leb (get_or r 0 0) 7 a, le-leb 1 (get_or r 1 0) b, le-leb (get_or r 1 0) 7 d, ← e, le-leb 1 n h, ← f)
+      head_seen h same k = let f = rw same at k in rw (le-leb (get_or r 0 0) 7 a, le-leb 1 (get_or r 1 0) b, le-leb (get_or r 1 0) 7 d, ← e, le-leb 1 n h, ← f)
 
 -- ---- the fields; u is the test whether the operation uses the field, b what the field's own test says
 
@@ -75,7 +75,7 @@ module _ (r : Rec) {u : Bool} where
   unfolding label_fits op unused
   label_unused e h f g = rw (← e, h, f, g) (two_sixteens r 32)
 
-  pub mark_used : u ≡ uses_mark (get_or r 1 0) → u ≡ true → true ≡ mark_fits r
+  pub mark_used : u ≡ uses_mark (get_or r 1 0) → u ≡ true → u ≡ mark_fits r
   unfolding mark_fits op
   mark_used e h = rw (← e, h)
 
@@ -88,7 +88,7 @@ unfolding date_fits
 date_used r e f = rw (f, e)
 
 module _ (r : Rec) {z : Bool} (e : z ≡ blank (part r 24 4)) where
-  pub folder_zero : z ≡ true → true ≡ folder_fits r
+  pub folder_zero : z ≡ true → z ≡ folder_fits r
   unfolding folder_fits unused
   folder_zero h = rw (← e, h) (sym (go (uses_folder (op r))))
     where
@@ -97,10 +97,13 @@ module _ (r : Rec) {z : Bool} (e : z ≡ blank (part r 24 4)) where
       go false = refl
 
   module _ {u : Bool} (h : z ≡ false) (f : u ≡ uses_folder (get_or r 1 0)) where
-    pub folder_unused : not u ≡ true → false ≡ folder_fits r
+    pub folder_unused : u ≡ false → u ≡ folder_fits r
     unfolding folder_fits op unused
-    folder_unused g = rw (← f, not-true u g, ← e, h)
+    folder_unused g = rw (← f, g, ← e, h)
 
-    pub folder_used : {b : Bool} → not u ≡ false → b ≡ names r 24 → b ≡ folder_fits r
+    pub folder_used : {b : Bool} → u ≡ true → b ≡ names r 24 → b ≡ folder_fits r
     unfolding folder_fits op unused
-    folder_used g k = rw (← f, not-false u g, ← e, h, k)
+    folder_used g k = rw (← f, g, ← e, h, k)
+
+-- what the goals of this crate ask for
+pub ruleset ways = (unit_above, byte_used, number_none, number_seen, head_unit_lem, head_no_op, head_op_above, head_number, head_seen, object_used, object_unused, label_used, label_unused, mark_used, mark_unused, date_used, folder_zero, folder_unused, folder_used, four_zero, sixteen_zero)

@@ -1,5 +1,5 @@
 // The fields of an 80-byte record, each judged by the operation.
-#![tactic(auto)]
+#![tactic(auto, using(crate::proofs::Tests::ways))]
 
 ghost use Rattle.std.specs.Prelude.{◌≡◌, ◌+◌, ◌≤◌, length};
 ghost use Rattle.model.specs.Bytes.{blank, part};
@@ -34,17 +34,8 @@ pub fn names(rec: &[u8], at: usize) -> bool
     ensures { result ≡ names rec.now at }
 {
     let unit = rec[at];
-    if 7 < unit {
-        return false;
-    }
-    if rec[at + 1] != 0 {
-        return false;
-    }
     let number = le16(rec, at + 2);
-    if number < 1 {
-        return false;
-    }
-    number <= le16(rec, 4 + 2 * (unit as usize))
+    unit <= 7 && rec[at + 1] == 0 && 1 <= number && number <= le16(rec, 4 + 2 * usize::from(unit))
 }
 
 // Unit, operation and number, and seen at the own unit is the number minus 1.
@@ -53,21 +44,13 @@ pub fn head_fits(rec: &[u8]) -> bool
     ensures { result ≡ head_fits rec.now }
 {
     let unit = rec[0];
-    if 7 < unit {
-        return false;
-    }
     let op = rec[1];
-    if op < 1 {
-        return false;
-    }
-    if 7 < op {
-        return false;
-    }
     let number = le16(rec, 2);
-    if number < 1 {
-        return false;
-    }
-    le16(rec, 4 + 2 * (unit as usize)) == number - 1
+    unit <= 7
+        && 1 <= op
+        && op <= 7
+        && 1 <= number
+        && le16(rec, 4 + 2 * usize::from(unit)) == number - 1
 }
 
 // A used object is named, an unused one is zero.
@@ -76,9 +59,10 @@ pub fn object_fits(rec: &[u8]) -> bool
     ensures { result ≡ object_fits rec.now }
 {
     if uses_object(rec[1]) {
-        return names(rec, 20);
+        names(rec, 20)
+    } else {
+        blank_4(rec, 20)
     }
-    blank_4(rec, 20)
 }
 
 // A used folder is the root or named, an unused one is zero.
@@ -86,13 +70,7 @@ pub fn folder_fits(rec: &[u8]) -> bool
     requires { length rec.now ≡ 80 }
     ensures { result ≡ folder_fits rec.now }
 {
-    if blank_4(rec, 24) {
-        return true;
-    }
-    if !uses_folder(rec[1]) {
-        return false;
-    }
-    names(rec, 24)
+    blank_4(rec, 24) || uses_folder(rec[1]) && names(rec, 24)
 }
 
 // The date is real; every operation uses it.
@@ -109,9 +87,10 @@ pub fn label_fits(rec: &[u8]) -> bool
     ensures { result ≡ label_fits rec.now }
 {
     if uses_label(rec[1]) {
-        return record_label::is_label(&rec[32..64]);
+        record_label::is_label(&rec[32..64])
+    } else {
+        blank_16(rec, 32) & blank_16(rec, 48)
     }
-    blank_16(rec, 32) & blank_16(rec, 48)
 }
 
 // A used mark is any bytes, an unused one is zero.
@@ -119,8 +98,5 @@ pub fn mark_fits(rec: &[u8]) -> bool
     requires { length rec.now ≡ 80 }
     ensures { result ≡ mark_fits rec.now }
 {
-    if uses_mark(rec[1]) {
-        return true;
-    }
-    blank_16(rec, 64)
+    uses_mark(rec[1]) || blank_16(rec, 64)
 }

@@ -6,13 +6,13 @@ use native.Mathlib.Numerals.{add-one}
 use native.Mathlib.Omega.{arith}
 use mathlib.Core.Path.{◌≡◌, refl, sym, ◌∙◌}
 use mathlib.Core.Logic.{◌⊎◌, inl, inr, ⊎_elim}
-use mathlib.Core.Bool.{Bool, true, false, cond, not, ◌&&◌, ◌||◌}
+use mathlib.Core.Bool.{Bool, true, false, cond, not, ◌&&◌}
 use mathlib.Core.List.{List, [], ◌∷◌}
 use lib.Dec.{leb, eqb}
 use lib.ListN.{get_or, length, get_or-eq_default}
 use borrow.Author.Tests.{leb-true, eqb-true, eqb-false, le-leb, eq-eqb, ne_eqb, not-true, not-false}
 use Rattle.model.specs.Record.{text_length, is_label}
-use Rattle.byte_slice.proofs.Numbers.{lt_or_ge, and_true, or_true, true_and, test_false, not_both, bool_cases}
+use Rattle.byte_slice.proofs.Numbers.{lt_or_ge, and_true, or_true, true_and, test_false, not_both}
 use Rattle.record_label.specs.Label.{Label}
 use Rattle.record_label.specs.Follow.{follows, follow_to}
 use Rattle.record_label.proofs.Claims.{label_means, a_label, text_within}
@@ -54,6 +54,10 @@ all_run t at (suc n) f =
     true_and (follow_to t at n) (follows (get_or t (at + n) 0) (get_or t (at + n + 1) 0)) (all_run t at n (λ i k. f i (omega arith))) (f n (omega arith))
 
 -- what the loops are asked, over plain values
+pub no_run : (t : List ℕ) (at : ℕ) → true ≡ follow_to t at 0
+unfolding follow_to
+no_run t at = refl
+
 module _ (t : List ℕ) (at i : ℕ) (g : Bool) (inv : g ≡ follow_to t at i) where
   pub run-next : {r : Bool} → r ≡ follows (get_or t (at + i) 0) (get_or t (at + i + 1) 0) → (g && r) ≡ follow_to t at (i + 1)
   unfolding follow_to

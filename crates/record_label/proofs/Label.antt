@@ -1,17 +1,14 @@
 -- What the code of labels is asked at each way out, over plain values.
 -- Assumes nothing.
-use Prim.Native.Nat.{ℕ, suc, ◌+◌, ◌-◌, ◌≤◌, ◌<◌}
-use native.Mathlib.Nat.{sub-zero}
+use Prim.Native.Nat.{ℕ, suc, ◌+◌, ◌≤◌, ◌<◌}
 use native.Mathlib.Omega.{arith}
 use mathlib.Core.Path.{◌≡◌}
-use mathlib.Core.Bool.{Bool, true, false, cond, not, ◌&&◌}
+use mathlib.Core.Bool.{cond}
 use mathlib.Core.List.{List}
-use lib.Dec.{leb, eqb}
-use lib.ListN.{get_or, length, take, drop, length-drop, drop_of_length-le}
-use lib.Seq.{take_all}
-use borrow.Author.Tests.{eq-eqb, ne_eqb, le-leb, lt-leb, not-true, not-false}
-use Rattle.model.specs.Bytes.{blank}
-use Rattle.model.specs.Record.{text_length, printable, is_label}
+use lib.Dec.{eqb}
+use lib.ListN.{get_or, length, drop, drop_of_length-le}
+use borrow.Author.Tests.{eq-eqb, ne_eqb}
+use Rattle.model.specs.Record.{text_length}
 use Rattle.byte_slice.proofs.Parts.{drop_more}
 
 -- ---- the length of a text
@@ -27,6 +24,6 @@ module _ (t : List ℕ) (i : ℕ) (inv : i + text_length (drop i t) ≡ text_len
   pub text_stops : i < length t → get_or t i 0 ≡ 0 → i ≡ text_length t
   text_stops h g = omega (arith, rw (eq-eqb (get_or t i 0) 0 g) at (step h))
 
-  pub text_ends : length t ≤ i → i ≡ text_length t
+  pub text_ends : i ≤ length t → length t ≤ i → length t ≡ text_length t
   unfolding text_length
-  text_ends h = omega (arith, rw (drop_of_length-le t {i = i} h) at inv)
+  text_ends g h = omega (arith, rw (drop_of_length-le t {i = i} h) at inv)

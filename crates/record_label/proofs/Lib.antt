@@ -2,3 +2,4 @@ pub mod Label
 pub mod Claims
 pub mod Follow
 pub mod Same
+pub mod Ways

@@ -3,7 +3,7 @@
 use Prim.Native.Nat.{ℕ, ◌+◌, ◌≤◌, ◌<◌}
 use native.Mathlib.Numerals.{add-one}
 use native.Mathlib.Omega.{arith}
-use mathlib.Core.Path.{◌≡◌, refl, sym, ap, ◌∙◌}
+use mathlib.Core.Path.{◌≡◌, refl, sym, ◌∙◌}
 use mathlib.Core.Bool.{Bool, true, false, ◌&&◌}
 use mathlib.Core.List.{List, [], ◌∷◌, ◌++◌}
 use lib.Dec.{leb, eqb}
@@ -51,6 +51,10 @@ unfolding same_label
 key_same a b e = eq_same (label_key a) (label_key b) e
 
 -- what the loop of `same_label` is asked, over plain values
+pub label_starts : true ≡ same_label [] []
+unfolding same_label label_key same_bytes
+label_starts = refl
+
 module _ (a b : List ℕ) (i : ℕ) {t : Bool} (inv : t ≡ same_label (take i a) (take i b)) (m : length a ≡ 32) (n : length b ≡ 32) where
   pub label_next : i < 32 → (x y : ℕ) → x ≡ lower (get_or a i 0) → y ≡ lower (get_or b i 0) → (t && eqb x y) ≡ same_label (take (i + 1) a) (take (i + 1) b)
   unfolding same_label label_key same_bytes

@@ -1,5 +1,5 @@
 // The label of a record.
-#![tactic(auto)]
+#![tactic(auto, using(crate::proofs::Ways::ways))]
 
 ghost use Rattle.std.specs.Prelude.{◌≡◌, ◌+◌, ◌≤◌, ◌<◌, length};
 ghost use Rattle.model.specs.Record.{text_length, is_label};
@@ -10,36 +10,25 @@ ghost use Rattle.record_label.specs.Follow.{follows, follow_to};
 pub fn text_length(t: &[u8]) -> usize
     ensures { (result ≡ text_length t.now) × (result ≤ length t.now) }
 {
-    let mut i: usize = 0;
-    while i < t.len() {
+    for i in 0..t.len() {
         if t[i] == 0 {
             return i;
         }
-        i += 1;
     }
-    i
+    t.len()
 }
 
 // In a label y may stand behind x: a zero behind no space, or a byte of hexadecimal 20 to 7E behind no zero.
+#[tactic(auto, unfolding(crate::specs::Follow::follows))]
 fn follows(x: u8, y: u8) -> bool
     ensures { result ≡ follows x y }
 {
     ((y == 0) & (x != 32)) | ((x != 0) & ((32 <= y) & (y <= 126)))
 }
 
-// Each of the 16 bytes behind a place may stand behind the one before it. No byte ends the loop early: all are judged at once.
-fn sixteen_follow(t: &[u8], at: usize) -> bool
-    requires { at + 16 < length t.now }
-    ensures { result ≡ follow_to t.now at 16 }
-{
-    let mut fine = true;
-    for i in 0..16 {
-        fine = fine & follows(t[at + i], t[at + i + 1]);
-    }
-    fine
-}
-
-// The same of the n bytes behind a place.
+// Each of the n bytes behind a place may stand behind the one before it. No byte ends the loop early: all are judged at once. Inlined, so
+// that the loop over 16 is unrolled.
+#[inline(always)]
 fn run_follows(t: &[u8], at: usize, n: usize) -> bool
     requires { at + n < length t.now }
     ensures { result ≡ follow_to t.now at n }
@@ -49,6 +38,14 @@ fn run_follows(t: &[u8], at: usize, n: usize) -> bool
         fine = fine & follows(t[at + i], t[at + i + 1]);
     }
     fine
+}
+
+// The same of 16 bytes. A function of its own, since a count that is known is judged in half the time.
+fn sixteen_follow(t: &[u8], at: usize) -> bool
+    requires { at + 16 < length t.now }
+    ensures { result ≡ follow_to t.now at 16 }
+{
+    run_follows(t, at, 16)
 }
 
 // The same of the n bytes behind the first. Of 31, as a record has them, the first 16 and the last 16 are judged.

@@ -1,5 +1,5 @@
 // Which fields of a record an operation uses.
-#![tactic(auto)]
+#![tactic(auto, unfolding(model::specs::Record::uses_object, model::specs::Record::uses_folder, model::specs::Record::uses_label, model::specs::Record::uses_mark))]
 
 ghost use Rattle.std.specs.Prelude.{◌≡◌};
 ghost use Rattle.model.specs.Record.{uses_object, uses_folder, uses_label, uses_mark};

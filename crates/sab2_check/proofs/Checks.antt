@@ -1,6 +1,6 @@
 -- Every check of an SAB2 file: one law for each way out, over plain values.
 -- Assumes nothing.
-use Prim.Native.Nat.{ℕ, ◌+◌, ◌-◌, ◌*◌, ◌/◌, ◌%◌, ◌≤◌, ◌<◌}
+use Prim.Native.Nat.{ℕ, ◌+◌, ◌-◌, ◌*◌, ◌/◌, ◌%◌, ◌≤◌}
 use native.Mathlib.Omega.{arith}
 use mathlib.Core.Path.{◌≡◌, refl, sym, ap, ◌∙◌}
 use mathlib.Core.Bool.{Bool, true, false, not, ◌&&◌}
@@ -14,7 +14,7 @@ use Rattle.model.specs.Vector.{blocks_for}
 use Rattle.model.specs.Record.{Rec}
 use Rattle.model.specs.Log.{all_to}
 use Rattle.model.specs.Block.{vector_in}
-use Rattle.model.specs.File.{blocks_in, block_at, Fault, fault, or_else, records_counted, file_record, file_records_from, file_records}
+use Rattle.model.specs.File.{blocks_in, block_at, fault, or_else, records_counted, file_record, file_records_from, file_records}
 use Rattle.base_model.specs.Base.{lists_all, base_vector, sound_base}
 use Rattle.run_model.specs.Runs.{letters2}
 use Rattle.run_model.specs.Blocks.{blocks_fault_as}
@@ -24,6 +24,10 @@ use Rattle.byte_slice.proofs.Numbers.{and_true, not_both}
 use Rattle.run_laws.proofs.Rewritten.{rows_inside, held}
 use Rattle.base_head.specs.Head.{BaseHead, headed, head_of}
 use Rattle.read_file_blocks.proofs.Agreement.{blocks_counted}
+use Rattle.refusal.proofs.Refusals.{not_zero}
+use Rattle.sab2_check.specs.Told.{number_told}
+use Rattle.sab2_check.specs.declared.FileFault.{FileFault}
+use Rattle.sab2_check.specs.declared.FileFault.TheVariants.{Block, Base}
 
 pub blocks_asked : (f : List ℕ) {r : ℕ} → r ≡ said_rows f → (r + 5) / 6 ≡ row_blocks f
 unfolding row_blocks blocks_for
@@ -209,6 +213,9 @@ module _ (f : List ℕ) {t : Bool} (e : t ≡ (eqb (length f % 512) 0 && (leb 1 
     unfolding checked_sab2
     whole-checked n p q = q ∙ rw (fits_as_lem, not-false t h)
 
--- a refusal leaves nothing to say
-pub number_not : (x : ℕ) (o s : List ℕ) → (x ≡ 0 → ⊥) → x ≡ 0 → o ≡ s
-number_not x o s h z = absurd (h z)
+-- ---- the fault of a file
+
+-- no fault has the number of success
+pub not_none : (e : FileFault) → number_told e ≡ 0 → ⊥
+not_none (Block fault) z = not_zero fault.refusal z
+not_none Base z = omega arith

@@ -3,19 +3,18 @@
 use Prim.Native.Nat.{ℕ, zero, suc, ◌+◌, ◌-◌, ◌*◌, ◌/◌, ◌%◌, ◌≤◌, ◌<◌}
 use native.Mathlib.Numerals.{add-one}
 use native.Mathlib.Omega.{arith}
-use mathlib.Core.Path.{◌≡◌, refl, sym, ap, ◌∙◌}
+use mathlib.Core.Path.{◌≡◌, refl, sym, ◌∙◌}
 use mathlib.Core.Bool.{Bool, true, false, ◌&&◌}
-use mathlib.Core.List.{List, [], ◌∷◌, ◌++◌}
+use mathlib.Core.List.{List, []}
 use lib.ListN.{get_or, length, take, drop, replicate}
 use lib.Seq.{take-take, drop-drop}
 use borrow.Author.Tests.{le-leb, lt-leb}
 use Rattle.model.specs.Lengths.{base_size, base_places}
 use Rattle.model.specs.Bytes.{word, blank, part, put_at}
 use Rattle.model.specs.Vector.{blocks_for}
-use Rattle.model.specs.Record.{Rec}
 use Rattle.model.specs.Log.{all_to}
 use Rattle.model.specs.File.{file_record, file_records_from}
-use Rattle.byte_slice.proofs.Parts.{part_is, drop-take}
+use Rattle.byte_slice.proofs.Parts.{drop-take}
 use Rattle.byte_slice.proofs.Words.{word-part}
 use Rattle.byte_slice.proofs.Numbers.{not_both}
 use Rattle.base_links.proofs.Links.{all_next, all_ends, all_none}

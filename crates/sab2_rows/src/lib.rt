@@ -11,7 +11,7 @@ ghost use Rattle.model.specs.File.{file_record, file_records_from};
 ghost use Rattle.sab2_model.specs.Rows.{row_count, row_start, row_long, base_rows, base_to, tail_blank, rows_hold};
 ghost use Rattle.sab2_model.specs.Sab2.{said_rows, row_blocks, sab2_rows, sab2_base};
 
-use byte_slice::{clear, is_blank, le16, put};
+use byte_slice::{is_blank, le16, put};
 use model::BASE_PLACES;
 
 // How many rows so many entries and asides have: the head, a row an entry, a row for six asides.
@@ -69,12 +69,9 @@ pub fn gather_rows(base: &[u8], entries: usize, asides: usize, i: usize, n: usiz
     ensures { result.bytes ≡ padded 480 (joined (take n (drop i (base_rows base.now)))) }
 {
     let mut bytes = [0u8; 480];
-    let mut j: usize = 0;
-    while j < n {
+    for j in 0..n {
         let p = row_part(entries, asides, i + j);
-        let at = p.at;
-        put(&mut bytes, 80 * j, &base[at..at + p.len]);
-        j += 1;
+        put(&mut bytes, 80 * j, &base[p.at..p.at + p.len]);
     }
     Rows { bytes }
 }
@@ -98,12 +95,10 @@ fn load_rows(file: &[u8], entries: usize, asides: usize, n: usize, base: &mut [u
     ensures loaded { base.new ≡ base_to (file_records_from file.now 0 n) entries asides n }
     ensures tails { result ≡ all_to n (tail_blank (file_records_from file.now 0 n) entries asides) }
 {
-    clear(base);
+    base.fill(0);
     let mut all = true;
-    let mut i: usize = 0;
-    while i < n {
+    for i in 0..n {
         all = all & load_row(file, entries, asides, i, base);
-        i += 1;
     }
     all
 }
@@ -113,7 +108,7 @@ fn said(file: &[u8], at: usize) -> usize
     requires { (at < 24) × (512 ≤ length file.now) }
     ensures { (result ≡ word (file_record file.now 0) at) × (result < 65536) }
 {
-    le16(file, 28 + at) as usize
+    usize::from(le16(file, 28 + at))
 }
 
 // How many rows the head of a file says.

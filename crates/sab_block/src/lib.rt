@@ -7,7 +7,8 @@ ghost use Rattle.sab_words.specs.Called.{called, called_both};
 ghost use Rattle.sab_index.specs.Told.{told_kept};
 ghost use Rattle.sab_block.specs.Handed.{handed_of};
 
-use sab_words::{narrow, pack};
+use refusal::Refusal;
+use sab_words::{answer_word, narrow};
 use vector::vector_at;
 
 // Hands out a block of what the asked vector lacks.
@@ -22,11 +23,10 @@ pub fn hand_out(
     ensures { called result log.now block.new ≡ handed_of archive unit log.now base.now asked.now block.old }
 {
     if asked.len() != 16 {
-        return pack(1, 0, 0);
+        return answer_word(Err(Refusal::BadBuffer));
     }
     let v = vector_at(asked, 0);
-    let h = hand_out::hand_out(log, base, archive, narrow(unit), v, block);
-    pack(h.number, h.place, 0)
+    answer_word(hand_out::hand_out(log, base, archive, narrow(unit), v, block))
 }
 
 // Takes a block, wholly or not at all.
@@ -41,6 +41,5 @@ pub fn take(
 ) -> u32
     ensures { called_both result log.new index.new work.new ≡ told_kept (take_kept archive unit log.old base.now index.old block.now work.old) (take_kept_work archive unit log.old base.now index.old block.now work.old) }
 {
-    let t = keep_take::take(log, base, index, work, archive, narrow(unit), block);
-    pack(t.number, t.place, 0)
+    answer_word(keep_take::take(log, base, index, work, archive, narrow(unit), block))
 }

@@ -1,7 +1,8 @@
 -- What each way out of a call returns and leaves, over plain values.
 -- Assumes nothing.
 use Prim.Native.Nat.{ℕ}
-use mathlib.Core.Path.{◌≡◌, ◌∙◌}
+use native.Mathlib.Omega.{arith}
+use mathlib.Core.Path.{◌≡◌, refl, ◌∙◌}
 use mathlib.Core.List.{List}
 use lib.Dec.{eqb}
 use lib.ListN.{length}
@@ -10,6 +11,14 @@ use Rattle.model.specs.Log.{records_of}
 use Rattle.call_model.specs.Outcome.{outcome, write_of}
 use Rattle.sab2_model.specs.Calls.{wrote_sab2, write_sab2_of, read_either_of}
 use Rattle.read_file_check.specs.Outcome.{read_back_of}
+use Rattle.std.specs.Prelude.{Result, Ok, Err}
+use Rattle.refusal.specs.declared.Refusal.{Refusal}
+use Rattle.refusal.proofs.Refusals.{not_zero}
+use Rattle.sab2_check.specs.Told.{number_told}
+use Rattle.sab2_check.specs.declared.FileFault.{FileFault}
+use Rattle.sab2_check.specs.declared.FileFault.TheVariants.{Block, Base}
+use Rattle.write_file.specs.Told.{blocks_of}
+use Rattle.sab_words.specs.Answers.{count_of}
 use Rattle.sab_words.specs.Words.{packed, narrowed, head_of}
 use Rattle.sab_words.specs.Called.{called, told}
 use Rattle.sab_words.proofs.Told.{tells_blocks}
@@ -17,6 +26,11 @@ use Rattle.sab_words.proofs.Units.{guarded-alike, write_alike}
 use Rattle.sab_file.specs.Loaded.{loaded, head_left, loaded_of}
 
 -- ---- writing a file
+
+-- the count in the word is that of the call
+pub same_blocks : (r : Result ℕ Refusal) → count_of r ≡ blocks_of r
+same_blocks (Ok blocks) = refl
+same_blocks (Err refusal) = refl
 
 pub writes : (archive u : ℕ) {v r n p k j : ℕ} (log base lent : List ℕ) {lent' : List ℕ} → v ≡ narrowed u → outcome n p log lent' k ≡ write_of archive v log base lent → j ≡ k → r ≡ packed n p j
     → called r log lent' ≡ told (write_of archive u log base lent)
@@ -33,6 +47,11 @@ pub writes_sab2 : (archive u : ℕ) {v r n p k j : ℕ} (log base lent : List �
 writes_sab2 archive u log base lent given e h w = tells_blocks (e ∙ rw given (sab2_alike archive u log base lent)) h w
 
 -- ---- reading a file
+
+-- no fault of a file has the number of success
+pub fault_number : (f : FileFault) → number_told f ≡ 0 → ⊥
+fault_number (Block fault) = not_zero fault.refusal
+fault_number Base = λ z. omega arith
 
 module _ {r : ℕ} (log base f head : List ℕ) where
   pub head_wrong : (length head ≡ 24 → ⊥) → r ≡ packed 1 0 0 → loaded r log base head ≡ loaded_of log base f head

@@ -7,23 +7,21 @@ ghost use Rattle.sab2_model.specs.Calls.{write_sab2_of};
 ghost use Rattle.sab_words.specs.Called.{called, told};
 ghost use Rattle.sab_file.specs.Loaded.{loaded, loaded_of};
 
-use byte_slice::wide;
-use sab_words::{narrow, pack, put_head};
+use refusal::Refusal;
+use sab_words::{answer_word, blocks_word, narrow, pack, put_head};
 
 // Writes the whole log as a file; the count is that of its blocks.
 pub fn write_file(log: &[u8], base: &[u8], archive: u32, unit: u32, file: &mut [u8]) -> u32
     ensures { called result log.now file.new ≡ told (write_of archive unit log.now base.now file.old) }
 {
-    let w = write_file::write_file(log, base, archive, narrow(unit), file);
-    pack(w.number, w.place, wide(w.blocks))
+    blocks_word(write_file::write_file(log, base, archive, narrow(unit), file))
 }
 
 // Writes list, base and log as an SAB2 file; the count is that of its blocks.
 pub fn write_sab2(log: &[u8], base: &[u8], archive: u32, unit: u32, file: &mut [u8]) -> u32
     ensures { called result log.now file.new ≡ told (write_sab2_of archive unit log.now base.now file.old) }
 {
-    let s = write_sab2::write_sab2(log, base, archive, narrow(unit), file);
-    pack(s.number, s.place, wide(s.blocks))
+    blocks_word(write_sab2::write_sab2(log, base, archive, narrow(unit), file))
 }
 
 // Reads a file of either form into a lent log and base; the count is that of the records of the log.
@@ -31,13 +29,13 @@ pub fn read_file(log: &mut [u8], base: &mut [u8], file: &[u8], head: &mut [u8]) 
     ensures { loaded result log.new base.new head.new ≡ loaded_of log.old base.old file.now head.old }
 {
     if head.len() != 24 {
-        return pack(1, 0, 0);
+        return answer_word(Err(Refusal::BadBuffer));
     }
-    let b = read_either::read_either(log, base, file);
-    if b.number != 0 {
-        return pack(b.number, b.place, b.records);
+    match read_either::read_either(log, base, file) {
+        Ok(b) => {
+            put_head(head, b.archive, b.unit, b.records, b.vector);
+            pack(0, 0, b.records)
+        }
+        Err(fault) => pack(fault.number(), fault.place(), 0),
     }
-    let v = b.vector;
-    put_head(head, b.archive, b.unit, b.records, v);
-    pack(b.number, b.place, b.records)
 }

@@ -1,7 +1,7 @@
 -- The list given, and what folding returns and leaves, over plain values.
 -- Assumes nothing.
 use Prim.Native.Nat.{ℕ, ◌≤◌, ◌<◌}
-use mathlib.Core.Path.{◌≡◌, ◌∙◌}
+use mathlib.Core.Path.{◌≡◌, refl, ◌∙◌}
 use mathlib.Core.Bool.{false}
 use mathlib.Core.List.{List}
 use lib.Dec.{eqb}
@@ -15,6 +15,10 @@ use Rattle.sab_words.specs.Words.{packed, narrowed}
 use Rattle.sab_words.specs.Called.{called_both, told_work}
 use Rattle.sab_words.proofs.Told.{tells_work}
 use Rattle.sab_words.proofs.Units.{fold_alike, fold_work_alike}
+use Rattle.std.proofs.Common.{Result, Ok, Err}
+use Rattle.refusal.specs.declared.Refusal.{Refusal}
+use Rattle.fold.specs.Records.{records_folded}
+use Rattle.sab_words.specs.Answers.{count_of}
 use Rattle.sab_fold.specs.Given.{list_given}
 
 -- ---- the list
@@ -42,3 +46,8 @@ pub folds : (u m : ℕ) {v l r n k : ℕ} (log base work : List ℕ) {log' base'
     → called_both r log' base' work' ≡ told_work (fold_of u log base (list_given m) work) (fold_work u log base (list_given m) work)
 folds u m log base work given i e h w =
     tells_work (e ∙ rw (given, i) (fold_alike u log base (list_given m) work)) (h ∙ rw (given, i) (fold_work_alike u log base (list_given m) work)) w
+
+-- what an answer counts is what was folded
+pub counts_folded : (answer : Result ℕ Refusal) → count_of answer ≡ records_folded answer
+counts_folded (Ok records) = refl
+counts_folded (Err refusal) = refl

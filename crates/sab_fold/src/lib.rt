@@ -6,7 +6,7 @@ ghost use Rattle.call_model.specs.Fold.{fold_of, fold_work};
 ghost use Rattle.sab_words.specs.Called.{called_both, told_work};
 ghost use Rattle.sab_fold.specs.Given.{list_given};
 
-use sab_words::{narrow, pack};
+use sab_words::{count_word, narrow};
 
 // The list in a byte. Above 255 it is no list of units, and becomes that of none.
 fn list_given(list: u32) -> u8
@@ -29,6 +29,5 @@ pub fn fold(
 ) -> u32
     ensures { called_both result log.new base.new work.new ≡ told_work (fold_of unit log.old base.old (list_given list) work.old) (fold_work unit log.old base.old (list_given list) work.old) }
 {
-    let f = fold::fold(log, base, archive, narrow(unit), list_given(list), work);
-    pack(f.number, 0, f.records)
+    count_word(fold::fold(log, base, archive, narrow(unit), list_given(list), work))
 }

@@ -8,7 +8,8 @@ ghost use Rattle.sab_words.specs.Called.{called, called_both, told_work};
 ghost use Rattle.sab_index.specs.Told.{range_size, folder_asked, found_word, told_range, listed_of};
 
 use byte_slice::put16;
-use sab_words::pack;
+use refusal::Refusal;
+use sab_words::{answer_word, pack};
 
 // The bytes lent for the range of a listing.
 pub const RANGE_BYTES: usize = 4;
@@ -17,8 +18,7 @@ pub const RANGE_BYTES: usize = 4;
 pub fn index(log: &[u8], base: &[u8], index: &mut [u8], work: &mut [u8]) -> u32
     ensures { called_both result log.now index.new work.new ≡ told_work (indexed_of log.now base.now index.old work.old) (indexed_work log.now base.now index.old work.old) }
 {
-    let a = index_log::index_log(log, base, index, work);
-    pack(a.number, a.place, 0)
+    answer_word(index_log::index_log(log, base, index, work))
 }
 
 // The folder asked, as one number. Where it is no identity, one that no entry has.
@@ -53,8 +53,10 @@ pub fn find(index: &[u8], unit: u32, number: u32, label: &[u8]) -> u32
     ensures { result ≡ found_word (find_of index.now (folder_asked unit number) label.now) }
 {
     let folder = folder_asked(unit, number);
-    let f = index_find::find(index, folder, label);
-    pack(f.number, unit_in(f.entry), number_in(f.entry))
+    match index_find::find(index, folder, label) {
+        Ok(entry) => pack(0, unit_in(entry), number_in(entry)),
+        Err(refusal) => answer_word(Err(refusal)),
+    }
 }
 
 // The first row of a folder and how many it has are told: the count in the word, both in the lent bytes.
@@ -73,12 +75,11 @@ pub fn list(index: &[u8], unit: u32, number: u32, lent: &mut [u8]) -> u32
     ensures { called result [] lent.new ≡ listed_of index.now (folder_asked unit number) lent.old }
 {
     if lent.len() != RANGE_BYTES {
-        return pack(1, 0, 0);
+        return answer_word(Err(Refusal::BadBuffer));
     }
     let folder = folder_asked(unit, number);
-    let g = index_find::list(index, folder);
-    if g.number != 0 {
-        return pack(g.number, 0, 0);
+    match index_find::list(index, folder) {
+        Ok(rows) => tell(rows.first, rows.count, lent),
+        Err(refusal) => answer_word(Err(refusal)),
     }
-    tell(g.first, g.count, lent)
 }

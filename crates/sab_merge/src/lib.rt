@@ -6,16 +6,18 @@ ghost use Rattle.model.specs.Merge.{merge_of};
 ghost use Rattle.sab_words.specs.Called.{called};
 ghost use Rattle.sab_merge.specs.Joined.{joined};
 
-use byte_slice::wide;
-use sab_words::pack;
+use merge::MergeFault;
+use refusal::Refusal;
+use sab_words::{answer_word, pack};
 
 // Makes one file of two, by way of a lent log.
 pub fn merge(first: &[u8], second: &[u8], log: &mut [u8], file: &mut [u8]) -> u32
     ensures { called result log.new file.new ≡ joined (merge_of first.now second.now log.old file.old) }
 {
-    let m = merge::merge(first, second, log, file);
-    if m.number != 0 {
-        return pack(m.number, m.place, wide(m.which));
+    match merge::merge(first, second, log, file) {
+        Ok(blocks) => pack(0, 0, u16::from(blocks)),
+        Err(MergeFault::Buffer) => answer_word(Err(Refusal::BadBuffer)),
+        Err(MergeFault::First(fault)) => pack(u8::from(fault.refusal), fault.place, 1),
+        Err(MergeFault::Second(fault)) => pack(u8::from(fault.refusal), fault.place, 2),
     }
-    pack(m.number, m.place, wide(m.blocks))
 }

@@ -1,7 +1,7 @@
 -- What each way out of a call returns and leaves, over plain values.
 -- Assumes nothing.
 use Prim.Native.Nat.{ℕ, ◌+◌, ◌*◌}
-use mathlib.Core.Path.{◌≡◌, ◌∙◌}
+use mathlib.Core.Path.{◌≡◌, refl, ◌∙◌}
 use mathlib.Core.Logic.{⊎_elim}
 use mathlib.Core.List.{List}
 use lib.Dec.{eqb}
@@ -11,6 +11,10 @@ use Rattle.model.specs.Vector.{vector_at}
 use Rattle.call_model.specs.Outcome.{outcome}
 use Rattle.row_model.specs.Row.{row_fits, trial, trial_lent, try_of, handed_row, hand_row_of}
 use Rattle.index_model.specs.Kept.{row_kept, take_row_kept, take_row_kept_work}
+use Rattle.std.specs.Prelude.{Result, Ok, Err}
+use Rattle.refusal.specs.declared.Refusal.{Refusal}
+use Rattle.write_file.specs.Told.{blocks_of}
+use Rattle.sab_words.specs.Answers.{count_of}
 use Rattle.sab_words.specs.Words.{packed, narrowed}
 use Rattle.sab_words.specs.Called.{called, called_both, wrong_buffer}
 use Rattle.sab_words.proofs.Told.{tells_blocks}
@@ -33,6 +37,11 @@ hand_row_alike archive u log base v lent = guarded-alike u log base lent (eqb (l
 
 -- ---- handing out
 
+-- the count in the word is that of the call
+pub same_blocks : (r : Result ℕ Refusal) → count_of r ≡ blocks_of r
+same_blocks (Ok blocks) = refl
+same_blocks (Err refusal) = refl
+
 module _ (archive u : ℕ) {r : ℕ} (log base asked lent : List ℕ) where
   pub asks_wrong : (length asked ≡ 16 → ⊥) → r ≡ packed 1 0 0 → called r log lent ≡ row_handed_of archive u log base asked lent
   unfolding row_handed_of wrong_buffer
@@ -45,14 +54,13 @@ module _ (archive u : ℕ) {r : ℕ} (log base asked lent : List ℕ) where
 
 -- ---- taking and trying
 
-pub takes : (archive u : ℕ) {v r n p k s x y : ℕ} (log base i row work : List ℕ) {log' j work' : List ℕ} → v ≡ narrowed u → row_kept n p k s log' j ≡ take_row_kept archive v log base i row work
+pub takes : (archive u : ℕ) {v r n p k s m : ℕ} (log base i row work : List ℕ) {log' j work' : List ℕ} → v ≡ narrowed u → row_kept n p k s log' j ≡ take_row_kept archive v log base i row work
     → work' ≡ take_row_kept_work archive v log base i row work
-    → x ≡ k
-    → y ≡ s
-    → r ≡ packed n p (x + 256 * y)
+    → m ≡ k + 256 * s
+    → r ≡ packed n p m
     → called_both r log' j work' ≡ told_row_kept (take_row_kept archive u log base i row work) (take_row_kept_work archive u log base i row work)
-takes archive u log base i row work given e h a b w =
-    tells_row (e ∙ rw given (row_kept_alike u log base i archive row work)) (h ∙ rw given (row_kept_work_alike u log base i archive row work)) a b w
+takes archive u log base i row work given e h a w =
+    tells_row (e ∙ rw given (row_kept_alike u log base i archive row work)) (h ∙ rw given (row_kept_work_alike u log base i archive row work)) refl refl (w ∙ rw a)
 
 pub tries : (archive u : ℕ) {v r n p : ℕ} (log base row copy tree report : List ℕ) {copy' tree' report' : List ℕ} → v ≡ narrowed u → trial n p copy' tree' report' ≡ try_of archive v log base row copy tree report → r ≡ packed n p 0
     → tried_call r copy' tree' report' ≡ row_tried_of archive u log base row copy tree report

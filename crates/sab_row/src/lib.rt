@@ -1,14 +1,16 @@
 // The calls of a row of blocks, as the static library calls them: the unit a 32-bit number, the answer in one word.
 #![tactic(auto)]
 
-ghost use Rattle.std.specs.Prelude.{◌≡◌};
+ghost use Rattle.std.specs.Prelude.{◌≡◌, ◌+◌, ◌*◌};
+ghost use Rattle.take_row_judge.specs.Stopped.{stop_code};
 ghost use Rattle.index_model.specs.Kept.{take_row_kept, take_row_kept_work};
 ghost use Rattle.sab_words.specs.Called.{called, called_both};
 ghost use Rattle.sab_index.specs.Told.{told_row_kept};
 ghost use Rattle.sab_row.specs.Rows.{row_handed_of, tried_call, row_tried_of};
 
-use byte_slice::wide;
-use sab_words::{narrow, pack};
+use refusal::Refusal;
+use sab_words::{answer_word, blocks_word, narrow, pack};
+use take_row::RowTaken;
 use vector::vector_at;
 
 // Hands out all blocks of what the asked vector lacks; the count is that of the blocks.
@@ -23,11 +25,20 @@ pub fn hand_out_row(
     ensures { called result log.now row.new ≡ row_handed_of archive unit log.now base.now asked.now row.old }
 {
     if asked.len() != 16 {
-        return pack(1, 0, 0);
+        return answer_word(Err(Refusal::BadBuffer));
     }
     let v = vector_at(asked, 0);
-    let w = hand_out_row::hand_out_row(log, base, archive, narrow(unit), v, row);
-    pack(w.number, w.place, wide(w.blocks))
+    blocks_word(hand_out_row::hand_out_row(log, base, archive, narrow(unit), v, row))
+}
+
+// The count of a row that is taken: how many of its blocks were, with the number of what stopped it in the upper half.
+fn row_count(row: RowTaken) -> u16
+    ensures { result ≡ row.taken + 256 * stop_code row.stopped }
+{
+    match row.stopped {
+        None => u16::from(row.taken),
+        Some(refusal) => u16::from(row.taken) + 256 * u16::from(u8::from(refusal)),
+    }
 }
 
 // Takes the blocks of a row in turn; the count is that of the blocks taken, with what stopped the row in its upper half.
@@ -42,8 +53,10 @@ pub fn take_row(
 ) -> u32
     ensures { called_both result log.new index.new work.new ≡ told_row_kept (take_row_kept archive unit log.old base.now index.old row.now work.old) (take_row_kept_work archive unit log.old base.now index.old row.now work.old) }
 {
-    let t = keep_take_row::take_row(log, base, index, work, archive, narrow(unit), row);
-    pack(t.number, t.place, wide(t.taken) + 256 * wide(t.stopped))
+    match keep_take_row::take_row(log, base, index, work, archive, narrow(unit), row) {
+        Ok(taken) => pack(0, 0, row_count(taken)),
+        Err(refusal) => answer_word(Err(refusal)),
+    }
 }
 
 // Tries a row on a copy of the log.
@@ -59,6 +72,5 @@ pub fn try_row(
 ) -> u32
     ensures { tried_call result copy.new tree.new report.new ≡ row_tried_of archive unit log.now base.now row.now copy.old tree.old report.old }
 {
-    let a = try_row::try_row(log, base, archive, narrow(unit), row, copy, tree, report);
-    pack(a.number, a.place, 0)
+    answer_word(try_row::try_row(log, base, archive, narrow(unit), row, copy, tree, report))
 }

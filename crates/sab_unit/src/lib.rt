@@ -6,14 +6,13 @@ ghost use Rattle.index_model.specs.Kept.{start_kept, act_kept, act_kept_work};
 ghost use Rattle.sab_words.specs.Called.{called_both};
 ghost use Rattle.sab_index.specs.Told.{told_start, told_kept};
 
-use sab_words::{narrow, pack};
+use sab_words::{answer_word, narrow};
 
 // Starts a unit.
 pub fn start(log: &mut [u8], base: &mut [u8], index: &mut [u8], archive: u32, unit: u32) -> u32
     ensures { called_both result log.new index.new base.new ≡ told_start (start_kept unit log.old base.old index.old) }
 {
-    let s = keep_start::start(log, base, index, archive, narrow(unit));
-    pack(s.number, s.place, 0)
+    answer_word(keep_start::start(log, base, index, archive, narrow(unit)))
 }
 
 // Makes a record of the own unit.
@@ -28,6 +27,5 @@ pub fn act(
 ) -> u32
     ensures { called_both result log.new index.new work.new ≡ told_kept (act_kept unit log.old base.now index.old wish.now work.old) (act_kept_work unit log.old base.now index.old wish.now work.old) }
 {
-    let a = keep_act::act(log, base, index, archive, narrow(unit), wish, work);
-    pack(a.number, a.place, 0)
+    answer_word(keep_act::act(log, base, index, archive, narrow(unit), wish, work))
 }

@@ -2,16 +2,56 @@
 #![tactic(auto)]
 
 ghost use Rattle.std.specs.Prelude.{◌≡◌, length};
+ghost use Rattle.refusal.specs.Refusals.{code_of, fault_code, fault_place};
 ghost use Rattle.sab_words.specs.Words.{packed, narrowed, head_of};
+ghost use Rattle.sab_words.specs.Answers.{count_of};
 
-use byte_slice::{put, put16, put32, wide32, wider};
+use byte_slice::{put, put16, put32};
+use refusal::{Fault, Refusal, code};
 use vector::{Vector, put_vector};
 
 // Number, place and count in one word.
 pub fn pack(number: u8, place: u8, count: u16) -> u32
     ensures { result ≡ packed number place count }
 {
-    wide32(number) + 256 * wide32(place) + 65536 * wider(count)
+    u32::from(number) + 256 * u32::from(place) + 65536 * u32::from(count)
+}
+
+// An answer in one word.
+pub fn answer_word(answer: Result<(), Refusal>) -> u32
+    ensures { result ≡ packed (code_of answer) 0 0 }
+{
+    pack(code(answer), 0, 0)
+}
+
+// An answer that counts something, in one word: the count is 0 where it is refused.
+pub fn count_word(answer: Result<u16, Refusal>) -> u32
+    ensures { result ≡ packed (code_of answer) 0 (count_of answer) }
+{
+    match answer {
+        Ok(count) => pack(0, 0, count),
+        Err(refusal) => pack(u8::from(refusal), 0, 0),
+    }
+}
+
+// The same of an answer that counts blocks in a byte.
+pub fn blocks_word(answer: Result<u8, Refusal>) -> u32
+    ensures { result ≡ packed (code_of answer) 0 (count_of answer) }
+{
+    match answer {
+        Ok(blocks) => pack(0, 0, u16::from(blocks)),
+        Err(refusal) => pack(u8::from(refusal), 0, 0),
+    }
+}
+
+// An answer that names a place, in one word.
+pub fn place_word(answer: Result<(), Fault<u8>>) -> u32
+    ensures { result ≡ packed (fault_code answer) (fault_place answer) 0 }
+{
+    match answer {
+        Ok(_) => pack(0, 0, 0),
+        Err(fault) => pack(u8::from(fault.refusal), fault.place, 0),
+    }
 }
 
 // The own unit in a byte. Above 7 all are alike, and so is the byte.

@@ -9,10 +9,11 @@ ghost use Rattle.model.specs.Replay.{replay};
 ghost use Rattle.model.specs.Table.{table_bytes};
 ghost use Rattle.base_model.specs.Base.{sound_state, held_on, tree_of};
 ghost use Rattle.call_model.specs.Outcome.{outcome, show_of};
+ghost use Rattle.refusal.specs.Refusals.{code_of};
 ghost use Rattle.tree_maps.specs.Keys.{register_size};
 
-use call_answer::Answer;
 use model::TREE_BYTES;
+use refusal::Refusal;
 use tree_maps::REGISTER;
 use tree_table::Size;
 use vector::Vector;
@@ -31,7 +32,7 @@ pub fn lay_log(log: &[u8], n: usize, tree: &mut [u8])
     requires { (length log.now ≡ log_size) × (sound_log log.now ≡ true) × (n ≡ length (records_of log.now)) × (length tree.old ≡ tree_size) }
     ensures { tree.new ≡ table_bytes (replay (records_of log.now)) }
 {
-    byte_slice::clear(tree);
+    tree.fill(0);
     let mut register = [0u16; REGISTER];
     fill_log(log, n, tree, &mut register);
 }
@@ -59,30 +60,20 @@ pub fn lay_tree(log: &[u8], n: usize, base: &[u8], held: Vector, size: Size, tre
     requires { (length log.now ≡ log_size) × (length base.now ≡ base_size) × (sound_state log.now base.now ≡ true) × (n ≡ length (records_of log.now)) × (held.counts ≡ held_on log.now base.now) × (size.entries ≡ word base.now 2) × (size.asides ≡ word base.now 4) × (length tree.old ≡ tree_size) }
     ensures { tree.new ≡ table_bytes (tree_of log.now base.now) }
 {
-    byte_slice::clear(tree);
+    tree.fill(0);
     let mut register = [0u16; REGISTER];
     fill_tree(log, n, base, held, size, tree, &mut register);
 }
 
 // The lent table shows the tree and the asides of the lent state. A refusal leaves the table as it was. No unit is asked: 0 passes.
-pub fn show_tree(log: &[u8], base: &[u8], tree: &mut [u8]) -> Answer
-    ensures { outcome result.number result.place log.now tree.new 0 ≡ show_of log.now base.now tree.old }
+pub fn show_tree(log: &[u8], base: &[u8], tree: &mut [u8]) -> Result<(), Refusal>
+    ensures { outcome (code_of result) 0 log.now tree.new 0 ≡ show_of log.now base.now tree.old }
 {
-    let o = call_guard::open(log, base, 0, tree.len() == TREE_BYTES, true);
-    if o.number != 0 {
-        return Answer {
-            number: o.number,
-            place: 0,
-        };
-    }
-    let head = o.head;
+    let state = call_guard::open(log, base, 0, tree.len() == TREE_BYTES, true)?;
     let size = Size {
-        entries: head.entries,
-        asides: head.asides,
+        entries: state.head.entries,
+        asides: state.head.asides,
     };
-    lay_tree(log, o.used, base, o.held, size, tree);
-    Answer {
-        number: 0,
-        place: 0,
-    }
+    lay_tree(log, state.used, base, state.held, size, tree);
+    Ok(())
 }

@@ -2,25 +2,18 @@
 #![tactic(auto)]
 
 ghost use Rattle.std.specs.Prelude.{◌≡◌};
+ghost use Rattle.refusal.specs.Refusals.{code_of};
 ghost use Rattle.call_model.specs.Outcome.{outcome, start_of};
 
-use call_answer::{Answer, early_number};
+use call_answer::early_check;
+use refusal::Refusal;
 
 // The lent log and base are emptied, whatever stood in them. The archive is not asked.
-pub fn start(log: &mut [u8], base: &mut [u8], archive: u32, unit: u8) -> Answer
-    ensures { outcome result.number result.place log.new base.new 0 ≡ start_of unit log.old base.old }
+pub fn start(log: &mut [u8], base: &mut [u8], archive: u32, unit: u8) -> Result<(), Refusal>
+    ensures { outcome (code_of result) 0 log.new base.new 0 ≡ start_of unit log.old base.old }
 {
-    let n = early_number(log, base, unit, true, true);
-    if n != 0 {
-        return Answer {
-            number: n,
-            place: 0,
-        };
-    }
-    byte_slice::clear(log);
+    early_check(log, base, unit, true, true)?;
+    log.fill(0);
     base_empty::write_empty(base);
-    Answer {
-        number: 0,
-        place: 0,
-    }
+    Ok(())
 }

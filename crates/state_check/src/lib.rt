@@ -1,81 +1,58 @@
 // The check of a state: a sound base, a log that is sound behind it, and every unit that either counts listed.
 #![tactic(auto)]
 
-ghost use Rattle.std.specs.Prelude.{◌≡◌, true, cond, ◌&&◌, length};
+ghost use Rattle.std.specs.Prelude.{◌≡◌, IfSome, length};
 ghost use Rattle.model.specs.Lengths.{log_size, base_size};
 ghost use Rattle.model.specs.Log.{records_of};
-ghost use Rattle.base_model.specs.Base.{lists_all, base_vector, sound_state};
-ghost use Rattle.base_head.specs.Head.{headed};
+ghost use Rattle.base_model.specs.Base.{base_vector};
 ghost use Rattle.log_closure.specs.Tables.{places_size, seens_size, tables, Indexed};
 ghost use Rattle.log_check.specs.declared.Layout.TheVariants.{Log};
 ghost use Rattle.log_check.specs.Places.{laid_at};
-ghost use Rattle.state_check.specs.State.{stated, unsound, state_of, note_of};
+ghost use Rattle.state_check.specs.State.{state_of, note_of};
+ghost use Rattle.state_check.specs.Told.{state_told};
 
 use base_head::Head;
-use log_check::Checked;
+use vector::Vector;
 
-// Whether a state is sound; the head of its base; the base vector with the records of the log counted; how many these are. Zeros if it is
-// not sound.
-#[derive(Drop)]
+// Of a sound state: the head of its base, the base vector with the records of the log counted, and how many these are.
+#[derive(Clone, Copy, Drop)]
 pub struct State {
-    pub sound: bool,
     pub head: Head,
-    pub held: vector::Vector,
+    pub held: Vector,
     pub used: usize,
 }
 
-// A state that is not sound.
-fn refused() -> State
-    ensures { stated result.sound (headed result.head.list result.head.folded.counts result.head.entries result.head.asides) result.held.counts result.used ≡ unsound }
-{
-    let head = base_head::no_head();
-    let held = vector::zero_vector();
-    State {
-        sound: false,
-        head,
-        held,
-        used: 0,
-    }
-}
-
-// A sound base with this head, and a log that was checked behind its vector.
-fn judged(head: Head, c: Checked) -> State
-    ensures { stated result.sound (headed result.head.list result.head.folded.counts result.head.entries result.head.asides) result.held.counts result.used ≡ cond (c.sound && lists_all head.list c.held.counts) (stated true (headed head.list head.folded.counts head.entries head.asides) c.held.counts c.used) unsound }
-{
-    let held = c.held;
-    if !c.sound {
-        return refused();
-    }
-    if !base_head::lists_all(head.list, held) {
-        return refused();
-    }
-    State {
-        sound: true,
-        head,
-        held,
-        used: c.used,
-    }
-}
-
-// A state is checked, and the records of the log are noted in the tables, if the base is sound.
-pub fn check_state_into(log: &[u8], base: &[u8], places: &mut [u16], seens: &mut [u16]) -> State
+// A state is checked, and the records of the log are noted in the tables, if the base is sound: none if the state is not.
+pub fn check_state_into(
+    log: &[u8],
+    base: &[u8],
+    places: &mut [u16],
+    seens: &mut [u16],
+) -> Option<State>
     requires { (length log.now ≡ log_size) × (length base.now ≡ base_size) × (length places.old ≡ places_size) × (length seens.old ≡ seens_size) }
-    ensures outright { stated result.sound (headed result.head.list result.head.folded.counts result.head.entries result.head.asides) result.held.counts result.used ≡ state_of log.now base.now }
+    ensures outright { state_told result ≡ state_of log.now base.now }
     ensures filled { tables places.new seens.new ≡ note_of log.now base.now places.old seens.old }
-    ensures holds { sound_state log.now base.now ≡ true → Indexed (base_vector base.now) (laid_at Log log.now) result.used (records_of log.now) result.held.counts places.new seens.new }
+    ensures holds { IfSome result (λ state. Indexed (base_vector base.now) (laid_at Log log.now) state.used (records_of log.now) state.held.counts places.new seens.new) }
 {
     if !base_check::check_base(base) {
-        return refused();
+        return None;
     }
     let head = base_head::head_of(base);
-    let folded = head.folded;
-    judged(head, log_check::check_into(folded, log, places, seens))
+    let checked = log_check::check_into(head.folded, log, places, seens)?;
+    if !base_head::lists_all(head.list, checked.held) {
+        return None;
+    }
+    Some(State {
+        head,
+        held: checked.held,
+        used: checked.used,
+    })
 }
 
-// A state is checked.
-pub fn check_state(log: &[u8], base: &[u8]) -> State
+// A state is checked: none if it is not sound.
+pub fn check_state(log: &[u8], base: &[u8]) -> Option<State>
     requires { (length log.now ≡ log_size) × (length base.now ≡ base_size) }
-    ensures { stated result.sound (headed result.head.list result.head.folded.counts result.head.entries result.head.asides) result.held.counts result.used ≡ state_of log.now base.now }
+    ensures { state_told result ≡ state_of log.now base.now }
 {
     let mut places = log_check::fresh_places();
     let mut seens = log_check::fresh_seens();

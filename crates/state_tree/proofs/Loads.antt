@@ -1,27 +1,27 @@
 -- A sound base whose counts are numbers of 16 bits can be put into a table.
 -- Assumes nothing.
-use Prim.Native.Nat.{ℕ, zero, suc, ◌+◌, ◌-◌, ◌*◌, ◌/◌, ◌%◌, ◌≤◌, ◌<◌}
+use Prim.Native.Nat.{ℕ, ◌+◌, ◌-◌, ◌*◌, ◌%◌, ◌≤◌, ◌<◌}
 use native.Mathlib.Omega.{arith}
-use mathlib.Core.Path.{◌≡◌, refl, sym, ap, ◌∙◌}
+use mathlib.Core.Path.{◌≡◌, sym, ap, ◌∙◌}
 use mathlib.Core.Logic.{◌⊎◌, inl, inr, ⊎_elim}
 use mathlib.Core.Bool.{true}
 use mathlib.Core.List.{List}
 use lib.ListN.{get_or, length}
 use Rattle.model.specs.Bytes.{word}
 use Rattle.model.specs.Record.{root, unit_of, number_of}
-use Rattle.model.specs.Replay.{Entry, Aside}
+use Rattle.model.specs.Replay.{Entry}
 use Rattle.base_model.specs.Base.{base_vector, base_entry, base_aside, base_entries, entry_row_fits, aside_row_fits, id_at, sound_base}
 use Rattle.byte_slice.proofs.Numbers.{eq_or_ne}
 use Rattle.tree_laws.specs.Trees.{NamedIn, NamedOrNone, EntryFits, AsideFits}
-use Rattle.base_laws.specs.Plain.{Plain, Reaches, top, up}
+use Rattle.base_laws.specs.Plain.{Reaches, top, up}
 use Rattle.base_laws.proofs.Plain.{all_at, id_made, id_who, plain_of}
 use Rattle.base_laws.proofs.Rows.{row_fits_lem, row_present, aside_fits_lem}
 use Rattle.base_laws.proofs.Trees.{sound_tells}
 use Rattle.tree_table.specs.Rows.{InRange}
-use Rattle.tree_lookup.specs.Roles.{row_from, note_from, row_of, note_of, behind_rows, role_of, Home}
+use Rattle.tree_lookup.specs.Roles.{row_from, row_of, note_of, behind_rows, role_of, Home}
 use Rattle.tree_lookup.proofs.Places.{row_absent, absent_at}
 use Rattle.tree_lookup.proofs.Working.{blank_entry}
-use Rattle.base_load.specs.Loading.{Ranged, Noted, Loads, tree_to}
+use Rattle.base_load.specs.Loading.{Loads, tree_to}
 use Rattle.base_load.proofs.Listed.{no_row, no_note, entries_long}
 use Rattle.base_load.proofs.Entering.{entry_is}
 use Rattle.state_tree.specs.Small.{Small}

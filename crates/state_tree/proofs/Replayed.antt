@@ -1,16 +1,16 @@
 -- The records of a sound state's log may be replayed from the tree of its base, and what comes of it is the tree of the state.
 -- Assumes nothing.
-use Prim.Native.Nat.{ℕ, zero, suc, ◌+◌, ◌*◌, ◌/◌, ◌%◌, ◌≤◌, ◌<◌}
+use Prim.Native.Nat.{ℕ, ◌+◌, ◌*◌, ◌/◌, ◌%◌, ◌≤◌, ◌<◌}
 use native.Mathlib.Omega.{arith}
-use mathlib.Core.Path.{◌≡◌, refl, sym, ap, ◌∙◌}
+use mathlib.Core.Path.{◌≡◌, refl, sym}
 use mathlib.Core.Logic.{⊎_elim}
-use mathlib.Core.Bool.{Bool, true, ◌&&◌}
+use mathlib.Core.Bool.{true, ◌&&◌}
 use mathlib.Core.List.{List, []}
 use lib.ListN.{get_or, length}
 use Rattle.model.specs.Bytes.{word}
-use Rattle.model.specs.Record.{Rec, identity, unit, num, self_of, unit_of, number_of}
-use Rattle.model.specs.Log.{count_on, vector_on, records_of, sound_log_on}
-use Rattle.model.specs.Replay.{Tree, replay_from}
+use Rattle.model.specs.Record.{Rec, identity, unit, num, self_of}
+use Rattle.model.specs.Log.{count_on, records_of, sound_log_on}
+use Rattle.model.specs.Replay.{replay_from}
 use Rattle.base_model.specs.Base.{base_vector, base_tree, lists_all, held_on, sound_base, sound_state, tree_of}
 use Rattle.byte_slice.proofs.Numbers.{and_true, eq_or_ne}
 use Rattle.log_laws.specs.Members.{Has}
@@ -38,12 +38,6 @@ unfolding tree_to base_tree
 tree_to_lem base = refl
 
 -- ---- counts of 16 bits
-
-pub small_next : (v : List ℕ) (u x : ℕ) → ((j : ℕ) → j < u → get_or v j 0 < 65536) → x ≡ get_or v u 0 → x < 65536 → (j : ℕ) → j < u + 1 → get_or v j 0 < 65536
-small_next v u x h e l j g = ⊎_elim (λ (z : j ≡ u). rw (z, ← e) l) (λ (z : j ≡ u → ⊥). h j (omega arith)) (eq_or_ne j u)
-
-pub small_all : (v : List ℕ) (u : ℕ) → u ≤ 8 → 8 ≤ u → ((j : ℕ) → j < u → get_or v j 0 < 65536) → Small v
-small_all v u h g s = record { at = λ j k. s j (omega arith) }
 
 pub held_small : (v w : List ℕ) → v ≡ w → Small v → Small w
 held_small v w e s = rw (← e) s

@@ -19,10 +19,8 @@ pub fn small_counts(held: Vector)
     ensures { Small held.counts }
 {
     let counts = held.counts;
-    let mut u: usize = 0;
-    while u < 8 {
-        let _count = byte_slice::wider(counts[u]);
-        u += 1;
+    for u in 0..8 {
+        let _count = u32::from(counts[u]);
     }
 }
 

@@ -100,8 +100,8 @@ module _ (u : ℕ) (log base : List ℕ) {n m k j : ℕ} {v held : List ℕ} {us
     pub told_sound : sound_log_on v log ≡ true
     told_sound = rw told (open_sound u log base true true e z)
 
-    pub told_indexed : (places seens : List ℕ) → (n ≡ 0 → Indexed (base_vector base) (laid_at Log log) used (records_of log) held places seens) → Indexed v (laid_at Log log) used (records_of log) held places seens
-    told_indexed places seens f = rw told (f z)
+    pub told_indexed : (places seens : List ℕ) → Indexed (base_vector base) (laid_at Log log) used (records_of log) held places seens → Indexed v (laid_at Log log) used (records_of log) held places seens
+    told_indexed places seens f = rw told f
 
     pub took : (archive : ℕ) (b : List ℕ) (o : Outcome) → o ≡ or_refused (given_fault archive b) log [] (took_all log (takes_all m v (records_of log) (block_records b))) → o ≡ take_of archive u log base b
     unfolding take_of took_block base_in

@@ -3,11 +3,12 @@
 use Prim.Native.Nat.{ℕ, suc, ◌+◌, ◌-◌, ◌*◌, ◌≤◌, ◌<◌}
 use native.Mathlib.Omega.{arith}
 use mathlib.Core.Path.{◌≡◌, refl, sym, ◌∙◌}
-use mathlib.Core.Bool.{Bool, true, false, cond, not}
+use mathlib.Core.Bool.{Bool, true, false, cond, not, true≢false}
 use mathlib.Core.List.{List}
 use lib.Dec.{ltb, eqb}
 use lib.ListN.{get_or, length, take, drop, set}
 use borrow.Author.Tests.{lt-ltb, le-ltb, ltb-true, le-leb, lt-leb, eq-eqb, ne_eqb, eqb-true, eqb-false, not-true, not-false}
+use Rattle.std.proofs.Common.{◌↔◌, IsTrue}
 use Rattle.model.specs.Bytes.{same_bytes, put_at}
 use Rattle.model.specs.Vector.{covers}
 use Rattle.model.specs.Record.{Rec, unit, num, seen_vector, well_formed}
@@ -55,11 +56,15 @@ module _ (log b rec : List ℕ) (p : ℕ) (t : Bool) where
 -- ---- a new record
 
 module _ (r : Rec) (base held : List ℕ) (used : ℕ) (places seens : List ℕ) (n : ℕ) (e : n ≡ join_fault base held places seens r) where
-  pub new_not_next : n ≡ 8 → 8 ≡ new_by base held used places seens r
-  unfolding new_by
-  new_not_next h = rw (← e, eq-eqb n 8 h)
+  module _ (o : Bool) (i : IsTrue o ↔ (n ≡ 8)) (j : o ≡ true) where
+    pub new_not_next : n ≡ new_by base held used places seens r
+    unfolding new_by
+    new_not_next = rw (← e, i.0 j)
 
-  module _ (x : n ≡ 8 → ⊥) (s : List ℕ) (d : s ≡ seen_vector r) (t : Bool) (c : t ≡ covers s base) where
+  module _ (o : Bool) (i : IsTrue o ↔ (n ≡ 8)) (j : o ≡ false) (s : List ℕ) (d : s ≡ seen_vector r) (t : Bool) (c : t ≡ covers s base) where
+    x : n ≡ 8 → ⊥
+    x q = true≢false (sym (i.1 q) ∙ j)
+
     covering : covers (seen_vector r) base ≡ t
     covering = sym (rw d at c)
 

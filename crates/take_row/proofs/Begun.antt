@@ -123,7 +123,3 @@ module _ (archive u : ℕ) (log base row : List ℕ) {n m k j : ℕ} {v held : L
 
 pub row-long : (u : ℕ) (log base row : List ℕ) {n m k j : ℕ} {v held : List ℕ} {used : ℕ} {fit : Bool} → fit ≡ row_fits (length row) → opened n (headed m v k j) held used ≡ open_of u log base true fit → n ≡ 0 → length row ≤ 44032
 row-long u log base row {fit = fit} l e z = row_short (length row) (sym l ∙ open_row u log base true fit e z)
-
-pub row_indexed : (log base : List ℕ) (n used : ℕ) (held places seens : List ℕ) → (n ≡ 0 → Indexed (base_vector base) (laid_at Log log) used (records_of log) held places seens) → n ≡ 0
-    → Indexed (base_vector base) (laid_at Log log) used (records_of log) held places seens
-row_indexed log base n used held places seens f z = f z

@@ -6,24 +6,26 @@ ghost use Rattle.model.specs.Lengths.{log_size, file_size, base_size};
 ghost use Rattle.model.specs.Log.{records_of};
 ghost use Rattle.base_model.specs.Base.{base_vector, held_on, sound_state};
 ghost use Rattle.row_model.specs.Row.{row_fits, tried, try_all, row_taken, take_row_of};
+ghost use Rattle.refusal.specs.Refusals.{code_of};
 ghost use Rattle.log_closure.specs.Tables.{places_size, seens_size, Indexed};
 ghost use Rattle.log_check.specs.declared.Layout.TheVariants.{Log};
 ghost use Rattle.log_check.specs.Places.{laid_at};
 ghost use Rattle.take_row_store.specs.Grown.{work_size};
+ghost use Rattle.take_row_judge.specs.Stopped.{stop_code};
+ghost use Rattle.take_row.specs.Answer.{taken_of, stopped_of};
 
 use call_guard::open_into;
 use model::BLOCK_BYTES;
+use refusal::Refusal;
 use take_row_judge::RowJudged;
 use take_row_store::WORK_BYTES;
 use vector::Vector;
 
-// What taking a row answers: the number, 0 for success; then how many blocks were taken, and the number that stopped the row, or 0.
-#[derive(Drop)]
+// What taking a row comes to: how many of its blocks were taken, and what stopped it.
+#[derive(Clone, Copy, Debug, PartialEq, Eq)]
 pub struct RowTaken {
-    pub number: u8,
-    pub place: u8,
     pub taken: u8,
-    pub stopped: u8,
+    pub stopped: Option<Refusal>,
 }
 
 // Memory to judge a row in.
@@ -60,7 +62,7 @@ pub fn take_blocks(
     seens: &mut [u16],
 ) -> RowJudged
     requires { (length row.now ≤ file_size) × (unit ≤ 7) × (length log.old ≡ log_size) × (length base.now ≡ base_size) × (sound_state log.old base.now ≡ true) × (list ≡ get_or base.now 0 0) × (folded.counts ≡ base_vector base.now) × (used ≡ length (records_of log.old)) × (length work.old ≡ work_size) × (length places.old ≡ places_size) × (length seens.old ≡ seens_size) × Indexed (base_vector base.now) (laid_at Log log.old) used (records_of log.old) held.counts places.old seens.old }
-    ensures took { tried result.taken result.stopped log.new ≡ try_all archive unit log.old base.now row.now }
+    ensures took { tried result.taken (stop_code result.stopped) log.new ≡ try_all archive unit log.old base.now row.now }
     ensures counted { (result.used ≡ length (records_of log.new)) × (result.held.counts ≡ held_on log.new base.now) }
 {
     byte_slice::put(work, 0, log);
@@ -72,12 +74,20 @@ pub fn take_blocks(
 }
 
 // The blocks of a row are taken in turn, up to the first refusal. Checked in this order: 1, 21, 2, 19; then the blocks. The base is only read.
-pub fn take_row(log: &mut [u8], base: &[u8], archive: u32, unit: u8, row: &[u8]) -> RowTaken
-    ensures { row_taken result.number result.place result.taken result.stopped log.new ≡ take_row_of archive unit log.old base.now row.now }
+// A frame of its own: its tables are off the stack before an index is made afresh.
+#[inline(never)]
+pub fn take_row(
+    log: &mut [u8],
+    base: &[u8],
+    archive: u32,
+    unit: u8,
+    row: &[u8],
+) -> Result<RowTaken, Refusal>
+    ensures { row_taken (code_of result) 0 (taken_of result) (stopped_of result) log.new ≡ take_row_of archive unit log.old base.now row.now }
 {
     let mut places = log_check::fresh_places();
     let mut seens = log_check::fresh_seens();
-    let o = open_into(
+    let state = open_into(
         log,
         base,
         unit,
@@ -85,37 +95,24 @@ pub fn take_row(log: &mut [u8], base: &[u8], archive: u32, unit: u8, row: &[u8])
         row_fits(row.len()),
         &mut places,
         &mut seens,
-    );
-    if o.number != 0 {
-        return RowTaken {
-            number: o.number,
-            place: 0,
-            taken: 0,
-            stopped: 0,
-        };
-    }
-    let head = o.head;
-    let folded = head.folded;
-    let held = o.held;
+    )?;
     let mut work = fresh_work();
-    let t = take_blocks(
-        head.list,
-        folded,
+    let judged = take_blocks(
+        state.head.list,
+        state.head.folded,
         base,
         log,
         archive,
         unit,
         row,
-        o.used,
-        held,
+        state.used,
+        state.held,
         &mut work,
         &mut places,
         &mut seens,
     );
-    RowTaken {
-        number: 0,
-        place: 0,
-        taken: t.taken,
-        stopped: t.stopped,
-    }
+    Ok(RowTaken {
+        taken: judged.taken,
+        stopped: judged.stopped,
+    })
 }

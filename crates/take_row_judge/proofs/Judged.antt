@@ -1,14 +1,13 @@
 -- A block judged beside the records held answers as its take would; and a row of blocks.
 -- Assumes nothing.
-use Prim.Native.Nat.{ℕ, zero, suc, ◌+◌, ◌-◌, ◌*◌, ◌≤◌, ◌<◌}
+use Prim.Native.Nat.{ℕ, zero, suc, ◌-◌, ◌*◌, ◌≤◌, ◌<◌}
 use native.Mathlib.Omega.{arith}
-use mathlib.Core.Path.{◌≡◌, refl, sym, ap, ◌∙◌}
+use mathlib.Core.Path.{◌≡◌, refl, sym, ◌∙◌}
 use mathlib.Core.Logic.{⊎_elim}
-use mathlib.Core.Bool.{true, false}
+use mathlib.Core.Bool.{true}
 use mathlib.Core.List.{List, []}
-use lib.ListN.{length, take}
-use borrow.Author.Tests.{eq-eqb, ne_eqb, le-leb}
-use Rattle.model.specs.Bytes.{part}
+use lib.ListN.{length}
+use borrow.Author.Tests.{eq-eqb, ne_eqb}
 use Rattle.model.specs.Record.{Rec}
 use Rattle.model.specs.Log.{vector_on, records_of, sound_log_on, log_bytes}
 use Rattle.model.specs.Block.{count_in, block_fault, block_records, given_fault}
@@ -25,6 +24,12 @@ use Rattle.log_check.specs.Places.{offset_of, laid_at}
 use Rattle.row_model.specs.Row.{tried, try_from, try_all}
 use Rattle.take_row_store.specs.Grown.{held_in, Grown}
 use Rattle.take_row_store.proofs.Runs.{held_none, held-alike, held-long, held_sound, grown_alike}
+use Rattle.std.proofs.Common.{Result, Ok, Err}
+use Rattle.refusal.specs.declared.Refusal.{Refusal}
+use Rattle.refusal.specs.Refusals.{number_of, code_of}
+use Rattle.refusal.proofs.Refusals.{not_zero}
+use Rattle.take_beside.specs.declared.Counts.{Counts}
+use Rattle.take_beside.specs.Counts.{held_after, used_after}
 use Rattle.take_row_judge.specs.Kept.{Footing, Kept, JudgedInto, JudgedOne, JudgedRow}
 
 -- ---- a take into a log that is known to be sound
@@ -97,6 +102,11 @@ given_few archive b f e z n q =
 
 -- ---- one block
 
+-- a refused block says nothing of what is held then
+pub refused_alike : {m : ℕ} {v : List ℕ} {l : List Rec} {start i number used : ℕ} {b work work' held places seens : List ℕ} → JudgedInto m v l start b work i number work' used held places seens → (number ≡ 0 → ⊥) → (used' : ℕ) (held' : List ℕ)
+    → JudgedInto m v l start b work i number work' used' held' places seens
+refused_alike j y used' held' = record { refuses = j.refuses; accepts = λ x. absurd (y x); kept = λ x. absurd (y x); front = j.front }
+
 module _ (m : ℕ) (v base : List ℕ) (foot : Footing m v base) (archive u : ℕ) (b : List ℕ) (l : List Rec) (start : ℕ) (work : List ℕ) (i : ℕ) (held places seens : List ℕ) (h : u ≤ 7) (k : Kept m v l start work i held places seens) (f : ℕ) (e : f ≡ given_fault archive b) where
   pub one_bad : (f ≡ 0 → ⊥) → JudgedOne m v base l start archive u b work i f work i held places seens
   one_bad z = record { answers = bad m v base foot archive u b l start work i held places seens k h f e z; grown = k.grown; counts = k.indexed.counts; kept = λ y. k }
@@ -124,6 +134,11 @@ module _ (m : ℕ) (v base : List ℕ) (foot : Footing m v base) (archive u : �
           kept = λ x. j.kept y;
         }
 
+  pub one_answered : f ≡ 0 → (r : Result Counts Refusal) (work' places' seens' : List ℕ) → JudgedInto m v l start b work i (code_of r) work' (used_after i r) (held_after held r) places' seens'
+      → JudgedOne m v base l start archive u b work i (code_of r) work' (used_after i r) (held_after held r) places' seens'
+  one_answered z (Ok c) work' places' seens' j = one_taken z 0 work' c.used c.held.counts places' seens' j refl
+  one_answered z (Err refusal) work' places' seens' j = one_refused z (number_of refusal) work' i held places' seens' j (not_zero refusal)
+
 -- ---- block after block
 
 pub row_starts : (v log base row : List ℕ) (archive u start n : ℕ) (work : List ℕ) → length log ≡ 40960 → sound_log_on v log ≡ true → try_from archive u base row log 0 (n - 0) ≡ try_all archive u log base row
@@ -133,6 +148,3 @@ row_starts v log base row archive u start n work long s q = rw (held_none (recor
 pub row_gives : (v base log row : List ℕ) (archive u start n number : ℕ) (work : List ℕ) (used : ℕ) (held : List ℕ) → tried n number (log_bytes (held_in (records_of log) start work used)) ≡ try_all archive u log base row
     → Grown v (records_of log) start work used → held ≡ vector_on v (held_in (records_of log) start work used) → JudgedRow v base log start archive u row n number work used held
 row_gives v base log row archive u start n number work used held q g c = record { answers = q; grown = g; counts = c }
-
-pub one_kept : {m : ℕ} {v base : List ℕ} {l : List Rec} {start archive u i number used : ℕ} {b work work' held places seens : List ℕ} → JudgedOne m v base l start archive u b work i number work' used held places seens → number ≡ 0 → Kept m v l start work' used held places seens
-one_kept j z = j.kept z

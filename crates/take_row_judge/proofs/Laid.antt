@@ -1,37 +1,35 @@
 -- A record laid behind those held and judged there, over plain values.
 -- Assumes nothing.
 use Prim.Native.Nat.{ℕ, suc, ◌+◌, ◌-◌, ◌*◌, ◌≤◌, ◌<◌}
-use native.Mathlib.Nat.{sub_self, sub-zero}
 use native.Mathlib.Numerals.{add-one}
 use native.Mathlib.Omega.{arith}
 use mathlib.Core.Path.{◌≡◌, refl, sym, ap, ◌∙◌, subst}
 use mathlib.Core.Logic.{inl, inr, ⊎_elim}
-use mathlib.Core.Bool.{Bool, true, false, cond}
-use mathlib.Core.List.{List, [], ◌∷◌}
+use mathlib.Core.Bool.{Bool, true, false}
+use mathlib.Core.List.{List}
 use lib.Dec.{leb, eqb}
-use lib.ListN.{get_or, length, take, drop, set}
-use lib.Seq.{take-take}
-use Rattle.model.specs.Bytes.{part, put_at, same_bytes}
-use Rattle.model.specs.Record.{Rec, unit, num, seen_vector, well_formed}
+use lib.ListN.{get_or, length, take, drop}
+use Rattle.model.specs.Bytes.{put_at, same_bytes}
+use Rattle.model.specs.Record.{Rec, unit, num, well_formed}
 use Rattle.model.specs.Log.{insert, vector_on}
 use Rattle.base_model.specs.Base.{is_listed, lists_all}
 use Rattle.call_model.specs.Outcome.{refused, taken, take_one}
 use Rattle.byte_slice.proofs.Numbers.{lt_or_ge, bool_cases}
-use Rattle.byte_slice.proofs.Parts.{part_is, part_length, part-take}
-use Rattle.byte_slice.proofs.PutAt.{part-put, part_put_before, take_put}
+use Rattle.byte_slice.proofs.Parts.{part_is}
+use Rattle.byte_slice.proofs.PutAt.{part-put, part_put_before}
 use Rattle.log_laws.specs.Sound.{SoundOn}
 use Rattle.log_laws.proofs.Insert.{length-insert, has_insert, insert_sound_on}
 use Rattle.take_laws.proofs.Take.{New, Known, one_fits, one_from}
 use Rattle.call_laws.proofs.States.{lists_grown}
-use Rattle.log_closure.specs.Tables.{slot_of, Indexed, Placed}
+use Rattle.log_closure.specs.Tables.{Indexed, Placed}
 use Rattle.log_admit.proofs.Tables.{indexed_placed, indexed_where}
 use Rattle.log_check.specs.declared.Layout.TheVariants.{Log}
 use Rattle.log_check.specs.Places.{offset_of, laid_at}
 use Rattle.log_insert.specs.Where.{insert_to}
-use Rattle.take_beside.specs.Judging.{Counted, Step, step, held_by, new_by, new_step, take_by, after}
+use Rattle.take_beside.specs.Judging.{Counted, Step, new_by, new_step, take_by, after}
 use Rattle.take_judge.proofs.Beside.{counted, beside_refused, beside_taken}
 use Rattle.take_row_store.specs.Grown.{new_at, held_in, Grown}
-use Rattle.take_row_store.proofs.Runs.{insert-alike, held-alike, held-long, held_sound, grown_alike}
+use Rattle.take_row_store.proofs.Runs.{held-alike, held-long, held_sound, grown_alike}
 use Rattle.take_row_judge.specs.Kept.{Kept}
 
 pub same_at : (work rec : List ℕ) (q : ℕ) (t : Bool) → t ≡ same_bytes (take (80 * q + 80 - 80 * q) (drop (80 * q) work)) rec → t ≡ same_bytes (laid_at Log work q) rec

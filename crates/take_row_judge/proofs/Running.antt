@@ -1,17 +1,17 @@
 -- What the loop over the records of a block is asked, over plain values.
 -- Assumes nothing.
 use Prim.Native.Nat.{ℕ, suc, ◌+◌, ◌-◌, ◌*◌, ◌≤◌, ◌<◌}
-use native.Mathlib.Nat.{sub_self, sub-zero}
+use native.Mathlib.Nat.{sub-zero}
 use native.Mathlib.Numerals.{add-one}
 use native.Mathlib.Omega.{arith}
-use mathlib.Core.Path.{◌≡◌, refl, sym, ap, ◌∙◌}
+use mathlib.Core.Path.{◌≡◌, refl, sym, ◌∙◌}
 use mathlib.Core.List.{List, [], ◌∷◌}
 use lib.ListN.{length, take, drop}
 use lib.Seq.{take-take}
 use Rattle.model.specs.Bytes.{put_at}
 use Rattle.model.specs.Record.{Rec}
 use Rattle.model.specs.Block.{count_in, record_at, records_from, block_records}
-use Rattle.call_model.specs.Outcome.{refused, taken, take_one, takes_all}
+use Rattle.call_model.specs.Outcome.{refused, take_one, takes_all}
 use Rattle.byte_slice.proofs.Parts.{part_is, part_length}
 use Rattle.byte_slice.proofs.PutAt.{take_put}
 use Rattle.take_laws.proofs.Take.{take_all-nil, take_all_goes, take_all_stops}
@@ -21,7 +21,7 @@ use Rattle.log_check.specs.Places.{laid_at}
 use Rattle.take_beside.specs.Judging.{Counted, Step, step, take_by}
 use Rattle.take_row_store.specs.Grown.{held_in}
 use Rattle.take_row_judge.specs.Kept.{Kept, JudgedInto}
-use Rattle.take_row_judge.proofs.Laid.{kept-placed, kept_counted, kept_few, Passed, laid_refused, laid_taken}
+use Rattle.take_row_judge.proofs.Laid.{kept-placed, kept_counted, kept_few, laid_refused, laid_taken}
 
 -- the first j records of a block passed: all records are held, and the rest is still to come; work₀ and i stand for before
 pub record Running (m : ℕ) (v : List ℕ) (l : List Rec) (start : ℕ) (block : List ℕ) (n j : ℕ) (work₀ : List ℕ) (i : ℕ) (work : List ℕ) (used : ℕ) (held places seens : List ℕ) : Type 0 where

@@ -9,27 +9,30 @@ ghost use Rattle.model.specs.Record.{unit, num, well_formed};
 ghost use Rattle.model.specs.Log.{records_of, sound_log_on};
 ghost use Rattle.model.specs.Block.{count_in};
 ghost use Rattle.model.specs.File.{blocks_in};
+ghost use Rattle.refusal.specs.Refusals.{code_of};
 ghost use Rattle.log_closure.specs.Tables.{places_size, seens_size, Placed};
 ghost use Rattle.log_check.specs.declared.Layout.TheVariants.{Log};
 ghost use Rattle.log_check.specs.Places.{laid_at};
 ghost use Rattle.take_beside.specs.Judging.{Counted, step, held_by, take_by};
+ghost use Rattle.take_beside.specs.Counts.{held_after, used_after};
 ghost use Rattle.take_row_store.specs.Grown.{work_size};
 ghost use Rattle.take_row_judge.specs.Kept.{Footing, Kept, JudgedInto, JudgedOne, JudgedRow};
+ghost use Rattle.take_row_judge.specs.Stopped.{stop_code};
 
 use base_head::is_listed;
 use byte_slice::put;
 use model::BLOCK_BYTES;
-use take_beside::{Judged, take_new};
+use refusal::Refusal;
+use take_beside::{Counts, take_new};
 use vector::Vector;
 
-// What judging a row gives: the counts of the records held then and how many they are, how many blocks pass, and the number that stops the
-// row, or 0.
-#[derive(Drop)]
+// What judging a row gives: the counts of the records held then and how many they are, how many blocks pass, and what stops the row.
+#[derive(Clone, Copy, Drop)]
 pub struct RowJudged {
     pub held: Vector,
     pub used: usize,
     pub taken: u8,
-    pub stopped: u8,
+    pub stopped: Option<Refusal>,
 }
 
 // The record at a place has the bytes of rec.
@@ -41,22 +44,28 @@ fn same_at(rec: &[u8], q: usize, work: &[u8]) -> bool
     byte_slice::same(&work[at..at + 80], rec)
 }
 
-// 10 of a well-formed record whose identity is held with other bytes, or 0. One that the base vector counts is passed over.
-fn held_fault(folded: Vector, rec: &[u8], held: Vector, work: &[u8], places: &[u16]) -> u8
+// Refused with 10: a well-formed record whose identity is held with other bytes. One that the base vector counts is passed over.
+fn held_fault(
+    folded: Vector,
+    rec: &[u8],
+    held: Vector,
+    work: &[u8],
+    places: &[u16],
+) -> Result<(), Refusal>
     requires { (length rec.now ≡ record_size) × (well_formed rec.now ≡ true) × (num rec.now ≤ get_or held.counts (unit rec.now) 0) × (length work.now ≡ work_size) × (length places.now ≡ places_size) × Placed folded.counts held.counts places.now }
-    ensures { result ≡ held_by folded.counts (laid_at Log work.now) places.now rec.now }
+    ensures { code_of result ≡ held_by folded.counts (laid_at Log work.now) places.now rec.now }
 {
     let u = record::unit_of(rec) as usize;
     let c = record::number_of(rec);
     let f = folded.counts[u];
     if c <= f {
-        return 0;
+        return Ok(());
     }
     let q = log_closure::position(places, u, c - f);
     if !same_at(rec, q, work) {
-        return 10;
+        return Err(Refusal::OtherBytes);
     }
-    0
+    Ok(())
 }
 
 // One record of a block, which stands at the place used: 7, 26, then 10 if its identity is held, else 8, 27, 9, 11. One that the base vector
@@ -70,34 +79,26 @@ fn take_at(
     work: &[u8],
     places: &mut [u16],
     seens: &mut [u16],
-) -> Judged
+) -> Result<Counts, Refusal>
     requires { (length rec.now ≡ record_size) × (used ≤ log_places) × (length work.now ≡ work_size) × (length places.old ≡ places_size) × (length seens.old ≡ seens_size) × Placed folded.counts held.counts places.old × Counted folded.counts held.counts used }
-    ensures { step result.number result.held.counts result.used places.new seens.new ≡ take_by list folded.counts (laid_at Log work.now) rec.now used held.counts used places.old seens.old }
+    ensures { step (code_of result) (held_after held.counts result) (used_after used result) places.new seens.new ≡ take_by list folded.counts (laid_at Log work.now) rec.now used held.counts used places.old seens.old }
 {
     if !record::well_formed(rec) {
-        return Judged {
-            number: 7,
-            held,
-            used,
-        };
+        return Err(Refusal::Malformed);
     }
     let u = record::unit_of(rec) as usize;
     if !is_listed(list, u) {
-        return Judged {
-            number: 26,
-            held,
-            used,
-        };
+        return Err(Refusal::Unlisted);
     }
     let c = record::number_of(rec);
     if held.counts[u] < c {
         return take_new(folded, rec, used, held, used, places, seens);
     }
-    let number = held_fault(folded, rec, held, work, places);
-    Judged { number, held, used }
+    held_fault(folded, rec, held, work, places)?;
+    Ok(Counts { held, used })
 }
 
-// The n records of a block, one after another: the number of the first that is refused, or 0. Each new one is laid behind those held.
+// The n records of a block, one after another, up to the first that is refused. Each new one is laid behind those held.
 fn judge_into(
     list: u8,
     folded: Vector,
@@ -110,17 +111,16 @@ fn judge_into(
     work: &mut [u8],
     places: &mut [u16],
     seens: &mut [u16],
-) -> Judged
+) -> Result<Counts, Refusal>
     requires { (length b.now ≡ block_size) × (n ≡ count_in b.now) × (n ≤ 6) × (length work.old ≡ work_size) × (length places.old ≡ places_size) × (length seens.old ≡ seens_size) × Kept list folded.counts (records_of log.now) start work.old m v.counts places.old seens.old }
-    ensures { JudgedInto list folded.counts (records_of log.now) start b.now work.old m result.number work.new result.used result.held.counts places.new seens.new }
+    ensures { JudgedInto list folded.counts (records_of log.now) start b.now work.old m (code_of result) work.new (used_after m result) (held_after v.counts result) places.new seens.new }
 {
     let mut held = v;
     let mut used = m;
-    let mut j: usize = 0;
-    while j < n {
+    for j in 0..n {
         let at = 28 + 80 * j;
         put(work, 80 * used, &b[at..at + 80]);
-        let t = take_at(
+        let counts = take_at(
             list,
             folded,
             &b[at..at + 80],
@@ -129,20 +129,11 @@ fn judge_into(
             work,
             places,
             seens,
-        );
-        if t.number != 0 {
-            return t;
-        }
-        let next = t.held;
-        held = next;
-        used = t.used;
-        j += 1;
+        )?;
+        held = counts.held;
+        used = counts.used;
     }
-    Judged {
-        number: 0,
-        held,
-        used,
-    }
+    Ok(Counts { held, used })
 }
 
 // One block beside the records held: 2 to 6, then its records. A refused one leaves the records held as they were.
@@ -160,28 +151,13 @@ fn judge_one(
     work: &mut [u8],
     places: &mut [u16],
     seens: &mut [u16],
-) -> Judged
+) -> Result<Counts, Refusal>
     requires { (unit ≤ 7) × Footing list folded.counts base.now × (length work.old ≡ work_size) × (length places.old ≡ places_size) × (length seens.old ≡ seens_size) × Kept list folded.counts (records_of log.now) start work.old m v.counts places.old seens.old }
-    ensures { JudgedOne list folded.counts base.now (records_of log.now) start archive unit b.now work.old m result.number work.new result.used result.held.counts places.new seens.new }
+    ensures { JudgedOne list folded.counts base.now (records_of log.now) start archive unit b.now work.old m (code_of result) work.new (used_after m result) (held_after v.counts result) places.new seens.new }
 {
-    let f = take_beside::given_fault(archive, b);
-    if f != 0 {
-        return Judged {
-            number: f,
-            held: v,
-            used: m,
-        };
-    }
+    take_beside::given_fault(archive, b)?;
     let n = block_read::count_in(b) as usize;
-    let t = judge_into(list, folded, b, n, log, start, v, m, work, places, seens);
-    if t.number != 0 {
-        return Judged {
-            number: t.number,
-            held: v,
-            used: m,
-        };
-    }
-    t
+    judge_into(list, folded, b, n, log, start, v, m, work, places, seens)
 }
 
 // How many blocks a row has.
@@ -208,15 +184,14 @@ pub fn judge_row(
     seens: &mut [u16],
 ) -> RowJudged
     requires { (length row.now ≤ file_size) × (unit ≤ 7) × Footing list folded.counts base.now × (length log.now ≡ log_size) × (sound_log_on folded.counts log.now ≡ true) × (length work.old ≡ work_size) × (length places.old ≡ places_size) × (length seens.old ≡ seens_size) × Kept list folded.counts (records_of log.now) start work.old start v.counts places.old seens.old }
-    ensures { JudgedRow folded.counts base.now log.now start archive unit row.now result.taken result.stopped work.new result.used result.held.counts }
+    ensures { JudgedRow folded.counts base.now log.now start archive unit row.now result.taken (stop_code result.stopped) work.new result.used result.held.counts }
 {
     let n = blocks_in(row);
     let mut held = v;
     let mut used = start;
-    let mut k: usize = 0;
-    while k < n {
+    for k in 0..n {
         let at = 512 * k;
-        let t = judge_one(
+        let judged = judge_one(
             list,
             folded,
             base,
@@ -231,23 +206,25 @@ pub fn judge_row(
             places,
             seens,
         );
-        let next = t.held;
-        held = next;
-        used = t.used;
-        if t.number != 0 {
-            return RowJudged {
-                held,
-                used,
-                taken: k as u8,
-                stopped: t.number,
-            };
+        match judged {
+            Ok(counts) => {
+                held = counts.held;
+                used = counts.used;
+            }
+            Err(refusal) => {
+                return RowJudged {
+                    held,
+                    used,
+                    taken: k as u8,
+                    stopped: Some(refusal),
+                };
+            }
         }
-        k += 1;
     }
     RowJudged {
         held,
         used,
         taken: n as u8,
-        stopped: 0,
+        stopped: None,
     }
 }

@@ -19,17 +19,15 @@ fn run_end(work: &[u8], from: usize, to: usize) -> usize
 {
     let at = 80 * from;
     let mut last = rank_of(&work[at..at + 80]);
-    let mut i = from + 1;
-    while i < to {
+    for i in from + 1..to {
         let p = 80 * i;
         let k = rank_of(&work[p..p + 80]);
         if k <= last {
             return i;
         }
         last = k;
-        i += 1;
     }
-    i
+    to
 }
 
 // The records that stand in work from the place start up to the place used are put in by rank among the records of a log, a rising run at a
@@ -39,6 +37,7 @@ pub fn put_in(base: Vector, log: &mut [u8], start: usize, work: &[u8], used: usi
     ensures { log.new ≡ log_bytes (held_in (records_of log.old) start work.now used) }
 {
     let mut done = start;
+    // A step is a run, not one record.
     while done < used {
         let end = run_end(work, done, used);
         log_insert::insert_records(log, done, &work[80 * done..80 * end], end - done);

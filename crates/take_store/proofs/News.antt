@@ -7,7 +7,7 @@ use native.Mathlib.Omega.{arith}
 use mathlib.Core.Path.{◌≡◌, refl, sym, ap, ◌∙◌}
 use mathlib.Core.Logic.{◌⊎◌, inl, inr, ⊎_elim}
 use mathlib.Core.Bool.{Bool, true, false, not, ◌&&◌}
-use mathlib.Core.List.{List, [], ◌∷◌}
+use mathlib.Core.List.{List, ◌∷◌}
 use lib.Dec.{ltb, leb}
 use lib.ListN.{length, get_or, take, drop}
 use borrow.Author.Tests.{lt-leb, le-leb, ltb-true, leb-true, not-true, not-false}
@@ -64,9 +64,6 @@ module _ (held b : List ℕ) (n floor j : ℕ) (h : j < n) (q : new_from held (r
 
       pub new_next : floor ≤ k → new_from held (record_at b) (k + 1) (j + 1) (n - (j + 1)) ≡ new_from held (record_at b) 0 0 n
       new_next l = rw (← add-one k, ← add-one j) at (rw (not-false t g, rank_is, le-leb floor k l) at step)
-
-pub new_starts : (held b : List ℕ) (n : ℕ) → new_from held (record_at b) 0 0 (n - 0) ≡ new_from held (record_at b) 0 0 n
-new_starts held b n = rw (sub-zero n)
 
 pub new_ends : (held b : List ℕ) (n floor j : ℕ) → n ≤ j → new_from held (record_at b) floor j (n - j) ≡ new_from held (record_at b) 0 0 n → true ≡ new_from held (record_at b) 0 0 n
 unfolding new_from

@@ -6,11 +6,11 @@ use native.Mathlib.Omega.{arith}
 use mathlib.Core.Path.{◌≡◌, sym, ap, ◌∙◌, subst}
 use mathlib.Core.Logic.{◌⊎◌, ⊎_elim}
 use mathlib.Core.Bool.{Bool, true, false, not}
-use mathlib.Core.List.{List, [], ◌∷◌}
+use mathlib.Core.List.{List, ◌∷◌}
 use lib.ListN.{length, get_or, set, take, drop}
 use lib.Seq.{ext_get_or}
 use borrow.Author.Tests.{ltb-true, ltb-false, not-true, not-false}
-use Rattle.model.specs.Record.{Rec, unit, num, well_formed}
+use Rattle.model.specs.Record.{Rec, unit, num}
 use Rattle.model.specs.Log.{insert, count_on, vector_on, records_of, log_bytes}
 use Rattle.model.specs.Block.{record_at, records_from}
 use Rattle.call_model.specs.Outcome.{taken, is_folded, take_one, takes_all}
@@ -137,9 +137,6 @@ module _ (m : ℕ) (v : List ℕ) (l : List Rec) (b : List ℕ) (n j : ℕ) (log
 
   pub storing_stored : Stored v (records_of log) log used held
   storing_stored = rw same_records_lem s
-
-  pub storing_ends : j ≤ n → n ≤ j → log ≡ log_bytes (after_to m v l (record_at b) n)
-  storing_ends h k = let e : j ≡ n = omega arith in rw e at s.bytes
 
   module _ (h : j < n) where
     lent : List ℕ

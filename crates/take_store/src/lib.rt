@@ -11,14 +11,8 @@ ghost use Rattle.take_beside.specs.Judging.{after, after_to};
 ghost use Rattle.take_store.specs.Stored.{Stored};
 ghost use Rattle.take_store.specs.New.{Units, is_new, new_from};
 
+use take_beside::Counts;
 use vector::Vector;
-
-// What is held: how many records the log has, and the base vector with them counted.
-#[derive(Drop)]
-pub struct Stock {
-    pub used: usize,
-    pub held: Vector,
-}
 
 // A record has a number above the count of its unit.
 fn is_new(rec: &[u8], held: Vector) -> bool
@@ -35,63 +29,56 @@ fn are_new(b: &[u8], n: usize, held: Vector) -> bool
     ensures { result ≡ new_from held.counts (record_at b.now) 0 0 n }
 {
     let mut floor: u32 = 0;
-    let mut j: usize = 0;
-    while j < n {
+    for j in 0..n {
         let at = 28 + 80 * j;
-        if !is_new(&b[at..at + 80], held) {
+        let rec = &b[at..at + 80];
+        if !is_new(rec, held) {
             return false;
         }
-        let k = record::rank_of(&b[at..at + 80]);
+        let k = record::rank_of(rec);
         if k < floor {
             return false;
         }
         floor = k + 1;
-        j += 1;
     }
     true
 }
 
 // A record that passed is stored: a new one by rank, one that is held or folded not again.
-pub fn store_record(list: u8, base: Vector, log: &mut [u8], rec: &[u8], s: Stock) -> Stock
+pub fn store_record(list: u8, base: Vector, log: &mut [u8], rec: &[u8], s: Counts) -> Counts
     requires { (length log.old ≡ log_size) × (length rec.now ≡ record_size) × Stored base.counts (records_of log.old) log.old s.used s.held.counts × (take_one list base.counts (records_of log.old) rec.now ≡ taken (after list base.counts (records_of log.old) rec.now)) }
     ensures { Stored base.counts (after list base.counts (records_of log.old) rec.now) log.new result.used result.held.counts }
 {
-    let held = s.held;
-    if !is_new(rec, held) {
+    if !is_new(rec, s.held) {
         return s;
     }
-    let n = s.used;
-    log_insert::insert_records(log, n, rec, 1);
+    log_insert::insert_records(log, s.used, rec, 1);
     let u = record::unit_of(rec) as usize;
-    let more = log_admit::counted(held, u, record::number_of(rec));
-    Stock {
-        used: n + 1,
+    let more = log_admit::counted(s.held, u, record::number_of(rec));
+    Counts {
         held: more,
+        used: s.used + 1,
     }
 }
 
 // The n records of a block that passed are stored, one after another.
-pub fn store_each(list: u8, base: Vector, log: &mut [u8], b: &[u8], n: usize, s: Stock)
+pub fn store_each(list: u8, base: Vector, log: &mut [u8], b: &[u8], n: usize, s: Counts)
     requires { (length log.old ≡ log_size) × (length b.now ≡ block_size) × (n ≤ 6) × Stored base.counts (records_of log.old) log.old s.used s.held.counts × (takes_all list base.counts (records_of log.old) (records_from b.now 0 n) ≡ taken (after_to list base.counts (records_of log.old) (record_at b.now) n)) }
     ensures { log.new ≡ log_bytes (after_to list base.counts (records_of log.old) (record_at b.now) n) }
 {
-    let mut cur = s;
-    let mut j: usize = 0;
-    while j < n {
+    let mut stored = s;
+    for j in 0..n {
         let at = 28 + 80 * j;
-        let next = store_record(list, base, log, &b[at..at + 80], cur);
-        cur = next;
-        j += 1;
+        stored = store_record(list, base, log, &b[at..at + 80], stored);
     }
 }
 
 // The n records of a block that passed are stored: as a block is handed out, all at once, and in any other order one after another.
-pub fn store(list: u8, base: Vector, log: &mut [u8], b: &[u8], n: usize, s: Stock)
+pub fn store(list: u8, base: Vector, log: &mut [u8], b: &[u8], n: usize, s: Counts)
     requires { (length log.old ≡ log_size) × (length b.now ≡ block_size) × (n ≤ 6) × Stored base.counts (records_of log.old) log.old s.used s.held.counts × (takes_all list base.counts (records_of log.old) (records_from b.now 0 n) ≡ taken (after_to list base.counts (records_of log.old) (record_at b.now) n)) }
     ensures { log.new ≡ log_bytes (after_to list base.counts (records_of log.old) (record_at b.now) n) }
 {
-    let held = s.held;
-    if are_new(b, n, held) {
+    if are_new(b, n, s.held) {
         log_insert::insert_records(log, s.used, &b[28..28 + 80 * n], n);
         return;
     }

@@ -18,10 +18,9 @@ pub fn store(rec: &[u8], table: &mut [u8], register: &[u16], size: Size)
     requires { Takes (tree_in table.old size.entries size.asides) rec.now × Holds table.old register.now size.entries size.asides × (2 < get_or rec.now 1 0) }
     ensures { Works table.new register.now size.entries size.asides (with_entries (tree_in table.old size.entries size.asides) (changed (stored rec.now) (object_of rec.now) (entries_from table.old 0 size.entries))) }
 {
-    let row = tree_lookup::entry_of(table, register, size, tree_table::object_of(rec));
-    if size.entries <= row {
+    let Some(row) = tree_lookup::entry_of(table, register, size, tree_table::object_of(rec)) else {
         return;
-    }
+    };
     let at = 4 + 72 * row;
     tree_table::store_row(&mut table[at..at + 72], rec);
 }
@@ -31,10 +30,9 @@ pub fn rename(rec: &[u8], table: &mut [u8], register: &mut [u16], size: Size)
     requires { Takes (tree_in table.old size.entries size.asides) rec.now × Holds table.old register.old size.entries size.asides × (nodes_in 4097 register.old < 1536) × (2 < get_or rec.now 1 0) }
     ensures { Works table.new register.new size.entries size.asides (with_entries (tree_in table.old size.entries size.asides) (changed (renamed rec.now) (object_of rec.now) (entries_from table.old 0 size.entries))) × (nodes_in 4097 register.new ≤ nodes_in 4097 register.old + 1) × (register.new ≡ renamed_on rec.now (tree_in table.old size.entries size.asides) register.old) }
 {
-    let row = tree_lookup::entry_of(table, register, size, tree_table::object_of(rec));
-    if size.entries <= row {
+    let Some(row) = tree_lookup::entry_of(table, register, size, tree_table::object_of(rec)) else {
         return;
-    }
+    };
     let at = 4 + 72 * row;
     tree_maps::relabel(
         register,
@@ -73,10 +71,9 @@ pub fn move_entry(rec: &[u8], table: &mut [u8], register: &mut [u16], size: Size
     requires { Takes (tree_in table.old size.entries size.asides) rec.now × Holds table.old register.old size.entries size.asides × Home (folder_of rec.now) (entries_from table.old 0 size.entries) × (nodes_in 4097 register.old < 1536) × (get_or rec.now 1 0 ≡ 7) }
     ensures { Works table.new register.new size.entries size.asides (with_entries (tree_in table.old size.entries size.asides) (changed (moved rec.now) (object_of rec.now) (entries_from table.old 0 size.entries))) × (nodes_in 4097 register.new ≤ nodes_in 4097 register.old + 1) × (register.new ≡ moved_on rec.now (tree_in table.old size.entries size.asides) register.old) }
 {
-    let row = tree_lookup::entry_of(table, register, size, tree_table::object_of(rec));
-    if size.entries <= row {
+    let Some(row) = tree_lookup::entry_of(table, register, size, tree_table::object_of(rec)) else {
         return;
-    }
+    };
     shift_entry(rec, table, register, size, row);
     let at = 4 + 72 * row;
     tree_table::move_row(&mut table[at..at + 72], rec);
@@ -95,10 +92,9 @@ pub fn remove(rec: &[u8], table: &mut [u8], register: &mut [u16], size: Size)
     requires { Takes (tree_in table.old size.entries size.asides) rec.now × Holds table.old register.old size.entries size.asides × (2 < get_or rec.now 1 0) }
     ensures { Works table.new register.new size.entries size.asides (with_entries (tree_in table.old size.entries size.asides) (changed removed (object_of rec.now) (entries_from table.old 0 size.entries))) × (nodes_in 4097 register.new ≤ nodes_in 4097 register.old + 1) × (register.new ≡ removed_on rec.now (tree_in table.old size.entries size.asides) register.old) }
 {
-    let row = tree_lookup::entry_of(table, register, size, tree_table::object_of(rec));
-    if size.entries <= row {
+    let Some(row) = tree_lookup::entry_of(table, register, size, tree_table::object_of(rec)) else {
         return;
-    }
+    };
     let f = tree_table::inside_at(table, row);
     let from = tree_lookup::place_of(table, register, size, f);
     let at = 4 + 72 * row;

@@ -33,16 +33,10 @@ use Rattle.tree_effect.proofs.Additions.{works_make, works_aside}
 pub own_low : (t : Tree) (r : Rec) → Takes t r → self_of r < 524288
 own_low t r h = let q = h.own.high in omega arith
 
-pub who_low : (t : Tree) (r : Rec) (k : ℕ) → Takes t r → k ≡ self_of r → k < 524288
-who_low t r k h e = let q = h.own.high in omega arith
-
 pub folder_low : (t : Tree) (r : Rec) → Takes t r → get_or r 1 0 ≤ 2 → folder_of r < 524288
 unfolding op uses_folder
 folder_low t r h g =
     ⊎_elim (λ (q : folder_of r ≡ 0). omega arith) (λ (q : InRange (folder_of r)). let z = q.high in omega arith) (h.asks.folder (rw (le-leb (get_or r 1 0) 2 g)))
-
-pub marked_low : (k : ℕ) → (k ≡ 0) ⊎ InRange k → k < 524288
-marked_low k h = ⊎_elim (λ (q : k ≡ 0). omega arith) (λ (q : InRange k). let z = q.high in omega arith) h
 
 -- ---- a row more
 

@@ -1,44 +1,27 @@
 -- Rows of present entries moved to the front.
 -- Assumes nothing.
-use Prim.Native.Nat.{ℕ, zero, suc, ◌+◌, ◌*◌, ◌≤◌, ◌<◌}
+use Prim.Native.Nat.{ℕ, zero, suc, ◌+◌, ◌-◌, ◌*◌, ◌≤◌, ◌<◌}
 use native.Mathlib.Numerals.{add-one}
 use native.Mathlib.Nat.{add-zero}
 use native.Mathlib.Omega.{arith}
 use mathlib.Core.Path.{◌≡◌, refl, sym, ap, ◌∙◌}
 use mathlib.Core.Logic.{⊎_elim}
 use mathlib.Core.Bool.{Bool, true, false, cond}
-use mathlib.Core.List.{List, [], ◌∷◌, ◌++◌, append-nil}
-use lib.ListN.{get_or, length, set, take, length-append}
+use mathlib.Core.List.{List, [], ◌∷◌, ◌++◌, append-nil, append_assoc}
+use lib.ListN.{get_or, length, take, drop, length-append}
+use Rattle.std.specs.List.{copy_within}
 use lib.Seq.{take-suc}
 use borrow.Author.Tests.{eq-eqb, ne_eqb}
 use Rattle.model.specs.Bytes.{part, put_at}
 use Rattle.model.specs.Replay.{Entry, Aside, is_present, present_ones}
 use Rattle.model.specs.Table.{entry_row, entry_rows, flagged}
 use Rattle.byte_slice.proofs.Numbers.{eq_or_ne}
-use Rattle.byte_slice.proofs.Parts.{part_length, part_snoc, part_none, get_d_part}
-use Rattle.byte_slice.proofs.PutAt.{set-put, put-nil, put_more, length-put, get_d_after, part_put_after}
+use Rattle.byte_slice.proofs.Parts.{part_length, get_d_part}
+use Rattle.byte_slice.proofs.PutAt.{put-nil, put_more, get_d_after, part_put_after}
 use Rattle.tree_table.specs.Rows.{flag_of, AllProper}
 use Rattle.tree_table.proofs.Writes.{part-entry, entry_rows_append}
 use Rattle.tree_lookup.proofs.Working.{blank_entry}
 use Rattle.tree_finish.specs.Finishing.{kept_to, present_to, Kept, Compacted}
-
--- ---- bytes moved down
-
-pub moved_down : (d l : List ℕ) (from to n i : ℕ) → to ≤ from → from + n ≤ length d → i < n → l ≡ put_at d to (part d from i)
-    → set l (to + i) (get_or l (from + i) 0) ≡ put_at d to (part d from (i + 1))
-moved_down d l from to n i h room g e =
-    let k = part_length d from i (omega arith) in
-    let x : get_or l (from + i) 0 ≡ get_or d (from + i) 0 = rw e (get_d_after d to (part d from i) (from + i) (omega arith) (omega arith)) in
-    let m : length l ≡ length d = ap (λ (q : List ℕ). length q) e ∙ length-put d to (part d from i) (omega arith) in
-    let y = get_or d (from + i) 0 in
-    rw (x, set-put l (to + i) y (omega arith), e, part_snoc d from i (omega arith))
-    (rw k at (put_more d to (part d from i) (y ∷ []) (omega arith)))
-
-pub moved_all : (d l : List ℕ) (from to n i : ℕ) → i ≤ n → n ≤ i → l ≡ put_at d to (part d from i) → l ≡ put_at d to (part d from n)
-moved_all d l from to n i h g e = let q : i ≡ n = omega arith in rw q at e
-
-pub moved_none : (d : List ℕ) (from to : ℕ) → d ≡ put_at d to (part d from 0)
-moved_none d from to = rw (part_none d from) (sym (put-nil d to))
 
 -- ---- one row more
 
@@ -65,8 +48,17 @@ module _ (b : List ℕ) (i j : ℕ) where
   pub keeps-none : get_or b (4 + 72 * i) 0 ≡ 0 → Kept b b i j j
   keeps-none h = record { rows = rw (eq-eqb (get_or b (4 + 72 * i) 0) 0 h); count = rw (eq-eqb (get_or b (4 + 72 * i) 0) 0 h) }
 
-  pub keeps-row : (b' : List ℕ) → (get_or b (4 + 72 * i) 0 ≡ 0 → ⊥) → b' ≡ put_at b (4 + 72 * j) (part b (4 + 72 * i) 72) → Kept b b' i j (j + 1)
-  keeps-row b' h e =
+  -- the row is copied where the next one stands
+  copied-row : length b ≡ 86020 → i < 1024 → copy_within b (4 + 72 * i) (4 + 72 * i + 72) (4 + 72 * j) ≡ put_at b (4 + 72 * j) (part b (4 + 72 * i) 72)
+  unfolding put_at part
+  copied-row long low =
+      let k : 4 + 72 * i + 72 - (4 + 72 * i) ≡ 72 = omega arith in
+      let l : length (take 72 (drop (4 + 72 * i) b)) ≡ 72 = part_length b (4 + 72 * i) 72 (omega arith) in
+      rw (k, l, append_assoc)
+
+  pub keeps-row : length b ≡ 86020 → i < 1024 → (b' : List ℕ) → (get_or b (4 + 72 * i) 0 ≡ 0 → ⊥) → b' ≡ copy_within b (4 + 72 * i) (4 + 72 * i + 72) (4 + 72 * j) → Kept b b' i j (j + 1)
+  keeps-row long low b' h c =
+      let e = c ∙ copied-row long low in
       record { rows = rw (ne_eqb (get_or b (4 + 72 * i) 0) 0 h) e; count = rw (ne_eqb (get_or b (4 + 72 * i) 0) 0 h) (add-one j) }
 
 -- what the loop of `compact` is asked, over plain values

@@ -146,11 +146,6 @@ module _ (b register : List ℕ) (n m i : ℕ) (k : Marked (take i (asides_from 
       let nf = k.works.notes_fit in
       omega (arith, table-long)
 
-  pub flag_end : (role : ℕ) → (role ≡ 0 → ⊥) → role ≤ n → 4 + 72 * (role - 1) + 72 ≤ length b
-  flag_end role g f =
-      let fit = k.works.rows_fit_lem in
-      omega (arith, table-long)
-
   same_rows : entry_rows (take i (asides_from b 0 m) ++ (aside_in b (73732 + 12 * i) ∷ [])) (entries_from b 0 n) ≡ entry_rows (take i (asides_from b 0 m)) (entries_from b 0 n)
       → Marked (take (i + 1) (asides_from b 0 m)) b register n m (tree_in b n m)
   unfolding tree_in

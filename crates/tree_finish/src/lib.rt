@@ -47,22 +47,8 @@ pub fn flag(table: &mut [u8], register: &[u16], size: Size)
     requires { Holds table.old register.now size.entries size.asides }
     ensures { Marked (asides_from table.old 0 size.asides) table.new register.now size.entries size.asides (tree_in table.old size.entries size.asides) }
 {
-    let mut i: usize = 0;
-    while i < size.asides {
+    for i in 0..size.asides {
         flag_one(table, register, size, i);
-        i += 1;
-    }
-}
-
-// Bytes move down. The first byte moves first, so the places may overlap.
-pub fn move_down(buf: &mut [u8], from: usize, to: usize, n: usize)
-    requires { (to ≤ from) × (from + n ≤ length buf.old) }
-    ensures { buf.new ≡ put_at buf.old to (part buf.old from n) }
-{
-    let mut i: usize = 0;
-    while i < n {
-        buf[to + i] = buf[from + i];
-        i += 1;
     }
 }
 
@@ -71,10 +57,11 @@ pub fn keep_row(table: &mut [u8], i: usize, j: usize) -> usize
     requires { (length table.old ≡ 86020) × (i < 1024) × (j ≤ i) }
     ensures { Kept table.old table.new i j result }
 {
-    if table[4 + 72 * i] == 0 {
+    let at = 4 + 72 * i;
+    if table[at] == 0 {
         return j;
     }
-    move_down(table, 4 + 72 * i, 4 + 72 * j, 72);
+    table.copy_within(at..at + 72, 4 + 72 * j);
     j + 1
 }
 
@@ -84,10 +71,8 @@ pub fn compact(table: &mut [u8], n: usize) -> usize
     ensures { Compacted table.old table.new n result }
 {
     let mut j: usize = 0;
-    let mut i: usize = 0;
-    while i < n {
+    for i in 0..n {
         j = keep_row(table, i, j);
-        i += 1;
     }
     j
 }
@@ -99,7 +84,7 @@ pub fn clear_rows(table: &mut [u8], from: usize, to: usize)
 {
     let at = 4 + 72 * from;
     let n = 72 * (to - from);
-    byte_slice::clear(&mut table[at..at + n]);
+    table[at..at + n].fill(0);
 }
 
 // The rows of present entries alone, zeros behind them, and the counts.

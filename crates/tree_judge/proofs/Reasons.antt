@@ -10,7 +10,7 @@ use mathlib.Core.Option.{Option, none, some}
 use mathlib.Core.List.{List}
 use lib.Dec.{ltb, eqb}
 use lib.ListN.{get_or}
-use borrow.Author.Tests.{eq-eqb, ne_eqb, lt-ltb, le-ltb, le-leb, lt-leb, ltb-true, ltb-false}
+use borrow.Author.Tests.{eq-eqb, ne_eqb, lt-ltb, le-ltb, le-leb, ltb-true, ltb-false}
 use Rattle.model.specs.Record.{Rec, op, object_of, folder_of, label_of, uses_folder}
 use Rattle.model.specs.Replay.{Entry, Verdict, fits, aside, entry_of, holder_of, has_entries, stands_aside, unseen, free_label, and_then, is_folder, folder_stands, is_below, judge_place, judge_make, judge_store, judge_remove, judge_rename, judge_move, judge_settle, judge, reason_of}
 use Rattle.model.specs.Table.{entry_in}
@@ -55,9 +55,6 @@ module _ (b : List ℕ) (n f : ℕ) where
     pub folder_found : row < n → (x : ℕ) → x ≡ (entry_in b (4 + 72 * row)).kind → x ≡ 1 → verdict_of 0 0 ≡ folder_stands f (entries_from b 0 n)
     unfolding verdict_of folder_stands is_folder
     folder_found h x p q = rw (ne_eqb f 0 z, ← o, row_some b n row h, eq-eqb (entry_in b (4 + 72 * row)).kind 1 (sym p ∙ q))
-
-pub folder_range : (f : ℕ) → (f ≡ 0) ⊎ InRange f → (f ≡ 0 → ⊥) → InRange f
-folder_range f a z = ⊎_elim (λ (q : f ≡ 0). absurd (z q)) (λ (q : InRange f). q) a
 
 -- a verdict that is a reason stops, one that fits goes on
 module _ (n k : ℕ) (x : Verdict) (e : verdict_of n k ≡ x) where
@@ -209,13 +206,6 @@ module _ (e : Entry) (l : List ℕ) (row : ℕ) where
   pub full_if : (x c : ℕ) → x ≡ e.kind → x ≡ 1 → c ≡ get_or l (8194 + (row + 1)) 0 → not (eqb c 0) ≡ full_by l row e
   unfolding full_by
   full_if x c p q u = rw (eq-eqb e.kind 1 (sym p ∙ q), u)
-
-module _ (e : Entry) (r : Rec) (x : ℕ) (t : Bool) (p : x ≡ e.contents) (u : t ≡ unseen r x) where
-  pub contents_unseen : t ≡ true → true ≡ (unseen r e.contents || unseen r e.placing)
-  contents_unseen g = rw (← p, ← u, g)
-
-  pub label_unseen : t ≡ false → (y : ℕ) (s : Bool) → y ≡ e.placing → s ≡ unseen r y → s ≡ (unseen r e.contents || unseen r e.placing)
-  label_unseen g y s q v = rw (← p, ← u, g, ← q) v
 
 -- ---- settle
 

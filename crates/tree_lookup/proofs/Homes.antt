@@ -1,20 +1,20 @@
 -- The folders of entries: their places, and that a new entry is the folder of none.
 -- Assumes nothing.
-use Prim.Native.Nat.{ℕ, zero, suc, ◌+◌, ◌≤◌, ◌<◌}
+use Prim.Native.Nat.{ℕ, zero, suc, ◌≤◌, ◌<◌}
 use native.Mathlib.Nat.{sub-zero}
 use native.Mathlib.Omega.{arith}
-use mathlib.Core.Path.{◌≡◌, refl, sym, ap, ◌∙◌}
-use mathlib.Core.Logic.{◌⊎◌, inl, inr, ⊎_elim}
-use mathlib.Core.Bool.{Bool, true, false, not, ◌&&◌}
+use mathlib.Core.Path.{◌≡◌, refl, sym, ◌∙◌}
+use mathlib.Core.Logic.{inl, inr, ⊎_elim}
+use mathlib.Core.Bool.{Bool, true, not}
 use mathlib.Core.List.{List, [], ◌∷◌, ◌++◌}
 use lib.ListN.{get_or, length, set}
-use borrow.Author.Tests.{ne_eqb, not-true, not-false}
-use Rattle.model.specs.Replay.{Entry, Tree, is_present, is_in}
-use Rattle.byte_slice.proofs.Numbers.{eq_or_ne, and_wrong, not_both, lt_or_ge}
+use borrow.Author.Tests.{ne_eqb, not-true}
+use Rattle.model.specs.Replay.{Entry, is_present, is_in}
+use Rattle.byte_slice.proofs.Numbers.{and_wrong, not_both, lt_or_ge}
 use Rattle.tree_table.specs.Rows.{tree_in, InRange, AllProper}
 use Rattle.tree_maps.specs.Keys.{is_identity, children_of, folder_at, OneEach}
-use Rattle.tree_maps.proofs.Counts.{identity-range, range-identity, folder_row, children_cons, one}
-use Rattle.tree_lookup.specs.Roles.{row_from, row_of, role_of, Absent, Lone, Home, Housed, Works, Holds}
+use Rattle.tree_maps.proofs.Counts.{range-identity, folder_row}
+use Rattle.tree_lookup.specs.Roles.{row_from, row_of, role_of, Absent, Lone, Home, Housed, Holds}
 use Rattle.tree_lookup.proofs.Places.{absent_row, row-at, row_lone, row_more}
 use Rattle.tree_lookup.proofs.Working.{blank_entry, proper_at, role_row, role_no_row}
 

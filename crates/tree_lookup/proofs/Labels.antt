@@ -25,9 +25,9 @@ use Rattle.tree_lookup.proofs.Working.{blank_entry, row-none, row_some, works_ro
 
 -- ---- one row
 
-pub not_in : (e : Entry) (f x : ℕ) → x ≡ e.kind → x ≡ 0 → false ≡ is_in f e
+pub not_in : (e : Entry) (f x : ℕ) → x ≡ e.kind → x ≡ 0 → not (eqb x 0) ≡ is_in f e
 unfolding is_in is_present
-not_in e f x p q = rw (eq-eqb e.kind 0 (sym p ∙ q))
+not_in e f x p q = rw (eq-eqb e.kind 0 (sym p ∙ q), eq-eqb x 0 q)
 
 pub in_if : (e : Entry) (f x y : ℕ) → x ≡ e.kind → (x ≡ 0 → ⊥) → y ≡ e.inside → eqb y f ≡ is_in f e
 unfolding is_in is_present
@@ -38,9 +38,9 @@ module _ (b : List ℕ) (i k f : ℕ) (label : List ℕ) (t : Bool) (h : t ≡ i
   unfolding holds_at is_holder
   holds_not g = rw (← h, not-true t g)
 
-  pub holds_itself : (x : ℕ) → not t ≡ false → x ≡ (entry_in b (4 + 72 * i)).made → x ≡ k → false ≡ holds_at b k f label i
+  pub holds_itself : (x : ℕ) → not t ≡ false → x ≡ (entry_in b (4 + 72 * i)).made → x ≡ k → not (eqb x k) ≡ holds_at b k f label i
   unfolding holds_at is_holder
-  holds_itself x g e y = rw (← h, not-false t g, eq-eqb (entry_in b (4 + 72 * i)).made k (sym e ∙ y))
+  holds_itself x g e y = rw (← h, not-false t g, eq-eqb (entry_in b (4 + 72 * i)).made k (sym e ∙ y), eq-eqb x k y)
 
   pub holds_same : (x : ℕ) (s : Bool) → not t ≡ false → x ≡ (entry_in b (4 + 72 * i)).made → (x ≡ k → ⊥) → s ≡ same_label (take (4 + 72 * i + 24 + 32 - (4 + 72 * i + 24)) (drop (4 + 72 * i + 24) b)) label → s ≡ holds_at b k f label i
   unfolding holds_at is_holder entry_in
@@ -163,3 +163,10 @@ module _ (b l : List ℕ) (n m : ℕ) (w : Holds b l n m) (k f : ℕ) (t : List 
     seek_ends h =
         let z : q ≡ 0 = omega arith in
         first_holder b n k f t best s.within (λ i g. test_false (holds_at b k f t i) (λ (y : holds_at b k f t i ≡ true). found_none 4097 l i (rw z at (s.ahead i g y)))) s.holds
+
+    -- no row before the last holds the label
+    pub seek_none : q ≤ 0 → n ≤ best → row_in b n n ≡ holder_of k f t (entries_from b 0 n)
+    seek_none h g =
+        let c = s.within in
+        let e : best ≡ n = omega arith in
+        rw e at (seek_ends h)

@@ -10,10 +10,10 @@ use lib.ListN.{get_or, length, set}
 use borrow.Author.Tests.{eq-eqb, ne_eqb, le-leb, lt-leb}
 use Rattle.model.specs.Record.{identity_at}
 use Rattle.model.specs.Replay.{Entry, Aside, Tree}
-use Rattle.byte_slice.proofs.Numbers.{eq_or_ne, lt_or_ge}
+use Rattle.byte_slice.proofs.Numbers.{eq_or_ne}
 use Rattle.model.specs.Table.{entry_in, aside_in}
-use Rattle.tree_table.specs.Rows.{entries_from, asides_from, tree_in, InRange}
-use Rattle.hash_chains.specs.Chains.{nodes_in, first_of, behind, row_at, Found}
+use Rattle.tree_table.specs.Rows.{entries_from, asides_from, tree_in}
+use Rattle.hash_chains.specs.Chains.{nodes_in, behind, row_at, Found}
 use Rattle.hash_chains.proofs.Links.{found_none, found-next, kept_nodes, kept_chains, kept-found, kept_rows, pushed_nodes, pushed_chains, pushed_new, pushed-found, pushed_rows}
 use Rattle.tree_maps.specs.Keys.{link_of, named, made_at}
 use Rattle.tree_maps.proofs.Counts.{link_low, made_row}
@@ -130,9 +130,6 @@ module _ (b : List ℕ) (n m r : ℕ) (w : Role n m r) where
   pub name_low : n < r → 1025 ≤ r
   name_low h = ⊎_elim (λ (z : r ≤ n). absurd (omega arith)) (λ (z : 1024 < r). omega arith) w.within
 
-  pub name_end : length b ≡ 86020 → m ≤ 1024 → n < r → 73732 + 12 * (r - 1025) + 3 < length b
-  name_end long fit h = let a = w.most in omega (arith, name_low h)
-
   pub name-entry : n ≤ 1024 → r ≤ n → (x : ℕ) → x ≡ (entry_in b (4 + 72 * (r - 1))).made → x ≡ name_of (tree_in b n m) r
   unfolding tree_in
   name-entry fit h x e =
@@ -169,9 +166,6 @@ module _ (b l : List ℕ) (n m : ℕ) (w : Reads b l n m) (k : ℕ) where
   entries_few : length (tree_in b n m).entries ≤ 1024
   unfolding tree_in
   entries_few = let f = w.rows_fit_lem in omega (arith, entries_length b 0 n)
-
-  pub trace_starts : InRange k → (h q : ℕ) → h ≡ link_of k → q ≡ first_of 0 l h → q ≤ nodes_in 0 l → Tracing l (tree_in b n m) k q
-  trace_starts u h q e g y = record { node = y; ahead = λ z. rw (g, e) (w.named.found k u z) }
 
   module _ (q : ℕ) (s : Tracing l (tree_in b n m) k q) where
     pub trace_role : 0 < q → (role : ℕ) → role ≡ row_at 0 l q → Role n m role

@@ -60,9 +60,6 @@ absent_changed f k (e ∷ l) h = rw (ne_eqb e.made k h.0) (ap (λ (x : List Entr
 pub no_entry : (k : ℕ) (l : List Entry) → row_from k 0 l ≡ 0 → entry_of k l ≡ none
 no_entry k l h = absent_entry k l (row_absent k 0 l h)
 
-pub no_change : (f : Entry → Entry) (k : ℕ) (l : List Entry) → row_from k 0 l ≡ 0 → changed f k l ≡ l
-no_change f k l h = absent_changed f k l (row_absent k 0 l h)
-
 -- ---- an entry in a row
 
 pub record At (k i : ℕ) (l : List Entry) (j : ℕ) (d : Entry) : Type 0 where

@@ -1,2 +1,3 @@
 pub mod Roles
 pub mod Lookup
+pub mod Found

@@ -1,12 +1,13 @@
 // Looking up in a table of rows: the role of an identity, an entry by its identity, the holder of a label in a folder.
 #![tactic(auto)]
 
-ghost use Rattle.std.specs.Prelude.{◌≡◌, ◌+◌, ◌*◌, ◌≤◌, ◌<◌, length};
+ghost use Rattle.std.specs.Prelude.{◌≡◌, ◌+◌, ◌*◌, ◌≤◌, ◌<◌, length, IfSome};
 ghost use Rattle.model.specs.Replay.{entry_of, is_in, holder_of, is_below};
 ghost use Rattle.model.specs.Table.{entry_in};
 ghost use Rattle.tree_table.specs.Rows.{entries_from, row_in, tree_in, InRange};
 ghost use Rattle.tree_lookup.specs.Roles.{row_of, role_of, name_of, Role, holds_at, earlier_of, Holds, Reads};
 ghost use Rattle.tree_lookup.specs.Lookup.{row_among};
+ghost use Rattle.tree_lookup.specs.Found.{row_or};
 ghost use Rattle.tree_maps.specs.Keys.{hash_of};
 
 use tree_maps::LABELS;
@@ -30,6 +31,7 @@ pub fn role_of(table: &[u8], register: &[u16], size: Size, k: u32) -> usize
 {
     let h = tree_maps::link(k);
     let mut q = hash_chains::first_of(register, 0, h);
+    // A walk along a chain, whose next node is not the next number.
     while 0 < q {
         let role = hash_chains::row_at(register, 0, q);
         if name_at(table, size, role) == k {
@@ -55,22 +57,24 @@ pub fn place_of(table: &[u8], register: &[u16], size: Size, f: u32) -> usize
     role
 }
 
-// The row of the entry k, or the number of rows if it is absent.
-pub fn entry_of(table: &[u8], register: &[u16], size: Size, k: u32) -> usize
+// The row of the entry k, unless it is absent.
+pub fn entry_of(table: &[u8], register: &[u16], size: Size, k: u32) -> Option<usize>
     requires { Holds table.now register.now size.entries size.asides × InRange k }
-    ensures { (result ≡ row_among (entries_from table.now 0 size.entries) (entry_of k (entries_from table.now 0 size.entries))) × (row_in table.now size.entries result ≡ entry_of k (entries_from table.now 0 size.entries)) }
+    ensures row { row_or size.entries result ≡ row_among (entries_from table.now 0 size.entries) (entry_of k (entries_from table.now 0 size.entries)) }
+    ensures shows { row_in table.now size.entries (row_or size.entries result) ≡ entry_of k (entries_from table.now 0 size.entries) }
+    ensures within { IfSome result (λ row. row < size.entries) }
 {
     let role = role_of(table, register, size, k);
     if role == 0 {
-        return size.entries;
+        return None;
     }
     if size.entries < role {
-        return size.entries;
+        return None;
     }
     if tree_table::kind_at(table, role - 1) == 0 {
-        return size.entries;
+        return None;
     }
-    role - 1
+    Some(role - 1)
 }
 
 // The entry in row i is present and in the folder f.
@@ -78,10 +82,7 @@ pub fn is_in(table: &[u8], i: usize, f: u32) -> bool
     requires { (length table.now ≡ 86020) × (i < 1024) }
     ensures { result ≡ is_in f (entry_in table.now (4 + 72 * i)) }
 {
-    if tree_table::kind_at(table, i) == 0 {
-        return false;
-    }
-    tree_table::inside_at(table, i) == f
+    tree_table::kind_at(table, i) != 0 && tree_table::inside_at(table, i) == f
 }
 
 // The entry in row i, which is not k, holds a label in the folder f.
@@ -92,11 +93,8 @@ pub fn holds_label(table: &[u8], i: usize, k: u32, f: u32, label: &[u8]) -> bool
     if !is_in(table, i, f) {
         return false;
     }
-    if tree_table::made_at(table, i) == k {
-        return false;
-    }
     let at = 4 + 72 * i + 24;
-    record_label::same_label(&table[at..at + 32], label)
+    tree_table::made_at(table, i) != k && record_label::same_label(&table[at..at + 32], label)
 }
 
 // Of two rows the first, if it stands before the other and its entry, which is not k, holds a label in the folder f; otherwise the other.
@@ -104,17 +102,14 @@ pub fn earlier(table: &[u8], row: usize, best: usize, k: u32, f: u32, label: &[u
     requires { (length table.now ≡ 86020) × (row < 1024) × (length label.now ≡ 32) }
     ensures { result ≡ earlier_of table.now k f label.now row best }
 {
-    if best <= row {
-        return best;
+    if row < best && holds_label(table, row, k, f, label) {
+        row
+    } else {
+        best
     }
-    if holds_label(table, row, k, f, label) {
-        return row;
-    }
-    best
 }
 
-// The row of the holder of a label in the folder f, other than the entry k, or the number of rows if the label is free. The chain of the label is
-// given.
+// The row of the holder of a label in the folder f, other than the entry k, unless the label is free. The chain of the label is given.
 pub fn holder_at(
     table: &[u8],
     register: &[u16],
@@ -123,18 +118,24 @@ pub fn holder_at(
     f: u32,
     label: &[u8],
     h: usize,
-) -> usize
+) -> Option<usize>
     requires { Holds table.now register.now size.entries size.asides × (length label.now ≡ 32) × (h ≡ hash_of f label.now) × (h < 1021) }
-    ensures { (result ≡ row_among (entries_from table.now 0 size.entries) (holder_of k f label.now (entries_from table.now 0 size.entries))) × (row_in table.now size.entries result ≡ holder_of k f label.now (entries_from table.now 0 size.entries)) }
+    ensures row { row_or size.entries result ≡ row_among (entries_from table.now 0 size.entries) (holder_of k f label.now (entries_from table.now 0 size.entries)) }
+    ensures shows { row_in table.now size.entries (row_or size.entries result) ≡ holder_of k f label.now (entries_from table.now 0 size.entries) }
+    ensures within { IfSome result (λ row. row < size.entries) }
 {
     let mut best = size.entries;
     let mut q = hash_chains::first_of(register, LABELS, h);
+    // A walk along a chain, whose next node is not the next number.
     while 0 < q {
         let row = hash_chains::row_at(register, LABELS, q);
         best = earlier(table, row, best, k, f, label);
         q = hash_chains::node_behind(register, LABELS, q);
     }
-    best
+    if best < size.entries {
+        return Some(best);
+    }
+    None
 }
 
 // The folder f is the entry k or lies below it. The way up ends after as many steps as there are entries and one.
@@ -142,22 +143,18 @@ pub fn is_below(table: &[u8], register: &[u16], size: Size, k: u32, f: u32) -> b
     requires { Holds table.now register.now size.entries size.asides }
     ensures { result ≡ is_below k f (entries_from table.now 0 size.entries) }
 {
-    let n = size.entries;
-    let mut steps = n + 1;
     let mut at = f;
-    while 0 < steps {
+    for _step in 0..size.entries + 1 {
         if at == k {
             return true;
         }
         if !tree_maps::is_identity(at) {
             return false;
         }
-        let row = entry_of(table, register, size, at);
-        if n <= row {
+        let Some(row) = entry_of(table, register, size, at) else {
             return false;
-        }
+        };
         at = tree_table::inside_at(table, row);
-        steps -= 1;
     }
     false
 }

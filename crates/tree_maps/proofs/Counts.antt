@@ -1,15 +1,15 @@
 -- Places of folders, and the numbers of entries in them.
 -- Assumes nothing.
-use Prim.Native.Nat.{ℕ, zero, suc, ◌+◌, ◌-◌, ◌*◌, ◌%◌, ◌≤◌, ◌<◌}
+use Prim.Native.Nat.{ℕ, zero, suc, ◌+◌, ◌-◌, ◌%◌, ◌≤◌, ◌<◌}
 use native.Mathlib.Omega.{arith}
-use mathlib.Core.Path.{◌≡◌, refl, sym, ap, ◌∙◌}
-use mathlib.Core.Logic.{◌⊎◌, inl, inr, ⊎_elim}
+use mathlib.Core.Path.{◌≡◌, refl, ap, ◌∙◌}
+use mathlib.Core.Logic.{⊎_elim}
 use mathlib.Core.Bool.{Bool, true, false, cond, not}
 use mathlib.Core.List.{List, [], ◌∷◌, ◌++◌}
 use lib.Dec.{leb, ltb, eqb}
 use lib.ListN.{get_or, length, set, length-set}
 use lib.Seq.{get_or-set_same, get_or-set_other}
-use borrow.Author.Tests.{eq-eqb, ne_eqb, le-leb, lt-leb, lt-ltb, leb-true, ltb-true}
+use borrow.Author.Tests.{eq-eqb, ne_eqb, le-leb, lt-ltb, leb-true, ltb-true}
 use Rattle.model.specs.Replay.{Entry, is_present, is_in, has_entries}
 use Rattle.byte_slice.proofs.Numbers.{eq_or_ne, bool_cases, and_true}
 use Rattle.tree_table.specs.Rows.{InRange}
@@ -26,14 +26,6 @@ identity-range k e =
 pub range-identity : (k : ℕ) → InRange k → is_identity k ≡ true
 unfolding is_identity
 range-identity k r = rw (le-leb 8 k r.low, lt-ltb k 524288 r.high)
-
-pub below-identity : (k : ℕ) → k < 8 → false ≡ is_identity k
-unfolding is_identity
-below-identity k h = rw (lt-leb 8 k h)
-
-pub identity_test : (k : ℕ) → 8 ≤ k → ltb k 524288 ≡ is_identity k
-unfolding is_identity
-identity_test k h = rw (le-leb 8 k h)
 
 remainder_low : (x : ℕ) → x % 1021 < 1024
 remainder_low x = omega arith

@@ -2,9 +2,8 @@
 -- Assumes nothing.
 use Prim.Native.Nat.{ℕ, zero, suc, ◌+◌, ◌*◌, ◌%◌, ◌≤◌, ◌<◌}
 use native.Mathlib.Numerals.{add-one}
-use native.Mathlib.Nat.{mul-le-mul}
 use native.Mathlib.Omega.{arith}
-use mathlib.Core.Path.{◌≡◌, refl, sym, ap, ◌∙◌}
+use mathlib.Core.Path.{◌≡◌, refl}
 use mathlib.Core.Logic.{⊎_elim}
 use mathlib.Core.Bool.{Bool, true, false, ◌&&◌}
 use mathlib.Core.List.{List, [], ◌∷◌}
@@ -51,15 +50,6 @@ low_at (x ∷ l) (suc i) h = low_at l i (and_true (ltb x 32768) (all_low l) h).1
 pub weight_at : (by : List ℕ) (i : ℕ) → by ≡ weights → get_or by i 0 < 32768
 unfolding weights all_low
 weight_at by i e = rw e (low_at weights i refl)
-
-product_low : (x w : ℕ) → w < 32768 → x % 32 * w ≤ 1015777
-product_low x w h =
-    let a : x % 32 ≤ 31 = omega arith in
-    let b : w ≤ 32767 = omega arith in
-    mul-le-mul a b
-
-pub weigh_low : (x w r : ℕ) → r ≡ x % 32 → w < 32768 → r * w ≤ 1015777
-weigh_low x w r e h = rw e (product_low x w h)
 
 pub weigh_next : (t by : List ℕ) (i r sum : ℕ) → by ≡ weights → r ≡ get_or t i 0 % 32 * get_or by i 0 → sum ≡ weighed i t → sum + r ≡ weighed (i + 1) t
 unfolding weighed

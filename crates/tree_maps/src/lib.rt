@@ -24,10 +24,7 @@ const WEIGHTS: [u32; 32] = [
 pub fn is_identity(k: u32) -> bool
     ensures { result ≡ is_identity k }
 {
-    if k < 8 {
-        return false;
-    }
-    k < 524288
+    8 <= k && k < 524288
 }
 
 // The chain of an identity.
@@ -51,7 +48,7 @@ fn weigh(x: u8, w: u32) -> u32
     requires { w < 32768 }
     ensures { (result ≡ x % 32 * w) × (result ≤ 1015777) }
 {
-    byte_slice::wide32(x % 32) * w
+    u32::from(x % 32) * w
 }
 
 // The chain of a label in the folder f.

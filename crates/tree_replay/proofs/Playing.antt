@@ -105,8 +105,5 @@ module _ (k : Layout) (bytes b₀ register₀ : List ℕ) (n₀ m₀ n : ℕ) (p
     pub turn_inside : Laid k bytes n → i < n → at + 80 ≤ length bytes
     turn_inside l h = rw o (l.inside i h)
 
-  pub play_ends : i ≤ n → n ≤ i → Works b register x y (replay_from (tree_in b₀ n₀ m₀) (listed (laid_at k bytes) 0 n))
-  play_ends h g = let e : i ≡ n = omega arith in rw e at w
-
 pub play_starts : (k : Layout) (bytes b register : List ℕ) (n m : ℕ) → Holds b register n m → Works b register n m (replay_from (tree_in b n m) (listed (laid_at k bytes) 0 0))
 play_starts k bytes b register n m w = rw (replay-none (tree_in b n m) (laid_at k bytes)) w

@@ -62,9 +62,6 @@ module _ (k : Layout) (bytes b₀ register₀ : List ℕ) (n₀ m₀ : ℕ) (b r
       rw (listed_more (laid_at k bytes) 0 i, zero-add i, on_append t register₀ rs (laid_at k bytes i), ← v)
       (rw (record_is k bytes i at o, works_tree b register x y (replay_from t rs) w) at s)
 
-  pub ends_on : (n : ℕ) → i ≤ n → n ≤ i → register ≡ replay_on (tree_in b₀ n₀ m₀) register₀ (listed (laid_at k bytes) 0 n)
-  ends_on n h g = let e : i ≡ n = omega arith in rw e at v
-
 -- ---- the records of a log
 
 pub log_on : (log : List ℕ) (n : ℕ) → n ≡ length (records_of log) → (table register l : List ℕ) → register ≡ replicate register_size 0

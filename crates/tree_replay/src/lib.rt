@@ -29,18 +29,12 @@ fn make_at(
     ensures { Works table.new register.new result.entries result.asides (step_of (tree_in table.old entries asides) rec.now) × (nodes_in 4097 register.new ≤ nodes_in 4097 register.old + 1) × (register.new ≡ step_on rec.now (tree_in table.old entries asides) register.old) }
 {
     let h = tree_judge::label_chain(rec);
-    let v = tree_judge::judge_make_at(rec, table, register, Size { entries, asides }, h);
-    if v.reason == 0 {
-        return tree_effect::add_entry(rec, table, register, Size { entries, asides }, h);
+    match tree_judge::judge_make_at(rec, table, register, Size { entries, asides }, h) {
+        Ok(()) => tree_effect::add_entry(rec, table, register, Size { entries, asides }, h),
+        Err(aside) => {
+            tree_effect::stand_aside(rec, aside, table, register, Size { entries, asides })
+        }
     }
-    tree_effect::stand_aside(
-        rec,
-        v.reason,
-        v.marked,
-        table,
-        register,
-        Size { entries, asides },
-    )
 }
 
 // One record: it acts, or stands aside. The size is given as two numbers: a struct that was written field by field and is then read whole waits for its writes.
@@ -57,18 +51,12 @@ fn step_at(
     if rec[1] <= 2 {
         return make_at(rec, table, register, entries, asides);
     }
-    let j = tree_judge::judge(rec, table, register, Size { entries, asides });
-    if j.reason == 0 {
-        return tree_effect::effect(rec, table, register, Size { entries, asides });
+    match tree_judge::judge(rec, table, register, Size { entries, asides }) {
+        Ok(()) => tree_effect::effect(rec, table, register, Size { entries, asides }),
+        Err(aside) => {
+            tree_effect::stand_aside(rec, aside, table, register, Size { entries, asides })
+        }
     }
-    tree_effect::stand_aside(
-        rec,
-        j.reason,
-        j.marked,
-        table,
-        register,
-        Size { entries, asides },
-    )
 }
 
 // One record, from a size on.
@@ -93,13 +81,11 @@ pub fn replay(
 {
     let mut entries = start.entries;
     let mut asides = start.asides;
-    let mut i: usize = 0;
-    while i < n {
+    for i in 0..n {
         let at = log_check::offset(layout, i);
         let next = step_at(&bytes[at..at + 80], table, register, entries, asides);
         entries = next.entries;
         asides = next.asides;
-        i += 1;
     }
     Size { entries, asides }
 }

@@ -1,9 +1,9 @@
 -- The rows of a tree table: the entry or the aside that the bytes of a row show, and the table while records are replayed.
 -- Assumes nothing.
-use Rattle.std.specs.Prelude.{ℕ, zero, suc, ◌+◌, ◌*◌, ◌≤◌, ◌<◌, ◌≡◌, true, cond, List, [], ◌∷◌, ◌++◌, ltb, eqb, get_or, length}
+use Rattle.std.specs.Prelude.{ℕ, zero, suc, ◌+◌, ◌*◌, ◌≤◌, ◌<◌, ◌≡◌, true, cond, List, [], ◌∷◌, ltb, length}
 use Rattle.std.proofs.Math.Option.{Option, none, some}
-use Rattle.model.specs.Bytes.{part, padded, put_at}
-use Rattle.model.specs.Record.{Rec, op, identity_at, self_of, folder_of, date_bytes, label_of, mark_of}
+use Rattle.model.specs.Bytes.{part, put_at}
+use Rattle.model.specs.Record.{Rec, op, self_of, folder_of, date_bytes, label_of, mark_of}
 use Rattle.model.specs.Replay.{Entry, Aside, Tree, is_disputed}
 use Rattle.model.specs.Table.{identity_bytes, aside_in, entry_in}
 

@@ -8,7 +8,7 @@ ghost use Rattle.model.specs.Table.{identity_bytes, aside_row, entry_in};
 ghost use Rattle.tree_table.specs.Rows.{new_aside, new_row, stored_row, renamed_row, moved_row};
 
 // How many rows of entries and of asides a table has.
-#[derive(Clone, Copy, Drop)]
+#[derive(Clone, Copy, Debug, PartialEq, Eq)]
 pub struct Size {
     pub entries: usize,
     pub asides: usize,
@@ -19,7 +19,7 @@ pub fn identity_at(s: &[u8], at: usize) -> u32
     requires { at + 3 < length s.now }
     ensures { result ≡ identity_at s.now at }
 {
-    8 * byte_slice::wider(byte_slice::le16(s, at + 2)) + byte_slice::wide32(s[at])
+    8 * u32::from(byte_slice::le16(s, at + 2)) + u32::from(s[at])
 }
 
 // The identity of a record.
@@ -102,7 +102,7 @@ pub fn fill_row(row: &mut [u8], rec: &[u8])
     ensures { row.new ≡ new_row row.old rec.now }
 {
     let me = self_of(rec);
-    let head = [rec[1], 0u8, 0u8, 0u8];
+    let head = [rec[1], 0, 0, 0];
     byte_slice::put(row, 0, &head);
     put_identity(row, 4, me);
     put_identity(row, 8, folder_of(rec));
@@ -144,7 +144,7 @@ pub fn fill_aside(row: &mut [u8], who: u32, reason: u8, marked: u32)
     requires { (length row.old ≡ 12) × (who < 524288) × (marked < 524288) }
     ensures { row.new ≡ aside_row (new_aside who reason marked) }
 {
-    let state = [reason, 1u8, 0u8, 0u8];
+    let state = [reason, 1, 0, 0];
     put_identity(row, 0, who);
     byte_slice::put(row, 4, &state);
     put_identity(row, 8, marked);

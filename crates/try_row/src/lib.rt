@@ -1,7 +1,7 @@
 // Trying a row of blocks: what taking it would do, on a copy of the log. The base is only read.
 #![tactic(auto)]
 
-ghost use Rattle.std.specs.Prelude.{◌≡◌, true, ◌∷◌, ◌++◌, ◌≤◌, length, get_or, take};
+ghost use Rattle.std.specs.Prelude.{◌≡◌, true, ◌∷◌, ◌++◌, ◌≤◌, IfOk, length, get_or, take};
 ghost use Rattle.model.specs.Lengths.{log_size, file_size, tree_size, base_size};
 ghost use Rattle.model.specs.Log.{records_of};
 ghost use Rattle.model.specs.Bytes.{word, two, padded};
@@ -12,16 +12,19 @@ ghost use Rattle.row_model.specs.Row.{row_fits, tried, try_all, report_size, tri
 ghost use Rattle.log_closure.specs.Tables.{places_size, seens_size, Indexed};
 ghost use Rattle.log_check.specs.declared.Layout.TheVariants.{Log};
 ghost use Rattle.log_check.specs.Places.{laid_at};
-ghost use Rattle.base_head.specs.Head.{headed};
-ghost use Rattle.call_guard.specs.Opened.{opened, open_of};
+ghost use Rattle.refusal.specs.Refusals.{code_of};
+ghost use Rattle.call_guard.specs.Opened.{open_of};
+ghost use Rattle.call_guard.specs.Told.{opening};
+ghost use Rattle.take_row_judge.specs.Stopped.{stop_code};
 ghost use Rattle.state_tree.specs.Small.{Small};
 ghost use Rattle.try_row_report.specs.Listed.{notes_size, noted, listed_count, listed};
 
-use call_answer::Answer;
-use call_guard::{Opened, open_into};
+use call_guard::open_into;
 use model::{LOG_BYTES, TREE_BYTES};
+use refusal::Refusal;
 use row_model::REPORT_BYTES;
 use show_tree::lay_tree;
+use state_check::State;
 use take_row::{row_fits, take_blocks};
 use take_row_judge::RowJudged;
 use take_row_store::WORK_BYTES;
@@ -53,10 +56,10 @@ fn open_trial(
     report: &[u8],
     places: &mut [u16],
     seens: &mut [u16],
-) -> Opened
+) -> Result<State, Refusal>
     requires { (length places.old ≡ places_size) × (length seens.old ≡ seens_size) }
-    ensures outright { opened result.number (headed result.head.list result.head.folded.counts result.head.entries result.head.asides) result.held.counts result.used ≡ open_of unit log.now base.now (trial_lent copy.now tree.now report.now) (row_fits (length row.now)) }
-    ensures holds { result.number ≡ 0 → Indexed (base_vector base.now) (laid_at Log log.now) result.used (records_of log.now) result.held.counts places.new seens.new }
+    ensures outright { opening result ≡ open_of unit log.now base.now (trial_lent copy.now tree.now report.now) (row_fits (length row.now)) }
+    ensures holds { IfOk result (λ state. Indexed (base_vector base.now) (laid_at Log log.now) state.used (records_of log.now) state.held.counts places.new seens.new) }
 {
     let lent = lent_fits(copy, tree, report);
     open_into(log, base, unit, lent, row_fits(row.len()), places, seens)
@@ -86,7 +89,7 @@ fn take_by(
     seens: &mut [u16],
 ) -> RowJudged
     requires { (length row.now ≤ file_size) × (unit ≤ 7) × (length copy.old ≡ log_size) × (length base.now ≡ base_size) × (sound_state copy.old base.now ≡ true) × (list ≡ get_or base.now 0 0) × (folded.counts ≡ base_vector base.now) × (used ≡ length (records_of copy.old)) × (length tree.old ≡ tree_size) × (length places.old ≡ places_size) × (length seens.old ≡ seens_size) × Indexed (base_vector base.now) (laid_at Log copy.old) used (records_of copy.old) held.counts places.old seens.old }
-    ensures took { tried result.taken result.stopped copy.new ≡ try_all archive unit copy.old base.now row.now }
+    ensures took { tried result.taken (stop_code result.stopped) copy.new ≡ try_all archive unit copy.old base.now row.now }
     ensures counted { (result.used ≡ length (records_of copy.new)) × (result.held.counts ≡ held_on copy.new base.now) }
 {
     take_blocks(
@@ -122,7 +125,7 @@ fn take_copy(
     seens: &mut [u16],
 ) -> RowJudged
     requires { (length row.now ≤ file_size) × (unit ≤ 7) × (length log.now ≡ log_size) × (length base.now ≡ base_size) × (sound_state log.now base.now ≡ true) × (list ≡ get_or base.now 0 0) × (folded.counts ≡ base_vector base.now) × (used ≡ length (records_of log.now)) × (length copy.old ≡ log_size) × (length tree.old ≡ tree_size) × (length places.old ≡ places_size) × (length seens.old ≡ seens_size) × Indexed (base_vector base.now) (laid_at Log log.now) used (records_of log.now) held.counts places.old seens.old }
-    ensures took { tried result.taken result.stopped copy.new ≡ try_all archive unit log.now base.now row.now }
+    ensures took { tried result.taken (stop_code result.stopped) copy.new ≡ try_all archive unit log.now base.now row.now }
     ensures counted { (result.used ≡ length (records_of copy.new)) × (result.held.counts ≡ held_on copy.new base.now) }
 {
     copy_log(log, copy);
@@ -164,7 +167,7 @@ fn report_by(
 )
     requires { (length copy.now ≡ log_size) × (length base.now ≡ base_size) × (sound_state copy.now base.now ≡ true) × (t.used ≡ length (records_of copy.now)) × (t.held.counts ≡ held_on copy.now base.now) × (size.entries ≡ word base.now 2) × (size.asides ≡ word base.now 4) × (count ≤ length notes.now) × (length tree.old ≡ tree_size) × (length report.old ≡ report_size) }
     ensures laid { tree.new ≡ table_bytes (tree_of copy.now base.now) }
-    ensures told { report.new ≡ (t.taken ∷ t.stopped ∷ two (listed_count tree.new (take count notes.now) (word tree.new 0))) ++ (vector_bytes t.held.counts ++ padded 4096 (listed tree.new (take count notes.now) (word tree.new 0))) }
+    ensures told { report.new ≡ (t.taken ∷ stop_code t.stopped ∷ two (listed_count tree.new (take count notes.now) (word tree.new 0))) ++ (vector_bytes t.held.counts ++ padded 4096 (listed tree.new (take count notes.now) (word tree.new 0))) }
     ensures small { Small t.held.counts }
 {
     let held = t.held;
@@ -186,7 +189,7 @@ fn report_trial(
     report: &mut [u8],
 )
     requires { (length log.now ≡ log_size) × (length base.now ≡ base_size) × (sound_state log.now base.now ≡ true) × (used ≡ length (records_of log.now)) × (held.counts ≡ held_on log.now base.now) × (size.entries ≡ word base.now 2) × (size.asides ≡ word base.now 4) × (length copy.now ≡ log_size) × (sound_state copy.now base.now ≡ true) × (t.used ≡ length (records_of copy.now)) × (t.held.counts ≡ held_on copy.now base.now) × (length tree.old ≡ tree_size) × (length report.old ≡ report_size) }
-    ensures { trial 0 0 copy.now tree.new report.new ≡ reported log.now base.now (tried t.taken t.stopped copy.now) }
+    ensures { trial 0 0 copy.now tree.new report.new ≡ reported log.now base.now (tried t.taken (stop_code t.stopped) copy.now) }
 {
     let mut notes = [0u32; NOTES];
     let count = note_before(log, used, base, held, size, tree, &mut notes);
@@ -204,12 +207,12 @@ pub fn try_row(
     copy: &mut [u8],
     tree: &mut [u8],
     report: &mut [u8],
-) -> Answer
-    ensures { trial result.number result.place copy.new tree.new report.new ≡ try_of archive unit log.now base.now row.now copy.old tree.old report.old }
+) -> Result<(), Refusal>
+    ensures { trial (code_of result) 0 copy.new tree.new report.new ≡ try_of archive unit log.now base.now row.now copy.old tree.old report.old }
 {
     let mut places = log_check::fresh_places();
     let mut seens = log_check::fresh_seens();
-    let o = open_trial(
+    let state = open_trial(
         log,
         base,
         unit,
@@ -219,38 +222,28 @@ pub fn try_row(
         report,
         &mut places,
         &mut seens,
-    );
-    if o.number != 0 {
-        return Answer {
-            number: o.number,
-            place: 0,
-        };
-    }
-    let head = o.head;
-    let folded = head.folded;
-    let held = o.held;
+    )?;
     let t = take_copy(
-        head.list,
-        folded,
+        state.head.list,
+        state.head.folded,
         base,
         log,
         archive,
         unit,
         row,
-        o.used,
-        held,
+        state.used,
+        state.held,
         copy,
         tree,
         &mut places,
         &mut seens,
     );
     let size = Size {
-        entries: head.entries,
-        asides: head.asides,
+        entries: state.head.entries,
+        asides: state.head.asides,
     };
-    report_trial(log, o.used, base, held, size, copy, t, tree, report);
-    Answer {
-        number: 0,
-        place: 0,
-    }
+    report_trial(
+        log, state.used, base, state.held, size, copy, t, tree, report,
+    );
+    Ok(())
 }

@@ -7,8 +7,10 @@ ghost use Rattle.model.specs.Lengths.{tree_size};
 ghost use Rattle.row_model.specs.Row.{report_size};
 ghost use Rattle.model.specs.Bytes.{word, two, padded};
 ghost use Rattle.model.specs.Vector.{vector_bytes};
+ghost use Rattle.take_row_judge.specs.Stopped.{stop_code};
 ghost use Rattle.try_row_report.specs.Listed.{notes_size, disputed_in, Shown, noted, is_among, is_new_in, listed_count, listed};
 
+use refusal::Refusal;
 use row_model::REPORT_BYTES;
 use vector::Vector;
 
@@ -20,7 +22,7 @@ fn entries_in(tree: &[u8]) -> usize
     requires { length tree.now ≡ tree_size }
     ensures { result ≡ word tree.now 0 }
 {
-    byte_slice::le16(tree, 0) as usize
+    usize::from(byte_slice::le16(tree, 0))
 }
 
 // The entry in row i is disputed.
@@ -40,14 +42,11 @@ pub fn note_disputed(tree: &[u8], notes: &mut [u32]) -> usize
 {
     let n = entries_in(tree);
     let mut c: usize = 0;
-    let mut i: usize = 0;
-    while i < n {
-        let j = i;
-        i += 1;
-        if !is_disputed(tree, j) {
+    for i in 0..n {
+        if !is_disputed(tree, i) {
             continue;
         }
-        notes[c] = tree_table::made_at(tree, j);
+        notes[c] = tree_table::made_at(tree, i);
         c += 1;
     }
     c
@@ -58,12 +57,10 @@ fn is_noted(notes: &[u32], count: usize, k: u32) -> bool
     requires { count ≤ length notes.now }
     ensures { result ≡ is_among k (take count notes.now) }
 {
-    let mut i: usize = 0;
-    while i < count {
+    for i in 0..count {
         if notes[i] == k {
             return true;
         }
-        i += 1;
     }
     false
 }
@@ -87,14 +84,11 @@ fn list_new(tree: &[u8], notes: &[u32], count: usize, list: &mut [u8]) -> usize
 {
     let n = entries_in(tree);
     let mut c: usize = 0;
-    let mut i: usize = 0;
-    while i < n {
-        let j = i;
-        i += 1;
-        if !is_new(tree, j, notes, count) {
+    for i in 0..n {
+        if !is_new(tree, i, notes, count) {
             continue;
         }
-        tree_table::put_identity(list, 4 * c, tree_table::made_at(tree, j));
+        tree_table::put_identity(list, 4 * c, tree_table::made_at(tree, i));
         c += 1;
     }
     c
@@ -106,16 +100,26 @@ fn lay_list(tree: &[u8], notes: &[u32], count: usize, report: &mut [u8]) -> usiz
     ensures counted { (result ≡ listed_count tree.now (take count notes.now) (word tree.now 0)) × (result ≤ 1024) }
     ensures laid { report.new ≡ replicate 20 0 ++ padded 4096 (listed tree.now (take count notes.now) (word tree.now 0)) }
 {
-    byte_slice::clear(report);
+    report.fill(0);
     list_new(tree, notes, count, &mut report[20..REPORT_BYTES])
 }
 
-// The first 20 bytes of a report: how many blocks were taken, what stopped the row, how many entries are listed, and the vector.
-fn put_head(report: &mut [u8], taken: u8, stopped: u8, n: usize, held: Vector)
-    requires { (length report.old ≡ report_size) × (n ≤ 1024) }
-    ensures { report.new ≡ (taken ∷ stopped ∷ two n) ++ (vector_bytes held.counts ++ drop 20 report.old) }
+// The number of what stops a row, 0 where nothing does.
+fn stop_number(stopped: Option<Refusal>) -> u8
+    ensures { result ≡ stop_code stopped }
 {
-    let pair = [taken, stopped];
+    match stopped {
+        Some(refusal) => u8::from(refusal),
+        None => 0,
+    }
+}
+
+// The first 20 bytes of a report: how many blocks were taken, what stopped the row, how many entries are listed, and the vector.
+fn put_head(report: &mut [u8], taken: u8, stopped: Option<Refusal>, n: usize, held: Vector)
+    requires { (length report.old ≡ report_size) × (n ≤ 1024) }
+    ensures { report.new ≡ (taken ∷ stop_code stopped ∷ two n) ++ (vector_bytes held.counts ++ drop 20 report.old) }
+{
+    let pair = [taken, stop_number(stopped)];
     byte_slice::put(report, 0, &pair);
     byte_slice::put16(report, 2, n as u16);
     vector::put_vector(report, 4, held);
@@ -128,12 +132,12 @@ pub fn write_report(
     notes: &[u32],
     count: usize,
     taken: u8,
-    stopped: u8,
+    stopped: Option<Refusal>,
     held: Vector,
     report: &mut [u8],
 )
     requires { Shown tree.now × (count ≤ length notes.now) × (length report.old ≡ report_size) }
-    ensures { report.new ≡ (taken ∷ stopped ∷ two (listed_count tree.now (take count notes.now) (word tree.now 0))) ++ (vector_bytes held.counts ++ padded 4096 (listed tree.now (take count notes.now) (word tree.now 0))) }
+    ensures { report.new ≡ (taken ∷ stop_code stopped ∷ two (listed_count tree.now (take count notes.now) (word tree.now 0))) ++ (vector_bytes held.counts ++ padded 4096 (listed tree.now (take count notes.now) (word tree.now 0))) }
 {
     let n = lay_list(tree, notes, count, report);
     put_head(report, taken, stopped, n, held);

@@ -1,10 +1,10 @@
 -- A vector with one count higher, all eight counts written out.
 -- Assumes nothing.
-use Prim.Native.Nat.{ℕ, suc, ◌+◌, ◌<◌}
+use Prim.Native.Nat.{ℕ, ◌+◌, ◌<◌}
 use native.Mathlib.Omega.{arith}
-use mathlib.Core.Path.{◌≡◌, refl, sym, ◌∙◌}
+use mathlib.Core.Path.{◌≡◌, sym, ◌∙◌}
 use mathlib.Core.Logic.{⊎_elim}
-use mathlib.Core.Bool.{Bool, true, cond}
+use mathlib.Core.Bool.{true, cond}
 use mathlib.Core.List.{List, [], ◌∷◌}
 use lib.Dec.{eqb}
 use lib.ListN.{get_or, length, set, drop, length-set, drop_of_length-le}
@@ -15,9 +15,6 @@ use Rattle.byte_slice.proofs.Numbers.{eq_or_ne}
 -- a count that is raised has room
 pub has_room : (l : List ℕ) (u i : ℕ) → get_or l u 0 < 65535 → eqb u i ≡ true → get_or l i 0 < 65535
 has_room l u i h e = let p : u ≡ i = eqb-true u i e in rw p at h
-
-pub counted_up_lem : (c : ℕ) (more : Bool) → more ≡ true → c + 1 ≡ cond more (c + 1) c
-counted_up_lem c more e = rw e
 
 higher_at : (l : List ℕ) (u i : ℕ) → u < length l → cond (eqb u i) (get_or l i 0 + 1) (get_or l i 0) ≡ get_or (set l u (get_or l u 0 + 1)) i 0
 higher_at l u i h =

@@ -1,5 +1,5 @@
 // Version vectors: eight counts, one for each unit.
-#![tactic(auto)]
+#![tactic(auto, using(crate::proofs::Ways::ways))]
 
 ghost use Rattle.std.specs.Prelude.{◌≡◌, true, cond, ◌+◌, ◌-◌, ◌≤◌, ◌<◌, length, get_or, set, replicate};
 ghost use Rattle.model.specs.Bytes.{put_at};
@@ -17,22 +17,10 @@ pub fn covers(a: Vector, b: Vector) -> bool
     ensures { result ≡ covers a.counts b.counts }
 {
     let mut covered = true;
-    let mut u: usize = 0;
-    while u < 8 {
+    for u in 0..8 {
         covered = covered & (b.counts[u] <= a.counts[u]);
-        u += 1;
     }
     covered
-}
-
-// What the second count has more than the first.
-fn more(a: u16, b: u16) -> u32
-    ensures { (result ≡ b - a) × (result ≤ 65535) }
-{
-    if a < b {
-        return (b - a) as u32;
-    }
-    0
 }
 
 // How many records a lacks against b: of each unit what b has more.
@@ -40,10 +28,8 @@ pub fn lacks(a: Vector, b: Vector) -> u32
     ensures { (result ≡ lacks_of a.counts b.counts) × (result < 524281) }
 {
     let mut sum: u32 = 0;
-    let mut u: usize = 0;
-    while u < 8 {
-        sum += more(a.counts[u], b.counts[u]);
-        u += 1;
+    for u in 0..8 {
+        sum += u32::from(b.counts[u].saturating_sub(a.counts[u]));
     }
     sum
 }

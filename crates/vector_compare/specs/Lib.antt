@@ -1,2 +1,3 @@
 pub mod Raised
+pub mod Standings
 pub mod Ties

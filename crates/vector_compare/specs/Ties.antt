@@ -1,6 +1,6 @@
 -- What the answer of a comparison has to do with its two numbers.
 -- Assumes nothing.
-use Rattle.std.specs.Prelude.{ℕ, ◌≡◌, ◌↔◌}
+use Rattle.std.specs.Prelude.{◌≡◌, ◌↔◌}
 use Rattle.model.specs.Vector.{Compared}
 
 -- each answer stands exactly where the two numbers are 0, or are not, as it says [F92]

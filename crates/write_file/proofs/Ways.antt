@@ -2,19 +2,20 @@
 -- Assumes nothing.
 use Prim.Native.Nat.{ℕ}
 use native.Mathlib.Omega.{arith}
-use mathlib.Core.Path.{◌≡◌, refl, sym, ◌∙◌}
+use mathlib.Core.Path.{◌≡◌, refl, sym, ap, ◌∙◌}
 use mathlib.Core.Logic.{⊎_elim}
-use mathlib.Core.Bool.{Bool, true, false, not}
-use mathlib.Core.List.{List}
+use mathlib.Core.Bool.{Bool, true, false, not, ◌&&◌}
+use mathlib.Core.List.{List, [], ◌∷◌}
+use lib.Pointwise.{pointwise}
 use lib.Dec.{eqb}
 use lib.ListN.{length, replicate}
 use borrow.Author.Tests.{not-true, not-false}
 use Rattle.model.specs.Bytes.{blank, padded}
 use Rattle.model.specs.Vector.{covers}
-use Rattle.model.specs.Log.{vector_of, no_counts, vector_on, records_of, sound_log_on, sound_log}
+use Rattle.model.specs.Log.{vector_of, no_counts, records_of, sound_log}
 use Rattle.model.specs.File.{block_count, file_of}
 use Rattle.base_model.specs.Base.{base_vector}
-use Rattle.call_model.specs.Outcome.{outcome, refusal, written, write_of}
+use Rattle.call_model.specs.Outcome.{outcome, written, write_of}
 use Rattle.byte_slice.proofs.Numbers.{bool_cases}
 use Rattle.byte_slice.proofs.Compare.{blank-eq, eq-blank}
 use Rattle.vector.proofs.Dominance.{covers_refl, covers_antisym, all_covers}
@@ -42,6 +43,11 @@ zeros_cover z v t e n c =
   where
     zeros_only : (v : List ℕ) → length v ≡ 8 → covers (replicate 8 0) v ≡ true → v ≡ replicate 8 0
     zeros_only v n d = sym (covers_antisym no_counts v refl n d (all_covers v no_counts (λ u h. omega (arith, no_counts_lem u))))
+
+pub zeros_blank : (v : List ℕ) → pointwise eqb v (replicate (length v) 0) ≡ blank v
+unfolding blank
+zeros_blank [] = refl
+zeros_blank (x ∷ v) = ap (λ (t : Bool). eqb x 0 && t) (zeros_blank v)
 
 -- ---- the ways out
 

@@ -6,13 +6,12 @@ use native.Mathlib.Omega.{arith}
 use mathlib.Core.Path.{◌≡◌, ◌∙◌}
 use mathlib.Core.Bool.{true}
 use mathlib.Core.List.{List, ◌++◌, append-nil}
-use lib.ListN.{length, take, drop, replicate, length-append, length-drop, length-replicate}
-use lib.Seq.{length-take-le, drop-length}
-use borrow.Rule.Slice.PartMut.{put_mid}
+use lib.ListN.{length, drop, replicate, length-append, length-replicate}
+use lib.Seq.{drop-length}
 use Rattle.model.specs.Bytes.{padded, put_at}
 use Rattle.model.specs.Log.{records_of, sound_log}
 use Rattle.model.specs.File.{block_count, file_block, file_to, file_of}
-use Rattle.byte_slice.proofs.PutAt.{mid_put, put_grows}
+use Rattle.byte_slice.proofs.PutAt.{put_grows}
 use Rattle.block_laws.proofs.Fields.{Sized}
 use Rattle.encoding_laws.proofs.Logs.{sound_proper, proper_sized, sound_records, sound_few}
 use Rattle.encoding_laws.proofs.Files.{few_blocks, length-file_block, length-file_to}
@@ -34,14 +33,8 @@ all_counted b used n e f = rw e at f
 
 -- ---- the zeros behind the blocks
 
-pub cleared : (d p : List ℕ) (n : ℕ) → length d ≡ 44032 → n ≤ 86 → p ≡ replicate (length (take (44032 - 512 * n) (drop (512 * n) d))) 0
-    → put_mid (512 * n) (44032 - 512 * n) d p ≡ put_at d (512 * n) (replicate (44032 - 512 * n) 0)
-cleared d p n h g e =
-    let m : ℕ = 44032 - 512 * n in
-    let l : length (take m (drop (512 * n) d)) ≡ m = length-take-le m (drop (512 * n) d) (omega (arith, length-drop (512 * n) d)) in
-    let q : p ≡ replicate m 0 = e ∙ rw l in
-    let w : 512 * n + m - 512 * n ≡ m = omega arith in
-    rw q (rw w at (mid_put (512 * n) m d (replicate m 0) (length-replicate m 0)))
+pub cleared : (d o : List ℕ) (n : ℕ) → length d ≡ 44032 → o ≡ put_at d (512 * n) (replicate (length d - 512 * n) 0) → o ≡ put_at d (512 * n) (replicate (44032 - 512 * n) 0)
+cleared d o n h e = rw h at e
 
 -- ---- the whole file
 

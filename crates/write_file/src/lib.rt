@@ -7,28 +7,21 @@ ghost use Rattle.model.specs.Bytes.{blank, padded, put_at};
 ghost use Rattle.model.specs.Log.{records_of, sound_log, vector_of};
 ghost use Rattle.model.specs.File.{block_count, file_of};
 ghost use Rattle.call_model.specs.Outcome.{outcome, write_of};
+ghost use Rattle.refusal.specs.Refusals.{code_of};
+ghost use Rattle.write_file.specs.Told.{blocks_of};
 
-use byte_slice::clear;
 use call_guard::open;
 use model::FILE_BYTES;
+use refusal::Refusal;
 use vector::Vector;
 use write_file_blocks::{block_count, file_block, write_at};
-
-// What writing a file answers: the number, 0 for success, and the count of blocks.
-#[derive(Drop)]
-pub struct Written {
-    pub number: u8,
-    pub place: u8,
-    pub blocks: u8,
-}
 
 // Zeros are written behind the first n blocks.
 pub fn clear_behind(file: &mut [u8], n: usize)
     requires { (length file.old ≡ file_size) × (n ≤ 86) }
     ensures { file.new ≡ put_at file.old (512 * n) (replicate (file_size - 512 * n) 0) }
 {
-    let at = 512 * n;
-    clear(&mut file[at..FILE_BYTES]);
+    write_file_blocks::clear_behind(file, n);
 }
 
 // Block after block is written, then zeros; the count of blocks is returned.
@@ -45,11 +38,8 @@ pub fn write_blocks(
     ensures written { file.new ≡ padded file_size (file_of archive unit (records_of log.now)) }
 {
     let n = block_count(used);
-    let mut k: usize = 0;
-    while k < n {
-        let b = file_block(log, used, held, archive, unit, k);
-        write_at(file, k, b);
-        k += 1;
+    for k in 0..n {
+        write_at(file, k, file_block(log, used, held, archive, unit, k));
     }
     clear_behind(file, n);
     n as u8
@@ -59,35 +49,23 @@ pub fn write_blocks(
 pub fn is_zero(v: Vector) -> bool
     ensures { result ≡ blank v.counts }
 {
-    vector::covers(vector::zero_vector(), v)
+    v.counts == [0; 8]
 }
 
-// The whole log is written into the lent file, six records a block, with zeros behind the last. Checked in this order: 1, 21, 19, 29. Log and
-// base are only read.
-pub fn write_file(log: &[u8], base: &[u8], archive: u32, unit: u8, file: &mut [u8]) -> Written
-    ensures { outcome result.number result.place log.now file.new result.blocks ≡ write_of archive unit log.now base.now file.old }
+// The whole log is written into the lent file, six records a block, with zeros behind the last; the count of blocks is returned. Checked in
+// this order: 1, 21, 19, 29. Log and base are only read.
+pub fn write_file(
+    log: &[u8],
+    base: &[u8],
+    archive: u32,
+    unit: u8,
+    file: &mut [u8],
+) -> Result<u8, Refusal>
+    ensures { outcome (code_of result) 0 log.now file.new (blocks_of result) ≡ write_of archive unit log.now base.now file.old }
 {
-    let o = open(log, base, unit, file.len() == FILE_BYTES, true);
-    if o.number != 0 {
-        return Written {
-            number: o.number,
-            place: 0,
-            blocks: 0,
-        };
+    let state = open(log, base, unit, file.len() == FILE_BYTES, true)?;
+    if !is_zero(state.head.folded) {
+        return Err(Refusal::FoldedRecords);
     }
-    let head = o.head;
-    let folded = head.folded;
-    if !is_zero(folded) {
-        return Written {
-            number: 29,
-            place: 0,
-            blocks: 0,
-        };
-    }
-    let n = write_blocks(log, o.used, o.held, archive, unit, file);
-    Written {
-        number: 0,
-        place: 0,
-        blocks: n,
-    }
+    Ok(write_blocks(log, state.used, state.held, archive, unit, file))
 }

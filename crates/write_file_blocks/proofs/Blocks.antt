@@ -1,23 +1,23 @@
--- The blocks of a written file: which records each holds, and where each is written.
+-- The blocks of a written file: which records each holds, and the zeros behind them.
 -- Assumes nothing.
 use Prim.Native.Nat.{ℕ, ◌+◌, ◌-◌, ◌*◌, ◌≤◌, ◌<◌, min}
 use native.Mathlib.Omega.{arith}
-use mathlib.Core.Path.{◌≡◌, sym, ap, ◌∙◌, subst}
+use mathlib.Core.Path.{◌≡◌, sym, ◌∙◌, subst}
 use mathlib.Core.Logic.{⊎_elim}
 use mathlib.Core.Bool.{true}
-use mathlib.Core.List.{List, [], ◌++◌}
-use lib.ListN.{length, take, drop, replicate, length-take, length-drop}
-use lib.Seq.{take_all}
+use mathlib.Core.List.{List, ◌++◌}
+use lib.ListN.{length, take, drop, replicate, length-take, length-drop, length-replicate}
+use lib.Seq.{take_all, length-take-le}
 use borrow.Rule.Slice.PartMut.{put_mid}
 use Rattle.model.specs.Bytes.{part, padded, joined, put_at}
 use Rattle.model.specs.Record.{Rec}
-use Rattle.model.specs.Log.{records_of, no_counts, sound_log_on, sound_log, log_bytes, vector_of}
-use Rattle.model.specs.Block.{Header, letters, head_bytes, body_bytes, sealed, block_of}
+use Rattle.model.specs.Log.{records_of, sound_log_on, sound_log, log_bytes, vector_of}
+use Rattle.model.specs.Block.{letters, head_bytes, body_bytes, sealed, block_of}
 use Rattle.model.specs.File.{header_of, file_block}
 use Rattle.run_model.specs.Runs.{head_as, body_as, block_as, behind, run_block}
 use Rattle.byte_slice.proofs.Numbers.{lt_or_ge}
-use Rattle.byte_slice.proofs.Parts.{part_is, lent_length}
-use Rattle.byte_slice.proofs.PutAt.{mid_put, put_whole}
+use Rattle.byte_slice.proofs.Parts.{part_is}
+use Rattle.byte_slice.proofs.PutAt.{mid_put}
 use Rattle.block_laws.proofs.Fields.{joined-part}
 use Rattle.encoding_laws.proofs.Logs.{sound_proper_on, proper_sized, sound_records_on, sound_bytes_on}
 
@@ -62,11 +62,14 @@ pub sound_whole : (b v : List ℕ) → v ≡ replicate 8 0 → sound_log b ≡ t
 unfolding sound_log
 sound_whole b v e h = rw e h
 
--- ---- writing into the file
+-- ---- zeros behind the blocks
 
--- a part that was lent has come back with s in it
-pub placed : (d p s : List ℕ) (k : ℕ) → 512 * k + 512 ≤ length d → length s ≡ 512 → p ≡ put_at (take (512 * k + 512 - 512 * k) (drop (512 * k) d)) 0 s
-    → put_mid (512 * k) (512 * k + 512 - 512 * k) d p ≡ put_at d (512 * k) s
-placed d p s k h n e =
-    let q : p ≡ s = e ∙ put_whole (take (512 * k + 512 - 512 * k) (drop (512 * k) d)) s (n ∙ sym (lent_length d (512 * k) 512 (omega arith))) in
-    rw q (mid_put (512 * k) 512 d s n)
+-- a part that was lent has come back as zeros
+pub cleared : (d p : List ℕ) (n : ℕ) → 512 * n ≤ length d → p ≡ replicate (length (take (length d - 512 * n) (drop (512 * n) d))) 0
+    → put_mid (512 * n) (length d - 512 * n) d p ≡ put_at d (512 * n) (replicate (length d - 512 * n) 0)
+cleared d p n h e =
+    let m : ℕ = length d - 512 * n in
+    let l : length (take m (drop (512 * n) d)) ≡ m = length-take-le m (drop (512 * n) d) (omega (arith, length-drop (512 * n) d)) in
+    let q : p ≡ replicate m 0 = e ∙ rw l in
+    let w : 512 * n + m - 512 * n ≡ m = omega arith in
+    rw q (rw w at (mid_put (512 * n) m d (replicate m 0) (length-replicate m 0)))

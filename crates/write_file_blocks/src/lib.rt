@@ -1,7 +1,7 @@
 // The blocks of a file that is written: how many, how many records in each, and each one laid at its place.
 #![tactic(auto)]
 
-ghost use Rattle.std.specs.Prelude.{◌≡◌, true, ◌+◌, ◌*◌, ◌-◌, ◌<◌, ◌≤◌, min, length};
+ghost use Rattle.std.specs.Prelude.{◌≡◌, true, ◌+◌, ◌*◌, ◌-◌, ◌<◌, ◌≤◌, min, length, replicate};
 ghost use Rattle.model.specs.Bytes.{put_at};
 ghost use Rattle.model.specs.Log.{records_of, sound_log_on, sound_log, vector_of};
 ghost use Rattle.model.specs.File.{block_count, header_of, file_block};
@@ -27,11 +27,7 @@ pub fn count_at(n: usize, k: usize) -> usize
     requires { 6 * k ≤ n }
     ensures { result ≡ min 6 (n - 6 * k) }
 {
-    let left = n - 6 * k;
-    if left < 6 {
-        return left;
-    }
-    6
+    (n - 6 * k).min(6)
 }
 
 // Block k of the records of a log, with these letters, behind so many other blocks. The base vector only says behind what the log is sound.
@@ -75,7 +71,14 @@ pub fn write_at(file: &mut [u8], k: usize, b: Block)
     requires { 512 * k + 512 ≤ length file.old }
     ensures { file.new ≡ put_at file.old (512 * k) b.bytes }
 {
-    let bytes = b.bytes;
-    let at = 512 * k;
-    put(&mut file[at..at + 512], 0, &bytes);
+    put(file, 512 * k, &b.bytes);
+}
+
+// Zeros are written behind the first n blocks.
+pub fn clear_behind(file: &mut [u8], n: usize)
+    requires { 512 * n ≤ length file.old }
+    ensures { file.new ≡ put_at file.old (512 * n) (replicate (length file.old - 512 * n) 0) }
+{
+    let end = file.len();
+    file[512 * n..end].fill(0);
 }

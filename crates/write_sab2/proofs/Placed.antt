@@ -1,14 +1,12 @@
 -- Blocks of runs, written one behind another at a place of a file.
 -- Assumes nothing.
-use Prim.Native.Nat.{ℕ, zero, suc, ◌+◌, ◌-◌, ◌*◌, ◌/◌, ◌≤◌, ◌<◌, min}
+use Prim.Native.Nat.{ℕ, ◌+◌, ◌-◌, ◌*◌, ◌/◌, ◌≤◌, ◌<◌, min}
 use native.Mathlib.Numerals.{add-one}
 use native.Mathlib.Omega.{arith}
 use mathlib.Core.Path.{◌≡◌, refl, sym, ap, ◌∙◌}
 use mathlib.Core.Bool.{true}
-use mathlib.Core.List.{List, [], ◌∷◌, ◌++◌}
-use lib.ListN.{length, take, drop, replicate, length-take, length-drop, length-append, length-replicate}
-use lib.Seq.{length-take-le}
-use borrow.Rule.Slice.PartMut.{put_mid}
+use mathlib.Core.List.{List, ◌++◌}
+use lib.ListN.{length, take, drop, length-take, length-drop}
 use Rattle.model.specs.Bytes.{word, padded, put_at, joined}
 use Rattle.model.specs.Vector.{blocks_for}
 use Rattle.model.specs.Record.{Rec}
@@ -16,12 +14,12 @@ use Rattle.model.specs.Log.{records_of, sound_log_on}
 use Rattle.model.specs.Block.{Header, sealed}
 use Rattle.model.specs.File.{header_of}
 use Rattle.run_model.specs.Runs.{letters2, head_as, body_as, block_as, behind, run_block, run_to}
-use Rattle.byte_slice.proofs.PutAt.{put_more, put-nil, mid_put, length-padded}
+use Rattle.byte_slice.proofs.PutAt.{put_more, put-nil, length-padded}
 use Rattle.block_laws.proofs.Fields.{Sized, length-joined}
 use Rattle.encoding_laws.proofs.Files.{sized_take, sized_drop}
 use Rattle.encoding_laws.proofs.Logs.{sound_proper_on, proper_sized, sound_records_on}
 use Rattle.run_laws.proofs.Runs.{run_length}
-use Rattle.sab2_model.specs.Rows.{row_count, base_rows_from, base_rows}
+use Rattle.sab2_model.specs.Rows.{row_count, base_rows}
 use Rattle.sab2_rows.proofs.Gathered.{length_rows, rows_sized, padded_twice}
 use Rattle.write_file_blocks.proofs.Blocks.{take_six}
 
@@ -121,14 +119,3 @@ records_begun used k n h g = omega arith
 pub records_ends : (b : List ℕ) (used n : ℕ) → n ≡ (used + 5) / 6 → used ≡ length (records_of b) → n ≡ blocks_for (length (records_of b))
 unfolding blocks_for
 records_ends b used n h e = h ∙ rw e
-
--- ---- zeros behind the blocks
-
-pub cleared : (d p : List ℕ) (n : ℕ) → length d ≡ 95232 → n ≤ 186 → p ≡ replicate (length (take (95232 - 512 * n) (drop (512 * n) d))) 0
-    → put_mid (512 * n) (95232 - 512 * n) d p ≡ put_at d (512 * n) (replicate (95232 - 512 * n) 0)
-cleared d p n h g e =
-    let m : ℕ = 95232 - 512 * n in
-    let l : length (take m (drop (512 * n) d)) ≡ m = length-take-le m (drop (512 * n) d) (omega (arith, length-drop (512 * n) d)) in
-    let q : p ≡ replicate m 0 = e ∙ rw l in
-    let w : 512 * n + m - 512 * n ≡ m = omega arith in
-    rw q (rw w at (mid_put (512 * n) m d (replicate m 0) (length-replicate m 0)))

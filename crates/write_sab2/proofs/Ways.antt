@@ -2,20 +2,19 @@
 -- Assumes nothing.
 use Prim.Native.Nat.{ℕ, ◌≤◌}
 use native.Mathlib.Omega.{arith}
-use mathlib.Core.Path.{◌≡◌, refl, sym, ◌∙◌}
+use mathlib.Core.Path.{◌≡◌, ◌∙◌}
 use mathlib.Core.Bool.{true}
 use mathlib.Core.List.{List}
 use lib.Dec.{eqb}
 use lib.ListN.{length}
 use Rattle.model.specs.Bytes.{padded}
-use Rattle.model.specs.Log.{records_of, sound_log_on, vector_on}
-use Rattle.base_model.specs.Base.{base_vector}
+use Rattle.model.specs.Log.{records_of, sound_log_on}
 use Rattle.call_model.specs.Outcome.{outcome}
 use Rattle.encoding_laws.proofs.Logs.{sound_few}
 use Rattle.base_laws.proofs.Trees.{sound_tells}
 use Rattle.base_head.specs.Head.{headed}
 use Rattle.call_guard.specs.Opened.{opened, open_of}
-use Rattle.call_guard.proofs.Opening.{open_base, open_sound, open_held, open_folded, open_entries, open_asides, open_used, call_refused, call_passes}
+use Rattle.call_guard.proofs.Opening.{open_base, open_sound, open_folded, open_entries, open_asides, open_used, call_refused, call_passes}
 use Rattle.sab2_model.specs.Sab2.{sab2_of, sab2_blocks}
 use Rattle.sab2_model.specs.Calls.{wrote_sab2, write_sab2_of}
 

@@ -2,7 +2,7 @@
 -- Assumes nothing.
 use Prim.Native.Nat.{ℕ, ◌+◌, ◌-◌, ◌*◌, ◌≤◌}
 use native.Mathlib.Omega.{arith}
-use mathlib.Core.Path.{◌≡◌, refl, sym, ap, ◌∙◌}
+use mathlib.Core.Path.{◌≡◌, refl, ap, ◌∙◌}
 use mathlib.Core.Bool.{true}
 use mathlib.Core.List.{List, ◌++◌}
 use lib.ListN.{length, replicate, length-append, length-replicate}
@@ -53,12 +53,12 @@ file_whole a u b h d l {p} {n} sized long hp hn fp fn hh h₁ h₂ ho =
     ho ∙ rw (h₂, h₁, g₁, g₂, put_whole d ((r ++ s) ++ z) lz, ← w, lrs)
 
 module _ (a u : ℕ) (log b v h d : List ℕ) {e c p n : ℕ} (he : e ≡ word b 2) (hc : c ≡ word b 4) (hp : p ≡ blocks_for (row_count e c)) (hn : n ≡ blocks_for (length (records_of log))) where
-  pub state_whole : {d₁ d₂ o : List ℕ} → sound_log_on v log ≡ true → length d ≡ 95232 → p ≤ 100 → n ≤ 86 → h ≡ vector_on (base_vector b) (records_of log)
+  pub state_whole : {d₁ d₂ o : List ℕ} → sound_log_on v log ≡ true → length d ≡ 95232 → length d₂ ≡ 95232 → p ≤ 100 → n ≤ 86 → h ≡ vector_on (base_vector b) (records_of log)
       → d₁ ≡ put_at d 0 (run_to letters2 (header_of a u 0 h) (base_rows b) p)
       → d₂ ≡ put_at d₁ (512 * p) (run_to letters2 (header_of a u p h) (records_of log) n)
-      → o ≡ put_at d₂ (512 * (p + n)) (replicate (95232 - 512 * (p + n)) 0)
+      → o ≡ put_at d₂ (512 * (p + n)) (replicate (length d₂ - 512 * (p + n)) 0)
       → o ≡ padded 95232 (sab2_of a u b (records_of log))
-  state_whole sound long fp fn hh h₁ h₂ ho = file_whole a u b h d (records_of log) (sound_sized v log sound) long (rw (he, hc) at hp) hn fp fn hh h₁ h₂ ho
+  state_whole sound long long₂ fp fn hh h₁ h₂ ho = file_whole a u b h d (records_of log) (sound_sized v log sound) long (rw (he, hc) at hp) hn fp fn hh h₁ h₂ (rw long₂ at ho)
 
   pub state_blocks : p + n ≡ sab2_blocks b (records_of log)
   unfolding sab2_blocks

@@ -1,7 +1,7 @@
 // Writing an SAB2 file: list and base in rows, then the records of the log, in blocks; zeros behind them.
 #![tactic(auto)]
 
-ghost use Rattle.std.specs.Prelude.{◌≡◌, true, ◌*◌, ◌-◌, ◌<◌, ◌≤◌, length, replicate};
+ghost use Rattle.std.specs.Prelude.{◌≡◌, true, ◌*◌, ◌≤◌, length};
 ghost use Rattle.model.specs.Lengths.{log_size, base_size, log_places, base_places};
 ghost use Rattle.model.specs.Bytes.{word, padded, put_at};
 ghost use Rattle.model.specs.Vector.{blocks_for};
@@ -13,15 +13,16 @@ ghost use Rattle.run_model.specs.Runs.{letters2, run_block, run_to};
 ghost use Rattle.sab2_model.specs.Rows.{row_count, base_rows};
 ghost use Rattle.sab2_model.specs.Sab2.{sab2_of, sab2_blocks};
 ghost use Rattle.sab2_model.specs.Calls.{sab2_size, write_sab2_of};
+ghost use Rattle.refusal.specs.Refusals.{code_of};
+ghost use Rattle.write_file.specs.Told.{blocks_of};
 
 use block_write::{Block, block_as};
-use byte_slice::clear;
 use call_guard::open;
+use refusal::Refusal;
 use sab2_model::SAB2_BYTES;
 use sab2_rows::{gather_rows, row_count};
 use vector::Vector;
-use write_file::Written;
-use write_file_blocks::{count_at, run_block, write_at};
+use write_file_blocks::{clear_behind, count_at, run_block, write_at};
 
 // Block k of the rows of a base.
 pub fn row_block(
@@ -38,8 +39,7 @@ pub fn row_block(
 {
     let n = count_at(row_count(entries, asides), k);
     let rows = gather_rows(base, entries, asides, 6 * k, n);
-    let bytes = rows.bytes;
-    block_as(b"SAB2", archive, unit, n as u8, k as u16, held, &bytes)
+    block_as(b"SAB2", archive, unit, n as u8, k as u16, held, &rows.bytes)
 }
 
 // The blocks of the rows are written from the beginning of the file on; their count is returned.
@@ -57,11 +57,9 @@ fn write_rows(
     ensures written { file.new ≡ put_at file.old 0 (run_to letters2 (header_of archive unit 0 held.counts) (base_rows base.now) result) }
 {
     let n = (row_count(entries, asides) + 5) / 6;
-    let mut k: usize = 0;
-    while k < n {
+    for k in 0..n {
         let b = row_block(base, entries, asides, held, archive, unit, k);
         write_at(file, k, b);
-        k += 1;
     }
     n
 }
@@ -83,22 +81,11 @@ fn write_records(
     ensures written { file.new ≡ put_at file.old (512 * first) (run_to letters2 (header_of archive unit first held.counts) (records_of log.now) result) }
 {
     let n = (used + 5) / 6;
-    let mut k: usize = 0;
-    while k < n {
+    for k in 0..n {
         let b = run_block(b"SAB2", folded, log, used, held, archive, unit, first, k);
         write_at(file, first + k, b);
-        k += 1;
     }
     n
-}
-
-// Zeros are written behind the first n blocks.
-pub fn clear_behind(file: &mut [u8], n: usize)
-    requires { (length file.old ≡ sab2_size) × (n ≤ 186) }
-    ensures { file.new ≡ put_at file.old (512 * n) (replicate (sab2_size - 512 * n) 0) }
-{
-    let at = 512 * n;
-    clear(&mut file[at..SAB2_BYTES]);
 }
 
 // Rows, then records, then zeros; the count of blocks is returned.
@@ -126,36 +113,29 @@ fn write_state(
     (p + n) as u8
 }
 
-// List, base and log are written into the lent file as SAB2, with zeros behind the last block. Checked in this order: 1, 21, 19. Log and base
-// are only read.
-pub fn write_sab2(log: &[u8], base: &[u8], archive: u32, unit: u8, file: &mut [u8]) -> Written
-    ensures { outcome result.number result.place log.now file.new result.blocks ≡ write_sab2_of archive unit log.now base.now file.old }
+// List, base and log are written into the lent file as SAB2, with zeros behind the last block; the count of blocks is returned. Checked in this
+// order: 1, 21, 19. Log and base are only read.
+pub fn write_sab2(
+    log: &[u8],
+    base: &[u8],
+    archive: u32,
+    unit: u8,
+    file: &mut [u8],
+) -> Result<u8, Refusal>
+    ensures { outcome (code_of result) 0 log.now file.new (blocks_of result) ≡ write_sab2_of archive unit log.now base.now file.old }
 {
-    let o = open(log, base, unit, file.len() == SAB2_BYTES, true);
-    if o.number != 0 {
-        return Written {
-            number: o.number,
-            place: 0,
-            blocks: 0,
-        };
-    }
-    let head = o.head;
-    let folded = head.folded;
-    let n = write_state(
+    let state = open(log, base, unit, file.len() == SAB2_BYTES, true)?;
+    let head = state.head;
+    Ok(write_state(
         log,
         base,
-        folded,
+        head.folded,
         head.entries,
         head.asides,
-        o.used,
-        o.held,
+        state.used,
+        state.held,
         archive,
         unit,
         file,
-    );
-    Written {
-        number: 0,
-        place: 0,
-        blocks: n,
-    }
+    ))
 }

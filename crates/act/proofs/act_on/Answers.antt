@@ -1,28 +1,32 @@
 -- A wish in a sound state: its record is put behind the others and 0 is answered, or it is refused and the log is left.
+use Rattle.std.proofs.Common.{rules}
+use Rattle.std.proofs.lemmas.Result.{err_from_is_err_and}
+use Rattle.refusal.proofs.Refusals.{not_zero}
 use Rattle.act.proofs.Acting.{early_refused, early_kept, stamped_formed, place_free, stands_aside_lem, work_laid, added}
-use borrow.Author.Rules.{rules}
 use Rattle.act.proofs.act_on.Goals as goal
 
-pub returns-then-k-ne0-clause-acted : goal.returns-then-k-ne0-clause-acted
-returns-then-k-ne0-clause-acted c = search (early_refused)
+pub returns-in_err-check_early-clause-acted : goal.returns-in_err-check_early-clause-acted
+returns-in_err-check_early-clause-acted c = search (early_refused, not_zero, rules)
 
-pub returns-then-k-ne0-clause-worked : goal.returns-then-k-ne0-clause-worked
-returns-then-k-ne0-clause-worked c = search (early_kept)
+pub returns-in_err-check_early-clause-worked : goal.returns-in_err-check_early-clause-worked
+returns-in_err-check_early-clause-worked c = search (early_kept, not_zero, c.in_err-check_early.ensures)
 
-pub reason-n-requires : goal.reason-n-requires
-reason-n-requires c = (search, search, search, search, search, search, search, search (stamped_formed), search)
+pub reason-requires : goal.reason-requires
+reason-requires c = (search, search, search, search, search, search, search, search (stamped_formed, c.in_ok-check_early.ensures), search)
 
-pub returns-then-n-ne0-clause-acted : goal.returns-then-n-ne0-clause-acted
-returns-then-n-ne0-clause-acted c = search (stands_aside_lem)
+pub returns-in_err-reason-clause-acted : goal.returns-in_err-reason-clause-acted
+returns-in_err-reason-clause-acted c =
+    let p = err_from_is_err_and c.from_residual-in_err-reason.result c.from_residual-in_err-reason.ensures.1 in
+    rw (p.1, p.2) (search (stands_aside_lem, not_zero, c.in_ok-check_early.ensures, c.in_err-reason.ensures.tells))
 
-pub returns-then-n-ne0-clause-worked : goal.returns-then-n-ne0-clause-worked
-returns-then-n-ne0-clause-worked c = search (work_laid)
+pub returns-in_err-reason-clause-worked : goal.returns-in_err-reason-clause-worked
+returns-in_err-reason-clause-worked c = search (work_laid, c.in_ok-check_early.ensures, c.in_err-reason.ensures.lays)
 
 pub put_behind-requires : goal.put_behind-requires
-put_behind-requires c = (search, search (place_free), search rules)
+put_behind-requires c = (search, search (place_free, c.in_ok-check_early.ensures), search rules)
 
 pub returns-clause-acted : goal.returns-clause-acted
-returns-clause-acted c = search (added)
+returns-clause-acted c = search (added, c.in_ok-check_early.ensures, c.in_ok-reason.ensures.tells)
 
 pub returns-clause-worked : goal.returns-clause-worked
-returns-clause-worked c = search (work_laid)
+returns-clause-worked c = search (work_laid, c.in_ok-check_early.ensures, c.in_ok-reason.ensures.lays)

@@ -3,9 +3,6 @@ use Rattle.base_climb.proofs.Climbing.{known_more, row_some, row_low, row_exact}
 use native.Mathlib.Omega.{arith}
 use Rattle.base_climb.proofs.mark.Goals as goal
 
-pub returns-then-left-eq0 : goal.returns-then-left-eq0
-returns-then-left-eq0 c = search (known_more)
-
 pub overflow_sub-row : goal.overflow_sub-row
 overflow_sub-row c = search (row_some)
 

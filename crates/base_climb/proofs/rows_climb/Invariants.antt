@@ -1,5 +1,4 @@
 -- The first n rows one after another, by what is known of them.
-use Prim.Native.Nat.{◌≤◌, ◌-◌}
 use mathlib.Core.Path.{◌≡◌}
 use mathlib.Core.Bool.{true}
 use Rattle.model.specs.Log.{all_to}
@@ -7,7 +6,4 @@ use Rattle.base_climb.specs.Climb.{climbs_from, Known}
 use Rattle.base_climb.proofs.rows_climb.Given as goal
 
 abbrev pub invariant-loop-i : goal.invariant-loop-i
-invariant-loop-i l = (l.i ≤ l.n) × (true ≡ all_to l.i (climbs_from l.ups l.n)) × Known l.ups l.depths
-
-abbrev pub decreases-loop-i : goal.decreases-loop-i
-decreases-loop-i l = l.n - l.i
+invariant-loop-i l = (true ≡ all_to l.i (climbs_from l.ups l.n)) × Known l.ups l.depths

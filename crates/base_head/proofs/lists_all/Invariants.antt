@@ -1,12 +1,8 @@
 -- The list names each unit that the vector counts records of.
-use Prim.Native.Nat.{◌≤◌, ◌-◌}
 use mathlib.Core.Path.{◌≡◌}
 use Rattle.model.specs.Log.{all_to}
 use Rattle.base_head.proofs.Listed.{passes}
 use Rattle.base_head.proofs.lists_all.Given as goal
 
 abbrev pub invariant-loop-u : goal.invariant-loop-u
-invariant-loop-u l = (l.u ≤ 8) × (l.all ≡ all_to l.u (passes l.list l.v.counts))
-
-abbrev pub decreases-loop-u : goal.decreases-loop-u
-decreases-loop-u l = 8 - l.u
+invariant-loop-u l = l.all ≡ all_to l.u (passes l.list l.v.counts)

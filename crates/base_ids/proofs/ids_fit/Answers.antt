@@ -8,11 +8,5 @@ use Rattle.base_ids.proofs.ids_fit.Goals as goal
 pub link_ids-entries-requires : goal.link_ids-entries-requires
 link_ids-entries-requires c = (search rules, omega arith, omega arith, omega arith, search (ids_none), search (ids_start))
 
-pub link_ids-all-requires : goal.link_ids-all-requires
-link_ids-all-requires c = (search rules, omega arith, omega arith, omega arith, search rules, search rules)
-
-pub all_climb-requires : goal.all_climb-requires
-all_climb-requires c = (search rules, omega arith, search rules)
-
 pub returns : goal.returns
 returns c = search (ids_are)

@@ -6,11 +6,11 @@ use Rattle.base_ids.proofs.up_of.Goals as goal
 pub returns-then-f-eq0 : goal.returns-then-f-eq0
 returns-then-f-eq0 c = (search (up_root), omega arith)
 
-pub returns-then-q-eq0 : goal.returns-then-q-eq0
-returns-then-q-eq0 c = (search (up_none), omega arith)
+pub returns-in_default : goal.returns-in_default
+returns-in_default c = (search (up_none, c.in_default.ensures.place), omega arith)
 
 pub returns-then-kind_at-ne1 : goal.returns-then-kind_at-ne1
-returns-then-kind_at-ne1 c = (search (up_other), omega arith)
+returns-then-kind_at-ne1 c = (search (up_other, c.in-Some.ensures.place), omega arith)
 
 pub returns : goal.returns
-returns c = (search (up_folder), omega arith)
+returns c = (search (up_folder, c.in-Some.ensures.place), omega (arith, c.in-Some.ensures.within))

@@ -1,13 +1,10 @@
 -- One aside more: its row and its role.
-use Rattle.base_load.proofs.Roles.{aside-loaded, note_noted, note_end, note_source_end, note_role, note_chains, note_room}
+use Rattle.base_load.proofs.Roles.{aside-loaded, note_noted, note_end, note_role, note_chains, note_room}
 use borrow.Author.Rules.{rules}
 use Rattle.base_load.proofs.add_aside.Goals as goal
 
 pub slice_bounds-load_aside-end : goal.slice_bounds-load_aside-end
 slice_bounds-load_aside-end c = search (note_end)
-
-pub slice_bounds-load_aside-end-2 : goal.slice_bounds-load_aside-end-2
-slice_bounds-load_aside-end-2 c = search (note_source_end)
 
 pub load_aside-requires : goal.load_aside-requires
 load_aside-requires c = (search rules, search rules, search (note_noted))

@@ -1,12 +1,8 @@
 -- The rows and roles of all asides.
-use Prim.Native.Nat.{◌≤◌, ◌-◌}
 use mathlib.Core.Path.{◌≡◌}
 use lib.ListN.{length}
 use Rattle.base_load.specs.Loading.{Loading}
 use Rattle.base_load.proofs.add_asides.Given as goal
 
 abbrev pub invariant-loop-j : goal.invariant-loop-j
-invariant-loop-j l = (l.j ≤ l.size.asides) × (length l.table ≡ length l.initial.table) × (length l.register ≡ length l.initial.register) × Loading l.base l.table l.register l.size.entries l.j
-
-abbrev pub decreases-loop-j : goal.decreases-loop-j
-decreases-loop-j l = l.size.asides - l.j
+invariant-loop-j l = (length l.table ≡ length l.initial.table) × (length l.register ≡ length l.initial.register) × Loading l.base l.table l.register l.size.entries l.j

@@ -1,13 +1,10 @@
 -- One entry more: its row and its role.
-use Rattle.base_load.proofs.Roles.{entry-loaded, row_ranged, row_end, source_end, row_role, name_chains, name_room}
+use Rattle.base_load.proofs.Roles.{entry-loaded, row_ranged, row_end, row_role, name_chains, name_room}
 use borrow.Author.Rules.{rules}
 use Rattle.base_load.proofs.add_entry.Goals as goal
 
 pub slice_bounds-load_entry-end : goal.slice_bounds-load_entry-end
 slice_bounds-load_entry-end c = search (row_end)
-
-pub slice_bounds-load_entry-end-2 : goal.slice_bounds-load_entry-end-2
-slice_bounds-load_entry-end-2 c = search (source_end)
 
 pub load_entry-requires : goal.load_entry-requires
 load_entry-requires c = (search rules, search rules, search (row_ranged))

@@ -1,13 +1,7 @@
 -- The label of entry i.
-use Rattle.base_load.proofs.Entering.{label_entered, label_room, label_chains, label_named, label_end, label_row, label_place, label_wide, label_count}
+use Rattle.base_load.proofs.Entering.{label_entered, label_room, label_chains, label_row, label_place, label_wide, label_count}
 use borrow.Author.Rules.{rules}
 use Rattle.base_load.proofs.enter_label.Goals as goal
-
-pub place_in-place-requires : goal.place_in-place-requires
-place_in-place-requires c = (search, search, search (label_named), search)
-
-pub slice_bounds-enter-end : goal.slice_bounds-enter-end
-slice_bounds-enter-end c = search (label_end)
 
 pub enter-requires : goal.enter-requires
 enter-requires c = (search (label_chains), search (label_wide), search (label_place), search (label_count), search (label_room), search rules, search (label_row))

@@ -5,8 +5,5 @@ use Rattle.base_load.proofs.load.Goals as goal
 pub add_entries-requires : goal.add_entries-requires
 add_entries-requires c = (search, search (loading_starts))
 
-pub add_asides-requires : goal.add_asides-requires
-add_asides-requires c = (search, search)
-
 pub enter_labels-requires : goal.enter_labels-requires
 enter_labels-requires c = (search, search (no_label_yet), labels_start _ _ _ _ _ c.add_asides.ensures search)

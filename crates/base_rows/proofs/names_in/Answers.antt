@@ -12,4 +12,4 @@ pub returns-then-number-lt1 : goal.returns-then-number-lt1
 returns-then-number-lt1 c = search (number_none)
 
 pub returns : goal.returns
-returns c = search (number_held)
+returns c = rw c.from.ensures (search (number_held))

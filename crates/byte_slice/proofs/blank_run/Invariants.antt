@@ -1,5 +1,5 @@
-use Rattle.std.proofs.Common.{◌≡◌, ◌+◌, ◌-◌, ◌≤◌, length, drop, take, ◌++◌, replicate}
-use Rattle.model.specs.Bytes.{blank, part, put_at, same_bytes}
+use Rattle.std.proofs.Common.{◌≡◌, ◌≤◌}
+use Rattle.model.specs.Bytes.{blank, part}
 use Rattle.byte_slice.proofs.blank_run.Given as goal
 
 abbrev pub invariant-loop-i : goal.invariant-loop-i

@@ -1,5 +1,5 @@
-use Rattle.std.proofs.Common.{◌≡◌, ◌+◌, ◌-◌, ◌≤◌, length, drop, take, ◌++◌, replicate}
-use Rattle.model.specs.Bytes.{blank, part, put_at, same_bytes}
+use Rattle.std.proofs.Common.{◌≡◌, ◌-◌, ◌≤◌, length, drop}
+use Rattle.model.specs.Bytes.{blank}
 use Rattle.byte_slice.proofs.is_blank.Given as goal
 
 abbrev pub invariant-loop-at : goal.invariant-loop-at

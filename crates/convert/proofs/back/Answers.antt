@@ -6,8 +6,8 @@ use Rattle.convert.proofs.back.Goals as goal
 pub returns-then-not-is_zero : goal.returns-then-not-is_zero
 returns-then-not-is_zero c = search (back_folded)
 
-pub lower-n-requires : goal.lower-n-requires
-lower-n-requires c = (search rules, search (none-folded), search rules)
+pub lower-requires : goal.lower-requires
+lower-requires c = (search rules, search (none-folded), search rules)
 
 pub returns : goal.returns
 returns c = search (back_lowered)

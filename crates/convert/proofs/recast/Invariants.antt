@@ -1,5 +1,5 @@
 -- The first n blocks of so many records that stand in blocks are written anew, from a place of the lent file on.
-use Prim.Native.Nat.{◌-◌, ◌*◌, ◌≤◌}
+use Prim.Native.Nat.{◌*◌}
 use mathlib.Core.Path.{◌≡◌}
 use lib.ListN.{length}
 use Rattle.model.specs.Bytes.{put_at}
@@ -8,7 +8,4 @@ use Rattle.run_model.specs.Runs.{run_to}
 use Rattle.convert.proofs.recast.Given as goal
 
 abbrev pub invariant-loop-k : goal.invariant-loop-k
-invariant-loop-k l = (l.k ≤ l.n) × (length l.out ≡ length l.initial.out) × (l.out ≡ put_at l.initial.out (512 * l.first) (run_to l.letters (header_of l.archive l.unit l.first l.v.counts) (file_records l.part) l.k))
-
-abbrev pub decreases-loop-k : goal.decreases-loop-k
-decreases-loop-k l = l.n - l.k
+invariant-loop-k l = (length l.out ≡ length l.initial.out) × (l.out ≡ put_at l.initial.out (512 * l.first) (run_to l.letters (header_of l.archive l.unit l.first l.v.counts) (file_records l.part) l.k))

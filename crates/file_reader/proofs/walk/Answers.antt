@@ -1,5 +1,4 @@
 -- One reader walks a file from record to record.
-use borrow.Author.Rules.{rules}
 use native.Mathlib.Omega.{arith}
 use Rattle.file_reader.proofs.Laws.{walked_none, walked_more}
 use Rattle.file_reader.proofs.walk.Goals as goal

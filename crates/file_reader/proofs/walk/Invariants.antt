@@ -1,5 +1,5 @@
-use Rattle.std.proofs.Common.{◌-◌, ◌≡◌, ◌+◌, ◌*◌, ◌≤◌, length, ℕ, ◌<◌}
-use Rattle.file_reader.specs.Walk.{record_or_zeros, walked_to}
+use Rattle.std.proofs.Common.{◌-◌, ◌≡◌, ◌≤◌}
+use Rattle.file_reader.specs.Walk.{walked_to}
 use Rattle.file_reader.proofs.walk.Given as goal
 
 abbrev pub invariant-loop-r : goal.invariant-loop-r

@@ -11,9 +11,6 @@ write_base-requires c = (search, search (table-long), search (table_bytes_lem), 
 pub drop_front-requires : goal.drop_front-requires
 drop_front-requires c = (search, search (log_sound), search, search (few_used), search)
 
-pub returns-clause-run : goal.returns-clause-run
-returns-clause-run c = (search, search)
-
 pub returns-clause-based : goal.returns-clause-based
 returns-clause-based c = base_written c.requires.0 _ _ _ _ _ _ c.run_in-f.ensures.laid c.run_in-f.ensures.run.0 _ _ c.counted-v.ensures c.write_base.ensures
 

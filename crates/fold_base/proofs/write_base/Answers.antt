@@ -8,4 +8,4 @@ pub keep_rows-present-requires : goal.keep_rows-present-requires
 keep_rows-present-requires c = (search rules, search rules, search rules, search (room_shown))
 
 pub returns : goal.returns
-returns c = search (base_written)
+returns c = search (base_written, c.fill.ensures.after (λ y e. e))

@@ -10,12 +10,9 @@ use Rattle.log_check.specs.Places.{laid_at}
 use Rattle.log_check.specs.InOrder.{listed}
 use Rattle.call_model.specs.Fold.{longest}
 use Rattle.fold_count_laws.specs.Counted.{present_count}
-use Prim.Native.Nat.{◌+◌, ◌-◌, ◌≤◌}
+use Prim.Native.Nat.{◌+◌, ◌≤◌}
 use mathlib.Core.Path.{◌≡◌}
 use Rattle.fold_run.proofs.longest_run.Given as goal
 
 abbrev pub invariant-loop-i : goal.invariant-loop-i
-invariant-loop-i l = (l.i ≤ l.n) × (length l.table ≡ length l.initial.table) × (length l.register ≡ length l.initial.register) × (nodes_in 4097 l.register ≤ nodes_in 4097 l.initial.register + l.i) × Works l.table l.register l.size.entries l.size.asides (replay_from (tree_in l.initial.table l.initial.size.entries l.initial.size.asides) (listed (laid_at Log l.log) 0 l.i)) × (l.present ≡ present_count (replay_from (tree_in l.initial.table l.initial.size.entries l.initial.size.asides) (listed (laid_at Log l.log) 0 l.i))) × (l.best ≡ longest (tree_in l.initial.table l.initial.size.entries l.initial.size.asides) (records_of l.log) l.i)
-
-abbrev pub decreases-loop-i : goal.decreases-loop-i
-decreases-loop-i l = l.n - l.i
+invariant-loop-i l = (length l.table ≡ length l.initial.table) × (length l.register ≡ length l.initial.register) × (nodes_in 4097 l.register ≤ nodes_in 4097 l.initial.register + l.i) × Works l.table l.register l.size.entries l.size.asides (replay_from (tree_in l.initial.table l.initial.size.entries l.initial.size.asides) (listed (laid_at Log l.log) 0 l.i)) × (l.present ≡ present_count (replay_from (tree_in l.initial.table l.initial.size.entries l.initial.size.asides) (listed (laid_at Log l.log) 0 l.i))) × (l.best ≡ longest (tree_in l.initial.table l.initial.size.entries l.initial.size.asides) (records_of l.log) l.i)

@@ -1,6 +1,5 @@
 -- The first n records of a state replayed, into a table and a register of zeros.
 use Rattle.fold_tree.proofs.Tables.{run_loads, run_lies, run_plays, run_holds, run_entries, run_asides, run_both, run_nodes, run_replayed}
-use Prim.Native.Nat.{◌-◌}
 use Rattle.fold_tree.proofs.replay_run.Goals as goal
 
 pub load-requires : goal.load-requires

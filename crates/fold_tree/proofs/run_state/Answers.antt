@@ -1,7 +1,6 @@
 -- The longest run that counts among the first n records of a state, whose base has so many entries and asides; all n are
 -- replayed, into a table and a register of zeros.
 use Rattle.fold_tree.proofs.Tables.{run_loads, run_lies, run_plays, run_holds, run_present, run_entries, run_asides, run_both, run_nodes, run-longest, run_works}
-use Prim.Native.Nat.{◌-◌}
 use Rattle.fold_tree.proofs.run_state.Goals as goal
 
 pub load-requires : goal.load-requires

@@ -6,11 +6,8 @@ use Rattle.row_model.specs.Row.{row_to}
 use lib.ListN.{length, drop}
 use mathlib.Core.List.{◌++◌}
 use mathlib.Core.Path.{◌≡◌}
-use Prim.Native.Nat.{◌*◌, ◌-◌, ◌≤◌}
+use Prim.Native.Nat.{◌*◌, ◌≤◌}
 use Rattle.hand_out_row.proofs.write_row.Given as goal
 
 abbrev pub invariant-loop-k : goal.invariant-loop-k
-invariant-loop-k l = (l.k ≤ l.n) × (l.n ≤ 86) × (length l.out ≡ 44032) × (length l.initial.out ≡ 44032) × (drop 3072 l.initial.out ≡ padded 40960 (joined (lacking l.asked.counts (records_of l.log)))) × (l.out ≡ row_to l.archive l.unit l.held.counts (lacking l.asked.counts (records_of l.log)) l.k ++ drop (512 * l.k) l.initial.out)
-
-abbrev pub decreases-loop-k : goal.decreases-loop-k
-decreases-loop-k l = l.n - l.k
+invariant-loop-k l = (l.n ≤ 86) × (length l.out ≡ 44032) × (length l.initial.out ≡ 44032) × (drop 3072 l.initial.out ≡ padded 40960 (joined (lacking l.asked.counts (records_of l.log)))) × (l.out ≡ row_to l.archive l.unit l.held.counts (lacking l.asked.counts (records_of l.log)) l.k ++ drop (512 * l.k) l.initial.out)

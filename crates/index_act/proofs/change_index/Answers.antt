@@ -1,6 +1,6 @@
 -- A record that fits does to the index of the tree in a table what it does to the tree.
 use Rattle.tree_lookup.proofs.Working.{works_long}
-use Rattle.index_act.proofs.Changes.{asked_folder, own_low, asked_object, change_make, change_remove, change_rename, change_move, change_none}
+use Rattle.index_act.proofs.Changes.{asked_folder, moved_folder, folder_low, entry_low, own_low, asked_object, change_make, change_remove, change_rename, change_move, remove-absent, rename-absent, move-absent, change_none}
 use borrow.Author.Rules.{rules}
 use Rattle.index_act.proofs.change_index.Goals as goal
 
@@ -10,32 +10,47 @@ put_in-requires c = (search rules, search (asked_folder), search rules, search (
 pub returns-then-op-le2 : goal.returns-then-op-le2
 returns-then-op-le2 c = search (change_make)
 
-pub entry_of-row-requires : goal.entry_of-row-requires
-entry_of-row-requires c = (search, search (asked_object))
+pub entry_of-requires : goal.entry_of-requires
+entry_of-requires c = (search, search (asked_object))
 
 pub remove_from-requires : goal.remove_from-requires
 remove_from-requires c = (search (works_long), search rules, search rules)
 
-pub returns-then-op-eq4 : goal.returns-then-op-eq4
-returns-then-op-eq4 c = search (change_remove)
+pub returns-in-Some : goal.returns-in-Some
+returns-in-Some c = search (change_remove, c.in-Some.ensures.shows, c.in-Some.ensures.within)
 
-pub entry_of-row-requires-then-op-eq5 : goal.entry_of-row-requires-then-op-eq5
-entry_of-row-requires-then-op-eq5 c = (search, search (asked_object))
+pub returns-in_default : goal.returns-in_default
+returns-in_default c = search (remove-absent, c.in_default.ensures.shows)
 
-pub rename_in-requires : goal.rename_in-requires
-rename_in-requires c = (search, search (works_long), search rules, search, search rules)
+pub entry_of-requires-then-op-eq5 : goal.entry_of-requires-then-op-eq5
+entry_of-requires-then-op-eq5 c = (search, search (asked_object))
 
-pub returns-then-op-eq5 : goal.returns-then-op-eq5
-returns-then-op-eq5 c = search (change_rename)
-
-pub entry_of-row-requires-then-op-eq7 : goal.entry_of-row-requires-then-op-eq7
-entry_of-row-requires-then-op-eq7 c = (search, search (asked_object))
+pub inside_at-requires : goal.inside_at-requires
+inside_at-requires c = (search (works_long), search rules)
 
 pub move_to-requires : goal.move_to-requires
-move_to-requires c = (search, search rules, search (works_long), search rules, search, search rules)
+move_to-requires c =
+    let h = c.in-Some-entry_of.ensures.within in
+    (search rules, search (works_long), search rules, search (entry_low, h), search (folder_low, h), search)
 
-pub returns-then-op-eq7 : goal.returns-then-op-eq7
-returns-then-op-eq7 c = search (change_move)
+pub returns-in-Some-entry_of : goal.returns-in-Some-entry_of
+returns-in-Some-entry_of c = search (change_rename, c.in-Some-entry_of.ensures.shows, c.in-Some-entry_of.ensures.within)
+
+pub returns-in_default-entry_of : goal.returns-in_default-entry_of
+returns-in_default-entry_of c = search (rename-absent, c.in_default-entry_of.ensures.shows)
+
+pub entry_of-requires-then-op-eq7 : goal.entry_of-requires-then-op-eq7
+entry_of-requires-then-op-eq7 c = (search, search (asked_object))
+
+pub move_to-requires-in-Some-entry_of-2 : goal.move_to-requires-in-Some-entry_of-2
+move_to-requires-in-Some-entry_of-2 c =
+    (search rules, search (works_long), search rules, search (entry_low, c.in-Some-entry_of-2.ensures.within), search (moved_folder), search)
+
+pub returns-in-Some-entry_of-2 : goal.returns-in-Some-entry_of-2
+returns-in-Some-entry_of-2 c = search (change_move, c.in-Some-entry_of-2.ensures.shows, c.in-Some-entry_of-2.ensures.within)
+
+pub returns-in_default-entry_of-2 : goal.returns-in_default-entry_of-2
+returns-in_default-entry_of-2 c = search (move-absent, c.in_default-entry_of-2.ensures.shows)
 
 pub returns-else-op-eq7 : goal.returns-else-op-eq7
 returns-else-op-eq7 c = search (change_none)

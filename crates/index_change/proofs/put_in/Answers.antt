@@ -2,8 +2,8 @@
 use Rattle.index_change.proofs.Changes.{put_full, put-done}
 use Rattle.index_change.proofs.put_in.Goals as goal
 
-pub returns-then-n-ge-INDEX_PLACES : goal.returns-then-n-ge-INDEX_PLACES
-returns-then-n-ge-INDEX_PLACES c = search (put_full)
+pub returns-else-n-lt-INDEX_PLACES : goal.returns-else-n-lt-INDEX_PLACES
+returns-else-n-lt-INDEX_PLACES c = search (put_full)
 
-pub returns : goal.returns
-returns c = search (put-done)
+pub returns-then-n-lt-INDEX_PLACES : goal.returns-then-n-lt-INDEX_PLACES
+returns-then-n-lt-INDEX_PLACES c = search (put-done)

@@ -1,19 +1,25 @@
 -- The lent index becomes that of the lent state, and the memory to work in the table of its tree.
+use Rattle.std.proofs.lemmas.Result.{err_from_is_err_and}
+use Rattle.refusal.proofs.Refusals.{not_zero}
 use Rattle.call_guard.proofs.Opening.{open_long, open_based, open_state, open_used, open_held, open_entries, open_asides}
 use Rattle.index_log.proofs.Indexing.{not_indexed, work_left_lem, index_there, work_there, indexed, work_filled}
 use Rattle.index_log.proofs.index_log.Goals as goal
 
-pub returns-then-o-ne0-clause-answer : goal.returns-then-o-ne0-clause-answer
-returns-then-o-ne0-clause-answer c = search (not_indexed)
+pub returns-in_err-state-clause-answer : goal.returns-in_err-state-clause-answer
+returns-in_err-state-clause-answer c =
+    let p = err_from_is_err_and c.from_residual.result c.from_residual.ensures.1 in
+    rw (p.1, p.2) (search (not_indexed, not_zero, c.in_err-state.ensures))
 
-pub returns-then-o-ne0-clause-work : goal.returns-then-o-ne0-clause-work
-returns-then-o-ne0-clause-work c = search (work_left_lem)
+pub returns-in_err-state-clause-work : goal.returns-in_err-state-clause-work
+returns-in_err-state-clause-work c = search (work_left_lem, not_zero, c.in_err-state.ensures)
 
 pub lay_index-requires : goal.lay_index-requires
-lay_index-requires c = (search (open_long), search (open_based), search (open_state), search (open_used), search (open_held), search (open_entries), search (open_asides), search (index_there), search (work_there))
+lay_index-requires c =
+    let o = c.in_ok-state.ensures in
+    (search (open_long, o), search (open_based, o), search (open_state, o), search (open_used, o), search (open_held, o), search (open_entries, o), search (open_asides, o), search (index_there, o), search (work_there, o))
 
 pub returns-clause-answer : goal.returns-clause-answer
-returns-clause-answer c = search (indexed)
+returns-clause-answer c = search (indexed, c.in_ok-state.ensures)
 
 pub returns-clause-work : goal.returns-clause-work
-returns-clause-work c = search (work_filled)
+returns-clause-work c = search (work_filled, c.in_ok-state.ensures)

@@ -1,6 +1,5 @@
 -- The index of the entries that a table shows.
-use Rattle.index_make.proofs.Writing.{counted}
 use Rattle.index_make.proofs.make_index.Goals as goal
 
 pub returns : goal.returns
-returns c = search (counted)
+returns c = cc

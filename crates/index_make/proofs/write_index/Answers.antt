@@ -9,4 +9,4 @@ pub write_rows-requires : goal.write_rows-requires
 write_rows-requires c = (search rules, search rules, search rules, order_all_low _ _ _ (omega arith) c.order_rows.ensures.0, search rules)
 
 pub returns : goal.returns
-returns c = search (index_made)
+returns c = search (index_made, c.fill.ensures.after (λ y e. e))

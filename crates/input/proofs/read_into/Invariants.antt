@@ -1,9 +1,10 @@
--- What was read never passes the buffer.
-use Rattle.std.proofs.Common.{◌-◌, ◌≤◌, length, ◌≡◌}
+-- What was read stands at the start of the buffer.
+use Rattle.std.proofs.Common.{◌≡◌, ◌≤◌, ◌-◌, length, take}
+use Rattle.std.specs.Io.KnownBytes.{Consumes}
 use Rattle.input.proofs.read_into.Given as goal
 
 abbrev pub invariant-loop-n : goal.invariant-loop-n
-invariant-loop-n g l = (l.n ≤ l.end) × (l.end ≡ length l.fn.buf) × (length l.buf ≡ length l.fn.buf)
+invariant-loop-n g l = (length l.buf ≡ length l.initial.buf) × (l.n ≤ length l.buf) × Consumes (g.R.Read.remaining l.initial.reader) (g.R.Read.remaining l.reader) (take l.n l.buf)
 
 abbrev pub decreases-loop-n : goal.decreases-loop-n
-decreases-loop-n g l = l.end - l.n
+decreases-loop-n g l = length l.buf - l.n

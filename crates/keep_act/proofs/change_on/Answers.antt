@@ -5,4 +5,4 @@ use native.Mathlib.Omega.{arith}
 use Rattle.keep_act.proofs.change_on.Goals as goal
 
 pub judge_and_change-requires : goal.judge_and_change-requires
-judge_and_change-requires c = (bytes_ask c.args.rec.now (search) (λ j. omega (arith, c.shared_slice_known-1.given j)), search, search, search, search)
+judge_and_change-requires c = (bytes_ask c.args.rec.now (search) (λ j. omega (arith, c.type_inv.rec j)), search, search, search, search)

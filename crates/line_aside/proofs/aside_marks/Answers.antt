@@ -1,25 +1,26 @@
 -- An aside line from its marked entry on.
 use Rattle.model.specs.Bytes.{part}
-use Rattle.line_aside.proofs.Asides.{marks_has_room, marked_has_room, state_has_room, feed_has_room, wrote_aside_marks}
-use borrow.Author.Rules.{rules}
+use Rattle.std.proofs.Common.{rules}
+use Rattle.line_text.proofs.Chains.{first_of_four, second_of_four, third_of_four, last_of_four, wrote_four}
+use Rattle.line_aside.proofs.Asides.{marks_is}
 use Rattle.line_aside.proofs.aside_marks.Goals as goal
 
 pub put_word-a-requires : goal.put_word-a-requires
 unfolding part
-put_word-a-requires c = search (marks_has_room)
+put_word-a-requires c = first_of_four (marks_is _) _ _ c.requires.1
 
 pub put_marked-b-requires : goal.put_marked-b-requires
 unfolding part
-put_marked-b-requires c = (search rules, search (marked_has_room))
+put_marked-b-requires c = (search rules, second_of_four (marks_is _) c.requires.1 c.put_word-a.ensures)
 
 pub put_state-c-requires : goal.put_state-c-requires
 unfolding part
-put_state-c-requires c = search (state_has_room)
+put_state-c-requires c = third_of_four (marks_is _) c.requires.1 c.put_word-a.ensures c.put_marked-b.ensures
 
 pub put_byte-requires : goal.put_byte-requires
 unfolding part
-put_byte-requires c = search (feed_has_room)
+put_byte-requires c = last_of_four (marks_is _) c.requires.1 c.put_word-a.ensures c.put_marked-b.ensures c.put_state-c.ensures
 
 pub returns : goal.returns
 unfolding part
-returns c = search (wrote_aside_marks)
+returns c = wrote_four (marks_is _) c.requires.1 c.put_word-a.ensures c.put_marked-b.ensures c.put_state-c.ensures c.put_byte.ensures

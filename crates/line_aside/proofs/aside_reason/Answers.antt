@@ -1,16 +1,17 @@
 -- An aside line from its reason on.
-use Rattle.line_aside.proofs.Asides.{reason_has_room, number_has_room, behind_reason_has_room, wrote_aside_reason}
-use borrow.Author.Rules.{rules}
+use Rattle.std.proofs.Common.{rules}
+use Rattle.line_text.proofs.Chains.{first_of_three, second_of_three, last_of_three, wrote_three}
+use Rattle.line_aside.proofs.Asides.{reason_is}
 use Rattle.line_aside.proofs.aside_reason.Goals as goal
 
 pub put_word-a-requires : goal.put_word-a-requires
-put_word-a-requires c = search (reason_has_room)
+put_word-a-requires c = first_of_three (reason_is _) _ _ c.requires.1
 
 pub put_small-b-requires : goal.put_small-b-requires
-put_small-b-requires c = search (number_has_room)
+put_small-b-requires c = second_of_three (reason_is _) c.requires.1 c.put_word-a.ensures
 
 pub aside_marks-requires : goal.aside_marks-requires
-aside_marks-requires c = (search rules, search (behind_reason_has_room))
+aside_marks-requires c = (search rules, last_of_three (reason_is _) c.requires.1 c.put_word-a.ensures c.put_small-b.ensures)
 
 pub returns : goal.returns
-returns c = search (wrote_aside_reason)
+returns c = wrote_three (reason_is _) c.requires.1 c.put_word-a.ensures c.put_small-b.ensures c.aside_marks.ensures

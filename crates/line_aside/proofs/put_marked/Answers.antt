@@ -1,16 +1,16 @@
 -- The marked entry, or `-` where nothing is marked.
-use Rattle.line_aside.proofs.Words.{none_fits, marked_fits, wrote_dash, wrote_marked}
-use borrow.Author.Rules.{rules}
+use Rattle.std.proofs.Common.{rules}
+use Rattle.line_aside.proofs.Words.{none_is, marked_is}
 use Rattle.line_aside.proofs.put_marked.Goals as goal
 
 pub put_byte-requires : goal.put_byte-requires
-put_byte-requires c = search (none_fits)
+put_byte-requires c = rw (none_is c.args.b.now c.is_blank.ensures c.if-is_blank.true) at c.requires.1
 
 pub returns-then-is_blank : goal.returns-then-is_blank
-returns-then-is_blank c = search (wrote_dash)
+returns-then-is_blank c = rw (none_is c.args.b.now c.is_blank.ensures c.if-is_blank.true) c.put_byte.ensures
 
 pub put_identity-requires : goal.put_identity-requires
-put_identity-requires c = (search rules, search (marked_fits))
+put_identity-requires c = (search rules, rw (marked_is c.args.b.now c.is_blank.ensures c.if-is_blank.false) at c.requires.1)
 
 pub returns : goal.returns
-returns c = search (wrote_marked)
+returns c = rw (marked_is c.args.b.now c.is_blank.ensures c.if-is_blank.false) c.put_identity.ensures

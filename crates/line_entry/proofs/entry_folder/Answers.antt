@@ -1,21 +1,22 @@
 -- An entry line from its folder on.
 use Rattle.model.specs.Bytes.{part}
-use Rattle.line_entry.proofs.Entries.{in_has_room, folder_has_room, behind_folder_has_room, wrote_entry_folder}
-use borrow.Author.Rules.{rules}
+use Rattle.std.proofs.Common.{rules}
+use Rattle.line_text.proofs.Chains.{first_of_three, second_of_three, last_of_three, wrote_three}
+use Rattle.line_entry.proofs.Entries.{folder_is}
 use Rattle.line_entry.proofs.entry_folder.Goals as goal
 
 pub put_word-a-requires : goal.put_word-a-requires
 unfolding part
-put_word-a-requires c = search (in_has_room)
+put_word-a-requires c = first_of_three (folder_is _) _ _ c.requires.1
 
 pub put_identity-b-requires : goal.put_identity-b-requires
 unfolding part
-put_identity-b-requires c = (search rules, search (folder_has_room))
+put_identity-b-requires c = (search rules, second_of_three (folder_is _) c.requires.1 c.put_word-a.ensures)
 
 pub entry_label-requires : goal.entry_label-requires
 unfolding part
-entry_label-requires c = (search rules, search (behind_folder_has_room))
+entry_label-requires c = (search rules, last_of_three (folder_is _) c.requires.1 c.put_word-a.ensures c.put_identity-b.ensures)
 
 pub returns : goal.returns
 unfolding part
-returns c = search (wrote_entry_folder)
+returns c = wrote_three (folder_is _) c.requires.1 c.put_word-a.ensures c.put_identity-b.ensures c.entry_label.ensures

@@ -1,15 +1,16 @@
 -- The head line from its record count on.
-use Rattle.line_head.proofs.Heads.{records_has_room, count_has_room, head_feed_has_room, wrote_head_records}
+use Rattle.line_text.proofs.Chains.{first_of_three, second_of_three, last_of_three, wrote_three}
+use Rattle.line_head.proofs.Heads.{records_is}
 use Rattle.line_head.proofs.head_records.Goals as goal
 
 pub put_word-a-requires : goal.put_word-a-requires
-put_word-a-requires c = search (records_has_room)
+put_word-a-requires c = first_of_three (records_is _) _ _ c.requires
 
 pub put_number-b-requires : goal.put_number-b-requires
-put_number-b-requires c = search (count_has_room)
+put_number-b-requires c = second_of_three (records_is _) c.requires c.put_word-a.ensures
 
 pub put_byte-requires : goal.put_byte-requires
-put_byte-requires c = search (head_feed_has_room)
+put_byte-requires c = last_of_three (records_is _) c.requires c.put_word-a.ensures c.put_number-b.ensures
 
 pub returns : goal.returns
-returns c = search (wrote_head_records)
+returns c = wrote_three (records_is _) c.requires c.put_word-a.ensures c.put_number-b.ensures c.put_byte.ensures

@@ -1,15 +1,16 @@
 -- The head line from its unit on.
-use Rattle.line_head.proofs.Heads.{unit_word_has_room, unit_has_room, behind_unit_has_room, wrote_head_unit}
+use Rattle.line_text.proofs.Chains.{first_of_three, second_of_three, last_of_three, wrote_three}
+use Rattle.line_head.proofs.Heads.{unit_is}
 use Rattle.line_head.proofs.head_unit.Goals as goal
 
 pub put_word-a-requires : goal.put_word-a-requires
-put_word-a-requires c = search (unit_word_has_room)
+put_word-a-requires c = first_of_three (unit_is _ _) _ _ c.requires
 
 pub put_small-b-requires : goal.put_small-b-requires
-put_small-b-requires c = search (unit_has_room)
+put_small-b-requires c = second_of_three (unit_is _ _) c.requires c.put_word-a.ensures
 
 pub head_records-requires : goal.head_records-requires
-head_records-requires c = search (behind_unit_has_room)
+head_records-requires c = last_of_three (unit_is _ _) c.requires c.put_word-a.ensures c.put_small-b.ensures
 
 pub returns : goal.returns
-returns c = search (wrote_head_unit)
+returns c = wrote_three (unit_is _ _) c.requires c.put_word-a.ensures c.put_small-b.ensures c.head_records.ensures

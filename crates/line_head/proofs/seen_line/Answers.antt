@@ -1,15 +1,16 @@
 -- The vector.
-use Rattle.line_head.proofs.Heads.{seen_word_has_room, counts_have_room, seen_feed_has_room, wrote_seen_line}
+use Rattle.line_text.proofs.Chains.{first_of_three, second_of_three, last_of_three, wrote_three}
+use Rattle.line_head.proofs.Heads.{seen_is}
 use Rattle.line_head.proofs.seen_line.Goals as goal
 
 pub put_word-a-requires : goal.put_word-a-requires
-put_word-a-requires c = search (seen_word_has_room)
+put_word-a-requires c = first_of_three (seen_is _) _ _ c.requires
 
 pub put_counts-b-requires : goal.put_counts-b-requires
-put_counts-b-requires c = search (counts_have_room)
+put_counts-b-requires c = second_of_three (seen_is _) c.requires c.put_word-a.ensures
 
 pub put_byte-requires : goal.put_byte-requires
-put_byte-requires c = search (seen_feed_has_room)
+put_byte-requires c = last_of_three (seen_is _) c.requires c.put_word-a.ensures c.put_counts-b.ensures
 
 pub returns : goal.returns
-returns c = search (wrote_seen_line)
+returns c = wrote_three (seen_is _) c.requires c.put_word-a.ensures c.put_counts-b.ensures c.put_byte.ensures

@@ -1,33 +1,16 @@
 -- The bytes of a label are written, escaped.
-use mathlib.Core.Path.{refl}
+use Rattle.std.proofs.Common.{[]}
 use Rattle.model.specs.Listing.{escaped}
 use Rattle.line_quote.proofs.Labels.{escaped-append}
-use Rattle.line_text.proofs.Written.{wrote_none, text_room, wrote_next, wrote_all}
-use native.Mathlib.Omega.{arith}
+use Rattle.line_text.proofs.Written.{wrote_none, next_fits, wrote_next}
 use Rattle.line_quote.proofs.put_escaped.Goals as goal
 
-pub loop-i-init : goal.loop-i-init
+pub loop-x-init : goal.loop-x-init
 unfolding escaped
-loop-i-init c = (omega arith, refl, wrote_none c.args.out.now c.args.at)
+loop-x-init c = wrote_none _ _
 
 pub put_escaped_byte-m-requires : goal.put_escaped_byte-m-requires
-put_escaped_byte-m-requires c =
-    let a = c.args in
-    let l = c.loop-i in
-    omega (arith, text_room escaped escaped-append a.t.now l.i (omega arith))
+put_escaped_byte-m-requires c = next_fits escaped escaped-append _ _ [] _ _ _ 0 _ c.requires c.loop-x-test.true c.loop-x.invariant
 
-pub returns : goal.returns
-returns c =
-    let a = c.args in
-    let l = c.loop-i in
-    wrote_all escaped a.out.now l.out a.t.now a.at l.m l.i (omega arith) l.invariant.2
-
-pub loop-i-preserved : goal.loop-i-preserved
-loop-i-preserved c =
-    let a = c.args in
-    let l = c.loop-i in
-    let k = c.put_escaped_byte-m in (
-      omega arith,
-      omega arith,
-      wrote_next escaped escaped-append a.out.now l.out k.new.out a.t.now a.at l.m k.result l.i c.requires (omega arith) l.invariant.2 k.ensures,
-    )
+pub loop-x-preserved : goal.loop-x-preserved
+loop-x-preserved c = wrote_next escaped escaped-append _ _ _ _ _ _ _ _ c.requires c.loop-x-test.true c.loop-x.invariant c.put_escaped_byte-m.ensures

@@ -1,5 +1,4 @@
 -- How many digits a number has.
-use Prim.Native.Nat.{◌-◌}
 use Rattle.line_text.proofs.Decimal.{decimal-length, one_digit, more_digits}
 use native.Mathlib.Omega.{arith}
 use Rattle.line_text.proofs.digits.Goals as goal

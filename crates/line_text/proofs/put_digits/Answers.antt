@@ -1,5 +1,5 @@
 -- The last k digits of a number are written, the last first.
-use Prim.Native.Nat.{◌+◌, ◌-◌, ◌<◌}
+use Prim.Native.Nat.{◌+◌, ◌<◌}
 use mathlib.Core.Path.{◌≡◌, refl, sym, ◌∙◌}
 use lib.ListN.{length, take, length-set}
 use lib.Seq.{take-length, drop-length}

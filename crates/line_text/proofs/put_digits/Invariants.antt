@@ -1,5 +1,5 @@
 -- The last k digits of a number are written, the last first.
-use Prim.Native.Nat.{◌+◌, ◌-◌, ◌<◌, ◌≤◌}
+use Prim.Native.Nat.{◌+◌, ◌<◌, ◌≤◌}
 use mathlib.Core.Path.{◌≡◌}
 use lib.ListN.{length, take, drop}
 use Rattle.model.specs.Bytes.{put_at}
@@ -12,6 +12,3 @@ invariant-loop-i l = (l.left < 4294967296)
     × (length l.out ≡ length l.initial.out)
     × (0 < l.i → decimal l.left ≡ take l.i (decimal l.n))
     × (l.out ≡ put_at l.initial.out (l.at + l.i) (drop l.i (decimal l.n)))
-
-abbrev pub decreases-loop-i : goal.decreases-loop-i
-decreases-loop-i l = l.i

@@ -25,6 +25,3 @@ is_closed-requires c = (search rules, search rules, search (placed_within))
 
 pub returns-then-not-is_closed : goal.returns-then-not-is_closed
 returns-then-not-is_closed c = search ways
-
-pub returns : goal.returns
-returns c = search ways

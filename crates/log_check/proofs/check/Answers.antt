@@ -1,6 +1,9 @@
--- A log is checked: sound or not, how many records it has, and the base vector with them counted, zeros if one has a fault.
-use Rattle.log_check.proofs.Sound.{checked_sound, checked_used, checked-held}
+-- A log is checked: none if it is not sound.
+use Rattle.log_check.proofs.Sound.{told_sound, told_known}
 use Rattle.log_check.proofs.check.Goals as goal
 
-pub returns : goal.returns
-returns c = (search (checked_sound), search (checked_used), search (checked-held))
+pub returns-clause-sound : goal.returns-clause-sound
+returns-clause-sound c = search (told_sound)
+
+pub returns-clause-told : goal.returns-clause-told
+returns-clause-told c = search (told_known)

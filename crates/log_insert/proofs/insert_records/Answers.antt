@@ -5,17 +5,16 @@ use borrow.Author.Rules.{rules}
 use native.Mathlib.Omega.{arith}
 use Rattle.log_insert.proofs.insert_records.Goals as goal
 
-pub loop-left-init : goal.loop-left-init
-loop-left-init c = (omega arith, omega arith, refl, search (merging_starts))
+pub loop-j-init : goal.loop-j-init
+loop-j-init c = (omega arith, refl, search (merging_starts))
 
-pub loop-left-preserved : goal.loop-left-preserved
-loop-left-preserved c =
-    let inv = c.loop-left.invariant in
+pub loop-j-preserved : goal.loop-j-preserved
+loop-j-preserved c =
+    let inv = c.loop-j.invariant in
     let pre = c.requires in (
       search rules,
-      omega arith,
       search rules,
-      merging_next _ _ _ _ pre.0 pre.1 pre.2 pre.3 pre.5 _ _ _ inv.3 inv.2 inv.0 inv.1 (search rules) _ _ c.rank_of.ensures.0 c.place_behind-i.ensures.0 _ _ c.move_up.ensures c.put.ensures pre.4,
+      merging_next _ _ _ _ pre.0 pre.1 pre.2 pre.3 pre.5 _ _ _ inv.2 inv.1 inv.0 (omega arith) (search rules) _ _ c.rank_of.ensures.0 c.place_behind-i.ensures.0 _ _ c.move_up.ensures c.put.ensures pre.4,
     )
 
 pub returns : goal.returns

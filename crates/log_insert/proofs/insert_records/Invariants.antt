@@ -5,8 +5,5 @@ use lib.ListN.{length}
 use Rattle.log_insert.proofs.Merged.{Merging}
 use Rattle.log_insert.proofs.insert_records.Given as goal
 
-abbrev pub invariant-loop-left : goal.invariant-loop-left
-invariant-loop-left l = (l.end ≤ l.n) × (l.left ≤ l.k) × (length l.log ≡ length l.initial.log) × Merging l.initial.log l.recs l.n l.k l.log l.end l.left
-
-abbrev pub decreases-loop-left : goal.decreases-loop-left
-decreases-loop-left l = l.left
+abbrev pub invariant-loop-j : goal.invariant-loop-j
+invariant-loop-j l = (l.end ≤ l.n) × (length l.log ≡ length l.initial.log) × Merging l.initial.log l.recs l.n l.k l.log l.end l.j

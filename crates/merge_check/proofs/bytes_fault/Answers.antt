@@ -1,14 +1,8 @@
 -- The first of the second file's records that the first file has with other bytes.
-use Prim.Native.Nat.{◌-◌}
-use native.Mathlib.Nat.{sub-zero}
 use Rattle.log_check.proofs.Scans.{laid_inside}
 use Rattle.merge_check.proofs.Loops.{lent_formed, bytes_stop, bytes_next, bytes_end}
 use borrow.Author.Rules.{rules}
-use native.Mathlib.Omega.{arith}
 use Rattle.merge_check.proofs.bytes_fault.Goals as goal
-
-pub loop-i-init : goal.loop-i-init
-loop-i-init c = (omega arith, rw sub-zero)
 
 pub slice_bounds-clashes-end : goal.slice_bounds-clashes-end
 slice_bounds-clashes-end c = search (laid_inside)
@@ -20,7 +14,7 @@ pub returns-then-clashes : goal.returns-then-clashes
 returns-then-clashes c = search (bytes_stop)
 
 pub loop-i-preserved : goal.loop-i-preserved
-loop-i-preserved c = (omega arith, search (bytes_next))
+loop-i-preserved c = search (bytes_next)
 
 pub returns : goal.returns
 returns c = search (bytes_end)

@@ -8,7 +8,4 @@ use Rattle.model.specs.Merge.{room_fault}
 use Rattle.merge_check.proofs.room_fault.Given as goal
 
 abbrev pub invariant-loop-i : goal.invariant-loop-i
-invariant-loop-i l = (l.i ≤ l.total) × (l.n ≤ 512) × (room_fault l.held.counts l.n l.i (listed (laid_at File l.second) l.i (l.total - l.i)) ≡ room_fault l.held.counts l.used 0 (listed (laid_at File l.second) 0 l.total))
-
-abbrev pub decreases-loop-i : goal.decreases-loop-i
-decreases-loop-i l = l.total - l.i
+invariant-loop-i l = (l.n ≤ 512) × (room_fault l.held.counts l.n l.i (listed (laid_at File l.second) l.i (l.total - l.i)) ≡ room_fault l.held.counts l.used 0 (listed (laid_at File l.second) 0 l.total))

@@ -1,5 +1,4 @@
 -- The records of the second file that a vector lacks are laid one behind another; their count is returned.
-use Prim.Native.Nat.{◌-◌}
 use mathlib.Core.Path.{refl}
 use Rattle.model.specs.Bytes.{joined}
 use Rattle.model.specs.Log.{lacking}
@@ -13,7 +12,7 @@ use Rattle.merge_join.proofs.gather_new.Goals as goal
 
 pub loop-i-init : goal.loop-i-init
 unfolding lacking listed joined
-loop-i-init c = (omega arith, omega arith, search rules, search rules, refl, refl, search (gathers_none))
+loop-i-init c = (omega arith, search rules, search rules, refl, refl, search (gathers_none))
 
 pub slice_bounds-lacks-end : goal.slice_bounds-lacks-end
 slice_bounds-lacks-end c = search (laid_inside)
@@ -22,16 +21,16 @@ pub lacks-requires : goal.lacks-requires
 lacks-requires c = (search rules, search (lent_unit))
 
 pub loop-i-preserved-then-not-lacks : goal.loop-i-preserved-then-not-lacks
-loop-i-preserved-then-not-lacks c = (omega arith, omega arith, search rules, search rules, search (skips_count), search (skips_long), search (skips_laid))
+loop-i-preserved-then-not-lacks c = (omega arith, search rules, search rules, search (skips_count), search (skips_long), search (skips_laid))
 
 pub slice_bounds-put-end : goal.slice_bounds-put-end
 slice_bounds-put-end c = search (laid_inside)
 
 pub loop-i-preserved : goal.loop-i-preserved
-loop-i-preserved c = (omega arith, omega arith, search rules, search rules, search (adds_count), search (adds_long), search (adds_laid))
+loop-i-preserved c = (omega arith, search rules, search rules, search (adds_count), search (adds_long), search (adds_laid))
 
 pub returns-clause-counted : goal.returns-clause-counted
-returns-clause-counted c = (search (gathered_count), omega arith)
+returns-clause-counted c = (search (gathered_count, rules), omega arith)
 
 pub returns-clause-laid : goal.returns-clause-laid
-returns-clause-laid c = search (gathered_laid)
+returns-clause-laid c = search (gathered_laid, rules)

@@ -3,10 +3,6 @@ use native.Mathlib.Omega.{arith}
 use Rattle.order_model.specs.Order.{name_count}
 use Rattle.order_names.proofs.count_names.Goals as goal
 
-pub returns-then-list-eq0 : goal.returns-then-list-eq0
-unfolding name_count
-returns-then-list-eq0 c = omega arith
-
 pub returns : goal.returns
 unfolding name_count
 returns c = omega arith

@@ -1,7 +1,5 @@
 -- The counts of the records before each of the n named cover what it has seen.
-use Prim.Native.Nat.{◌≤◌, ◌-◌}
-use mathlib.Core.Path.{◌≡◌}
-use lib.ListN.{replicate}
+use Rattle.std.proofs.Common.{◌≡◌, ◌-◌, replicate}
 use Rattle.log_check.specs.InOrder.{listed}
 use Rattle.order_laws.specs.Marking.{covers_each}
 use Rattle.order_names.specs.Named.{named_at}
@@ -9,7 +7,4 @@ use Rattle.order_seen.proofs.Running.{Low}
 use Rattle.order_seen.proofs.seen_first.Given as goal
 
 abbrev pub invariant-loop-i : goal.invariant-loop-i
-invariant-loop-i l = (l.i ≤ l.n) × Low l.had.counts l.i × (covers_each l.had.counts (listed (named_at l.log l.list l.places) l.i (l.n - l.i)) ≡ covers_each (replicate 8 0) (listed (named_at l.log l.list l.places) 0 l.n))
-
-abbrev pub decreases-loop-i : goal.decreases-loop-i
-decreases-loop-i l = l.n - l.i
+invariant-loop-i l = Low l.had.counts l.i × (covers_each l.had.counts (listed (named_at l.log l.list l.places) l.i (l.n - l.i)) ≡ covers_each (replicate 8 0) (listed (named_at l.log l.list l.places) 0 l.n))

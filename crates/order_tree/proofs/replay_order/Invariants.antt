@@ -1,7 +1,5 @@
 -- The n records named, one after another, from the root alone on, into a table and a register of zeros.
-use Prim.Native.Nat.{◌+◌, ◌≤◌, ◌-◌}
-use mathlib.Core.Path.{◌≡◌}
-use lib.ListN.{length}
+use Rattle.std.proofs.Common.{◌+◌, ◌≤◌}
 use Rattle.model.specs.Replay.{empty_tree, replay_from}
 use Rattle.hash_chains.specs.Chains.{nodes_in}
 use Rattle.tree_lookup.specs.Roles.{Works}
@@ -10,7 +8,4 @@ use Rattle.order_names.specs.Named.{named_at}
 use Rattle.order_tree.proofs.replay_order.Given as goal
 
 abbrev pub invariant-loop-i : goal.invariant-loop-i
-invariant-loop-i l = (l.i ≤ l.n) × (length l.table ≡ length l.initial.table) × (length l.register ≡ length l.initial.register) × (nodes_in 4097 l.register ≤ nodes_in 4097 l.initial.register + l.i) × Works l.table l.register l.size.entries l.size.asides (replay_from empty_tree (listed (named_at l.log l.list l.places) 0 l.i))
-
-abbrev pub decreases-loop-i : goal.decreases-loop-i
-decreases-loop-i l = l.n - l.i
+invariant-loop-i l = (nodes_in 4097 l.register ≤ nodes_in 4097 l.initial.register + l.i) × Works l.table l.register l.size.entries l.size.asides (replay_from empty_tree (listed (named_at l.log l.list l.places) 0 l.i))

@@ -1,18 +1,16 @@
 -- The first n events of a block are.
-use Prim.Native.Nat.{◌-◌}
 use native.Mathlib.Nat.{sub-zero}
 use Rattle.plan_block.proofs.Events.{stops, goes_on_lem, ends}
-use native.Mathlib.Omega.{arith}
 use Rattle.plan_block.proofs.events_hold.Goals as goal
 
 pub loop-i-init : goal.loop-i-init
-loop-i-init c = (omega arith, rw sub-zero)
+loop-i-init c = rw sub-zero
 
 pub returns-then-not-event_holds : goal.returns-then-not-event_holds
 returns-then-not-event_holds c = search (stops)
 
 pub loop-i-preserved : goal.loop-i-preserved
-loop-i-preserved c = (omega arith, search (goes_on_lem))
+loop-i-preserved c = search (goes_on_lem)
 
 pub returns : goal.returns
 returns c = search (ends)

@@ -1,15 +1,16 @@
 -- How many acts were skipped.
-use Rattle.plan_lines.proofs.Lines.{skipped_word_fits, skipped_fits, skipped_feed_fits, wrote_skipped_line}
+use Rattle.line_text.proofs.Chains.{first_of_three, second_of_three, last_of_three, wrote_three}
+use Rattle.plan_lines.proofs.Lines.{skipped_is}
 use Rattle.plan_lines.proofs.skipped_line.Goals as goal
 
 pub put_word-a-requires : goal.put_word-a-requires
-put_word-a-requires c = search (skipped_word_fits)
+put_word-a-requires c = first_of_three (skipped_is _) _ _ c.requires
 
 pub put_number-b-requires : goal.put_number-b-requires
-put_number-b-requires c = search (skipped_fits)
+put_number-b-requires c = second_of_three (skipped_is _) c.requires c.put_word-a.ensures
 
 pub put_byte-requires : goal.put_byte-requires
-put_byte-requires c = search (skipped_feed_fits)
+put_byte-requires c = last_of_three (skipped_is _) c.requires c.put_word-a.ensures c.put_number-b.ensures
 
 pub returns : goal.returns
-returns c = search (wrote_skipped_line)
+returns c = wrote_three (skipped_is _) c.requires c.put_word-a.ensures c.put_number-b.ensures c.put_byte.ensures

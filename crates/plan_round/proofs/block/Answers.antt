@@ -8,13 +8,13 @@ use native.Mathlib.Omega.{arith}
 use Rattle.plan_round.proofs.block.Goals as goal
 
 pub loop-i-init : goal.loop-i-init
-loop-i-init c = (omega arith, search (few_events), refl, refl, search rules, omega arith, rw sub-zero)
+loop-i-init c = (search (few_events), search rules, omega arith, rw sub-zero)
 
-pub event-next-requires : goal.event-next-requires
-event-next-requires c = (search rules, search rules, search rules, search (event_at_lem), search rules, search rules)
+pub event-tally-requires : goal.event-tally-requires
+event-tally-requires c = (search rules, search rules, search rules, search (event_at_lem), search rules, search rules)
 
 pub loop-i-preserved : goal.loop-i-preserved
-loop-i-preserved c = (omega arith, search rules, search rules, search rules, search (units_on, event_at_lem), search (skipped_on, event_at_lem), search (goes_on_lem, event_at_lem))
+loop-i-preserved c = (search rules, search (units_on, event_at_lem), search (skipped_on, event_at_lem), search (goes_on_lem, event_at_lem))
 
 pub returns : goal.returns
 returns c = search (ends)

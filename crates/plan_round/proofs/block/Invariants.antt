@@ -7,7 +7,4 @@ use Prim.Native.Nat.{◌+◌, ◌-◌, ◌≤◌}
 use Rattle.plan_round.proofs.block.Given as goal
 
 abbrev pub invariant-loop-i : goal.invariant-loop-i
-invariant-loop-i l = (l.i ≤ l.n) × (l.n ≤ 5) × (length l.logs ≡ length l.initial.logs) × (length l.work ≡ length l.initial.work) × Units l.logs × (l.tally.skipped ≤ l.initial.tally.skipped + l.i) × (events_done l.archive (round l.logs l.tally.made l.tally.skipped) l.b l.i (l.n - l.i) ≡ events_done l.archive (round l.initial.logs l.initial.tally.made l.initial.tally.skipped) l.b 0 l.n)
-
-abbrev pub decreases-loop-i : goal.decreases-loop-i
-decreases-loop-i l = l.n - l.i
+invariant-loop-i l = (l.n ≤ 5) × Units l.logs × (l.tally.skipped ≤ l.initial.tally.skipped + l.i) × (events_done l.archive (round l.logs l.tally.made l.tally.skipped) l.b l.i (l.n - l.i) ≡ events_done l.archive (round l.initial.logs l.initial.tally.made l.initial.tally.skipped) l.b 0 l.n)

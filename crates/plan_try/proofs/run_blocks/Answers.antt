@@ -7,16 +7,16 @@ use native.Mathlib.Omega.{arith}
 use Rattle.plan_try.proofs.run_blocks.Goals as goal
 
 pub loop-k-init : goal.loop-k-init
-loop-k-init c = (omega arith, refl, refl, search (units_start), omega arith, search (starts))
+loop-k-init c = (search (units_start), omega arith, search (starts))
 
 pub slice_bounds-block-end : goal.slice_bounds-block-end
 slice_bounds-block-end c = search (block_inside)
 
-pub block-next-requires : goal.block-next-requires
-block-next-requires c = (search rules, search rules, search (block_long), search (block_passes), search rules, search (few_skipped))
+pub block-t-requires : goal.block-t-requires
+block-t-requires c = (search rules, search rules, search (block_long), search (block_passes), search rules, search (few_skipped))
 
 pub loop-k-preserved : goal.loop-k-preserved
-loop-k-preserved c = (omega arith, search rules, search rules, search (units_on), search (skipped_on), search (goes_on_lem))
+loop-k-preserved c = (search (units_on), search (skipped_on), search (goes_on_lem))
 
 pub returns-clause-happened : goal.returns-clause-happened
 returns-clause-happened c = search (ends)

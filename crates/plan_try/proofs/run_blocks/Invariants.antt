@@ -7,7 +7,4 @@ use Rattle.plan_units.specs.Units.{Units}
 use Rattle.plan_try.proofs.run_blocks.Given as goal
 
 abbrev pub invariant-loop-k : goal.invariant-loop-k
-invariant-loop-k l = (l.k ≤ l.n) × (length l.logs ≡ length l.initial.logs) × (length l.work ≡ length l.initial.work) × Units l.logs × (l.t.skipped ≤ 5 * l.k) × (blocks_done l.archive (round l.logs l.t.made l.t.skipped) l.plan l.k (l.n - l.k) ≡ round_of l.plan)
-
-abbrev pub decreases-loop-k : goal.decreases-loop-k
-decreases-loop-k l = l.n - l.k
+invariant-loop-k l = Units l.logs × (l.t.skipped ≤ 5 * l.k) × (blocks_done l.archive (round l.logs l.t.made l.t.skipped) l.plan l.k (l.n - l.k) ≡ round_of l.plan)

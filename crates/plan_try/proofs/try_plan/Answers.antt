@@ -1,4 +1,5 @@
 -- A plan is tried.
+use Rattle.refusal.proofs.Refusals.{not_zero}
 use Rattle.plan_lines.proofs.Lengths.{refused_fits, round_fits, refused_end, round_end}
 use Rattle.plan_try.proofs.Trying.{text_wrong, base_wrong, work_wrong, logs_wrong, accepted, refuses, comes_to_lem}
 use borrow.Author.Rules.{rules}
@@ -22,11 +23,11 @@ refused_line-n-requires c = search (refused_fits)
 pub overflow_cast-result : goal.overflow_cast-result
 overflow_cast-result c = search (refused_end)
 
-pub returns-then-f-ne0 : goal.returns-then-f-ne0
-returns-then-f-ne0 c = search (refuses)
+pub returns-in-Err : goal.returns-in-Err
+returns-in-Err c = search (refuses, not_zero, c.in-Err.ensures)
 
 pub run-skipped-requires : goal.run-skipped-requires
-run-skipped-requires c = (search (accepted), search rules, search rules, search rules)
+run-skipped-requires c = (search (accepted, c.in_default.ensures), search rules, search rules, search rules)
 
 pub round_text-n-requires : goal.round_text-n-requires
 round_text-n-requires c = (search rules, search (round_fits))
@@ -35,4 +36,4 @@ pub overflow_cast-result-2 : goal.overflow_cast-result-2
 overflow_cast-result-2 c = search (round_end)
 
 pub returns : goal.returns
-returns c = search (comes_to_lem)
+returns c = search (comes_to_lem, c.in_default.ensures)

@@ -7,4 +7,4 @@ pub walk-requires : goal.walk-requires
 walk-requires c = search (walk_fits, rules)
 
 pub returns : goal.returns
-returns c = search (copied_all)
+returns c = search (copied_all, c.fill.ensures.after (λ y e. e))

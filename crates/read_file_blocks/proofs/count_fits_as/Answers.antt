@@ -5,8 +5,8 @@ use Rattle.read_file_blocks.proofs.count_fits_as.Goals as goal
 pub returns-then-p-k : goal.returns-then-p-k
 returns-then-p-k c = search (behind_rows_lem)
 
-pub returns-then-count-six_of : goal.returns-then-count-six_of
-returns-then-count-six_of c = search (not_filled)
+pub returns-then-from-min : goal.returns-then-from-min
+returns-then-from-min c = search (not_filled)
 
 pub returns : goal.returns
 returns c = search (filled)

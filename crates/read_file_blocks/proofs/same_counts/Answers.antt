@@ -1,7 +1,7 @@
--- The same counts: each covers the other.
-use Rattle.read_file_blocks.proofs.Agreement.{both_cover}
-use borrow.Author.Rules.{rules}
+-- The same counts.
+use mathlib.Core.Path.{◌∙◌}
+use Rattle.read_file_blocks.proofs.Agreement.{pointwise_same}
 use Rattle.read_file_blocks.proofs.same_counts.Goals as goal
 
 pub returns : goal.returns
-returns c = search (both_cover, rules)
+returns c = c.eq.ensures ∙ pointwise_same _ _

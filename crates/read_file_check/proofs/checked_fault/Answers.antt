@@ -1,4 +1,4 @@
--- 2 for a file that is not of 1 to 86 blocks, then its first fault.
+-- BadLength for a file that is not of 1 to 86 blocks, then its first fault.
 use Rattle.read_file_check.proofs.Checks.{whole, some_block, few_blocks, not_whole, whole-checked}
 use Rattle.read_file_check.proofs.checked_fault.Goals as goal
 

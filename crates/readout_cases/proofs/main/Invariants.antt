@@ -3,7 +3,4 @@ use Rattle.std.proofs.Common.{◌-◌, ◌≤◌}
 use Rattle.readout_cases.proofs.main.Given as goal
 
 abbrev pub invariant-loop-i : goal.invariant-loop-i
-invariant-loop-i l = (l.i ≤ l.cases) × (l.passed ≤ l.i)
-
-abbrev pub decreases-loop-i : goal.decreases-loop-i
-decreases-loop-i l = l.cases - l.i
+invariant-loop-i l = l.passed ≤ l.i

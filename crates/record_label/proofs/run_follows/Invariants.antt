@@ -1,11 +1,7 @@
 -- The same of the n bytes behind a place.
-use Prim.Native.Nat.{◌≤◌, ◌-◌}
 use mathlib.Core.Path.{◌≡◌}
 use Rattle.record_label.specs.Follow.{follow_to}
 use Rattle.record_label.proofs.run_follows.Given as goal
 
 abbrev pub invariant-loop-i : goal.invariant-loop-i
-invariant-loop-i l = (l.i ≤ l.n) × (l.fine ≡ follow_to l.t l.at l.i)
-
-abbrev pub decreases-loop-i : goal.decreases-loop-i
-decreases-loop-i l = l.n - l.i
+invariant-loop-i l = (l.fine ≡ follow_to l.t l.at l.i)

@@ -1,12 +1,8 @@
 -- The same label, in capitals or small letters.
-use Prim.Native.Nat.{◌≤◌, ◌-◌}
 use mathlib.Core.Path.{◌≡◌}
 use lib.ListN.{take}
 use Rattle.model.specs.Replay.{same_label}
 use Rattle.record_label.proofs.same_label.Given as goal
 
 abbrev pub invariant-loop-i : goal.invariant-loop-i
-invariant-loop-i l = (l.i ≤ 32) × (l.equal ≡ same_label (take l.i l.a) (take l.i l.b))
-
-abbrev pub decreases-loop-i : goal.decreases-loop-i
-decreases-loop-i l = 32 - l.i
+invariant-loop-i l = (l.equal ≡ same_label (take l.i l.a) (take l.i l.b))

@@ -4,11 +4,7 @@ use Rattle.model.specs.File.{file_records_from}
 use Rattle.model.specs.Log.{all_to}
 use lib.ListN.{length}
 use mathlib.Core.Path.{◌≡◌}
-use Prim.Native.Nat.{◌-◌, ◌≤◌}
 use Rattle.sab2_rows.proofs.load_rows.Given as goal
 
 abbrev pub invariant-loop-i : goal.invariant-loop-i
-invariant-loop-i l = (l.i ≤ l.n) × (length l.base ≡ 43032) × (l.base ≡ base_to (file_records_from l.file 0 l.n) l.entries l.asides l.i) × (l.all ≡ all_to l.i (tail_blank (file_records_from l.file 0 l.n) l.entries l.asides))
-
-abbrev pub decreases-loop-i : goal.decreases-loop-i
-decreases-loop-i l = l.n - l.i
+invariant-loop-i l = (length l.base ≡ 43032) × (l.base ≡ base_to (file_records_from l.file 0 l.n) l.entries l.asides l.i) × (l.all ≡ all_to l.i (tail_blank (file_records_from l.file 0 l.n) l.entries l.asides))

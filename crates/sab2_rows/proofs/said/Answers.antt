@@ -4,4 +4,4 @@ use borrow.Author.Rules.{rules}
 use Rattle.sab2_rows.proofs.said.Goals as goal
 
 pub returns : goal.returns
-returns c = (search (head_word), search rules)
+returns c = (rw c.from.ensures (search (head_word)), search rules)

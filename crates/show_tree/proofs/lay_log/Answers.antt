@@ -4,4 +4,4 @@ use Rattle.show_tree.proofs.Shown.{zeroed}
 use Rattle.show_tree.proofs.lay_log.Goals as goal
 
 pub fill_log-requires : goal.fill_log-requires
-fill_log-requires c = (search, search, search, search (zeroed), refl)
+fill_log-requires c = (search, search, search, search (zeroed, c.fill.ensures.after (λ y e. e)), refl)

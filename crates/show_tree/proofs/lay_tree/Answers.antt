@@ -5,4 +5,4 @@ use Rattle.show_tree.proofs.Shown.{zeroed}
 use Rattle.show_tree.proofs.lay_tree.Goals as goal
 
 pub fill_tree-requires : goal.fill_tree-requires
-fill_tree-requires c = (search, search, search, search, search, search, search, search (zeroed), refl)
+fill_tree-requires c = (search, search, search, search, search, search, search, search (zeroed, c.fill.ensures.after (λ y e. e)), refl)

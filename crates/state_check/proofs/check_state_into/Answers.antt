@@ -1,5 +1,5 @@
 -- A state is checked, and the records of the log are noted in the tables, if the base is sound.
-use Rattle.state_check.proofs.States.{base_refused, base_unnoted, base_not_sound, state_told, state_noted, state_holds}
+use Rattle.state_check.proofs.States.{base_refused, base_unnoted, log_refused, unit_refused, state_sound, state_noted, state_holds}
 use Rattle.state_check.proofs.check_state_into.Goals as goal
 
 pub returns-then-not-check_base-clause-outright : goal.returns-then-not-check_base-clause-outright
@@ -8,14 +8,23 @@ returns-then-not-check_base-clause-outright c = search (base_refused)
 pub returns-then-not-check_base-clause-filled : goal.returns-then-not-check_base-clause-filled
 returns-then-not-check_base-clause-filled c = search (base_unnoted)
 
-pub returns-then-not-check_base-clause-holds : goal.returns-then-not-check_base-clause-holds
-returns-then-not-check_base-clause-holds c = λ t. absurd (search (base_not_sound))
+pub returns-in_err-checked-clause-outright : goal.returns-in_err-checked-clause-outright
+returns-in_err-checked-clause-outright c = rw c.from_residual.ensures (search (log_refused, c.in_err-checked.ensures.outright))
+
+pub returns-in_err-checked-clause-filled : goal.returns-in_err-checked-clause-filled
+returns-in_err-checked-clause-filled c = search (state_noted, c.in_err-checked.ensures.outright)
+
+pub returns-then-not-lists_all-clause-outright : goal.returns-then-not-lists_all-clause-outright
+returns-then-not-lists_all-clause-outright c = search (unit_refused, c.in_ok-checked.ensures.outright)
+
+pub returns-then-not-lists_all-clause-filled : goal.returns-then-not-lists_all-clause-filled
+returns-then-not-lists_all-clause-filled c = search (state_noted, c.in_ok-checked.ensures.outright)
 
 pub returns-clause-outright : goal.returns-clause-outright
-returns-clause-outright c = search (state_told)
+returns-clause-outright c = search (state_sound, c.in_ok-checked.ensures.outright)
 
 pub returns-clause-filled : goal.returns-clause-filled
-returns-clause-filled c = search (state_noted)
+returns-clause-filled c = search (state_noted, c.in_ok-checked.ensures.outright)
 
 pub returns-clause-holds : goal.returns-clause-holds
-returns-clause-holds c = λ t. search (state_holds)
+returns-clause-holds c = search (state_holds, c.in_ok-checked.ensures.outright, c.in_ok-checked.ensures.holds)

@@ -1,22 +1,17 @@
 -- 10 of a well-formed record whose identity is held with other bytes, or 0.
-use Rattle.take_beside.proofs.Checks.{held-before, held-differs, held_same, held-unit, held_most, held_inside}
-use borrow.Author.Rules.{rules}
+use Rattle.take_beside.proofs.Checks.{held-before, held-differs, held_same, held-unit}
 use Rattle.take_judge.proofs.held_fault.Goals as goal
 
+ruleset ways = (held-before, held-differs, held_same)
+
 pub bounds-base-u : goal.bounds-base-u
-bounds-base-u c = search (held-unit)
+bounds-base-u c = search held-unit
 
 pub returns-then-c-f : goal.returns-then-c-f
-returns-then-c-f c = search (held-before)
-
-pub position-q-requires : goal.position-q-requires
-position-q-requires c = (search rules, search (held-unit), search rules, search (held_most))
-
-pub same_held-requires : goal.same_held-requires
-same_held-requires c = (search (held_inside), search rules, search rules)
+returns-then-c-f c = search ways
 
 pub returns-then-not-same_held : goal.returns-then-not-same_held
-returns-then-not-same_held c = search (held-differs)
+returns-then-not-same_held c = search ways
 
 pub returns : goal.returns
-returns c = search (held_same)
+returns c = search ways

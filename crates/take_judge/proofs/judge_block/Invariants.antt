@@ -1,5 +1,5 @@
 -- The n records of a block, one after another: the number of the first that is refused, or 0.
-use Prim.Native.Nat.{◌≤◌, ◌-◌}
+use Prim.Native.Nat.{◌-◌}
 use mathlib.Core.Path.{◌≡◌}
 use lib.ListN.{length}
 use Rattle.take_beside.specs.Judging.{judge_from}
@@ -7,8 +7,5 @@ use Rattle.take_judge.proofs.Going.{Going}
 use Rattle.take_judge.proofs.judge_block.Given as goal
 
 abbrev pub invariant-loop-j : goal.invariant-loop-j
-invariant-loop-j l = (l.j ≤ l.n) × (length l.places ≡ 4096) × (length l.seens ≡ 4144) × (judge_from l.list l.base.counts l.log l.b l.j (l.n - l.j) l.held.counts l.used l.places l.seens ≡ judge_from l.list l.base.counts l.log l.b 0 l.n l.initial.held.counts l.m l.initial.places l.initial.seens)
+invariant-loop-j l = (length l.places ≡ 4096) × (length l.seens ≡ 4144) × (judge_from l.list l.base.counts l.log l.b l.j (l.n - l.j) l.held.counts l.used l.places l.seens ≡ judge_from l.list l.base.counts l.log l.b 0 l.n l.initial.held.counts l.m l.initial.places l.initial.seens)
     × Going l.list l.base.counts l.log l.b l.n l.j l.held.counts l.used l.places l.seens
-
-abbrev pub decreases-loop-j : goal.decreases-loop-j
-decreases-loop-j l = l.n - l.j

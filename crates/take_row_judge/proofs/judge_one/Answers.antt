@@ -1,19 +1,21 @@
 -- One block beside the records held: 2 to 6, then its records.
-use Rattle.take_row_judge.proofs.Judged.{given_long, given_few, one_bad, one_refused, one_taken}
-use borrow.Author.Rules.{rules}
+use mathlib.Core.Path.{refl}
+use Rattle.std.proofs.Common.{rules}
+use Rattle.std.proofs.lemmas.Result.{err_from_is_err_and}
+use Rattle.refusal.proofs.Refusals.{not_zero}
+use Rattle.take_row_judge.proofs.Judged.{given_long, given_few, one_bad, one_answered}
 use Rattle.take_row_judge.proofs.judge_one.Goals as goal
 
-pub returns-then-f-ne0 : goal.returns-then-f-ne0
-returns-then-f-ne0 c = search (one_bad)
+pub returns-in_err-given_fault : goal.returns-in_err-given_fault
+returns-in_err-given_fault c =
+    let p = err_from_is_err_and c.from_residual.result c.from_residual.ensures.1 in
+    rw (p.1, p.2) (search (one_bad, not_zero, c.in_err-given_fault.ensures))
 
 pub count_in-n-requires : goal.count_in-n-requires
-count_in-n-requires c = search (given_long)
+count_in-n-requires c = given_long _ _ 0 c.in_ok-given_fault.ensures refl
 
-pub judge_into-t-requires : goal.judge_into-t-requires
-judge_into-t-requires c = (search (given_long), search rules, search (given_few), search rules, search rules, search rules, search rules)
-
-pub returns-then-t-ne0 : goal.returns-then-t-ne0
-returns-then-t-ne0 c = search (one_refused)
+pub judge_into-requires : goal.judge_into-requires
+judge_into-requires c = (given_long _ _ 0 c.in_ok-given_fault.ensures refl, search rules, search (given_few, c.in_ok-given_fault.ensures), search rules, search rules, search rules, search rules)
 
 pub returns : goal.returns
-returns c = search (one_taken)
+returns c = search (one_answered, c.in_ok-given_fault.ensures)

@@ -9,6 +9,3 @@ use Rattle.take_row_store.proofs.run_end.Given as goal
 
 abbrev pub invariant-loop-i : goal.invariant-loop-i
 invariant-loop-i l = (l.from < l.i) × (l.i ≤ l.to) × (l.last ≡ rank (laid_at Log l.work (l.i - 1))) × Run l.work l.from l.i
-
-abbrev pub decreases-loop-i : goal.decreases-loop-i
-decreases-loop-i l = l.to - l.i

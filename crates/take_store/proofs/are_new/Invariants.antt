@@ -6,7 +6,4 @@ use Rattle.take_store.specs.New.{new_from}
 use Rattle.take_store.proofs.are_new.Given as goal
 
 abbrev pub invariant-loop-j : goal.invariant-loop-j
-invariant-loop-j l = (l.j ≤ l.n) × (l.floor ≤ 4194560) × (new_from l.held.counts (record_at l.b) l.floor l.j (l.n - l.j) ≡ new_from l.held.counts (record_at l.b) 0 0 l.n)
-
-abbrev pub decreases-loop-j : goal.decreases-loop-j
-decreases-loop-j l = l.n - l.j
+invariant-loop-j l = (l.floor ≤ 4194560) × (new_from l.held.counts (record_at l.b) l.floor l.j (l.n - l.j) ≡ new_from l.held.counts (record_at l.b) 0 0 l.n)

@@ -1,5 +1,4 @@
 -- The n records of a block that passed are stored, one after another.
-use Prim.Native.Nat.{◌≤◌, ◌-◌}
 use mathlib.Core.Path.{◌≡◌}
 use lib.ListN.{length}
 use Rattle.model.specs.Log.{records_of}
@@ -9,7 +8,4 @@ use Rattle.take_store.specs.Stored.{Stored}
 use Rattle.take_store.proofs.store_each.Given as goal
 
 abbrev pub invariant-loop-j : goal.invariant-loop-j
-invariant-loop-j l = (l.j ≤ l.n) × (length l.log ≡ length l.initial.log) × Stored l.base.counts (after_to l.list l.base.counts (records_of l.initial.log) (record_at l.b) l.j) l.log l.cur.used l.cur.held.counts
-
-abbrev pub decreases-loop-j : goal.decreases-loop-j
-decreases-loop-j l = l.n - l.j
+invariant-loop-j l = (length l.log ≡ length l.initial.log) × Stored l.base.counts (after_to l.list l.base.counts (records_of l.initial.log) (record_at l.b) l.j) l.log l.stored.used l.stored.held.counts

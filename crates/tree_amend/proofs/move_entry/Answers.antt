@@ -5,20 +5,20 @@ use native.Mathlib.Omega.{arith}
 use borrow.Author.Rules.{rules}
 use Rattle.tree_amend.proofs.move_entry.Goals as goal
 
-pub entry_of-row-requires : goal.entry_of-row-requires
-entry_of-row-requires c = (search, search (moved_object))
+pub entry_of-requires : goal.entry_of-requires
+entry_of-requires c = (search, search (moved_object))
 
-pub returns-then-size-row : goal.returns-then-size-row
-returns-then-size-row c = (search (unchanged), omega arith, search (move_leaves))
+pub returns-in_default : goal.returns-in_default
+returns-in_default c = (search (unchanged, c.in_default.ensures.shows, rules), omega arith, search (move_leaves, c.in_default.ensures.row, c.in_default.ensures.shows, rules))
 
 pub shift_entry-requires : goal.shift_entry-requires
-shift_entry-requires c = (search, search, search, search, search (row_present))
+shift_entry-requires c = (search, search, search, c.in-Some.ensures.within, search (row_present, c.in-Some.ensures.shows, c.in-Some.ensures.within))
 
 pub slice_bounds-move_row-end : goal.slice_bounds-move_row-end
-slice_bounds-move_row-end c = search (row_end)
+slice_bounds-move_row-end c = search (row_end, c.in-Some.ensures.within)
 
 pub move_row-requires : goal.move_row-requires
 move_row-requires c = (search rules, search rules, search rules, search (moved_folder))
 
 pub returns : goal.returns
-returns c = (search (move_done), search (move_nodes), search (move_register))
+returns c = (search (move_done, c.in-Some.ensures.shows, c.in-Some.ensures.within), search (move_nodes, c.in-Some.ensures.shows), search (move_register, c.in-Some.ensures.row, c.in-Some.ensures.shows, c.in-Some.ensures.within))

@@ -7,27 +7,27 @@ use native.Mathlib.Omega.{arith}
 use borrow.Author.Rules.{rules}
 use Rattle.tree_amend.proofs.remove.Goals as goal
 
-pub entry_of-row-requires : goal.entry_of-row-requires
-entry_of-row-requires c = (search, search (object_range))
+pub entry_of-requires : goal.entry_of-requires
+entry_of-requires c = (search, search (object_range))
 
-pub returns-then-size-row : goal.returns-then-size-row
-returns-then-size-row c = (search (unchanged), omega arith, search (remove_leaves))
+pub returns-in_default : goal.returns-in_default
+returns-in_default c = (search (unchanged, c.in_default.ensures.shows, rules), omega arith, search (remove_leaves, c.in_default.ensures.row, c.in_default.ensures.shows, rules))
 
 pub inside_at-f-requires : goal.inside_at-f-requires
-inside_at-f-requires c = (search (works_long), omega arith)
+inside_at-f-requires c = (search (works_long), omega (arith, c.in-Some.ensures.within))
 
 pub slice_bounds-leave-end : goal.slice_bounds-leave-end
-slice_bounds-leave-end c = search (label_end)
+slice_bounds-leave-end c = search (label_end, c.in-Some.ensures.within)
 
 pub leave-requires : goal.leave-requires
-leave-requires c = (search (works_chains), search (works_wide), omega arith, search (leave_counts, row_present), search rules)
+leave-requires c = (search (works_chains), search (works_wide), omega arith, search (leave_counts, row_present, c.in-Some.ensures.shows, c.in-Some.ensures.within), search rules)
 
 pub slice_bounds-remove_row-end : goal.slice_bounds-remove_row-end
-slice_bounds-remove_row-end c = search (row_end)
+slice_bounds-remove_row-end c = search (row_end, c.in-Some.ensures.within)
 
 pub returns : goal.returns
 returns c = (
-  remove_done _ _ _ _ c.requires.1 _ c.requires.0 _ _ c.object_of.ensures c.entry_of-row.ensures.1 _ _ _ c.if-size-row.false c.inside_at-f.ensures _ c.place_of-from.ensures.0 c.place_of-from.ensures.1 c.leave.ensures _ c.remove_row.ensures,
-  search (remove_nodes),
-  remove_register _ _ _ _ _ _ _ c.object_of.ensures c.entry_of-row.ensures.0 c.entry_of-row.ensures.1 c.if-size-row.false _ c.inside_at-f.ensures _ _ c.place_of-from.ensures.0 c.leave.ensures,
+  remove_done _ _ _ _ c.requires.1 _ c.requires.0 _ _ c.object_of.ensures c.in-Some.ensures.shows _ _ _ c.in-Some.ensures.within c.inside_at-f.ensures _ c.place_of-from.ensures.0 c.place_of-from.ensures.1 c.leave.ensures _ c.remove_row.ensures,
+  search (remove_nodes, c.in-Some.ensures.shows),
+  remove_register _ _ _ _ _ _ _ c.object_of.ensures c.in-Some.ensures.row c.in-Some.ensures.shows c.in-Some.ensures.within _ c.inside_at-f.ensures _ _ c.place_of-from.ensures.0 c.leave.ensures,
 )

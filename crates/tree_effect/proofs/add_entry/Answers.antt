@@ -4,9 +4,6 @@ use native.Mathlib.Omega.{arith}
 use borrow.Author.Rules.{rules}
 use Rattle.tree_effect.proofs.add_entry.Goals as goal
 
-pub enter_entry-requires : goal.enter_entry-requires
-enter_entry-requires c = (search, search, search, search, search, search)
-
 pub slice_bounds-fill_row-end : goal.slice_bounds-fill_row-end
 slice_bounds-fill_row-end c = search (next_row_end)
 

@@ -1,14 +1,11 @@
 -- The register of a make: the role of the new entry, its folder's count and its label.
 use Rattle.model.specs.Record.{label_of}
 use Rattle.model.specs.Bytes.{part}
-use Rattle.tree_effect.proofs.Effects.{made_nodes, name_chains, name_room, enter_chains, enter_wide, enter_nodes, enter_count}
+use Rattle.tree_effect.proofs.Effects.{made_nodes, enter_chains, enter_wide, enter_nodes, enter_count}
 use Rattle.tree_effect.proofs.Registers.{make_register}
 use native.Mathlib.Omega.{arith}
 use borrow.Author.Rules.{rules}
 use Rattle.tree_effect.proofs.enter_entry.Goals as goal
-
-pub name-requires : goal.name-requires
-name-requires c = (search (name_chains), search (name_room), omega arith)
 
 pub enter_at-requires : goal.enter_at-requires
 unfolding label_of part

@@ -1,5 +1,4 @@
 -- The rows of present entries move to the front.
-use Prim.Native.Nat.{◌-◌}
 use native.Mathlib.Omega.{arith}
 use mathlib.Core.Path.{refl}
 use borrow.Author.Rules.{rules}
@@ -9,13 +8,13 @@ use Rattle.tree_finish.proofs.compact.Goals as goal
 
 pub loop-i-init : goal.loop-i-init
 unfolding present_to
-loop-i-init c = (omega arith, refl, search (compact_starts), refl)
+loop-i-init c = (refl, search (compact_starts), refl)
 
 pub keep_row-j-requires : goal.keep_row-j-requires
 keep_row-j-requires c = (omega arith, omega arith, search (row_below))
 
 pub loop-i-preserved : goal.loop-i-preserved
-loop-i-preserved c = (omega arith, search rules, search (compact_rows), search (compact_count))
+loop-i-preserved c = (search rules, search (compact_rows), search (compact_count))
 
 pub returns : goal.returns
 returns c = search (compact_ends)

@@ -1,5 +1,4 @@
 -- The entries that open asides mark are flagged.
-use Prim.Native.Nat.{◌≤◌, ◌-◌}
 use mathlib.Core.Path.{◌≡◌}
 use lib.ListN.{length, take}
 use Rattle.tree_table.specs.Rows.{asides_from, tree_in}
@@ -7,7 +6,4 @@ use Rattle.tree_finish.specs.Finishing.{Marked}
 use Rattle.tree_finish.proofs.flag.Given as goal
 
 abbrev pub invariant-loop-i : goal.invariant-loop-i
-invariant-loop-i l = (l.i ≤ l.size.asides) × (length l.table ≡ length l.initial.table) × Marked (take l.i (asides_from l.initial.table 0 l.size.asides)) l.table l.register l.size.entries l.size.asides (tree_in l.initial.table l.size.entries l.size.asides)
-
-abbrev pub decreases-loop-i : goal.decreases-loop-i
-decreases-loop-i l = l.size.asides - l.i
+invariant-loop-i l = (length l.table ≡ length l.initial.table) × Marked (take l.i (asides_from l.initial.table 0 l.size.asides)) l.table l.register l.size.entries l.size.asides (tree_in l.initial.table l.size.entries l.size.asides)

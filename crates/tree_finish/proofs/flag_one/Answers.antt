@@ -1,5 +1,5 @@
 -- The entry that aside i marks is flagged, if the aside is open and the entry ever was made.
-use Rattle.tree_finish.proofs.Flags.{flag_reads, state_inside, mark_inside, flag_closed, flag_none, mark_range, flag_no_role, flag_aside, flag_end, flag_done}
+use Rattle.tree_finish.proofs.Flags.{flag_reads, state_inside, mark_inside, flag_closed, flag_none, mark_range, flag_no_role, flag_aside, flag_done}
 use Rattle.tree_finish.proofs.flag_one.Goals as goal
 
 pub bounds-table-note : goal.bounds-table-note
@@ -22,9 +22,6 @@ returns-then-role-eq0 c = search (flag_no_role)
 
 pub returns-then-size-role : goal.returns-then-size-role
 returns-then-size-role c = search (flag_aside)
-
-pub slice_bounds-flag_row-end : goal.slice_bounds-flag_row-end
-slice_bounds-flag_row-end c = search (flag_end)
 
 pub returns : goal.returns
 returns c = search (flag_done)

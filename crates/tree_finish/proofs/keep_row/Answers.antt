@@ -1,9 +1,6 @@
 -- Row i becomes row j, unless its entry was removed; the row that comes next.
-use Rattle.tree_finish.proofs.Compaction.{keeps-none, keeps-row}
+use Rattle.tree_finish.proofs.Compaction.{keeps-row}
 use Rattle.tree_finish.proofs.keep_row.Goals as goal
-
-pub returns-then-table-i-eq0 : goal.returns-then-table-i-eq0
-returns-then-table-i-eq0 c = search (keeps-none)
 
 pub returns : goal.returns
 returns c = search (keeps-row)

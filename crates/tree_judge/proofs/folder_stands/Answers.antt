@@ -1,26 +1,24 @@
 -- The folder f is the root, or is there and a folder: 13 if it is absent, 14 for a trace.
+use Rattle.std.proofs.Common.{rules}
 use Rattle.tree_lookup.proofs.Working.{works_long}
-use Rattle.tree_judge.proofs.Reasons.{folder_root, folder_absent, folder_trace, folder_found, folder_range}
+use Rattle.tree_judge.proofs.Reasons.{folder_root, folder_absent, folder_trace, folder_found}
 use native.Mathlib.Omega.{arith}
 use Rattle.tree_judge.proofs.folder_stands.Goals as goal
 
 pub returns-then-f-eq0 : goal.returns-then-f-eq0
 returns-then-f-eq0 c = search (folder_root)
 
-pub entry_of-row-requires : goal.entry_of-row-requires
-entry_of-row-requires c = (search, search (folder_range))
-
-pub returns-then-size-row : goal.returns-then-size-row
-returns-then-size-row c = search (folder_absent)
+pub returns-in_default : goal.returns-in_default
+returns-in_default c = search (folder_absent, c.in_default.ensures.shows, rules)
 
 pub kind_at-requires : goal.kind_at-requires
-kind_at-requires c = (search (works_long), omega arith)
+kind_at-requires c = (search (works_long), omega (arith, c.in-Some.ensures.within))
 
 pub made_at-requires : goal.made_at-requires
-made_at-requires c = (search (works_long), omega arith)
+made_at-requires c = (search (works_long), omega (arith, c.in-Some.ensures.within))
 
 pub returns-then-kind_at-ne1 : goal.returns-then-kind_at-ne1
-returns-then-kind_at-ne1 c = search (folder_trace)
+returns-then-kind_at-ne1 c = search (folder_trace, c.in-Some.ensures.shows, c.in-Some.ensures.within)
 
 pub returns : goal.returns
-returns c = search (folder_found)
+returns c = search (folder_found, c.in-Some.ensures.shows, c.in-Some.ensures.within)

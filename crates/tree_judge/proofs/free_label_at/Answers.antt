@@ -7,17 +7,17 @@ use Rattle.model.specs.Bytes.{part}
 use borrow.Author.Rules.{rules}
 use Rattle.tree_judge.proofs.free_label_at.Goals as goal
 
-pub holder_at-row-requires : goal.holder_at-row-requires
+pub holder_at-requires : goal.holder_at-requires
 unfolding label_of part
-holder_at-row-requires c = (search rules, search rules, search rules, search rules)
+holder_at-requires c = (search rules, search rules, search rules, search rules)
 
 pub made_at-requires : goal.made_at-requires
-made_at-requires c = (search (works_long), omega arith)
+made_at-requires c = (search (works_long), omega (arith, c.in-Some.ensures.within))
 
-pub returns-then-row-size : goal.returns-then-row-size
+pub returns-in-Some : goal.returns-in-Some
 unfolding label_of part
-returns-then-row-size c = search (label_held_lem)
+returns-in-Some c = search (label_held_lem, c.in-Some.ensures.shows, c.in-Some.ensures.within)
 
-pub returns : goal.returns
+pub returns-in-None : goal.returns-in-None
 unfolding label_of part
-returns c = search (label_free)
+returns-in-None c = search (label_free, c.in-None.ensures.shows, rules)

@@ -11,13 +11,13 @@ pub entry_of-row-requires : goal.entry_of-row-requires
 entry_of-row-requires c = (search, search (object_range))
 
 pub judge_store-requires : goal.judge_store-requires
-judge_store-requires c = (search, search (works_long), omega arith)
+judge_store-requires c = (search, search (works_long), omega arith, search)
 
 pub judge_settle-requires : goal.judge_settle-requires
 judge_settle-requires c = (search (object_range), search)
 
 pub judge_move-requires : goal.judge_move-requires
-judge_move-requires c = (search, search (is_move), search)
+judge_move-requires c = (search, search (is_move), search, search)
 
 pub returns-in-3 : goal.returns-in-3
 returns-in-3 c = search (judged_store)
@@ -29,7 +29,7 @@ pub returns-in-5 : goal.returns-in-5
 returns-in-5 c = search (judged_rename)
 
 pub returns-in-6 : goal.returns-in-6
-returns-in-6 c = search (judged_settle, object_range)
+returns-in-6 c = search (judged_settle)
 
 pub returns-in_default : goal.returns-in_default
 returns-in_default c = search (judged_move, is_move)

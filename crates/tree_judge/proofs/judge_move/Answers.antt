@@ -2,29 +2,31 @@
 -- for a folder at or below the entry, 15 for a label that another entry holds.
 use Rattle.tree_lookup.proofs.Working.{works_long}
 use Rattle.tree_judge.proofs.Reasons.{move_names, move_absent, move_unseen, move_stops, move_below, move_label}
+use Rattle.refusal.proofs.Refusals.{not_zero}
+use borrow.Author.Rules.{rules}
 use native.Mathlib.Omega.{arith}
 use Rattle.tree_judge.proofs.judge_move.Goals as goal
 
-pub returns-then-size-row : goal.returns-then-size-row
-returns-then-size-row c = search (move_absent)
+pub returns-in_default : goal.returns-in_default
+returns-in_default c = rw c.in_default.is (search (move_absent, rules))
 
 pub made_at-made-requires : goal.made_at-made-requires
-made_at-made-requires c = (search (works_long), omega arith)
+made_at-made-requires c = (search (works_long), omega (arith, rw c.in-Some.is at c.requires.3))
 
 pub placing_at-requires : goal.placing_at-requires
-placing_at-requires c = (search (works_long), omega arith)
+placing_at-requires c = (search (works_long), omega (arith, rw c.in-Some.is at c.requires.3))
 
 pub returns-then-is_unseen : goal.returns-then-is_unseen
-returns-then-is_unseen c = search (move_unseen)
+returns-then-is_unseen c = rw c.in-Some.is (search (move_unseen, rw c.in-Some.is at c.requires.3))
 
-pub folder_stands-s-requires : goal.folder_stands-s-requires
-folder_stands-s-requires c = (search (move_names), search)
+pub folder_stands-requires : goal.folder_stands-requires
+folder_stands-requires c = (search (move_names), search)
 
-pub returns-then-s-ne0 : goal.returns-then-s-ne0
-returns-then-s-ne0 c = search (move_stops)
+pub returns-in_err-folder_stands : goal.returns-in_err-folder_stands
+returns-in_err-folder_stands c = rw c.in-Some.is (search (move_stops, rw c.in-Some.is at c.requires.3, not_zero, rules))
 
 pub returns-then-is_below : goal.returns-then-is_below
-returns-then-is_below c = search (move_below)
+returns-then-is_below c = rw c.in-Some.is (search (move_below, rw c.in-Some.is at c.requires.3, c.in_ok-folder_stands.ensures))
 
 pub returns : goal.returns
-returns c = search (move_label)
+returns c = rw c.in-Some.is (search (move_label, rw c.in-Some.is at c.requires.3, c.in_ok-folder_stands.ensures))

@@ -1,23 +1,24 @@
 -- A rename of the entry in a row: 12 for no entry, 17 for an unseen place, 15 for a label that another entry holds.
+use Rattle.std.proofs.Common.{rules}
 use Rattle.tree_lookup.proofs.Working.{works_long}
 use Rattle.tree_judge.proofs.Reasons.{rename_absent, rename_unseen, rename_label}
 use native.Mathlib.Omega.{arith}
 use Rattle.tree_judge.proofs.judge_rename.Goals as goal
 
-pub returns-then-size-row : goal.returns-then-size-row
-returns-then-size-row c = search (rename_absent)
+pub returns-in_default : goal.returns-in_default
+returns-in_default c = rw c.in_default.is (search (rename_absent, rules))
 
 pub made_at-made-requires : goal.made_at-made-requires
-made_at-made-requires c = (search (works_long), omega arith)
+made_at-made-requires c = (search (works_long), omega (arith, rw c.in-Some.is at c.requires.2))
 
 pub inside_at-inside-requires : goal.inside_at-inside-requires
-inside_at-inside-requires c = (search (works_long), omega arith)
+inside_at-inside-requires c = (search (works_long), omega (arith, rw c.in-Some.is at c.requires.2))
 
 pub placing_at-requires : goal.placing_at-requires
-placing_at-requires c = (search (works_long), omega arith)
+placing_at-requires c = (search (works_long), omega (arith, rw c.in-Some.is at c.requires.2))
 
 pub returns-then-is_unseen : goal.returns-then-is_unseen
-returns-then-is_unseen c = search (rename_unseen)
+returns-then-is_unseen c = rw c.in-Some.is (search (rename_unseen, rw c.in-Some.is at c.requires.2))
 
 pub returns : goal.returns
-returns c = search (rename_label)
+returns c = rw c.in-Some.is (search (rename_label, rw c.in-Some.is at c.requires.2))

@@ -1,4 +1,4 @@
--- The row of the entry k, or the number of rows if it is absent.
+-- The row of the entry k, unless it is absent.
 use Rattle.tree_lookup.proofs.Working.{entry_no_role, entry-aside, entry-removed, entry_found, works_long, works_reads, row_among_lem, row_within}
 use native.Mathlib.Omega.{arith}
 use borrow.Author.Rules.{rules}
@@ -8,16 +8,16 @@ pub role_of-role-requires : goal.role_of-role-requires
 role_of-role-requires c = (search (works_reads), search)
 
 pub returns-then-role-eq0 : goal.returns-then-role-eq0
-returns-then-role-eq0 c = (search (rules, row_among_lem, entry_no_role), search (entry_no_role))
+returns-then-role-eq0 c = record { row = search (rules, row_among_lem, entry_no_role); shows = search (entry_no_role); within = search rules }
 
 pub returns-then-size-role : goal.returns-then-size-role
-returns-then-size-role c = (search (rules, row_among_lem, entry-aside), search (entry-aside))
+returns-then-size-role c = record { row = search (rules, row_among_lem, entry-aside); shows = search (entry-aside); within = search rules }
 
 pub kind_at-requires : goal.kind_at-requires
 kind_at-requires c = (search (works_long), omega arith)
 
 pub returns-then-kind_at-eq0 : goal.returns-then-kind_at-eq0
-returns-then-kind_at-eq0 c = (search (rules, row_among_lem, entry-removed), search (entry-removed))
+returns-then-kind_at-eq0 c = record { row = search (rules, row_among_lem, entry-removed); shows = search (entry-removed); within = search rules }
 
 pub returns : goal.returns
-returns c = (search (row_within, row_among_lem, entry_found), search (entry_found))
+returns c = record { row = search (row_within, row_among_lem, entry_found); shows = search (entry_found); within = omega arith }

@@ -1,5 +1,4 @@
--- The row of the holder of a label in the folder f, other than the entry k, or the number of rows if the
--- label is free; the chain of the label is given.
+-- The row of the holder of a label in the folder f, other than the entry k, unless the label is free; the chain of the label is given.
 use Rattle.tree_lookup.proofs.Labels.{Seeking}
 use Rattle.tree_lookup.proofs.holder_at.Given as goal
 

@@ -5,8 +5,8 @@ use Rattle.tree_lookup.proofs.holds_label.Goals as goal
 pub returns-then-not-is_in : goal.returns-then-not-is_in
 returns-then-not-is_in c = search (holds_not)
 
-pub returns-then-made_at-k : goal.returns-then-made_at-k
-returns-then-made_at-k c = search (holds_itself)
+pub returns-else-made_at-k : goal.returns-else-made_at-k
+returns-else-made_at-k c = search (holds_itself)
 
-pub returns : goal.returns
-returns c = search (holds_same)
+pub returns-then-made_at-k : goal.returns-then-made_at-k
+returns-then-made_at-k c = search (holds_same)

@@ -1,10 +1,7 @@
 -- The role of an identity, looked for in its chain.
-use Rattle.tree_lookup.proofs.Names.{trace_starts, trace_role, trace_low, trace_found, trace_goes, trace_ends}
+use Rattle.tree_lookup.proofs.Names.{trace_role, trace_low, trace_found, trace_goes, trace_ends}
 use native.Mathlib.Omega.{arith}
 use Rattle.tree_lookup.proofs.role_of.Goals as goal
-
-pub loop-q-init : goal.loop-q-init
-loop-q-init c = search (trace_starts)
 
 pub name_at-requires : goal.name_at-requires
 name_at-requires c = (search, search, search, search (trace_role))

@@ -1,5 +1,4 @@
 -- The identity k is one of the first `count` noted.
-use Prim.Native.Nat.{◌≤◌, ◌-◌}
 use mathlib.Core.Path.{◌≡◌}
 use mathlib.Core.Bool.{false}
 use lib.ListN.{take}
@@ -7,7 +6,4 @@ use Rattle.try_row_report.specs.Listed.{is_among}
 use Rattle.try_row_report.proofs.is_noted.Given as goal
 
 abbrev pub invariant-loop-i : goal.invariant-loop-i
-invariant-loop-i l = (l.i ≤ l.count) × (is_among l.k (take l.i l.notes) ≡ false)
-
-abbrev pub decreases-loop-i : goal.decreases-loop-i
-decreases-loop-i l = l.count - l.i
+invariant-loop-i l = is_among l.k (take l.i l.notes) ≡ false

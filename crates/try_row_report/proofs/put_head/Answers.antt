@@ -4,4 +4,4 @@ use Rattle.try_row_report.proofs.Listing.{head_put}
 use Rattle.try_row_report.proofs.put_head.Goals as goal
 
 pub returns : goal.returns
-returns c = search (head_put)
+returns c = rw (← c.stop_number.ensures) (search (head_put))

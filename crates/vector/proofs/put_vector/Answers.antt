@@ -1,5 +1,4 @@
-use Rattle.std.proofs.Common.{◌≡◌, ◌+◌, ◌-◌, ◌*◌, ◌≤◌, ◌∙◌, refl, sym, length, drop, take, replicate, arith, rules, length-set}
-use Rattle.model.specs.Bytes.{put_at}
+use Rattle.std.proofs.Common.{◌≡◌, ◌∙◌, refl, sym, arith}
 use Rattle.model.specs.Vector.{count_bytes, vector_bytes}
 use Rattle.byte_slice.proofs.PutAt.{put-nil}
 use Rattle.vector.proofs.InBytes.{vector_more}

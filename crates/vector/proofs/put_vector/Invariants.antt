@@ -1,6 +1,6 @@
-use Rattle.std.proofs.Common.{◌≡◌, ◌+◌, ◌-◌, ◌*◌, ◌≤◌, ◌∙◌, refl, sym, length, drop, take, replicate, arith, rules, length-set}
+use Rattle.std.proofs.Common.{◌≡◌, ◌≤◌, length}
 use Rattle.model.specs.Bytes.{put_at}
-use Rattle.model.specs.Vector.{count_bytes, vector_bytes}
+use Rattle.model.specs.Vector.{count_bytes}
 use Rattle.vector.proofs.put_vector.Given as goal
 
 abbrev pub invariant-loop-u : goal.invariant-loop-u

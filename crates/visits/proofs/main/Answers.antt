@@ -2,5 +2,5 @@
 use Rattle.std.proofs.Common.{refl, rules}
 use Rattle.visits.proofs.main.Goals as goal
 
-pub read_plan-v-requires : goal.read_plan-v-requires
-read_plan-v-requires c = (refl, search rules, search rules)
+pub read_plan-requires : goal.read_plan-requires
+read_plan-requires c = (refl, search rules, search rules)

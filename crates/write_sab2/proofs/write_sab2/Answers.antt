@@ -1,25 +1,31 @@
 -- List, base and log are written into the lent file as SAB2, with zeros behind the last block.
+use Rattle.std.proofs.lemmas.Result.{err_from_is_err_and}
+use Rattle.refusal.proofs.Refusals.{not_zero}
 use Rattle.call_guard.proofs.Opening.{open_long, open_based, open_used, open_held, open_entries, open_asides, open_buffer}
 use Rattle.write_sab2.proofs.Ways.{write_refused, all_written, state_sound, few_entries, few_asides, used_few}
+use borrow.Author.Rules.{rules}
 use Rattle.write_sab2.proofs.write_sab2.Goals as goal
 
-pub returns-then-o-ne0 : goal.returns-then-o-ne0
-returns-then-o-ne0 c = search (write_refused)
+pub returns-in_err-state : goal.returns-in_err-state
+returns-in_err-state c =
+    let p = err_from_is_err_and c.from_residual.result c.from_residual.ensures.1 in
+    rw (p.1, p.2) (search (write_refused, not_zero, c.in_err-state.ensures))
 
-pub write_state-n-requires : goal.write_state-n-requires
-write_state-n-requires c = (
-  search (open_long),
-  search (open_based),
-  search (state_sound),
-  search (open_entries),
-  search (open_asides),
-  search (few_entries),
-  search (few_asides),
-  search (open_used),
-  search (used_few),
-  search (open_held),
-  search (open_buffer),
-)
+pub write_state-requires : goal.write_state-requires
+write_state-requires c =
+    let e = c.in_ok-state.ensures in (
+      search (open_long, e, rules),
+      search (open_based, e, rules),
+      search (state_sound, e, rules),
+      search (open_entries, e, rules),
+      search (open_asides, e, rules),
+      search (few_entries, e, rules),
+      search (few_asides, e, rules),
+      search (open_used, e, rules),
+      search (used_few, e, rules),
+      search (open_held, e, rules),
+      search (open_buffer, e, rules),
+    )
 
 pub returns : goal.returns
-returns c = search (all_written)
+returns c = search (all_written, c.in_ok-state.ensures, rules)

@@ -1,4 +1,7 @@
 -- Rows, then records, then zeros; the count of blocks is returned.
+use mathlib.Core.Path.{◌≡◌}
+use lib.ListN.{length}
+use borrow.Author.Rules.{rules}
 use Rattle.write_sab2.proofs.Whole.{state_whole, state_blocks}
 use Rattle.write_sab2.proofs.write_state.Goals as goal
 
@@ -6,4 +9,6 @@ pub returns-clause-counted : goal.returns-clause-counted
 returns-clause-counted c = search (state_blocks)
 
 pub returns-clause-written : goal.returns-clause-written
-returns-clause-written c = search (state_whole)
+returns-clause-written c =
+    let long : length c.write_records-n.new.file ≡ 95232 = search rules in
+    search (state_whole, long)

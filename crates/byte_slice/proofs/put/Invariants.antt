@@ -1,9 +1,0 @@
-use Rattle.std.proofs.Common.{◌≡◌, ◌+◌, ◌-◌, ◌≤◌, length, drop, take, ◌++◌, replicate}
-use Rattle.model.specs.Bytes.{blank, part, put_at, same_bytes}
-use Rattle.byte_slice.proofs.put.Given as goal
-
-abbrev pub invariant-loop-j : goal.invariant-loop-j
-invariant-loop-j l = (l.j ≤ length l.src) × (length l.dst ≡ length l.initial.dst) × (l.dst ≡ put_at l.initial.dst l.at (take l.j l.src))
-
-abbrev pub decreases-loop-j : goal.decreases-loop-j
-decreases-loop-j l = length l.src - l.j

@@ -1,7 +1,0 @@
-use Rattle.std.proofs.Common.{◌≡◌, ◌+◌, ◌-◌, ◌≤◌, ◌∙◌, refl, length, drop, take, replicate, arith, rules, length-set}
-use Rattle.model.specs.Bytes.{word, long, two, four, blank, part, put_at, same_bytes}
-use Rattle.byte_slice.proofs.Words.{put_halves}
-use Rattle.byte_slice.proofs.put32.Goals as goal
-
-pub returns : goal.returns
-returns c = search (put_halves)
