@@ -1,6 +1,6 @@
 -- What `body_fits` is asked at each way out; what it does not read; and with it a record is well formed exactly if its label fits.
 -- Assumes nothing.
-use Prim.Native.Nat.{ℕ, ◌+◌, ◌-◌, ◌*◌, ◌≤◌, ◌<◌}
+use Prim.Native.Nat.{ℕ, ◌+◌, ◌-◌, ◌*◌, ◌≤◌}
 use native.Mathlib.Omega.{arith}
 use mathlib.Core.Path.{◌≡◌, refl, sym, ap, ◌∙◌}
 use mathlib.Core.Bool.{Bool, true, false, not, ◌&&◌}
@@ -8,43 +8,47 @@ use mathlib.Core.List.{List}
 use lib.Dec.{leb}
 use lib.ListN.{get_or, length, drop}
 use lib.Seq.{get_or-drop}
-use borrow.Author.Tests.{eq-eqb, le-leb, lt-leb, not-true, not-false}
+use borrow.Author.Tests.{eq-eqb, le-leb, not-true, not-false}
 use Rattle.model.specs.Bytes.{word, part}
 use Rattle.model.specs.Record.{Rec, unit, op, num, seen, label_of, unused, names, head_fits, object_fits, folder_fits, date_fits, label_fits, mark_fits, well_formed}
+use Rattle.byte_slice.proofs.Numbers.{and_true}
 use Rattle.byte_slice.proofs.Parts.{part-drop}
 use Rattle.byte_slice.proofs.Words.{word_same}
 use Rattle.act_label.specs.Label.{field_number, body_fits}
 
 -- ---- the ways out
 
-module _ (r : Rec) where
-  pub op-none : get_or r 1 0 < 1 → false ≡ body_fits r
+module _ (r : Rec) {k : Bool} (ek : k ≡ (leb 1 (get_or r 1 0) && leb (get_or r 1 0) 7)) where
+  pub no_operation : not k ≡ true → false ≡ body_fits r
   unfolding body_fits op
-  op-none h = rw (lt-leb 1 (get_or r 1 0) h)
+  no_operation h = go (leb 1 (get_or r 1 0)) (leb (get_or r 1 0) 7) _ (sym ek ∙ not-true k h)
+    where
+      go : (p q t : Bool) → (p && q) ≡ false → false ≡ (p && (q && t))
+      go true true t e = cc
+      go true false t e = refl
+      go false q t e = refl
 
-  module _ (a : 1 ≤ get_or r 1 0) where
-    pub op_above : 7 < get_or r 1 0 → false ≡ body_fits r
+  module _ (known : not k ≡ false) {o : Bool} (eo : o ≡ object_fits r) where
+    in_range : (leb 1 (get_or r 1 0) ≡ true) × (leb (get_or r 1 0) 7 ≡ true)
+    in_range = and_true (leb 1 (get_or r 1 0)) (leb (get_or r 1 0) 7) (sym ek ∙ not-false k known)
+
+    pub bad_object : not o ≡ true → false ≡ body_fits r
     unfolding body_fits op
-    op_above h = rw (le-leb 1 (get_or r 1 0) a, lt-leb (get_or r 1 0) 7 h)
+    bad_object f = let (a, b) = in_range in rw (a, b, ← eo, not-true o f)
 
-    module _ {o : Bool} (b : get_or r 1 0 ≤ 7) (eo : o ≡ object_fits r) where
-      pub bad_object : not o ≡ true → false ≡ body_fits r
+    module _ {p : Bool} (go : not o ≡ false) (ep : p ≡ folder_fits r) where
+      pub bad_folder : not p ≡ true → false ≡ body_fits r
       unfolding body_fits op
-      bad_object f = rw (le-leb 1 (get_or r 1 0) a, le-leb (get_or r 1 0) 7 b, ← eo, not-true o f)
+      bad_folder f = let (a, b) = in_range in rw (a, b, ← eo, not-false o go, ← ep, not-true p f)
 
-      module _ {p : Bool} (go : not o ≡ false) (ep : p ≡ folder_fits r) where
-        pub bad_folder : not p ≡ true → false ≡ body_fits r
+      module _ {d : Bool} (gp : not p ≡ false) (ed : d ≡ date_fits r) where
+        pub bad_date : not d ≡ true → false ≡ body_fits r
         unfolding body_fits op
-        bad_folder f = rw (le-leb 1 (get_or r 1 0) a, le-leb (get_or r 1 0) 7 b, ← eo, not-false o go, ← ep, not-true p f)
+        bad_date f = let (a, b) = in_range in rw (a, b, ← eo, not-false o go, ← ep, not-false p gp, ← ed, not-true d f)
 
-        module _ {d : Bool} (gp : not p ≡ false) (ed : d ≡ date_fits r) where
-          pub bad_date : not d ≡ true → false ≡ body_fits r
-          unfolding body_fits op
-          bad_date f = rw (le-leb 1 (get_or r 1 0) a, le-leb (get_or r 1 0) 7 b, ← eo, not-false o go, ← ep, not-false p gp, ← ed, not-true d f)
-
-          pub mark_last : {m : Bool} → not d ≡ false → m ≡ mark_fits r → m ≡ body_fits r
-          unfolding body_fits op
-          mark_last gd em = rw (le-leb 1 (get_or r 1 0) a, le-leb (get_or r 1 0) 7 b, ← eo, not-false o go, ← ep, not-false p gp, ← ed, not-false d gd, em)
+        pub mark_last : {m : Bool} → not d ≡ false → m ≡ mark_fits r → m ≡ body_fits r
+        unfolding body_fits op
+        mark_last gd em = let (a, b) = in_range in rw (a, b, ← eo, not-false o go, ← ep, not-false p gp, ← ed, not-false d gd, em)
 
 -- ---- two records of one operation that differ in unit and number alone
 

@@ -8,7 +8,7 @@ ghost use Rattle.refusal.specs.Refusals.{code_of};
 ghost use Rattle.act_label.specs.Label.{text_number, label_number, field_number, body_fits};
 
 use act_bytes::{label_table, may_stand};
-use record_uses::uses_label;
+use record_uses::{is_operation, uses_label};
 use refusal::Refusal;
 
 // ---- the label
@@ -76,11 +76,7 @@ pub fn body_fits(rec: &[u8]) -> bool
     requires { length rec.now ≡ record_size }
     ensures { result ≡ body_fits rec.now }
 {
-    let op = rec[1];
-    if op < 1 {
-        return false;
-    }
-    if 7 < op {
+    if !is_operation(rec[1]) {
         return false;
     }
     if !record_fields::object_fits(rec) {

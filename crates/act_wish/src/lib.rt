@@ -9,6 +9,7 @@ ghost use Rattle.act_wish.specs.Stamp.{stamped_by, number_as, room_as, early_as}
 use base_head::is_listed;
 use model::{LOG_PLACES, RECORD_BYTES};
 use refusal::Refusal;
+use state_check::State;
 use vector::Vector;
 
 // The wish with the unit's next number and the held vector. Behind 65,535 the number is 0: `check_early` answers 28 then.
@@ -56,20 +57,13 @@ fn check_room(count: u16, used: usize) -> Result<(), Refusal>
 }
 
 // What comes before the replay, in this order: 26 for a unit that the list does not name, 7, 24, 28, 11.
-pub fn check_early(
-    list: u8,
-    unit: u8,
-    held: Vector,
-    used: usize,
-    wish: &[u8],
-    rec: &[u8],
-) -> Result<(), Refusal>
+pub fn check_early(state: State, unit: u8, wish: &[u8], rec: &[u8]) -> Result<(), Refusal>
     requires { (unit < 8) × (length wish.now ≡ record_size) × (length rec.now ≡ record_size) }
-    ensures { code_of result ≡ early_as list unit held.counts used wish.now rec.now }
+    ensures { code_of result ≡ early_as state.head.list unit state.held.counts state.used wish.now rec.now }
 {
-    if !is_listed(list, unit as usize) {
+    if !is_listed(state.head.list, unit as usize) {
         return Err(Refusal::Unlisted);
     }
     check_wish(wish, unit, rec)?;
-    check_room(held.counts[unit as usize], used)
+    check_room(state.held.counts[unit as usize], state.used)
 }

@@ -6,6 +6,7 @@ ghost use Rattle.base_model.specs.Base.{is_listed, lists_all};
 ghost use Rattle.base_head.specs.Head.{headed, head_of};
 
 use byte_slice::le16;
+use tree_table::Size;
 use vector::Vector;
 
 // The list, how many records of each unit are folded, and how many rows of entries and of asides there are.
@@ -15,6 +16,18 @@ pub struct Head {
     pub folded: Vector,
     pub entries: usize,
     pub asides: usize,
+}
+
+impl Head {
+    // How many rows of entries and of asides the base has.
+    pub fn size(self) -> Size
+        ensures { (result.entries ≡ self.entries) × (result.asides ≡ self.asides) }
+    {
+        Size {
+            entries: self.entries,
+            asides: self.asides,
+        }
+    }
 }
 
 // The number of each bit of a byte.

@@ -5,6 +5,7 @@ use native.Mathlib.Omega.{arith}
 use mathlib.Core.Path.{◌≡◌, refl, sym, ap, ◌∙◌}
 use mathlib.Core.Bool.{Bool, true, not, ◌&&◌}
 use mathlib.Core.List.{List}
+use lib.Dec.{eqb}
 use lib.ListN.{get_or, set, replicate}
 use borrow.Author.Tests.{eq-eqb, ne_eqb, eqb-true, lt-ltb, le-ltb}
 use Rattle.model.specs.Record.{identity_at}
@@ -21,9 +22,9 @@ use Rattle.base_ids.specs.Ups.{link_of, id_key}
 -- ---- fields
 
 module _ (b : List ℕ) where
-  pub kind_is : (i : ℕ) → get_or b (24 + 72 * i) 0 ≡ (base_entry b i).kind
+  pub folder_is : (i : ℕ) → eqb (get_or b (24 + 72 * i) 0) 1 ≡ eqb (base_entry b i).kind 1
   unfolding base_entry entry_in
-  kind_is i = refl
+  folder_is i = refl
 
   pub inside_is : (i : ℕ) {k : ℕ} → k ≡ identity_at b (24 + 72 * i + 8) → k ≡ (base_entry b i).inside
   unfolding base_entry entry_in

@@ -4,12 +4,12 @@ use Prim.Native.Nat.{ℕ, zero, suc, ◌+◌, ◌-◌, ◌≤◌, ◌<◌}
 use native.Mathlib.Omega.{arith}
 use mathlib.Core.Path.{◌≡◌, refl, sym, ap, ◌∙◌}
 use mathlib.Core.Logic.{⊎_elim}
-use mathlib.Core.Bool.{Bool, true, false, cond, ◌&&◌, ◌||◌, false≢true}
+use mathlib.Core.Bool.{Bool, true, false, cond, not, ◌&&◌, ◌||◌, false≢true}
 use mathlib.Core.List.{List}
 use lib.Dec.{eqb, leb}
 use lib.ListN.{get_or, length, set, length-set}
 use lib.Seq.{get_or-set_same, get_or-set_other}
-use borrow.Author.Tests.{eq-eqb, ne_eqb, le-leb}
+use borrow.Author.Tests.{eq-eqb, ne_eqb, le-leb, not-true, not-false}
 use Rattle.model.specs.Log.{all_to}
 use Rattle.byte_slice.proofs.Numbers.{eq_or_ne}
 use Rattle.base_model.specs.Base.{last_to, base_entry, is_id, place_of, is_folder_row, reaches, is_rooted, id_new, ids_fit}
@@ -29,20 +29,20 @@ module _ (b : List ℕ) (n f : ℕ) where
     unfolding up_of place_of is_folder_row
     up_none e = rw (ne_eqb f 0 d, ← e)
 
-    module _ (row : ℕ) (e : row + 1 ≡ last_to (is_id b n f) n) {k : ℕ} (g : k ≡ (base_entry b row).kind) where
+    module _ (row : ℕ) (e : row + 1 ≡ last_to (is_id b n f) n) {k : Bool} (g : k ≡ eqb (base_entry b row).kind 1) where
       one_above : row + 1 ≡ 0 → ⊥
       one_above z = absurd (omega arith)
 
-      below : (base_entry b (row + 1 - 1)).kind ≡ k
+      below : eqb (base_entry b (row + 1 - 1)).kind 1 ≡ k
       below = let s : row + 1 - 1 ≡ row = omega arith in rw s (sym g)
 
-      pub up_other : (k ≡ 1 → ⊥) → 513 ≡ up_of b n f
+      pub up_other : not k ≡ true → 513 ≡ up_of b n f
       unfolding up_of place_of is_folder_row
-      up_other h = rw (ne_eqb f 0 d, ← e, ne_eqb (row + 1) 0 one_above, below, ne_eqb k 1 h)
+      up_other h = rw (ne_eqb f 0 d, ← e, ne_eqb (row + 1) 0 one_above, below, not-true k h)
 
-      pub up_folder : k ≡ 1 → row + 1 ≡ up_of b n f
+      pub up_folder : not k ≡ false → row + 1 ≡ up_of b n f
       unfolding up_of place_of is_folder_row
-      up_folder h = rw (ne_eqb f 0 d, ← e, ne_eqb (row + 1) 0 one_above, below, eq-eqb k 1 h)
+      up_folder h = rw (ne_eqb f 0 d, ← e, ne_eqb (row + 1) 0 one_above, below, not-false k h)
 
 -- ---- the table
 

@@ -1,19 +1,19 @@
 // The identities of a base: none twice, and each entry reaches the root through folders.
 #![tactic(auto)]
 
-ghost use Rattle.std.specs.Prelude.{◌≡◌, ◌+◌, ◌≤◌, ◌<◌, IfSome, length};
+ghost use Rattle.std.specs.Prelude.{◌≡◌, ◌+◌, ◌≤◌, ◌<◌, eqb, IfSome, length};
 ghost use Rattle.model.specs.Log.{all_to};
 ghost use Rattle.base_model.specs.Base.{last_to, base_entry, id_at, is_id, id_new, ids_fit};
 ghost use Rattle.base_links.specs.Links.{Linked};
 ghost use Rattle.base_links.specs.Places.{place_told};
 ghost use Rattle.base_ids.specs.Ups.{link_of, id_key, up_of, Ups};
 
-// The kind of the entry in row i.
-fn kind_at(base: &[u8], i: usize) -> u8
+// The entry in row i is a folder.
+fn is_folder(base: &[u8], i: usize) -> bool
     requires { (length base.now ≡ 43032) × (i < 512) }
-    ensures { result ≡ (base_entry base.now i).kind }
+    ensures { result ≡ eqb (base_entry base.now i).kind 1 }
 {
-    base[24 + 72 * i]
+    base[24 + 72 * i] == 1
 }
 
 // The folder of the entry in row i.
@@ -92,7 +92,7 @@ fn up_of(base: &[u8], n: usize, f: u32, heads: &[u16], next: &[u16]) -> usize
     let Some(row) = before(base, n, f, heads, next, n) else {
         return 513;
     };
-    if kind_at(base, row) != 1 {
+    if !is_folder(base, row) {
         return 513;
     }
     row + 1

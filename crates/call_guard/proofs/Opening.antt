@@ -9,7 +9,7 @@ use mathlib.Core.List.{List}
 use lib.Dec.{eqb}
 use lib.ListN.{get_or, length, replicate}
 use borrow.Author.Tests.{eqb-true}
-use Rattle.std.proofs.Common.{Option, None, Some, Result, IfSome, IfOk, rules}
+use Rattle.std.proofs.Common.{Option, None, Some, Result, Ok, IfSome, IfOk, rules}
 use Rattle.std.specs.Option.{ok_or}
 use Rattle.refusal.specs.declared.Refusal.{Refusal}
 use Rattle.refusal.specs.declared.Refusal.TheVariants.{UnsoundState}
@@ -21,9 +21,10 @@ use Rattle.byte_slice.proofs.Numbers.{bool_cases, and_true, first_stops, first_z
 use Rattle.call_answer.proofs.Guards.{early_long, early_based, early_lent, early_unit, early_row, refused_by}
 use Rattle.base_head.specs.Head.{headed, head_of, no_head}
 use Rattle.base_head.proofs.Listed.{head_list, head_folded, head_entries, head_asides}
-use Rattle.log_closure.specs.Tables.{tables}
+use Rattle.log_closure.specs.declared.Tables.{Tables}
 use Rattle.state_check.specs.State.{StateTold, stated, unsound, state_of, note_of}
 use Rattle.state_check.specs.declared.State.{State}
+use Rattle.state_check.specs.Stands.{Stands}
 use Rattle.state_check.specs.Told.{state_told}
 use Rattle.call_guard.specs.Told.{opening}
 use Rattle.call_guard.specs.Opened.{Opening, opened, opened_by, open_of, filled_by, fill_of}
@@ -39,11 +40,11 @@ module _ (u : ℕ) (log base : List ℕ) (ok row : Bool) (n : ℕ) (e : n ≡ ea
       go zero k = absurd (k refl)
       go (suc m) k = refl
 
-  pub early_unfilled : (places seens : List ℕ) → tables places seens ≡ fill_of u log base ok row places seens
+  pub early_unfilled : (t : Tables) → t ≡ fill_of u log base ok row t
   unfolding fill_of filled_by
-  early_unfilled places seens = rw (← e) (go n x)
+  early_unfilled t = rw (← e) (go n x)
     where
-      go : (m : ℕ) → (m ≡ 0 → ⊥) → tables places seens ≡ filled_by m log base places seens
+      go : (m : ℕ) → (m ≡ 0 → ⊥) → t ≡ filled_by m log base t
       go zero k = absurd (k refl)
       go (suc m) k = refl
 
@@ -83,9 +84,9 @@ module _ (u : ℕ) (log base : List ℕ) (ok row : Bool) (e : 0 ≡ early_number
   pub judged_opened : (a : Option State) → state_told a ≡ state_of log base → (r : Result State Refusal) → r ≡ ok_or a UnsoundState → opening r ≡ open_of u log base ok row
   judged_opened a c r q = rw q (answered a c)
 
-  pub passed_filled : (places₀ seens₀ places seens : List ℕ) → tables places seens ≡ note_of log base places₀ seens₀ → tables places seens ≡ fill_of u log base ok row places₀ seens₀
+  pub passed_filled : (before after : Tables) → after ≡ note_of log base before → after ≡ fill_of u log base ok row before
   unfolding fill_of filled_by
-  passed_filled places₀ seens₀ places seens w = rw (← e) w
+  passed_filled before after w = rw (← e) w
 
 pub judged_holds : (P : State → Type 0) (a : Option State) → IfSome a P → (r : Result State Refusal) → r ≡ ok_or a UnsoundState → IfOk r P
 judged_holds P a h r q = rw q (go a h)
@@ -172,6 +173,21 @@ module _ (u : ℕ) (log base : List ℕ) (ok row : Bool) {n m k j : ℕ} {v held
 
     pub open_asides : j ≡ word base 4
     open_asides = head_asides base heads
+
+-- the state that is told stands
+pub open_stands : (u : ℕ) (log base : List ℕ) (ok row : Bool) (s : State) → opening (Ok s) ≡ open_of u log base ok row → Stands log base s
+open_stands u log base ok row s e =
+    record {
+      known = record {
+        long = open_long u log base ok row e refl;
+        based = open_based u log base ok row e refl;
+        sound = open_state u log base ok row e refl;
+        held_is = open_held u log base ok row e refl;
+        entries_are = open_entries u log base ok row e refl;
+        asides_are = open_asides u log base ok row e refl;
+      };
+      used_is = open_used u log base ok row e refl;
+    }
 
 -- a buffer that was to have i bytes has them
 pub open_buffer : (u : ℕ) (log base : List ℕ) (row : Bool) (buf : List ℕ) (i : ℕ) {n m k j : ℕ} {v held : List ℕ} {used : ℕ}

@@ -5,7 +5,7 @@ use Rattle.model.specs.Log.{records_of}
 use Rattle.base_model.specs.Base.{held_on}
 use Rattle.call_model.specs.Outcome.{early_number, guard_number}
 use Rattle.base_head.specs.Head.{BaseHead, head_of, no_head}
-use Rattle.log_closure.specs.Tables.{Tables, tables}
+use Rattle.log_closure.specs.declared.Tables.{Tables}
 use Rattle.state_check.specs.State.{note_of}
 
 -- the number, and of a state that passed the head of the base, the held vector and how many records the log has
@@ -29,9 +29,9 @@ open_of u log base ok row = opened_by (guard_number u log base ok row) log base
 -- ---- with lent tables
 
 -- as the check of the state leaves them, or as they were if it was not judged
-unfoldable pub filled_by : ℕ → List ℕ → List ℕ → List ℕ → List ℕ → Tables
-filled_by zero log base places seens = note_of log base places seens
-filled_by (suc n) log base places seens = tables places seens
+unfoldable pub filled_by : ℕ → List ℕ → List ℕ → Tables → Tables
+filled_by zero log base t = note_of log base t
+filled_by (suc n) log base t = t
 
-unfoldable pub fill_of : ℕ → List ℕ → List ℕ → Bool → Bool → List ℕ → List ℕ → Tables
-fill_of u log base ok row places seens = filled_by (early_number u log base ok row) log base places seens
+unfoldable pub fill_of : ℕ → List ℕ → List ℕ → Bool → Bool → Tables → Tables
+fill_of u log base ok row t = filled_by (early_number u log base ok row) log base t

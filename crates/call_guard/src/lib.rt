@@ -4,13 +4,14 @@
 ghost use Rattle.std.specs.Prelude.{◌≡◌, IfOk, length};
 ghost use Rattle.model.specs.Log.{records_of};
 ghost use Rattle.base_model.specs.Base.{base_vector};
-ghost use Rattle.log_closure.specs.Tables.{places_size, seens_size, tables, Indexed};
+ghost use Rattle.log_closure.specs.Tables.{Indexed};
 ghost use Rattle.log_check.specs.declared.Layout.TheVariants.{Log};
 ghost use Rattle.log_check.specs.Places.{laid_at};
 ghost use Rattle.call_guard.specs.Opened.{open_of, fill_of};
 ghost use Rattle.call_guard.specs.Told.{opening};
 
 use call_answer::early_check;
+use log_closure::Tables;
 use refusal::Refusal;
 use state_check::{State, check_state, check_state_into};
 
@@ -30,14 +31,12 @@ pub fn open_into(
     unit: u8,
     lent: bool,
     row: bool,
-    places: &mut [u16],
-    seens: &mut [u16],
+    tables: &mut Tables,
 ) -> Result<State, Refusal>
-    requires { (length places.old ≡ places_size) × (length seens.old ≡ seens_size) }
     ensures outright { opening result ≡ open_of unit log.now base.now lent row }
-    ensures filled { tables places.new seens.new ≡ fill_of unit log.now base.now lent row places.old seens.old }
-    ensures holds { IfOk result (λ state. Indexed (base_vector base.now) (laid_at Log log.now) state.used (records_of log.now) state.held.counts places.new seens.new) }
+    ensures filled { tables.new ≡ fill_of unit log.now base.now lent row tables.old }
+    ensures holds { IfOk result (λ state. Indexed (base_vector base.now) (laid_at Log log.now) state.used (records_of log.now) state.held.counts tables.new.places tables.new.seens) }
 {
     early_check(log, base, unit, lent, row)?;
-    check_state_into(log, base, places, seens).ok_or(Refusal::UnsoundState)
+    check_state_into(log, base, tables).ok_or(Refusal::UnsoundState)
 }

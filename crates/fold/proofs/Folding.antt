@@ -26,13 +26,14 @@ use Rattle.tree_table.proofs.Rows.{tree_back}
 use Rattle.tree_table.proofs.Writes.{flagged-long}
 use Rattle.base_head.specs.Head.{headed}
 use Rattle.call_guard.specs.Opened.{opened, open_of}
-use Rattle.call_guard.proofs.Opening.{number_is, open_long, open_based, open_state, open_used, open_unit, open_folded, open_held, open_entries, open_asides}
+use Rattle.call_guard.proofs.Opening.{number_is, open_used, open_unit, open_held}
+use Rattle.state_check.specs.declared.State.{State}
+use Rattle.state_check.specs.Stands.{Stands}
 use Rattle.state_tree.proofs.Replayed.{state_base, state_log}
 use Rattle.fold_count_laws.specs.Counted.{present_count}
 use Rattle.fold_count_laws.proofs.Longest.{left_present, left_asides}
 use Rattle.fold_base.specs.Written.{base_of}
 use Rattle.fold_tree.specs.Table.{Table}
-use Rattle.fold.specs.Stands.{Stands}
 
 -- ---- a list
 
@@ -48,27 +49,28 @@ present_few [] = omega arith
 present_few (x ∷ l) =
     cond_elim (λ (y : List Entry). length y ≤ suc (length l)) (is_present x) (x ∷ present_ones l) (present_ones l) (λ _. omega (arith, present_few l)) (λ _. omega (arith, present_few l))
 
-module _ {log base : List ℕ} {used : ℕ} {folded₀ held : List ℕ} {e m : ℕ} (s : Stands log base used folded₀ held e m) where
-  pub log_sound : sound_log_on folded₀ log ≡ true
-  log_sound = rw s.folded_is (state_log log base s.sound)
-
-  pub held_on_is : held ≡ vector_on folded₀ (records_of log)
-  held_on_is = s.held_is ∙ rw s.folded_is
-
-  pub few_used : used ≤ 512
+module _ {log base : List ℕ} {state : State} (s : Stands log base state) where
+  pub few_used : state.used ≤ 512
   few_used = omega (arith, s.used_is, sound_few log)
 
-  pub run_few : (n : ℕ) → n ≤ used → n ≤ length (records_of log)
+  pub run_few : (n : ℕ) → n ≤ state.used → n ≤ length (records_of log)
   run_few n h = omega (arith, s.used_is)
 
-  pub run_is : (u l k n : ℕ) → k ≡ heard_run l u folded₀ (records_of log) (records_of log) → n ≡ longest (base_tree base) (records_of log) k → n ≡ run_in l u log base
-  unfolding run_of base_in
-  run_is u l k n p q = q ∙ rw (p, s.folded_is)
+  module _ (f : state.head.folded.counts ≡ base_vector base) where
+    pub log_sound : sound_log_on state.head.folded.counts log ≡ true
+    log_sound = rw f (state_log log base s.known.sound)
+
+    pub held_on_is : state.held.counts ≡ vector_on state.head.folded.counts (records_of log)
+    held_on_is = s.known.held_is ∙ rw f
+
+    pub run_is : (u l k n : ℕ) → k ≡ heard_run l u state.head.folded.counts (records_of log) (records_of log) → n ≡ longest (base_tree base) (records_of log) k → n ≡ run_in l u log base
+    unfolding run_of base_in
+    run_is u l k n p q = q ∙ rw (p, f)
 
   starts_small : counts_as_base (base_tree base) (records_of log) 0 ≡ true
   unfolding counts_as_base replay_from base_tree
   starts_small =
-      let t = sound_tells base (state_base log base s.sound) in
+      let t = sound_tells base (state_base log base s.known.sound) in
       let n = word base 2 in
       let k = word base 4 in
       let a : leb (length (present_ones (base_entries base 0 n))) 512 ≡ true = le-leb (length (present_ones (base_entries base 0 n))) 512 (omega (arith, present_few (base_entries base 0 n), entries_count base 0 n, t.few_entries)) in
@@ -108,10 +110,10 @@ module _ {log base : List ℕ} {used : ℕ} {folded₀ held : List ℕ} {e m : �
     table_present =
         omega (arith, ap present_count table-tree, ap (λ (k : ℕ). present_count (replay_from (base_tree base) (take k (records_of log)))) run-longest, left_present (base_tree base) (records_of log) (heard_run l u (base_vector base) (records_of log) (records_of log)) starts_small)
 
-    pub base_written : (v c : List ℕ) → v ≡ vector_on folded₀ (take n (records_of log)) → c ≡ base_bytes (base_of l v (trim (tree_in b x y)))
+    pub base_written : (v c : List ℕ) → state.head.folded.counts ≡ base_vector base → v ≡ vector_on state.head.folded.counts (take n (records_of log)) → c ≡ base_bytes (base_of l v (trim (tree_in b x y)))
         → c ≡ base_bytes (folded_base l (base_vector base) (base_tree base) (records_of log) n)
     unfolding folded_base
-    base_written v c g h = h ∙ rw (g, table-tree, s.folded_is)
+    base_written v c f g h = h ∙ rw (g, table-tree, f)
 
     pub work_left_lem : b ≡ work_bytes (replay_from (base_tree base) (take n (records_of log)))
     work_left_lem = w.bytes
@@ -119,24 +121,11 @@ module _ {log base : List ℕ} {used : ℕ} {folded₀ held : List ℕ} {e m : �
 -- ---- what the guard tells
 
 module _ (u : ℕ) (log base : List ℕ) (ok row : Bool) {n m k j : ℕ} {v held : List ℕ} {used : ℕ} (e : opened n (headed m v k j) held used ≡ open_of u log base ok row) (z : n ≡ 0) where
-  pub guard_stands : Stands log base used v held k j
-  guard_stands =
-      record {
-        long = open_long u log base ok row e z;
-        based = open_based u log base ok row e z;
-        sound = open_state u log base ok row e z;
-        used_is = open_used u log base ok row e z;
-        folded_is = open_folded u log base ok row e z;
-        held_is = open_held u log base ok row e z;
-        entries_are = open_entries u log base ok row e z;
-        asides_are = open_asides u log base ok row e z;
-      }
-
   pub guard_unit : u < 8
   guard_unit = omega (arith, open_unit u log base ok row e z)
 
   pub guard_few : (r : ℕ) → r ≤ used → r < 65536
-  guard_few r h = omega (arith, few_used guard_stands)
+  guard_few r h = omega (arith, open_used u log base ok row e z, sound_few log)
 
 -- ---- the ways out
 

@@ -11,13 +11,13 @@ ghost use Rattle.call_model.specs.Outcome.{outcome};
 ghost use Rattle.call_model.specs.Fold.{run_in, folded_base, list_fits, fold_of, fold_work};
 ghost use Rattle.refusal.specs.Refusals.{code_of};
 ghost use Rattle.fold_tree.specs.Table.{Table};
+ghost use Rattle.state_check.specs.Stands.{Stands};
 ghost use Rattle.fold.specs.Records.{records_folded};
-ghost use Rattle.fold.specs.Stands.{Stands};
 
 use fold_tree::Folded;
 use model::TREE_BYTES;
 use refusal::Refusal;
-use tree_table::Size;
+use state_check::State;
 use vector::Vector;
 
 // A list names the own unit and each unit of which records are held.
@@ -30,48 +30,37 @@ fn list_fits(list: u8, unit: u8, held: Vector) -> bool
 }
 
 // The run that folds, replayed into the work memory.
-fn run_in(
-    log: &[u8],
-    base: &[u8],
-    used: usize,
-    unit: u8,
-    list: u8,
-    folded: Vector,
-    held: Vector,
-    size: Size,
-    work: &mut [u8],
-) -> Folded
-    requires { Stands log.now base.now used folded.counts held.counts size.entries size.asides × (unit < 8) × (is_listed list unit ≡ true) × (length work.old ≡ tree_size) }
-    ensures run { (result.records ≡ run_in list unit log.now base.now) × (result.records ≤ used) }
+fn run_in(log: &[u8], base: &[u8], state: State, unit: u8, list: u8, work: &mut [u8]) -> Folded
+    requires { Stands log.now base.now state × (state.head.folded.counts ≡ base_vector base.now) × (unit < 8) × (is_listed list unit ≡ true) × (length work.old ≡ tree_size) }
+    ensures run { (result.records ≡ run_in list unit log.now base.now) × (result.records ≤ state.used) }
     ensures laid { Table work.new result.size.entries result.size.asides (replay_from (base_tree base.now) (take result.records (records_of log.now))) }
 {
-    let n = fold_heard::heard_run(log, used, unit, folded, held, list);
-    fold_tree::fold_tree(log, n, base, held, size, work)
+    let folded = state.head.folded;
+    let n = fold_heard::heard_run(log, state.used, unit, folded, state.held, list);
+    fold_tree::fold_tree(log, n, base, state, work)
 }
 
 // A sound state is folded by a list that has its own unit; how many records were.
 fn fold_state(
     log: &mut [u8],
     base: &mut [u8],
-    used: usize,
+    state: State,
     unit: u8,
     list: u8,
-    folded: Vector,
-    held: Vector,
-    size: Size,
     work: &mut [u8],
 ) -> usize
-    requires { Stands log.old base.old used folded.counts held.counts size.entries size.asides × (unit < 8) × (is_listed list unit ≡ true) × (length work.old ≡ tree_size) }
-    ensures run { (result ≡ run_in list unit log.old base.old) × (result ≤ used) }
+    requires { Stands log.old base.old state × (state.head.folded.counts ≡ base_vector base.old) × (unit < 8) × (is_listed list unit ≡ true) × (length work.old ≡ tree_size) }
+    ensures run { (result ≡ run_in list unit log.old base.old) × (result ≤ state.used) }
     ensures left { log.new ≡ log_bytes (drop result (records_of log.old)) }
     ensures based { base.new ≡ base_bytes (folded_base list (base_vector base.old) (base_tree base.old) (records_of log.old) result) }
     ensures worked { work.new ≡ work_bytes (replay_from (base_tree base.old) (take result (records_of log.old))) }
 {
-    let f = run_in(log, base, used, unit, list, folded, held, size, work);
+    let f = run_in(log, base, state, unit, list, work);
     let n = f.records;
+    let folded = state.head.folded;
     let v = fold_log::counted(folded, log, n);
     fold_base::write_base(base, list, v, work, f.size);
-    fold_log::drop_front(folded, log, used, n);
+    fold_log::drop_front(folded, log, state.used, n);
     n
 }
 
@@ -92,13 +81,6 @@ pub fn fold(
     if !list_fits(list, unit, state.held) {
         return Err(Refusal::Unlisted);
     }
-    let size = Size {
-        entries: state.head.entries,
-        asides: state.head.asides,
-    };
-    let folded = state.head.folded;
-    let n = fold_state(
-        log, base, state.used, unit, list, folded, state.held, size, work,
-    );
+    let n = fold_state(log, base, state, unit, list, work);
     Ok(n as u16)
 }

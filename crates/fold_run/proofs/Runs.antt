@@ -45,6 +45,14 @@ run_none t at e = sym e
 pub best_none : (t : Tree) (l : List Rec) → 0 ≡ longest t l 0
 best_none t l = sym (longest-none t l)
 
+-- the operation of a record that may be replayed is known
+module _ (t : Tree) (bytes : List ℕ) (n : ℕ) (p : Playable t (laid_at Log bytes) n) (i at : ℕ) (o : at ≡ offset_of Log i) (h : i < n) where
+  pub run_known : 1 ≤ op (take (at + 80 - at) (drop at bytes))
+  run_known = rw (record_is Log bytes i at o) (p.asks i h).known
+
+  pub run_to : op (take (at + 80 - at) (drop at bytes)) ≤ 7
+  run_to = rw (record_is Log bytes i at o) (p.asks i h).to
+
 module _ (bytes b₀ register₀ : List ℕ) (n₀ m₀ n : ℕ) (few : n ≤ length (records_of bytes)) (p : Playable (tree_in b₀ n₀ m₀) (laid_at Log bytes) n) (w₀ : Holds b₀ register₀ n₀ m₀) (b register : List ℕ) (x y i : ℕ)
     (w : Works b register x y (replay_from (tree_in b₀ n₀ m₀) (listed (laid_at Log bytes) 0 i))) (c : ℕ) (shown : c ≡ present_count (replay_from (tree_in b₀ n₀ m₀) (listed (laid_at Log bytes) 0 i))) where
   pub run_few : c ≤ 1024

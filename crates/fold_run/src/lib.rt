@@ -2,12 +2,12 @@
 #![tactic(auto)]
 
 ghost use Rattle.std.specs.Prelude.{◌≡◌, cond, ◌+◌, ◌≤◌, ◌<◌, ltb, length, take};
-ghost use Rattle.model.specs.Record.{op};
 ghost use Rattle.model.specs.Log.{records_of};
 ghost use Rattle.model.specs.Replay.{replay_from};
 ghost use Rattle.call_model.specs.Fold.{longest};
 ghost use Rattle.fold_count_laws.specs.Counted.{present_count, count_after, room_in};
 ghost use Rattle.hash_chains.specs.Chains.{nodes_in};
+ghost use Rattle.record_uses.specs.Operations.{number_of};
 ghost use Rattle.tree_table.specs.Rows.{tree_in};
 ghost use Rattle.tree_lookup.specs.Roles.{Works, Holds};
 ghost use Rattle.log_check.specs.declared.Layout.TheVariants.{Log};
@@ -16,6 +16,7 @@ ghost use Rattle.tree_replay.specs.Playable.{Playable};
 
 use log_check::Layout;
 use model::BASE_PLACES;
+use record_uses::Operation;
 use tree_table::Size;
 
 // The longest run that counts, and how many rows the table has after all records.
@@ -25,29 +26,19 @@ pub struct Run {
     pub size: Size,
 }
 
-// What a record does.
-#[tactic(auto, unfolding(model::specs::Record::op))]
-fn op_of(rec: &[u8]) -> u8
-    requires { length rec.now ≡ 80 }
-    ensures { result ≡ op rec.now }
-{
-    rec[1]
-}
-
 // How many entries are present after a record, of n before it: by what it does, unless there is an aside more.
 #[tactic(auto, unfolding(fold_count_laws::specs::Counted::count_after))]
-fn count_after(o: u8, before: usize, after: usize, n: usize) -> usize
+fn count_after(operation: Operation, before: usize, after: usize, n: usize) -> usize
     requires { n ≤ 1024 }
-    ensures { result ≡ count_after o (ltb before after) n }
+    ensures { result ≡ count_after (number_of operation) (ltb before after) n }
 {
     if before < after {
-        n
-    } else if o <= 2 {
-        n + 1
-    } else if o == 4 {
-        n.saturating_sub(1)
-    } else {
-        n
+        return n;
+    }
+    match operation {
+        Operation::MakeFolder | Operation::MakeTrace => n + 1,
+        Operation::Remove => n.saturating_sub(1),
+        Operation::Store | Operation::Rename | Operation::Settle | Operation::Move => n,
     }
 }
 
@@ -76,7 +67,8 @@ pub fn longest_run(log: &[u8], n: usize, table: &mut [u8], register: &mut [u16],
         let at = log_check::offset(Layout::Log, i);
         let rec = &log[at..at + 80];
         let next = tree_replay::step(rec, table, register, size);
-        present = count_after(op_of(rec), size.asides, next.asides, present);
+        let operation = tree_table::operation_of(rec);
+        present = count_after(operation, size.asides, next.asides, present);
         best = better(present, next.asides, i + 1, best);
         size = next;
     }

@@ -109,5 +109,5 @@ pub works_table : (b register : List ℕ) (n m : ℕ) (t : Tree) → Works b reg
 works_table b register n m t w =
     record { bytes = w.bytes; rows = w.rows; notes = w.notes; rows_fit_lem = w.rows_fit_lem; notes_fit = w.notes_fit; proper = w.proper }
 
-pub zeroed : (b₀ b : List ℕ) → length b₀ ≡ 86020 → b ≡ replicate (length b₀) 0 → b ≡ replicate 86020 0
-zeroed b₀ b h e = rw h at e
+pub zeroed : (n : ℕ) (b₀ b : List ℕ) → length b₀ ≡ n → b ≡ replicate (length b₀) 0 → b ≡ replicate n 0
+zeroed n b₀ b h e = rw h at e

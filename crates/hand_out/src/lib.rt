@@ -12,27 +12,20 @@ use call_guard::open;
 use hand_out_pick::gather;
 use model::BLOCK_BYTES;
 use refusal::Refusal;
+use state_check::State;
 use vector::{Vector, covers};
 
 // The block that is handed out, with the held vector in its header. The base vector only says behind which records the log is sound.
-fn block_for(
-    folded: Vector,
-    log: &[u8],
-    used: usize,
-    held: Vector,
-    archive: u32,
-    unit: u8,
-    asked: Vector,
-) -> Block
-    requires { (length log.now ≡ log_size) × (sound_log_on folded.counts log.now ≡ true) × (used ≡ length (records_of log.now)) }
-    ensures { result.bytes ≡ hand_block archive unit held.counts (records_of log.now) asked.counts }
+fn block_for(log: &[u8], state: State, archive: u32, unit: u8, asked: Vector) -> Block
+    requires { (length log.now ≡ log_size) × (sound_log_on state.head.folded.counts log.now ≡ true) × (state.used ≡ length (records_of log.now)) }
+    ensures { result.bytes ≡ hand_block archive unit state.held.counts (records_of log.now) asked.counts }
 {
     let mut recs = [0u8; 480];
-    let n = gather(folded, log, used, asked, &mut recs);
+    let n = gather(state.head.folded, log, state.used, asked, &mut recs);
     if n == 0 {
-        return empty_block(archive, unit, 0, held);
+        return empty_block(archive, unit, 0, state.held);
     }
-    block_of(archive, unit, n, 0, held, &recs)
+    block_of(archive, unit, n, 0, state.held, &recs)
 }
 
 // The first six or fewer records that the asked vector lacks are handed out in the lent block. Checked in this order: 1, 21, 19, 27. Log and
@@ -48,11 +41,10 @@ pub fn hand_out(
     ensures { outcome (code_of result) 0 log.now block.new 0 ≡ hand_of archive unit log.now base.now asked.counts block.old }
 {
     let state = open(log, base, unit, block.len() == BLOCK_BYTES, true)?;
-    let folded = state.head.folded;
-    if !covers(asked, folded) {
+    if !covers(asked, state.head.folded) {
         return Err(Refusal::BelowBase);
     }
-    let b = block_for(folded, log, state.used, state.held, archive, unit, asked);
+    let b = block_for(log, state, archive, unit, asked);
     block.copy_from_slice(&b.bytes);
     Ok(())
 }

@@ -88,21 +88,21 @@ module _ (base v b : List ℕ) (long : length b ≡ 40960) (sound : sound_log_on
       let r = part b (80 * i) 80 in
       rw (add-one i, take-suc (records_of b) i [] h, ← record_at_lem i h, lacking-append v (take i (records_of b)) (r ∷ []), lacking_one v r t e)
 
-  -- gathering ends when six are there, or all records were looked at
-  gathered_six : (i : ℕ) → length (gathered v b i) ≡ 6 → take 6 (lacking v (records_of b)) ≡ gathered v b i
+  -- gathering ends when as many are there as are asked for, or all records were looked at
+  gathered_full : (most i : ℕ) → length (gathered v b i) ≡ most → take most (lacking v (records_of b)) ≡ gathered v b i
   unfolding gathered
-  gathered_six i e =
+  gathered_full most i e =
       let f : lacking v (records_of b) ≡ lacking v (take i (records_of b)) ++ lacking v (drop i (records_of b)) =
       ap (lacking v) (sym (take-append-drop i (records_of b))) ∙ lacking-append v (take i (records_of b)) (drop i (records_of b)) in
-      rw f (take_at (lacking v (take i (records_of b))) (lacking v (drop i (records_of b))) 6 e)
+      rw f (take_at (lacking v (take i (records_of b))) (lacking v (drop i (records_of b))) most e)
 
-  gathered_all : (i : ℕ) → i ≡ length (records_of b) → length (gathered v b i) ≤ 6 → take 6 (lacking v (records_of b)) ≡ gathered v b i
+  gathered_all : (most i : ℕ) → i ≡ length (records_of b) → length (gathered v b i) ≤ most → take most (lacking v (records_of b)) ≡ gathered v b i
   unfolding gathered
-  gathered_all i e h =
+  gathered_all most i e h =
       let f : take i (records_of b) ≡ records_of b = take_all i (records_of b) (omega arith) in
-      rw f (take_all 6 (lacking v (records_of b)) (rw f at h))
+      rw f (take_all most (lacking v (records_of b)) (rw f at h))
 
-  -- what `gather` is asked, over plain values; the part is as the code lends it
+  -- what `gather_most` is asked, over plain values; the part is as the code lends it
   module _ (i used n : ℕ) (whole : used ≡ length (records_of b)) (counted : n ≡ length (gathered v b i)) where
     pub unit_lent : i < used → unit (take (80 * i + 80 - 80 * i) (drop (80 * i) b)) < 8
     unit_lent h = rw (part_is b (80 * i) 80) (unit-below i (omega arith))
@@ -134,36 +134,41 @@ module _ (base v b : List ℕ) (long : length b ≡ 40960) (sound : sound_log_on
           let w : joined (gathered v b (i + 1)) ≡ joined (gathered v b i) ++ r = rw (added e) (joined-append (gathered v b i) (r ∷ []) ∙ rw (joined_one r)) in
           g ∙ rw (part_is b (80 * i) 80, f, m, w) (put-padded z (joined (gathered v b i)) r)
 
-    pub full_count : n ≡ 6 → 6 ≡ length (take 6 (lacking v (records_of b)))
-    full_count e = let m : length (gathered v b i) ≡ 6 = omega arith in rw (gathered_six i m) (sym m)
+    module _ (most : ℕ) where
+      pub full_count : n ≡ most → most ≡ length (take most (lacking v (records_of b)))
+      full_count e = let m : length (gathered v b i) ≡ most = omega arith in rw (gathered_full most i m) (sym m)
 
-    pub full_laid : {d : List ℕ} → n ≡ 6 → d ≡ padded 480 (joined (gathered v b i)) → d ≡ padded 480 (joined (take 6 (lacking v (records_of b))))
-    full_laid e f = let m : length (gathered v b i) ≡ 6 = omega arith in rw (gathered_six i m) f
+      pub full_laid : (z : ℕ) {d : List ℕ} → n ≡ most → d ≡ padded z (joined (gathered v b i)) → d ≡ padded z (joined (take most (lacking v (records_of b))))
+      full_laid z e f = let m : length (gathered v b i) ≡ most = omega arith in rw (gathered_full most i m) f
 
-    pub ends_count : n ≤ 6 → i ≤ used → used ≤ i → n ≡ length (take 6 (lacking v (records_of b)))
-    ends_count h k j = let m : length (gathered v b i) ≤ 6 = omega arith in rw (gathered_all i (omega arith) m) counted
+      pub ends_count : n ≤ most → i ≤ used → used ≤ i → n ≡ length (take most (lacking v (records_of b)))
+      ends_count h k j = let m : length (gathered v b i) ≤ most = omega arith in rw (gathered_all most i (omega arith) m) counted
 
-    pub ends_laid : {d : List ℕ} → n ≤ 6 → i ≤ used → used ≤ i → d ≡ padded 480 (joined (gathered v b i)) → d ≡ padded 480 (joined (take 6 (lacking v (records_of b))))
-    ends_laid h k j f = let m : length (gathered v b i) ≤ 6 = omega arith in rw (gathered_all i (omega arith) m) f
+      pub ends_laid : (z : ℕ) {d : List ℕ} → n ≤ most → i ≤ used → used ≤ i → d ≡ padded z (joined (gathered v b i)) → d ≡ padded z (joined (take most (lacking v (records_of b))))
+      ends_laid z h k j f = let m : length (gathered v b i) ≤ most = omega arith in rw (gathered_all most i (omega arith) m) f
 
--- ---- all that a vector lacks
+-- ---- all that a vector lacks of a log, which has 512 records at most
 
-module _ (v b : List ℕ) (i used n : ℕ) (whole : used ≡ length (records_of b)) (counted : n ≡ length (gathered v b i)) (h : used ≤ i) where
-  gathered_whole : gathered v b i ≡ lacking v (records_of b)
-  unfolding gathered
-  gathered_whole = rw (take_all i (records_of b) (omega arith))
+lacking-few : (v : List ℕ) (l : List Rec) → length (lacking v l) ≤ length l
+unfolding lacking
+lacking-few v [] = omega arith
+lacking-few v (r ∷ l) = go (ltb (get_or v (unit r) 0) (num r)) (lacking-few v l)
+  where
+    go : (t : Bool) → length (lacking v l) ≤ length l → length (cond t (r ∷ lacking v l) (lacking v l)) ≤ suc (length l)
+    go true h = omega arith
+    go false h = omega arith
 
-  pub whole-count : n ≡ length (lacking v (records_of b))
-  whole-count = counted ∙ ap (λ (l : List Rec). length l) gathered_whole
+all_taken : (v b : List ℕ) → take 512 (lacking v (records_of b)) ≡ lacking v (records_of b)
+all_taken v b = take_all 512 (lacking v (records_of b)) (omega (arith, lacking-few v (records_of b), sound_few b))
 
-  pub whole_laid : (z : ℕ) {d : List ℕ} → d ≡ padded z (joined (gathered v b i)) → d ≡ padded z (joined (lacking v (records_of b)))
-  whole_laid z f = rw gathered_whole at f
+pub whole-count : (v b : List ℕ) {n : ℕ} → n ≡ length (take 512 (lacking v (records_of b))) → n ≡ length (lacking v (records_of b))
+whole-count v b e = rw (all_taken v b) at e
 
-pub starts_log : {d : List ℕ} → d ≡ replicate 40960 0 → length d ≡ 40960
-starts_log e = ap (λ (l : List ℕ). length l) e ∙ length-replicate {A = ℕ} 40960 0
+pub whole_laid : (v b : List ℕ) (z : ℕ) {d : List ℕ} → d ≡ padded z (joined (take 512 (lacking v (records_of b)))) → d ≡ padded z (joined (lacking v (records_of b)))
+whole_laid v b z e = rw (all_taken v b) at e
 
-pub starts_long : {d : List ℕ} → d ≡ replicate 480 0 → length d ≡ 480
-starts_long e = ap (λ (l : List ℕ). length l) e
+pub starts_long : (z : ℕ) {d : List ℕ} → d ≡ replicate z 0 → length d ≡ z
+starts_long z e = ap (λ (l : List ℕ). length l) e ∙ length-replicate {A = ℕ} z 0
 
 pub starts_few : (b : List ℕ) (used : ℕ) → used ≡ length (records_of b) → used ≤ 512
 starts_few b used e = omega (arith, sound_few b)

@@ -16,6 +16,7 @@ use call_guard::open;
 use hand_out_pick::gather_all;
 use model::FILE_BYTES;
 use refusal::Refusal;
+use state_check::State;
 use vector::{Vector, covers};
 use write_file::clear_behind;
 use write_file_blocks::{count_at, write_at};
@@ -61,24 +62,16 @@ fn row_block(
 
 // The records are gathered in the row itself, block after block is written before them, then zeros; the count of blocks is
 // returned. A block is 32 bytes longer than its six records, and 86 * 32 < 3,072: no block reaches records still to be read.
-fn write_row(
-    folded: Vector,
-    log: &[u8],
-    used: usize,
-    held: Vector,
-    archive: u32,
-    unit: u8,
-    asked: Vector,
-    out: &mut [u8],
-) -> u8
-    requires { (length log.now ≡ log_size) × (sound_log_on folded.counts log.now ≡ true) × (used ≡ length (records_of log.now)) × (length out.old ≡ file_size) }
+fn write_row(log: &[u8], state: State, archive: u32, unit: u8, asked: Vector, out: &mut [u8]) -> u8
+    requires { (length log.now ≡ log_size) × (sound_log_on state.head.folded.counts log.now ≡ true) × (state.used ≡ length (records_of log.now)) × (length out.old ≡ file_size) }
     ensures counted { result ≡ blocks_for (length (lacking asked.counts (records_of log.now))) }
-    ensures written { out.new ≡ padded file_size (row_of archive unit held.counts (records_of log.now) asked.counts) }
+    ensures written { out.new ≡ padded file_size (row_of archive unit state.held.counts (records_of log.now) asked.counts) }
 {
-    let m = gather_behind(folded, log, used, asked, out);
+    let folded = state.head.folded;
+    let m = gather_behind(folded, log, state.used, asked, out);
     let n = row_count(m);
     for k in 0..n {
-        let b = row_block(folded, log, asked, out, m, k, held, archive, unit);
+        let b = row_block(folded, log, asked, out, m, k, state.held, archive, unit);
         write_at(out, k, b);
     }
     clear_behind(out, n);
@@ -98,11 +91,8 @@ pub fn hand_out_row(
     ensures { outcome (code_of result) 0 log.now out.new (blocks_of result) ≡ hand_row_of archive unit log.now base.now asked.counts out.old }
 {
     let state = open(log, base, unit, out.len() == FILE_BYTES, true)?;
-    let folded = state.head.folded;
-    if !covers(asked, folded) {
+    if !covers(asked, state.head.folded) {
         return Err(Refusal::BelowBase);
     }
-    Ok(write_row(
-        folded, log, state.used, state.held, archive, unit, asked, out,
-    ))
+    Ok(write_row(log, state, archive, unit, asked, out))
 }

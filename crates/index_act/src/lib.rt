@@ -17,6 +17,7 @@ ghost use Rattle.index_laws.specs.Copied.{entry_row_at};
 ghost use Rattle.index_act.specs.Inside.{Inside};
 ghost use Rattle.index_act.specs.Moved.{put_elsewhere};
 
+use record_uses::Operation;
 use refusal::Refusal;
 use tree_lookup::entry_of;
 use tree_table::Size;
@@ -54,32 +55,29 @@ fn change_index(rec: &[u8], table: &[u8], register: &[u16], size: Size, index: &
     requires { Asks rec.now × InRange (self_of rec.now) × Holds table.now register.now size.entries size.asides × Inside table.now size.entries × (length index.old ≡ index_size) }
     ensures { index.new ≡ change_in rec.now (tree_in table.now size.entries size.asides) index.old }
 {
-    let op = rec[1];
-    if op <= 2 {
-        index_change::put_in(
+    match tree_table::operation_of(rec) {
+        Operation::MakeFolder | Operation::MakeTrace => index_change::put_in(
             index,
             tree_table::folder_of(rec),
             &rec[32..64],
             tree_table::self_of(rec),
-        );
-        return;
-    }
-    if op == 4 {
-        if let Some(row) = entry_of(table, register, size, tree_table::object_of(rec)) {
-            remove_from(table, row, index);
+        ),
+        Operation::Remove => {
+            if let Some(row) = entry_of(table, register, size, tree_table::object_of(rec)) {
+                remove_from(table, row, index);
+            }
         }
-        return;
-    }
-    if op == 5 {
-        if let Some(row) = entry_of(table, register, size, tree_table::object_of(rec)) {
-            move_to(rec, table, row, tree_table::inside_at(table, row), index);
+        Operation::Rename => {
+            if let Some(row) = entry_of(table, register, size, tree_table::object_of(rec)) {
+                move_to(rec, table, row, tree_table::inside_at(table, row), index);
+            }
         }
-        return;
-    }
-    if op == 7 {
-        if let Some(row) = entry_of(table, register, size, tree_table::object_of(rec)) {
-            move_to(rec, table, row, tree_table::folder_of(rec), index);
+        Operation::Move => {
+            if let Some(row) = entry_of(table, register, size, tree_table::object_of(rec)) {
+                move_to(rec, table, row, tree_table::folder_of(rec), index);
+            }
         }
+        Operation::Settle | Operation::Store => {}
     }
 }
 

@@ -1,7 +1,7 @@
 // Looking up and listing in the ordered index. Any bytes are an index here: both end, whatever stands in it.
 #![tactic(auto)]
 
-ghost use Rattle.std.specs.Prelude.{◌≡◌, ◌+◌, ◌*◌, ◌≤◌, ◌<◌, length};
+ghost use Rattle.std.specs.Prelude.{◌≡◌, ℕ, Bool, ◌+◌, ◌*◌, ◌≤◌, ◌<◌, length};
 ghost use Rattle.model.specs.Replay.{label_key};
 ghost use Rattle.index_model.specs.Index.{index_size, index_places, comes_before, folder_key, key_before, row_before, rows_in, row_is, entry_at, halve, find_of, range_of};
 ghost use Rattle.index_find.specs.Answers.{found_by, listed_by};
@@ -11,7 +11,7 @@ use record_label::lower;
 use refusal::Refusal;
 
 // So often at most are the rows of an index halved.
-pub const HALVINGS: usize = 11;
+const HALVINGS: usize = 11;
 
 // The rows of a folder: the first, and how many they are.
 #[derive(Clone, Copy, Debug, PartialEq, Eq)]
@@ -74,10 +74,12 @@ fn row_before(index: &[u8], i: usize, key: u64, label: &[u8]) -> bool
     key_before(folder_key(folder), &index[from..from + 32], key, label)
 }
 
-// The first of n rows that does not come before a label in the folder of a key, by halving.
-pub fn seek(index: &[u8], n: usize, key: u64, label: &[u8]) -> usize
-    requires { (length index.now ≡ index_size) × (n ≤ index_places) }
-    ensures { (result ≡ halve (row_before index.now key label.now) 11 0 n) × (result ≤ n) }
+// The first of n places that a test does not say to come before, by halving.
+pub fn halve<F: Fn(usize) -> bool>(n: usize, before: F) -> usize
+    requires few { n ≤ index_places }
+    requires asked { (i : ℕ) → i < n → F.pre before i }
+    ensures halved { (p : ℕ → Bool) → ((i : ℕ) (t : Bool) → i < n → F.post before i t → t ≡ p i) → result ≡ halve p 11 0 n }
+    ensures within { result ≤ n }
 {
     let mut lo: usize = 0;
     let mut hi = n;
@@ -86,13 +88,21 @@ pub fn seek(index: &[u8], n: usize, key: u64, label: &[u8]) -> usize
             return lo;
         }
         let mid = lo + (hi - lo) / 2;
-        if row_before(index, mid, key, label) {
+        if before(mid) {
             lo = mid + 1;
         } else {
             hi = mid;
         }
     }
     lo
+}
+
+// The first of n rows that does not come before a label in the folder of a key, by halving.
+pub fn seek(index: &[u8], n: usize, key: u64, label: &[u8]) -> usize
+    requires { (length index.now ≡ index_size) × (n ≤ index_places) }
+    ensures { (result ≡ halve (row_before index.now key label.now) 11 0 n) × (result ≤ n) }
+{
+    halve(n, |i| row_before(index, i, key, label))
 }
 
 // Row i is one of n rows, of the folder, and has the label, in capitals or small letters.

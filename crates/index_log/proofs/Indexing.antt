@@ -43,14 +43,6 @@ module _ (base : List ℕ) {m k j : ℕ} {v : List ℕ} (e : headed m v k j ≡ 
   unfolding head_of
   folded_is = ap (λ (x : BaseHead). x.folded) e
 
-  pub head_entries : k ≡ word base 2
-  unfolding head_of
-  head_entries = ap (λ (x : BaseHead). x.entries) e
-
-  pub head_asides : j ≡ word base 4
-  unfolding head_of
-  head_asides = ap (λ (x : BaseHead). x.asides) e
-
   module _ (log : List ℕ) where
     pub head_log : sound_state log base ≡ true → sound_log_on v log ≡ true
     head_log s = rw folded_is (state_log log base s)

@@ -3,35 +3,25 @@
 
 ghost use Rattle.std.specs.Prelude.{◌≡◌, true, length};
 ghost use Rattle.model.specs.Lengths.{log_size, base_size, tree_size};
-ghost use Rattle.model.specs.Bytes.{word};
-ghost use Rattle.model.specs.Log.{records_of};
 ghost use Rattle.model.specs.Table.{table_bytes};
-ghost use Rattle.base_model.specs.Base.{sound_state, held_on, tree_of};
+ghost use Rattle.base_model.specs.Base.{sound_state, tree_of};
 ghost use Rattle.call_model.specs.Outcome.{outcome};
 ghost use Rattle.index_model.specs.Index.{index_size};
 ghost use Rattle.index_model.specs.Kept.{index_of_log, index_lent, indexed_of, indexed_work, table_if, if_lent, both_fit};
 ghost use Rattle.refusal.specs.Refusals.{code_of};
+ghost use Rattle.state_check.specs.Stands.{Stands};
 
 use refusal::Refusal;
-use tree_table::Size;
-use vector::Vector;
+use state_check::State;
 
-// The index of the tree of a sound state, with n records in its log, its held vector and the number of entries and asides of its base.
-pub fn lay_index(
-    log: &[u8],
-    n: usize,
-    base: &[u8],
-    held: Vector,
-    size: Size,
-    index: &mut [u8],
-    work: &mut [u8],
-)
-    requires { (length log.now ≡ log_size) × (length base.now ≡ base_size) × (sound_state log.now base.now ≡ true) × (n ≡ length (records_of log.now)) × (held.counts ≡ held_on log.now base.now) × (size.entries ≡ word base.now 2) × (size.asides ≡ word base.now 4) × (length index.old ≡ index_size) × (length work.old ≡ tree_size) }
+// The index of the tree of a sound state.
+pub fn lay_index(log: &[u8], base: &[u8], state: State, index: &mut [u8], work: &mut [u8])
+    requires { Stands log.now base.now state × (length index.old ≡ index_size) × (length work.old ≡ tree_size) }
     ensures index { index.new ≡ index_of_log log.now base.now }
     ensures work { work.new ≡ table_bytes (tree_of log.now base.now) }
 {
-    state_tree::small_counts(held);
-    show_tree::lay_tree(log, n, base, held, size, work);
+    state_tree::small_counts(state.held);
+    show_tree::lay_tree(log, base, state, work);
     index_make::make_index(work, index);
 }
 
@@ -41,14 +31,10 @@ pub fn renew(log: &[u8], base: &[u8], index: &mut [u8], work: &mut [u8])
     ensures index { index.new ≡ index_of_log log.now base.now }
     ensures work { work.new ≡ table_bytes (tree_of log.now base.now) }
 {
-    let n = log_check::used(log);
+    let used = log_check::used(log);
     let head = base_head::head_of(base);
-    let held = fold_log::counted(head.folded, log, n);
-    let size = Size {
-        entries: head.entries,
-        asides: head.asides,
-    };
-    lay_index(log, n, base, held, size, index, work);
+    let held = fold_log::counted(head.folded, log, used);
+    lay_index(log, base, State { head, held, used }, index, work);
 }
 
 // The same, if an index is lent.
@@ -70,10 +56,6 @@ pub fn index_log(log: &[u8], base: &[u8], index: &mut [u8], work: &mut [u8]) -> 
 {
     let lent = keep_lent::index_lent(index, work);
     let state = call_guard::open(log, base, 0, lent, true)?;
-    let size = Size {
-        entries: state.head.entries,
-        asides: state.head.asides,
-    };
-    lay_index(log, state.used, base, state.held, size, index, work);
+    lay_index(log, base, state, index, work);
     Ok(())
 }

@@ -7,7 +7,6 @@ ghost use Rattle.model.specs.Bytes.{word, part, put_at};
 ghost use Rattle.index_model.specs.Index.{index_size, index_places, key_before, folder_key, halve};
 ghost use Rattle.index_laws.specs.Copied.{entry_row_at, order_before, ordered_rows, copied_row, copied_rows, index_from, Low};
 
-use index_find::HALVINGS;
 use index_model::INDEX_PLACES;
 
 // Row i of a table comes before a label in the folder of a key.
@@ -32,20 +31,8 @@ fn place(table: &[u8], order: &[u16], k: usize, row: usize) -> usize
 {
     let key = index_find::folder_key(tree_table::inside_at(table, row));
     let from = 4 + 72 * row + 24;
-    let mut lo: usize = 0;
-    let mut hi = k;
-    for _ in 0..HALVINGS {
-        if hi <= lo {
-            return lo;
-        }
-        let mid = lo + (hi - lo) / 2;
-        if row_before(table, usize::from(order[mid]), key, &table[from..from + 32]) {
-            lo = mid + 1;
-        } else {
-            hi = mid;
-        }
-    }
-    lo
+    let label = &table[from..from + 32];
+    index_find::halve(k, |i| row_before(table, usize::from(order[i]), key, label))
 }
 
 // A row is put into an order of k rows.

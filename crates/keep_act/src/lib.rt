@@ -2,13 +2,11 @@
 #![tactic(auto)]
 
 ghost use Rattle.std.specs.Prelude.{◌≡◌, true, [], ◌<◌, length, get_or, replicate};
-ghost use Rattle.model.specs.Lengths.{record_size, log_size, base_size, tree_size};
-ghost use Rattle.model.specs.Bytes.{word};
+ghost use Rattle.model.specs.Lengths.{record_size, tree_size};
 ghost use Rattle.model.specs.Record.{self_of, well_formed};
-ghost use Rattle.model.specs.Log.{records_of};
 ghost use Rattle.model.specs.Replay.{judge as judge_of, reason_of};
 ghost use Rattle.model.specs.Table.{work_bytes};
-ghost use Rattle.base_model.specs.Base.{held_on, sound_state, tree_of};
+ghost use Rattle.base_model.specs.Base.{tree_of};
 ghost use Rattle.tree_table.specs.Rows.{InRange, tree_in};
 ghost use Rattle.tree_maps.specs.Keys.{register_size};
 ghost use Rattle.tree_lookup.specs.Roles.{Holds};
@@ -17,17 +15,17 @@ ghost use Rattle.index_model.specs.Acting.{step_in};
 ghost use Rattle.index_model.specs.Kept.{index_fits, if_lent, kept, act_kept, act_kept_work};
 ghost use Rattle.index_act.specs.Inside.{Inside};
 ghost use Rattle.refusal.specs.Refusals.{code_of};
+ghost use Rattle.state_check.specs.Stands.{Stands};
 ghost use Rattle.keep_act.specs.Acted.{acted_kept};
 
 use act::put_behind;
 use act_wish::{check_early, stamp};
-use base_head::Head;
 use call_guard::open;
 use model::{RECORD_BYTES, TREE_BYTES};
 use refusal::Refusal;
+use state_check::State;
 use tree_maps::REGISTER;
 use tree_table::Size;
-use vector::Vector;
 
 // ---- the reason, and the change of the index
 
@@ -50,44 +48,40 @@ fn change_on(
 // The same behind the records held, whose tree is laid in a work memory of zeros by a register of zeros.
 fn change_behind(
     log: &[u8],
-    used: usize,
     base: &[u8],
-    held: Vector,
-    size: Size,
+    state: State,
     rec: &[u8],
     index: &mut [u8],
     work: &mut [u8],
     register: &mut [u16],
 ) -> Result<(), Refusal>
-    requires { (length log.now ≡ log_size) × (length base.now ≡ base_size) × (sound_state log.now base.now ≡ true) × (used ≡ length (records_of log.now)) × (held.counts ≡ held_on log.now base.now) × (size.entries ≡ word base.now 2) × (size.asides ≡ word base.now 4) × (well_formed rec.now ≡ true) × InRange (self_of rec.now) × (index_fits index.old ≡ true) × (work.old ≡ replicate tree_size 0) × (register.old ≡ replicate register_size 0) }
+    requires { Stands log.now base.now state × (well_formed rec.now ≡ true) × InRange (self_of rec.now) × (index_fits index.old ≡ true) × (work.old ≡ replicate tree_size 0) × (register.old ≡ replicate register_size 0) }
     ensures tells { code_of result ≡ reason_of (judge_of rec.now (tree_of log.now base.now)) }
     ensures changes { index.new ≡ if_lent index.old (step_in (judge_of rec.now (tree_of log.now base.now)) rec.now (tree_of log.now base.now) index.old) }
     ensures lays { work.new ≡ work_bytes (tree_of log.now base.now) }
 {
-    state_tree::small_counts(held);
-    let laid = state_tree::replay_state(log, used, base, held, size, work, register);
+    state_tree::small_counts(state.held);
+    let laid = state_tree::replay_state(log, base, state, work, register);
     change_on(rec, work, register, laid, index)
 }
 
 // The same in a work memory that may hold anything before.
 fn change(
     log: &[u8],
-    used: usize,
     base: &[u8],
-    held: Vector,
-    size: Size,
+    state: State,
     rec: &[u8],
     index: &mut [u8],
     work: &mut [u8],
 ) -> Result<(), Refusal>
-    requires { (length log.now ≡ log_size) × (length base.now ≡ base_size) × (sound_state log.now base.now ≡ true) × (used ≡ length (records_of log.now)) × (held.counts ≡ held_on log.now base.now) × (size.entries ≡ word base.now 2) × (size.asides ≡ word base.now 4) × (well_formed rec.now ≡ true) × InRange (self_of rec.now) × (index_fits index.old ≡ true) × (length work.old ≡ tree_size) }
+    requires { Stands log.now base.now state × (well_formed rec.now ≡ true) × InRange (self_of rec.now) × (index_fits index.old ≡ true) × (length work.old ≡ tree_size) }
     ensures tells { code_of result ≡ reason_of (judge_of rec.now (tree_of log.now base.now)) }
     ensures changes { index.new ≡ if_lent index.old (step_in (judge_of rec.now (tree_of log.now base.now)) rec.now (tree_of log.now base.now) index.old) }
     ensures lays { work.new ≡ work_bytes (tree_of log.now base.now) }
 {
     work.fill(0);
     let mut register = [0u16; REGISTER];
-    change_behind(log, used, base, held, size, rec, index, work, &mut register)
+    change_behind(log, base, state, rec, index, work, &mut register)
 }
 
 // ---- the act
@@ -95,27 +89,21 @@ fn change(
 // A wish in a sound state: its record is put behind the others, its change into the index; or it is refused and log and index are left.
 fn act_on(
     log: &mut [u8],
-    used: usize,
     base: &[u8],
-    head: Head,
-    held: Vector,
+    state: State,
     index: &mut [u8],
     unit: u8,
     wish: &[u8],
     work: &mut [u8],
 ) -> Result<(), Refusal>
-    requires { (length log.old ≡ log_size) × (length base.now ≡ base_size) × (sound_state log.old base.now ≡ true) × (used ≡ length (records_of log.old)) × (held.counts ≡ held_on log.old base.now) × (head.list ≡ get_or base.now 0 0) × (head.entries ≡ word base.now 2) × (head.asides ≡ word base.now 4) × (index_fits index.old ≡ true) × (unit < 8) × (length wish.now ≡ record_size) × (length work.old ≡ tree_size) }
+    requires { Stands log.old base.now state × (state.head.list ≡ get_or base.now 0 0) × (index_fits index.old ≡ true) × (unit < 8) × (length wish.now ≡ record_size) × (length work.old ≡ tree_size) }
     ensures acted { kept (code_of result) 0 log.new index.new [] ≡ acted_kept unit log.old base.now index.old wish.now }
     ensures worked { work.new ≡ worked_on unit log.old base.now wish.now work.old }
 {
-    let rec = stamp(wish, unit, held);
-    check_early(head.list, unit, held, used, wish, &rec)?;
-    let size = Size {
-        entries: head.entries,
-        asides: head.asides,
-    };
-    change(log, used, base, held, size, &rec, index, work)?;
-    put_behind(log, used, &rec);
+    let rec = stamp(wish, unit, state.held);
+    check_early(state, unit, wish, &rec)?;
+    change(log, base, state, &rec, index, work)?;
+    put_behind(log, state.used, &rec);
     Ok(())
 }
 
@@ -139,8 +127,5 @@ pub fn act(
     }
     let lent = (wish.len() == RECORD_BYTES) & (work.len() == TREE_BYTES);
     let state = open(log, base, unit, lent, true)?;
-    let head = state.head;
-    act_on(
-        log, state.used, base, head, state.held, index, unit, wish, work,
-    )
+    act_on(log, base, state, index, unit, wish, work)
 }

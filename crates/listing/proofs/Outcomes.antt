@@ -29,7 +29,6 @@ use Rattle.sab2_laws.proofs.Listing as State
 use Rattle.listing_laws.proofs.Rows.{entries_counted, asides_counted}
 use Rattle.listing_laws.proofs.Lines.{refused_line_length}
 use Rattle.listing_laws.proofs.Claims.{entries_few, asides_few, state_lines_fit, unit_read}
-use Rattle.base_head.specs.Head.{headed, head_of, BaseHead}
 use Rattle.state_tree.specs.Small.{Small}
 use Rattle.line_text.specs.Written.{Wrote}
 use Rattle.read_file_check.specs.Outcome.{read_back_of}
@@ -55,17 +54,6 @@ module _ (f log base tree text : List ℕ) (n p k : ℕ) (one : (n ≡ 1) × (p 
   unfolding either_listed listing_lent
   wrong_text a b c d =
       rw (one.0, one.1, one.2, eq-eqb (length log) 40960 a, eq-eqb (length base) 43032 b, eq-eqb (length tree) 86020 c, ne_eqb (length text) 172544 d)
-
--- ---- the counts of a base
-
-module _ (base v : List ℕ) (m n k : ℕ) (head : headed m v n k ≡ head_of base) where
-  pub head_entries : n ≡ word base 2
-  unfolding head_of
-  head_entries = ap (λ (h : BaseHead). h.entries) head
-
-  pub head_asides : k ≡ word base 4
-  unfolding head_of
-  head_asides = ap (λ (h : BaseHead). h.asides) head
 
 -- ---- the lines of a sound state
 

@@ -19,7 +19,7 @@ use read_file::ReadFile;
 use refusal::{Fault, Refusal};
 use sab2_check::FileFault;
 use sab2_model::LISTING_BYTES;
-use tree_table::Size;
+use state_check::State;
 use vector::Vector;
 
 // The lines of an accepted file: its head, its vector and its tree.
@@ -39,11 +39,12 @@ fn lay_state(log: &[u8], base: &[u8], records: u16, held: Vector, tree: &mut [u8
     ensures { tree.new ≡ table_bytes (tree_of log.now base.now) }
 {
     let head = base_head::head_of(base);
-    let size = Size {
-        entries: head.entries,
-        asides: head.asides,
+    let state = State {
+        head,
+        held,
+        used: records as usize,
     };
-    show_tree::lay_tree(log, records as usize, base, held, size, tree);
+    show_tree::lay_tree(log, base, state, tree);
 }
 
 // The lines of a sound state, behind its archive number and unit; the lent table shows its tree.

@@ -1,15 +1,14 @@
 // The tables of the records held behind a base vector, and the checks that go by them.
 #![tactic(auto)]
 
-ghost use Rattle.std.specs.Prelude.{◌≡◌, true, suc, ◌+◌, ◌*◌, ◌≤◌, ◌<◌, eqb, length, get_or, set};
-ghost use Rattle.model.specs.Bytes.{put_at};
+ghost use Rattle.std.specs.Prelude.{◌≡◌, true, suc, ◌+◌, ◌<◌, eqb, length, get_or, set};
 ghost use Rattle.model.specs.Record.{seen_vector, well_formed};
 ghost use Rattle.model.specs.Log.{rank};
 ghost use Rattle.refusal.specs.Refusals.{code_of};
-ghost use Rattle.log_closure.specs.Tables.{places_size, seens_size, slot_of, join_fault, fault_by, Placed, Spare, noted, admit_of};
+ghost use Rattle.log_closure.specs.Tables.{join_fault, fault_by, Placed, Spare, noted, admit_of};
 ghost use Rattle.log_admit.specs.Known.{known_after};
 
-use log_closure::{all_covered, is_closed, slot};
+use log_closure::Tables;
 use refusal::Refusal;
 use vector::Vector;
 
@@ -18,24 +17,6 @@ use vector::Vector;
 pub struct Before {
     pub held: Vector,
     pub floor: u32,
-}
-
-// A vector is written into a row.
-fn put_row(seens: &mut [u16], p: usize, s: Vector)
-    requires { (length seens.old ≡ seens_size) × (p < 518) }
-    ensures { seens.new ≡ put_at seens.old (8 * p) s.counts }
-{
-    seens[8 * p..8 * p + 8].copy_from_slice(&s.counts);
-}
-
-// The record of unit u with the relative number c is noted: it stands at the position p and has seen s.
-pub fn note(u: usize, c: u16, p: usize, s: Vector, places: &mut [u16], seens: &mut [u16])
-    requires { (u < 8) × (1 ≤ c) × (c ≤ 512) × (p < 518) × (length places.old ≡ places_size) × (length seens.old ≡ seens_size) }
-    ensures { (places.new ≡ set places.old (slot_of u c) p) × (seens.new ≡ put_at seens.old (8 * p) s.counts) }
-{
-    let i = slot(u, c);
-    places[i] = p as u16;
-    put_row(seens, p, s);
 }
 
 // The number n is the next behind the count c. A count can be 65,535, so they are compared in 32 bits.
@@ -52,23 +33,22 @@ pub fn join_fault(
     rec: &[u8],
     s: Vector,
     held: Vector,
-    places: &[u16],
-    seens: &[u16],
+    tables: &Tables,
 ) -> Result<(), Refusal>
-    requires { (length rec.now ≡ 80) × (well_formed rec.now ≡ true) × (s.counts ≡ seen_vector rec.now) × (length places.now ≡ places_size) × (length seens.now ≡ seens_size) × Placed base.counts held.counts places.now }
-    ensures { code_of result ≡ join_fault base.counts held.counts places.now seens.now rec.now }
+    requires { (length rec.now ≡ 80) × (well_formed rec.now ≡ true) × (s.counts ≡ seen_vector rec.now) × Placed base.counts held.counts tables.now.places }
+    ensures { code_of result ≡ join_fault base.counts held.counts tables.now.places tables.now.seens rec.now }
 {
-    let u = record::unit_of(rec) as usize;
+    let u = usize::from(record::unit_of(rec));
     if !is_next(record::number_of(rec), held.counts[u]) {
         return Err(Refusal::NotNext);
     }
     if !vector::covers(held, s) {
         return Err(Refusal::NotNext);
     }
-    if all_covered(base, places, seens, s) {
+    if tables.all_covered(base, s) {
         return Ok(());
     }
-    if !is_closed(base, places, seens, s) {
+    if !tables.is_closed(base, s) {
         return Err(Refusal::NotClosed);
     }
     Ok(())
@@ -82,11 +62,10 @@ pub fn record_fault(
     s: Vector,
     k: u32,
     b: Before,
-    places: &[u16],
-    seens: &[u16],
+    tables: &Tables,
 ) -> Result<(), Refusal>
-    requires { (length rec.now ≡ 80) × (s.counts ≡ seen_vector rec.now) × (k ≡ rank rec.now) × (length places.now ≡ places_size) × (length seens.now ≡ seens_size) × Placed base.counts b.held.counts places.now }
-    ensures { code_of result ≡ fault_by base.counts b.floor b.held.counts places.now seens.now rec.now }
+    requires { (length rec.now ≡ 80) × (s.counts ≡ seen_vector rec.now) × (k ≡ rank rec.now) × Placed base.counts b.held.counts tables.now.places }
+    ensures { code_of result ≡ fault_by base.counts b.floor b.held.counts tables.now.places tables.now.seens rec.now }
 {
     if !record::well_formed(rec) {
         return Err(Refusal::Malformed);
@@ -94,7 +73,7 @@ pub fn record_fault(
     if k < b.floor {
         return Err(Refusal::BadFile);
     }
-    join_fault(base, rec, s, b.held, places, seens)
+    join_fault(base, rec, s, b.held, tables)
 }
 
 // One record more of a unit, whose number n is above its count: so the count is below 65,535.
@@ -111,19 +90,18 @@ pub fn admit(
     rec: &[u8],
     p: usize,
     b: Before,
-    places: &mut [u16],
-    seens: &mut [u16],
+    tables: &mut Tables,
 ) -> Result<Before, Refusal>
-    requires { (length rec.now ≡ 80) × (p < 518) × (length places.old ≡ places_size) × (length seens.old ≡ seens_size) × Placed base.counts b.held.counts places.old × Spare base.counts b.held.counts }
-    ensures { noted (code_of result) (known_after b result).held.counts (known_after b result).floor places.new seens.new ≡ admit_of base.counts rec.now p b.held.counts b.floor places.old seens.old }
+    requires { (length rec.now ≡ 80) × (p < 518) × Placed base.counts b.held.counts tables.old.places × Spare base.counts b.held.counts }
+    ensures { noted (code_of result) (known_after b result).held.counts (known_after b result).floor tables.new.places tables.new.seens ≡ admit_of base.counts rec.now p b.held.counts b.floor tables.old.places tables.old.seens }
 {
     let s = record::seen_vector(rec);
     let k = record::rank_of(rec);
-    record_fault(base, rec, s, k, b, places, seens)?;
-    let u = record::unit_of(rec) as usize;
+    record_fault(base, rec, s, k, b, tables)?;
+    let u = usize::from(record::unit_of(rec));
     let n = record::number_of(rec);
     let f = base.counts[u];
     let held = counted(b.held, u, n);
-    note(u, n - f, p, s, places, seens);
+    tables.note(u, n - f, p, s);
     Ok(Before { held, floor: k + 1 })
 }

@@ -20,9 +20,9 @@ use Rattle.encoding_laws.proofs.Logs.{sound_few}
 use Rattle.log_closure.specs.Tables.{Indexed}
 use Rattle.log_check.specs.declared.Layout.TheVariants.{Log}
 use Rattle.log_check.specs.Places.{offset_of, laid_at, Laid}
-use Rattle.std.proofs.Common.{Option, None, Some, IsSome, IfSome, ◌↔◌, rules}
+use Rattle.std.proofs.Common.{Result, Ok, Err, IsOk, ◌↔◌, replicate, rules}
 use Rattle.log_check.specs.declared.Checked.{Checked}
-use Rattle.log_check.specs.Told.{check_told}
+use Rattle.log_check.specs.Told.{told_in, check_told}
 use Rattle.log_check.specs.InOrder.{listed, before, Found, first_fault, scanned, scan_of, ScanGives, held_of, Check, checked, check_of}
 
 -- ---- the records of a log, place by place
@@ -109,17 +109,17 @@ module _ (b : List ℕ) (n : ℕ) (e : n ≡ length (records_of b)) where
     records_indexed z = subst (λ (l : List Rec). Indexed base (laid_at Log b) n l held places seens) (listed_records b n e) (g.holds z)
 
     module _ (places₀ seens₀ : List ℕ) (o : scanned number place held places seens ≡ scan_of base (laid_at Log b) n places₀ seens₀) where
-      pub fault-left : (number ≡ 0 → ⊥) → checked false (length (records_of b)) (held_of base b) places seens ≡ check_of base b places₀ seens₀
-      unfolding check_of sound_log_on
-      fault-left z = rw (pass_is, ne_eqb number 0 z, ← e, ← o)
+      pub fault-left : (number ≡ 0 → ⊥) → {zeros : List ℕ} → zeros ≡ replicate 8 0 → checked false n zeros places seens ≡ check_of base b places₀ seens₀
+      unfolding check_of held_of sound_log_on
+      fault-left z h = rw (h, pass_is, ne_eqb number 0 z, ← e, ← o)
 
       module _ (k : length b ≡ 40960) (z : number ≡ 0) (t : Bool) (q : t ≡ blank (take (40960 - 80 * n) (drop (80 * n) b))) where
         tail_is : t ≡ blank (drop (80 * length (records_of b)) b)
         tail_is = q ∙ rw (← e, take_all (40960 - 80 * n) (drop (80 * n) b) (simp length-drop (omega arith)))
 
-        pub tail-left : t ≡ false → checked false (length (records_of b)) (held_of base b) places seens ≡ check_of base b places₀ seens₀
-        unfolding check_of sound_log_on
-        tail-left w = rw (pass_is, eq-eqb number 0 z, ← tail_is, w, ← e, ← o)
+        pub tail-left : t ≡ false → checked false n held places seens ≡ check_of base b places₀ seens₀
+        unfolding check_of held_of sound_log_on
+        tail-left w = rw (pass_is, eq-eqb number 0 z, ← tail_is, w, ← e, ← o, ← (records_indexed z).counts)
 
         pub records-left : t ≡ true → checked true n held places seens ≡ check_of base b places₀ seens₀
         unfolding check_of held_of sound_log_on
@@ -141,14 +141,14 @@ module _ (base b places₀ seens₀ : List ℕ) {t : Bool} {n : ℕ} {held place
 
 -- what `check` tells
 module _ (base b places₀ seens₀ places seens : List ℕ) where
-  pub told_sound : (answer : Option Checked) → check_told base b answer places seens ≡ check_of base b places₀ seens₀ → IsSome answer ↔ (sound_log_on base b ≡ true)
-  told_sound None o = (λ s. search rules, λ t. let e : false ≡ sound_log_on base b = checked_sound base b places₀ seens₀ o in absurd (false≢true (e ∙ t)))
-  told_sound (Some told) o = (λ s. sym (checked_sound base b places₀ seens₀ o), λ t. search rules)
+  pub told_sound : (answer : Result Checked Checked) → check_told answer places seens ≡ check_of base b places₀ seens₀ → IsOk answer ↔ (sound_log_on base b ≡ true)
+  told_sound (Err told) o = (λ s. search rules, λ t. let e : false ≡ sound_log_on base b = checked_sound base b places₀ seens₀ o in absurd (false≢true (e ∙ t)))
+  told_sound (Ok told) o = (λ s. sym (checked_sound base b places₀ seens₀ o), λ t. search rules)
 
-  pub told_known : (answer : Option Checked) → check_told base b answer places seens ≡ check_of base b places₀ seens₀
-      → IfSome answer (λ told. (told.used ≡ length (records_of b)) × (told.held.counts ≡ held_of base b))
-  told_known None o = search rules
-  told_known (Some told) o = (checked_used base b places₀ seens₀ o, checked-held base b places₀ seens₀ o)
+  pub told_known : (answer : Result Checked Checked) → check_told answer places seens ≡ check_of base b places₀ seens₀
+      → ((told_in answer).used ≡ length (records_of b)) × ((told_in answer).held.counts ≡ held_of base b)
+  told_known (Err told) o = (checked_used base b places₀ seens₀ o, checked-held base b places₀ seens₀ o)
+  told_known (Ok told) o = (checked_used base b places₀ seens₀ o, checked-held base b places₀ seens₀ o)
 
 -- ---- with no record before
 

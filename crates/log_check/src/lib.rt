@@ -1,19 +1,19 @@
 // The lent log: its records checked in order, behind a base vector.
 #![tactic(auto)]
 
-ghost use Rattle.std.specs.Prelude.{◌≡◌, true, ◌+◌, ◌≤◌, ◌<◌, ◌↔◌, IsSome, IfSome, length, replicate};
+ghost use Rattle.std.specs.Prelude.{◌≡◌, true, ◌+◌, ◌≤◌, ◌<◌, ◌↔◌, IsOk, IfOk, length};
 ghost use Rattle.model.specs.Lengths.{log_size, log_places};
 ghost use Rattle.model.specs.Bytes.{blank};
 ghost use Rattle.model.specs.Log.{records_of, sound_log_on};
 ghost use Rattle.refusal.specs.Refusals.{fault_code, fault_place};
-ghost use Rattle.log_closure.specs.Tables.{places_size, seens_size, Indexed};
+ghost use Rattle.log_closure.specs.Tables.{Indexed};
 ghost use Rattle.log_check.specs.declared.Layout.TheVariants.{Log};
 ghost use Rattle.log_check.specs.Places.{offset_of, laid_at, Laid};
 ghost use Rattle.log_check.specs.InOrder.{scan_of, ScanGives, held_of, check_of};
-ghost use Rattle.log_check.specs.Told.{held_in, scan_told, check_told};
+ghost use Rattle.log_check.specs.Told.{held_in, scan_told, told_in, check_told};
 
 use log_admit::Before;
-use log_closure::{PLACES, SEENS};
+use log_closure::Tables;
 use model::{LOG_BYTES, LOG_PLACES};
 use refusal::Fault;
 use vector::Vector;
@@ -25,7 +25,7 @@ pub enum Layout {
     File,
 }
 
-// Of a sound log: how many records it has, and the base vector with them counted.
+// Of a log: how many records it has, and the base vector with them counted, zeros if one has a fault.
 #[derive(Clone, Copy, Drop)]
 pub struct Checked {
     pub used: usize,
@@ -50,20 +50,20 @@ pub fn scan(
     bytes: &[u8],
     layout: Layout,
     n: usize,
-    places: &mut [u16],
-    seens: &mut [u16],
+    tables: &mut Tables,
 ) -> Result<Vector, Fault<usize>>
-    requires { (n ≤ log_places) × Laid layout bytes.now n × (length places.old ≡ places_size) × (length seens.old ≡ seens_size) }
-    ensures outright { scan_told result places.new seens.new ≡ scan_of base.counts (laid_at layout bytes.now) n places.old seens.old }
-    ensures gives { ScanGives base.counts (laid_at layout bytes.now) n (fault_code result) (fault_place result) (held_in result) places.new seens.new }
+    requires { (n ≤ log_places) × Laid layout bytes.now n }
+    ensures outright { scan_told result tables.new.places tables.new.seens ≡ scan_of base.counts (laid_at layout bytes.now) n tables.old.places tables.old.seens }
+    ensures gives { ScanGives base.counts (laid_at layout bytes.now) n (fault_code result) (fault_place result) (held_in result) tables.new.places tables.new.seens }
 {
+    tables.sized();
     let mut b = Before {
         held: base,
         floor: 0,
     };
     for i in 0..n {
         let at = offset(layout, i);
-        match log_admit::admit(base, &bytes[at..at + 80], i, b, places, seens) {
+        match log_admit::admit(base, &bytes[at..at + 80], i, b, tables) {
             Ok(next) => b = next,
             Err(refusal) => return Err(Fault { refusal, place: i }),
         }
@@ -96,50 +96,34 @@ pub fn used(log: &[u8]) -> usize
     LOG_PLACES
 }
 
-// A log is checked, and its records are noted in the tables up to the first that has a fault.
-pub fn check_into(
-    base: Vector,
-    log: &[u8],
-    places: &mut [u16],
-    seens: &mut [u16],
-) -> Option<Checked>
-    requires { (length log.now ≡ log_size) × (length places.old ≡ places_size) × (length seens.old ≡ seens_size) }
-    ensures outright { check_told base.counts log.now result places.new seens.new ≡ check_of base.counts log.now places.old seens.old }
-    ensures holds { IfSome result (λ told. Indexed base.counts (laid_at Log log.now) told.used (records_of log.now) told.held.counts places.new seens.new) }
+// A log is checked, and its records are noted in the tables up to the first that has a fault: what is known of it, an error if it is not
+// sound.
+pub fn check_into(base: Vector, log: &[u8], tables: &mut Tables) -> Result<Checked, Checked>
+    requires { length log.now ≡ log_size }
+    ensures outright { check_told result tables.new.places tables.new.seens ≡ check_of base.counts log.now tables.old.places tables.old.seens }
+    ensures holds { IfOk result (λ told. Indexed base.counts (laid_at Log log.now) told.used (records_of log.now) told.held.counts tables.new.places tables.new.seens) }
 {
     let n = used(log);
-    let Ok(held) = scan(base, log, Layout::Log, n, places, seens) else {
-        return None;
+    let Ok(held) = scan(base, log, Layout::Log, n, tables) else {
+        return Err(Checked {
+            used: n,
+            held: vector::zero_vector(),
+        });
     };
     let at = 80 * n;
     if byte_slice::is_blank(&log[at..LOG_BYTES]) {
-        Some(Checked { used: n, held })
+        Ok(Checked { used: n, held })
     } else {
-        None
+        Err(Checked { used: n, held })
     }
 }
 
-// A table of 4,096 positions, all zero.
-pub fn fresh_places() -> [u16; PLACES]
-    ensures { (result ≡ replicate places_size 0) × (length result ≡ places_size) }
-{
-    [0u16; PLACES]
-}
-
-// A table of 518 rows of 8 counts, all zero.
-pub fn fresh_seens() -> [u16; SEENS]
-    ensures { (result ≡ replicate seens_size 0) × (length result ≡ seens_size) }
-{
-    [0u16; SEENS]
-}
-
-// A log is checked: none if it is not sound.
-pub fn check(base: Vector, log: &[u8]) -> Option<Checked>
+// A log is checked: how many records it has and what they count, an error if it is not sound.
+pub fn check(base: Vector, log: &[u8]) -> Result<Checked, Checked>
     requires { length log.now ≡ log_size }
-    ensures sound { IsSome result ↔ (sound_log_on base.counts log.now ≡ true) }
-    ensures told { IfSome result (λ told. (told.used ≡ length (records_of log.now)) × (told.held.counts ≡ held_of base.counts log.now)) }
+    ensures sound { IsOk result ↔ (sound_log_on base.counts log.now ≡ true) }
+    ensures told { ((told_in result).used ≡ length (records_of log.now)) × ((told_in result).held.counts ≡ held_of base.counts log.now) }
 {
-    let mut places = fresh_places();
-    let mut seens = fresh_seens();
-    check_into(base, log, &mut places, &mut seens)
+    let mut tables = Tables::fresh();
+    check_into(base, log, &mut tables)
 }

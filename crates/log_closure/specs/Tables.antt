@@ -8,6 +8,7 @@ use Rattle.model.specs.Bytes.{part, put_at}
 use Rattle.model.specs.Vector.{covers}
 use Rattle.model.specs.Record.{Rec, unit, num, seen_vector, well_formed}
 use Rattle.model.specs.Log.{rank, count, count_on, vector_on, by_id, all_to}
+use Rattle.log_closure.specs.declared.Tables.{Tables}
 
 -- where the position of the record of unit u with the relative number c stands
 unfoldable pub slot_of : ℕ → ℕ → ℕ
@@ -88,19 +89,11 @@ pub record Indexed (base : List ℕ) (at : ℕ → Rec) (top : ℕ) (m : List Re
   pub stands : (u c : ℕ) → u < 8 → 1 ≤ c → c ≤ count u m → Stands base at top m places seens u c
   pub beyond : (u c : ℕ) → count_on base u m < c → by_id u c m ≡ none
 
--- ---- the two tables lent
+-- ---- the two tables
 
 -- a position for each unit and number
 abbrev pub places_size : ℕ
 places_size = 4096
-
--- a row of eight for each position
-abbrev pub seens_size : ℕ
-seens_size = 4144
-
-pub record Tables : Type 0 where
-  pub places : List ℕ
-  pub seens : List ℕ
 
 abbrev pub tables : List ℕ → List ℕ → Tables
 tables places seens = record { places = places; seens = seens }

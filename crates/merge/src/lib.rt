@@ -7,7 +7,6 @@ ghost use Rattle.model.specs.Log.{vector_of};
 ghost use Rattle.model.specs.Block.{vector_in};
 ghost use Rattle.model.specs.File.{fault, block_at, records_counted, file_records, checked_fault};
 ghost use Rattle.model.specs.Merge.{union, union_fault, unless, joined_file, merge_of};
-ghost use Rattle.log_closure.specs.Tables.{places_size, seens_size};
 ghost use Rattle.log_check.specs.declared.Layout.TheVariants.{File};
 ghost use Rattle.log_check.specs.Places.{laid_at};
 ghost use Rattle.merge_check.specs.Tables.{Positioned};
@@ -15,7 +14,7 @@ ghost use Rattle.refusal.specs.Refusals.{fault_code, fault_place};
 ghost use Rattle.merge.specs.Told.{merge_told};
 
 use block_read::vector_in;
-use log_check::{fresh_places, fresh_seens};
+use log_closure::Tables;
 use merge_check::union_fault;
 use merge_join::join_files;
 use model::{BLOCK_BYTES, FILE_BYTES, LOG_BYTES};
@@ -34,10 +33,9 @@ pub enum MergeFault {
 }
 
 // Every check of the first file; where it has no fault, the table has the positions of its records.
-fn first_fault(file: &[u8], places: &mut [u16], seens: &mut [u16]) -> Result<(), Fault<u8>>
-    requires { (length places.old ≡ places_size) × (length seens.old ≡ seens_size) }
+fn first_fault(file: &[u8], tables: &mut Tables) -> Result<(), Fault<u8>>
     ensures outright { fault (fault_code result) (fault_place result) ≡ checked_fault file.now }
-    ensures holds { OnOk result (Positioned (laid_at File file.now) (records_counted file.now) (file_records file.now) (vector_of (file_records file.now)) places.new) }
+    ensures holds { OnOk result (Positioned (laid_at File file.now) (records_counted file.now) (file_records file.now) (vector_of (file_records file.now)) tables.new.places) }
 {
     if !whole_blocks(file) {
         return Err(Fault {
@@ -45,7 +43,7 @@ fn first_fault(file: &[u8], places: &mut [u16], seens: &mut [u16]) -> Result<(),
             place: 0,
         });
     }
-    file_fault_into(file, file.len() / BLOCK_BYTES, places, seens)
+    file_fault_into(file, file.len() / BLOCK_BYTES, tables)
 }
 
 // The vector of a file.
@@ -60,11 +58,11 @@ fn vector_of(file: &[u8]) -> Vector
 fn merge_checked(
     first: &[u8],
     second: &[u8],
-    places: &[u16],
+    tables: &Tables,
     log: &mut [u8],
     file: &mut [u8],
 ) -> Result<u8, MergeFault>
-    requires { ((checked_fault first.now).number ≡ 0) × ((checked_fault second.now).number ≡ 0) × Positioned (laid_at File first.now) (records_counted first.now) (file_records first.now) (vector_of (file_records first.now)) places.now × (length log.old ≡ log_size) × (length file.old ≡ file_size) }
+    requires { ((checked_fault first.now).number ≡ 0) × ((checked_fault second.now).number ≡ 0) × Positioned (laid_at File first.now) (records_counted first.now) (file_records first.now) (vector_of (file_records first.now)) tables.now.places × (length log.old ≡ log_size) × (length file.old ≡ file_size) }
     ensures { merge_told result log.new file.new ≡ unless (union_fault first.now second.now) 2 log.old file.old (joined_file first.now (union (file_records first.now) (file_records second.now))) }
 {
     let n = first.len() / BLOCK_BYTES;
@@ -73,7 +71,7 @@ fn merge_checked(
     let total = records_counted(second, m);
     let held = vector_of(first);
     let other = vector_of(second);
-    if let Err(fault) = union_fault(first, used, held, places, second, total) {
+    if let Err(fault) = union_fault(first, used, held, tables, second, total) {
         return Err(MergeFault::Second(fault));
     }
     Ok(join_files(first, n, used, held, second, total, other, log, file))
@@ -90,13 +88,12 @@ pub fn merge(first: &[u8], second: &[u8], log: &mut [u8], file: &mut [u8]) -> Re
     if file.len() != FILE_BYTES {
         return Err(MergeFault::Buffer);
     }
-    let mut places = fresh_places();
-    let mut seens = fresh_seens();
-    if let Err(fault) = first_fault(first, &mut places, &mut seens) {
+    let mut tables = Tables::fresh();
+    if let Err(fault) = first_fault(first, &mut tables) {
         return Err(MergeFault::First(fault));
     }
     if let Err(fault) = checked_fault(second) {
         return Err(MergeFault::Second(fault));
     }
-    merge_checked(first, second, &places, log, file)
+    merge_checked(first, second, &tables, log, file)
 }

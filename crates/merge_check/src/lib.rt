@@ -18,15 +18,15 @@ use block_read::archive_in;
 use byte_slice::same;
 use hand_out_pick::lacks;
 use log_check::{Layout, offset};
-use log_closure::position;
+use log_closure::Tables;
 use model::LOG_PLACES;
 use record::{number_of, unit_of};
 use refusal::{Fault, Refusal};
 use vector::Vector;
 
 // The first file has the record's identity with other bytes.
-fn clashes(first: &[u8], n: usize, held: Vector, places: &[u16], rec: &[u8]) -> bool
-    requires { (length rec.now ≡ 80) × (well_formed rec.now ≡ true) × Laid File first.now n × Positioned (laid_at File first.now) n (file_records first.now) held.counts places.now }
+fn clashes(first: &[u8], n: usize, held: Vector, tables: &Tables, rec: &[u8]) -> bool
+    requires { (length rec.now ≡ 80) × (well_formed rec.now ≡ true) × Laid File first.now n × Positioned (laid_at File first.now) n (file_records first.now) held.counts tables.now.places }
     ensures { result ≡ differs (by_id (unit rec.now) (num rec.now) (file_records first.now)) rec.now }
 {
     let u = usize::from(unit_of(rec));
@@ -34,7 +34,7 @@ fn clashes(first: &[u8], n: usize, held: Vector, places: &[u16], rec: &[u8]) -> 
     if held.counts[u] < c {
         return false;
     }
-    let p = position(places, u, c);
+    let p = tables.position(u, c);
     let at = offset(Layout::File, p);
     !same(&first[at..at + 80], rec)
 }
@@ -44,16 +44,16 @@ fn bytes_fault(
     first: &[u8],
     n: usize,
     held: Vector,
-    places: &[u16],
+    tables: &Tables,
     second: &[u8],
     total: usize,
 ) -> Result<(), Fault<u8>>
-    requires { (total ≤ log_places) × Laid File first.now n × Positioned (laid_at File first.now) n (file_records first.now) held.counts places.now × Laid File second.now total × AllFormed (laid_at File second.now) total }
+    requires { (total ≤ log_places) × Laid File first.now n × Positioned (laid_at File first.now) n (file_records first.now) held.counts tables.now.places × Laid File second.now total × AllFormed (laid_at File second.now) total }
     ensures { fault (fault_code result) (fault_place result) ≡ bytes_fault (file_records first.now) 0 (listed (laid_at File second.now) 0 total) }
 {
     for i in 0..total {
         let at = offset(Layout::File, i);
-        if clashes(first, n, held, places, &second[at..at + 80]) {
+        if clashes(first, n, held, tables, &second[at..at + 80]) {
             return Err(Fault {
                 refusal: Refusal::OtherBytes,
                 place: (i / 6) as u8,
@@ -90,14 +90,14 @@ fn records_clash(
     first: &[u8],
     used: usize,
     held: Vector,
-    places: &[u16],
+    tables: &Tables,
     second: &[u8],
     total: usize,
 ) -> Result<(), Fault<u8>>
-    requires { Fine first.now used × Positioned (laid_at File first.now) used (file_records first.now) held.counts places.now × Fine second.now total }
+    requires { Fine first.now used × Positioned (laid_at File first.now) used (file_records first.now) held.counts tables.now.places × Fine second.now total }
     ensures { fault (fault_code result) (fault_place result) ≡ records_clash (file_records first.now) (length (file_records first.now)) (file_records second.now) }
 {
-    bytes_fault(first, used, held, places, second, total)?;
+    bytes_fault(first, used, held, tables, second, total)?;
     room_fault(second, total, held, used)
 }
 
@@ -115,11 +115,11 @@ pub fn union_fault(
     first: &[u8],
     used: usize,
     held: Vector,
-    places: &[u16],
+    tables: &Tables,
     second: &[u8],
     total: usize,
 ) -> Result<(), Fault<u8>>
-    requires { (512 ≤ length first.now) × (512 ≤ length second.now) × Fine first.now used × Positioned (laid_at File first.now) used (file_records first.now) held.counts places.now × Fine second.now total }
+    requires { (512 ≤ length first.now) × (512 ≤ length second.now) × Fine first.now used × Positioned (laid_at File first.now) used (file_records first.now) held.counts tables.now.places × Fine second.now total }
     ensures { fault (fault_code result) (fault_place result) ≡ union_fault first.now second.now }
 {
     if archive_of(second) != archive_of(first) {
@@ -128,5 +128,5 @@ pub fn union_fault(
             place: 0,
         });
     }
-    records_clash(first, used, held, places, second, total)
+    records_clash(first, used, held, tables, second, total)
 }

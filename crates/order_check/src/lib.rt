@@ -3,13 +3,12 @@
 
 ghost use Rattle.std.specs.Prelude.{◌≡◌, true, length, IfOk};
 ghost use Rattle.model.specs.Lengths.{log_size, tree_size};
-ghost use Rattle.model.specs.Bytes.{blank};
 ghost use Rattle.model.specs.Log.{vector_of, records_of, sound_log};
 ghost use Rattle.model.specs.Replay.{replay};
 ghost use Rattle.model.specs.Table.{table_bytes};
 ghost use Rattle.base_model.specs.Base.{base_vector};
 ghost use Rattle.order_model.specs.Order.{names_given, in_order_of, seen_first, shown_alike, ordered, judged_order, order_lent, order_of};
-ghost use Rattle.log_closure.specs.Tables.{places_size, seens_size, Indexed};
+ghost use Rattle.log_closure.specs.Tables.{Indexed};
 ghost use Rattle.log_check.specs.declared.Layout.TheVariants.{Log};
 ghost use Rattle.log_check.specs.Places.{laid_at};
 ghost use Rattle.call_guard.specs.Opened.{open_of};
@@ -18,10 +17,12 @@ ghost use Rattle.order_names.specs.Named.{Positions};
 ghost use Rattle.order_check.specs.Given.{Given};
 ghost use Rattle.order_check.specs.Failed.{condition_number, failed_number, ordered_by};
 
+use log_closure::Tables;
 use model::TREE_BYTES;
 use refusal::Refusal;
 use state_check::State;
 use vector::Vector;
+use write_file::is_zero;
 
 // The three conditions of an order, with their numbers: each record is named once, none stands before one that it has seen, and the tree
 // is ours.
@@ -53,22 +54,13 @@ fn open_order(
     base: &[u8],
     ours: &[u8],
     theirs: &[u8],
-    places: &mut [u16],
-    seens: &mut [u16],
+    tables: &mut Tables,
 ) -> Result<State, Refusal>
-    requires { (length places.old ≡ places_size) × (length seens.old ≡ seens_size) }
     ensures outright { opening result ≡ open_of 0 log.now base.now (order_lent ours.now theirs.now) true }
-    ensures holds { IfOk result (λ state. Indexed (base_vector base.now) (laid_at Log log.now) state.used (records_of log.now) state.held.counts places.new seens.new) }
+    ensures holds { IfOk result (λ state. Indexed (base_vector base.now) (laid_at Log log.now) state.used (records_of log.now) state.held.counts tables.new.places tables.new.seens) }
 {
     let lent = lent_fits(ours, theirs);
-    call_guard::open_into(log, base, 0, lent, true, places, seens)
-}
-
-// A vector counts no record.
-fn is_zero(v: Vector) -> bool
-    ensures { result ≡ blank v.counts }
-{
-    vector::covers(vector::zero_vector(), v)
+    call_guard::open_into(log, base, 0, lent, true, tables)
 }
 
 // The second condition, of a list that meets the first.
@@ -151,11 +143,18 @@ pub fn check_order(
 ) -> Result<Option<Condition>, Refusal>
     ensures { ordered_by result ours.new theirs.new ≡ order_of log.now base.now list.now ours.old theirs.old }
 {
-    let mut places = log_check::fresh_places();
-    let mut seens = log_check::fresh_seens();
-    let state = open_order(log, base, ours, theirs, &mut places, &mut seens)?;
+    let mut tables = Tables::fresh();
+    let state = open_order(log, base, ours, theirs, &mut tables)?;
     if !is_zero(state.head.folded) {
         return Err(Refusal::FoldedRecords);
     }
-    Ok(judge_order(log, list, state.used, state.held, &places, ours, theirs))
+    Ok(judge_order(
+        log,
+        list,
+        state.used,
+        state.held,
+        &tables.places,
+        ours,
+        theirs,
+    ))
 }

@@ -2,13 +2,12 @@
 -- Assumes nothing.
 use Prim.Native.Nat.{ℕ, suc, ◌+◌, ◌-◌, ◌*◌, ◌≤◌, ◌<◌}
 use native.Mathlib.Omega.{arith}
-use mathlib.Core.Path.{◌≡◌, refl, sym, ap, ◌∙◌}
+use mathlib.Core.Path.{◌≡◌, sym, ap, ◌∙◌}
 use mathlib.Core.Bool.{true}
 use mathlib.Core.List.{List, []}
 use lib.ListN.{get_or, length, take, drop, replicate, length-replicate}
 use borrow.Rule.Slice.PartMut.{put_mid}
 use borrow.Author.Tests.{eq-eqb, ne_eqb, lt-ltb}
-use Rattle.model.specs.Bytes.{word}
 use Rattle.base_model.specs.Base.{empty_base, held_on, sound_state}
 use Rattle.call_model.specs.Outcome.{Outcome, outcome, act_lent, act_of}
 use Rattle.byte_slice.proofs.Numbers.{true_and}
@@ -43,14 +42,6 @@ module _ (base : List ℕ) {m k j : ℕ} {v : List ℕ} (e : headed m v k j ≡ 
   pub list_is : m ≡ get_or base 0 0
   unfolding head_of
   list_is = ap (λ (h : BaseHead). h.list) e
-
-  pub entries_are : k ≡ word base 2
-  unfolding head_of
-  entries_are = ap (λ (h : BaseHead). h.entries) e
-
-  pub asides_are : j ≡ word base 4
-  unfolding head_of
-  asides_are = ap (λ (h : BaseHead). h.asides) e
 
 -- ---- the act of a unit whose log is good
 

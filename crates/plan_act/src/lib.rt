@@ -11,6 +11,7 @@ ghost use Rattle.plan_model.specs.Plan.{round, act_tried, act_done};
 ghost use Rattle.plan_units.specs.Units.{Units};
 
 use refusal::Refusal;
+use state_check::State;
 
 // How many records the acts have made, and how many acts were skipped.
 #[derive(Clone, Copy, Debug, PartialEq, Eq)]
@@ -33,7 +34,7 @@ fn act_unit(
     let head = base_head::head_of(base);
     let used = log_check::used(log);
     let held = plan_units::held_counts(log, used);
-    act::act_on(log, used, base, head, held, unit, wish, work)
+    act::act_on(log, base, State { head, held, used }, unit, wish, work)
 }
 
 // One more act is skipped.

@@ -7,18 +7,18 @@ ghost use Rattle.base_model.specs.Base.{empty_base};
 ghost use Rattle.line_text.specs.Written.{Wrote};
 ghost use Rattle.plan_model.specs.Plan.{round_size, plan_text_size, round, plan_archive};
 ghost use Rattle.plan_model.specs.Feed.{begun, feed_of, fed_text};
-ghost use Rattle.refusal.specs.Refusals.{fault_code, fault_place};
 ghost use Rattle.plan_feed.specs.Going.{fed, Going};
 
 use plan_act::Tally;
 use plan_block::piece_fault;
 use plan_check::{archive_of, placed};
-use refusal::Fault;
 
-// Whether a block was refused, with its place; how many blocks have passed, the archive of the first; records made and acts skipped.
+// The number of the refusal of a block and its place, or zeros, as the definition has them: `feed` and `finish` are asked of any number. How many blocks
+// have passed, the archive of the first; records made and acts skipped.
 #[derive(Clone, Copy, Debug, PartialEq, Eq)]
 pub struct Fed {
-    pub judged: Result<(), Fault<u16>>,
+    pub number: u8,
+    pub place: u16,
     pub blocks: u16,
     pub archive: u32,
     pub tally: Tally,
@@ -26,10 +26,11 @@ pub struct Fed {
 
 // Nothing is fed yet, and all eight logs are zeros.
 pub fn begin() -> Fed
-    ensures { fed (fault_code result.judged) (fault_place result.judged) result.blocks result.archive (round (replicate round_size 0) result.tally.made result.tally.skipped) ≡ begun }
+    ensures { fed result.number result.place result.blocks result.archive (round (replicate round_size 0) result.tally.made result.tally.skipped) ≡ begun }
 {
     Fed {
-        judged: Ok(()),
+        number: 0,
+        place: 0,
         blocks: 0,
         archive: 0,
         tally: Tally {
@@ -51,17 +52,19 @@ fn archive_for(f: Fed, b: &[u8]) -> u32
 
 // One block, or a part of one at the end. It is checked wholly and then done; behind a refusal nothing happens. The base is that of a start.
 pub fn feed(f: Fed, logs: &mut [u8], base: &[u8], b: &[u8], work: &mut [u8]) -> Fed
-    requires { Going (fed (fault_code f.judged) (fault_place f.judged) f.blocks f.archive (round logs.old f.tally.made f.tally.skipped)) × (base.now ≡ empty_base) × (length work.old ≡ tree_size) }
-    ensures { fed (fault_code result.judged) (fault_place result.judged) result.blocks result.archive (round logs.new result.tally.made result.tally.skipped) ≡ feed_of (fed (fault_code f.judged) (fault_place f.judged) f.blocks f.archive (round logs.old f.tally.made f.tally.skipped)) b.now }
+    requires { Going (fed f.number f.place f.blocks f.archive (round logs.old f.tally.made f.tally.skipped)) × (base.now ≡ empty_base) × (length work.old ≡ tree_size) }
+    ensures { fed result.number result.place result.blocks result.archive (round logs.new result.tally.made result.tally.skipped) ≡ feed_of (fed f.number f.place f.blocks f.archive (round logs.old f.tally.made f.tally.skipped)) b.now }
 {
-    if let Err(_) = f.judged {
+    if f.number != 0 {
         return f;
     }
     let archive = archive_for(f, b);
     let k = f.blocks as usize;
     if let Err(refusal) = piece_fault(archive, k, b) {
+        let fault = placed(refusal, k);
         return Fed {
-            judged: Err(placed(refusal, k)),
+            number: u8::from(fault.refusal),
+            place: fault.place,
             blocks: f.blocks,
             archive: f.archive,
             tally: f.tally,
@@ -69,7 +72,8 @@ pub fn feed(f: Fed, logs: &mut [u8], base: &[u8], b: &[u8], work: &mut [u8]) -> 
     }
     let tally = plan_round::block(logs, base, archive, b, work, f.tally);
     Fed {
-        judged: Ok(()),
+        number: 0,
+        place: 0,
         blocks: f.blocks + 1,
         archive,
         tally,
@@ -78,11 +82,11 @@ pub fn feed(f: Fed, logs: &mut [u8], base: &[u8], b: &[u8], work: &mut [u8]) -> 
 
 // What is printed at the end, into the lent text.
 pub fn finish(f: Fed, logs: &[u8], text: &mut [u8]) -> usize
-    requires { Going (fed (fault_code f.judged) (fault_place f.judged) f.blocks f.archive (round logs.now f.tally.made f.tally.skipped)) × (length text.old ≡ plan_text_size) }
-    ensures { Wrote text.old text.new 0 result (fed_text (fed (fault_code f.judged) (fault_place f.judged) f.blocks f.archive (round logs.now f.tally.made f.tally.skipped))) }
+    requires { Going (fed f.number f.place f.blocks f.archive (round logs.now f.tally.made f.tally.skipped)) × (length text.old ≡ plan_text_size) }
+    ensures { Wrote text.old text.new 0 result (fed_text (fed f.number f.place f.blocks f.archive (round logs.now f.tally.made f.tally.skipped))) }
 {
-    match f.judged {
-        Ok(_) => plan_lines::round_text(text, logs, f.tally.skipped),
-        Err(fault) => line_refusal::refused_line(text, 0, u8::from(fault.refusal), fault.place),
+    if f.number != 0 {
+        return line_refusal::refused_line(text, 0, f.number, f.place);
     }
+    plan_lines::round_text(text, logs, f.tally.skipped)
 }

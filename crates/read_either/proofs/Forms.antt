@@ -70,8 +70,8 @@ module _ (log base f : List ℕ) (two : is_sab2 f ≡ true) where
 
 -- ---- an SAB1 file
 
-pub as_sab1_lem : (log base f : List ℕ) {t : Bool} {o : ReadBack} → t ≡ is_sab2 f → t ≡ false → o ≡ read_of log base f → o ≡ read_either_of log base f
-as_sab1_lem log base f e h r = r ∙ sym (sab1_read log base f (sym e ∙ h))
+pub as_sab1_lem : (log base f : List ℕ) {o : ReadBack} → is_sab2 f ≡ false → o ≡ read_of log base f → o ≡ read_either_of log base f
+as_sab1_lem log base f h r = r ∙ sym (sab1_read log base f h)
 
-pub is_two : (f : List ℕ) {t : Bool} → t ≡ is_sab2 f → t ≡ true → is_sab2 f ≡ true
-is_two f e h = sym e ∙ h
+pub is_form : (f : List ℕ) {t u : Bool} → t ≡ is_sab2 f → t ≡ u → is_sab2 f ≡ u
+is_form f e h = sym e ∙ h

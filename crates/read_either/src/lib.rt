@@ -1,7 +1,7 @@
 // Reading a file of either form into a lent log and base: every check of the file, then what it holds.
 #![tactic(auto)]
 
-ghost use Rattle.std.specs.Prelude.{◌≡◌, true, ◌≤◌, length};
+ghost use Rattle.std.specs.Prelude.{◌≡◌, true, false, ◌≤◌, length};
 ghost use Rattle.model.specs.Lengths.{log_size, base_size};
 ghost use Rattle.base_model.specs.Base.{empty_base};
 ghost use Rattle.sab2_model.specs.Sab2.{record_part, checked_sab2, is_sab2};
@@ -66,6 +66,14 @@ fn read_sab2(
     Ok(load_behind(log, file))
 }
 
+// An SAB1 file, whose faults are among those of either form.
+fn read_sab1(log: &mut [u8], base: &mut [u8], file: &[u8]) -> Result<ReadFile, FileFault>
+    requires { is_sab2 file.now ≡ false }
+    ensures { either_told result log.new base.new ≡ read_either_of log.old base.old file.now }
+{
+    Ok(read_file::read_file(log, base, file)?)
+}
+
 // A file of either form, as read_either reads it, by way of a lent buffer, whose bytes are neither judged nor promised.
 pub fn read_beside(
     log: &mut [u8],
@@ -79,7 +87,7 @@ pub fn read_beside(
     if is_sab2(file) {
         return read_sab2(log, base, file, beside);
     }
-    Ok(read_file::read_file(log, base, file)?)
+    read_sab1(log, base, file)
 }
 
 // An SAB2 file, by way of a buffer of its own.
@@ -99,5 +107,5 @@ pub fn read_either(log: &mut [u8], base: &mut [u8], file: &[u8]) -> Result<ReadF
     if is_sab2(file) {
         return read_alone(log, base, file);
     }
-    Ok(read_file::read_file(log, base, file)?)
+    read_sab1(log, base, file)
 }

@@ -25,6 +25,7 @@ use Rattle.base_model.specs.Base.{empty_base}
 use Rattle.call_laws.proofs.Reading.{checked-right}
 use Rattle.call_laws.proofs.States.{empty_length}
 use Rattle.log_laws.proofs.Tests.{vector_on-none}
+use Rattle.log_closure.specs.declared.Tables.{Tables}
 use Rattle.log_closure.specs.Tables.{tables, Indexed}
 use Rattle.log_check.specs.declared.Layout.TheVariants.{File}
 use Rattle.log_check.specs.Places.{laid_at}
@@ -72,9 +73,9 @@ module _ (m : ℕ) (v : List ℕ) (p : ℕ) (f : List ℕ) (rn rp : ℕ) (held p
   pub held_indexed : rn ≡ 0 → Indexed v (laid_at File f) (records_counted f) (file_records f) (vector_on v (file_records f)) places seens
   held_indexed y = rw (← (j.holds y).counts) (j.holds y)
 
-pub tables-left : (v f held places seens places₀ seens₀ : List ℕ) → left held places seens ≡ records_left v f places₀ seens₀ → tables places seens ≡ tables_left v f places₀ seens₀
+pub tables-left : (v f held : List ℕ) (before after : Tables) → left held after.places after.seens ≡ records_left v f before.places before.seens → after ≡ tables_left v f before
 unfolding tables_left
-tables-left v f held places seens places₀ seens₀ e = ap (λ (x : Left). tables x.places x.seens) e
+tables-left v f held before after e = ap (λ (x : Left). tables x.places x.seens) e
 
 -- ---- an SAB1 file: blocks, then what they hold
 
@@ -103,18 +104,18 @@ module _ (f : List ℕ) (n : ℕ) (whole : length f ≡ 512 * n) where
     unfolding or_else fault
     block_refused h = sym (blocks_first ∙ rw (ne_eqb bn 0 h))
 
-    pub unread_left : (places₀ seens₀ : List ℕ) → (bn ≡ 0 → ⊥) → tables places₀ seens₀ ≡ file_tables f places₀ seens₀
+    pub unread_left : (t : Tables) → (bn ≡ 0 → ⊥) → t ≡ file_tables f t
     unfolding file_tables fault
-    unread_left places₀ seens₀ h = rw (blocks_counted f n whole, ← eb, ne_eqb bn 0 h)
+    unread_left t h = rw (blocks_counted f n whole, ← eb, ne_eqb bn 0 h)
 
     module _ (z : bn ≡ 0) {v : List ℕ} (none : v ≡ no_counts) where
       pub held-told : (x y : ℕ) → fault x y ≡ or_else (records_fault_on 255 v 0 [] 0 (file_records f)) (counts_fault_on v n (vector_in (take (512 - 0) (drop 0 f))) (file_records f)) → fault x y ≡ file_fault f
       unfolding or_else fault block_at part
       held-told x y e = (rw none at e) ∙ sym (blocks_first ∙ rw z)
 
-      pub read_left : (places₀ seens₀ places seens : List ℕ) → tables places seens ≡ tables_left v f places₀ seens₀ → tables places seens ≡ file_tables f places₀ seens₀
+      pub read_left : (before after : Tables) → after ≡ tables_left v f before → after ≡ file_tables f before
       unfolding file_tables fault
-      read_left places₀ seens₀ places seens e = e ∙ rw (none, blocks_counted f n whole, ← eb, z)
+      read_left before after e = e ∙ rw (none, blocks_counted f n whole, ← eb, z)
 
 pub file_indexed : (f : List ℕ) {v : List ℕ} (places seens : List ℕ) → v ≡ no_counts → Indexed v (laid_at File f) (records_counted f) (file_records f) (vector_on v (file_records f)) places seens
     → Indexed no_counts (laid_at File f) (records_counted f) (file_records f) (vector_of (file_records f)) places seens

@@ -6,7 +6,8 @@ use Rattle.model.specs.Log.{no_counts}
 use Rattle.model.specs.File.{fault, blocks_in, blocks_fault, records_counted, file_records}
 use Rattle.sab2_model.specs.Sab2.{records_fault_on}
 use Rattle.call_model.specs.Read.{ReadBack}
-use Rattle.log_closure.specs.Tables.{Tables, tables, Indexed}
+use Rattle.log_closure.specs.declared.Tables.{Tables}
+use Rattle.log_closure.specs.Tables.{tables, Indexed}
 use Rattle.log_check.specs.declared.Layout.TheVariants.{File}
 use Rattle.log_check.specs.Places.{laid_at}
 use Rattle.log_check.specs.InOrder.{Scan, scan_of}
@@ -33,13 +34,12 @@ records_left v f places seens =
     left s.held s.places s.seens
 
 -- the tables that it leaves
-unfoldable pub tables_left : List ℕ → List ℕ → List ℕ → List ℕ → Tables
-tables_left v f places seens = tables (records_left v f places seens).places (records_left v f places seens).seens
+unfoldable pub tables_left : List ℕ → List ℕ → Tables → Tables
+tables_left v f t = tables (records_left v f t.places t.seens).places (records_left v f t.places t.seens).seens
 
 -- the tables that checking an SAB1 file leaves: no record is judged if a block has a fault
-unfoldable pub file_tables : List ℕ → List ℕ → List ℕ → Tables
-file_tables f places seens =
-    cond (eqb (blocks_fault f 0 (blocks_in f)).number 0) (tables_left no_counts f places seens) (tables places seens)
+unfoldable pub file_tables : List ℕ → Tables → Tables
+file_tables f t = cond (eqb (blocks_fault f 0 (blocks_in f)).number 0) (tables_left no_counts f t) t
 
 -- number, place, archive, unit, record count and vector, with the log and the base left
 abbrev pub read_back_of : ℕ → ℕ → ℕ → ℕ → ℕ → List ℕ → List ℕ → List ℕ → ReadBack

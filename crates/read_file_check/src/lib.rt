@@ -9,7 +9,7 @@ ghost use Rattle.model.specs.Block.{vector_in};
 ghost use Rattle.model.specs.File.{fault, or_else, records_counted, file_records, file_fault, checked_fault};
 ghost use Rattle.base_model.specs.Base.{is_listed};
 ghost use Rattle.sab2_model.specs.Sab2.{records_fault_on, counts_fault_on};
-ghost use Rattle.log_closure.specs.Tables.{places_size, seens_size, tables, Indexed};
+ghost use Rattle.log_closure.specs.Tables.{Indexed};
 ghost use Rattle.log_check.specs.declared.Layout.TheVariants.{File};
 ghost use Rattle.log_check.specs.Places.{laid_at, Laid};
 ghost use Rattle.log_check.specs.InOrder.{found};
@@ -21,7 +21,8 @@ ghost use Rattle.read_file_check.specs.Told.{or_end, held_left};
 
 use base_head::is_listed;
 use block_read::{count_in, vector_in};
-use log_check::{Layout, fresh_places, fresh_seens, offset, scan};
+use log_check::{Layout, offset, scan};
+use log_closure::Tables;
 use model::{BLOCK_BYTES, LOG_PLACES};
 use read_file_blocks::{blocks_fault, same_counts, whole_blocks};
 use refusal::{Fault, Refusal};
@@ -86,16 +87,15 @@ fn records_fault(
     folded: Vector,
     list: u8,
     first: usize,
-    places: &mut [u16],
-    seens: &mut [u16],
+    tables: &mut Tables,
 ) -> Result<Vector, Fault<u8>>
-    requires { (length part.now ≡ 512 * n) × (n ≤ 186) × (first ≤ 100) × (records_counted part.now ≤ 6 * n) × (length places.old ≡ places_size) × (length seens.old ≡ seens_size) }
-    ensures judges { Judges list folded.counts first part.now (fault_code result) (fault_place result) (held_in result) places.new seens.new }
-    ensures leaves { left (held_left folded.counts part.now places.old seens.old result) places.new seens.new ≡ records_left folded.counts part.now places.old seens.old }
+    requires { (length part.now ≡ 512 * n) × (n ≤ 186) × (first ≤ 100) × (records_counted part.now ≤ 6 * n) }
+    ensures judges { Judges list folded.counts first part.now (fault_code result) (fault_place result) (held_in result) tables.new.places tables.new.seens }
+    ensures leaves { left (held_left folded.counts part.now tables.old.places tables.old.seens result) tables.new.places tables.new.seens ≡ records_left folded.counts part.now tables.old.places tables.old.seens }
 {
     let total = records_counted(part, n);
     let m = total.min(LOG_PLACES);
-    let scanned = scan(folded, part, Layout::File, m, places, seens);
+    let scanned = scan(folded, part, Layout::File, m, tables);
     if let Some(u) = first_unlisted(part, list, asked_to(scanned, m)) {
         return Err(Fault {
             refusal: Refusal::Unlisted,
@@ -129,15 +129,14 @@ pub fn held_fault(
     folded: Vector,
     list: u8,
     first: usize,
-    places: &mut [u16],
-    seens: &mut [u16],
+    tables: &mut Tables,
 ) -> Result<(), Fault<u8>>
-    requires { (length block.now ≡ 512) × (length part.now ≡ 512 * (n - first)) × (1 ≤ n) × (n ≤ 186) × (first ≤ n) × (first ≤ 100) × (records_counted part.now ≤ 6 * (n - first)) × (length places.old ≡ places_size) × (length seens.old ≡ seens_size) }
+    requires { (length block.now ≡ 512) × (length part.now ≡ 512 * (n - first)) × (1 ≤ n) × (n ≤ 186) × (first ≤ n) × (first ≤ 100) × (records_counted part.now ≤ 6 * (n - first)) }
     ensures outright { fault (fault_code result) (fault_place result) ≡ or_else (records_fault_on list folded.counts first [] 0 (file_records part.now)) (counts_fault_on folded.counts n (vector_in block.now) (file_records part.now)) }
-    ensures leaves { tables places.new seens.new ≡ tables_left folded.counts part.now places.old seens.old }
-    ensures holds { OnOk result (Indexed folded.counts (laid_at File part.now) (records_counted part.now) (file_records part.now) (vector_on folded.counts (file_records part.now)) places.new seens.new) }
+    ensures leaves { tables.new ≡ tables_left folded.counts part.now tables.old }
+    ensures holds { OnOk result (Indexed folded.counts (laid_at File part.now) (records_counted part.now) (file_records part.now) (vector_on folded.counts (file_records part.now)) tables.new.places tables.new.seens) }
 {
-    let held = records_fault(part, n - first, folded, list, first, places, seens)?;
+    let held = records_fault(part, n - first, folded, list, first, tables)?;
     if !same_counts(vector_in(block), held) {
         return Err(Fault {
             refusal: Refusal::BadFile,
@@ -149,20 +148,15 @@ pub fn held_fault(
 
 // The first fault of an SAB1 file of n blocks: of its blocks, then of what they hold. The records before the first fault of a record are noted
 // in the tables, once the blocks have none.
-pub fn file_fault_into(
-    file: &[u8],
-    n: usize,
-    places: &mut [u16],
-    seens: &mut [u16],
-) -> Result<(), Fault<u8>>
-    requires { (length file.now ≡ 512 * n) × (1 ≤ n) × (n ≤ 86) × (length places.old ≡ places_size) × (length seens.old ≡ seens_size) }
+pub fn file_fault_into(file: &[u8], n: usize, tables: &mut Tables) -> Result<(), Fault<u8>>
+    requires { (length file.now ≡ 512 * n) × (1 ≤ n) × (n ≤ 86) }
     ensures outright { fault (fault_code result) (fault_place result) ≡ file_fault file.now }
-    ensures leaves { tables places.new seens.new ≡ file_tables file.now places.old seens.old }
-    ensures holds { OnOk result (Indexed no_counts (laid_at File file.now) (records_counted file.now) (file_records file.now) (vector_of (file_records file.now)) places.new seens.new) }
+    ensures leaves { tables.new ≡ file_tables file.now tables.old }
+    ensures holds { OnOk result (Indexed no_counts (laid_at File file.now) (records_counted file.now) (file_records file.now) (vector_of (file_records file.now)) tables.new.places tables.new.seens) }
 {
     blocks_fault(file, n)?;
     let none = zero_vector();
-    held_fault(&file[0..512], file, n, none, 255, 0, places, seens)
+    held_fault(&file[0..512], file, n, none, 255, 0, tables)
 }
 
 // The first fault of a file of n blocks.
@@ -170,9 +164,8 @@ pub fn file_fault(file: &[u8], n: usize) -> Result<(), Fault<u8>>
     requires { (length file.now ≡ 512 * n) × (1 ≤ n) × (n ≤ 86) }
     ensures { fault (fault_code result) (fault_place result) ≡ file_fault file.now }
 {
-    let mut places = fresh_places();
-    let mut seens = fresh_seens();
-    file_fault_into(file, n, &mut places, &mut seens)
+    let mut tables = Tables::fresh();
+    file_fault_into(file, n, &mut tables)
 }
 
 // BadLength for a file that is not of 1 to 86 blocks, then its first fault.

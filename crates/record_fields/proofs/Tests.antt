@@ -1,7 +1,7 @@
 -- What the code of each field is asked at each way out, over plain values.
 -- Assumes nothing.
 use Prim.Native.Nat.{ℕ, ◌+◌, ◌-◌, ◌*◌, ◌≤◌, ◌<◌}
-use mathlib.Core.Path.{◌≡◌, refl, sym}
+use mathlib.Core.Path.{◌≡◌, refl, sym, ◌∙◌}
 use mathlib.Core.Bool.{Bool, true, false, cond, ◌&&◌}
 use lib.Dec.{leb, eqb}
 use lib.ListN.{get_or, take, drop}
@@ -9,6 +9,7 @@ use borrow.Author.Tests.{eq-eqb, ne_eqb, le-leb, lt-leb}
 use Rattle.model.specs.Bytes.{word, blank, part}
 use Rattle.model.specs.Date.{is_date}
 use Rattle.model.specs.Record.{Rec, unit, op, num, seen, label_of, is_label, uses_object, uses_folder, uses_label, uses_mark, unused, names, head_fits, object_fits, folder_fits, date_fits, label_fits, mark_fits}
+use Rattle.byte_slice.proofs.Numbers.{and_true}
 use Rattle.record_fields.proofs.Blanks.{two_sixteens, four_zero, sixteen_zero}
 
 -- ---- a named identity
@@ -38,23 +39,27 @@ module _ (r : Rec) where
   unfolding head_fits unit
   head_unit_lem a = rw (lt-leb (get_or r 0 0) 7 a)
 
-  module _ (a : get_or r 0 0 ≤ 7) where
-    pub head_no_op : get_or r 1 0 < 1 → leb 1 (get_or r 1 0) ≡ head_fits r
+  module _ (a : get_or r 0 0 ≤ 7) {o : Bool} (f : o ≡ (leb 1 (get_or r 1 0) && leb (get_or r 1 0) 7)) where
+    pub head_no_op : o ≡ false → o ≡ head_fits r
     unfolding head_fits unit op
-    head_no_op b = rw (le-leb (get_or r 0 0) 7 a, lt-leb 1 (get_or r 1 0) b)
+    head_no_op h = rw (le-leb (get_or r 0 0) 7 a, h) (go (leb 1 (get_or r 1 0)) (leb (get_or r 1 0) 7) _ (sym f ∙ h))
+      where
+        go : (p q t : Bool) → (p && q) ≡ false → false ≡ (p && (q && t))
+        go true true t e = cc
+        go true false t e = refl
+        go false q t e = refl
 
-    pub head_op_above : 1 ≤ get_or r 1 0 → 7 < get_or r 1 0 → leb (get_or r 1 0) 7 ≡ head_fits r
-    unfolding head_fits unit op
-    head_op_above b d = rw (le-leb (get_or r 0 0) 7 a, le-leb 1 (get_or r 1 0) b, lt-leb (get_or r 1 0) 7 d)
+    module _ (k : o ≡ true) {n : ℕ} (e : n ≡ word r 2) where
+      op_known : (leb 1 (get_or r 1 0) ≡ true) × (leb (get_or r 1 0) 7 ≡ true)
+      op_known = and_true (leb 1 (get_or r 1 0)) (leb (get_or r 1 0) 7) (sym f ∙ k)
 
-    module _ {n : ℕ} (b : 1 ≤ get_or r 1 0) (d : get_or r 1 0 ≤ 7) (e : n ≡ word r 2) where
       pub head_number : n < 1 → leb 1 n ≡ head_fits r
       unfolding head_fits unit op num
-      head_number h = rw (le-leb (get_or r 0 0) 7 a, le-leb 1 (get_or r 1 0) b, le-leb (get_or r 1 0) 7 d, ← e, lt-leb 1 n h)
+      head_number h = let (p, q) = op_known in rw (le-leb (get_or r 0 0) 7 a, p, q, ← e, lt-leb 1 n h)
 
       pub head_seen : {s u : ℕ} → 1 ≤ n → u ≡ get_or r 0 0 → s ≡ word r (4 + 2 * u) → eqb s (n - 1) ≡ head_fits r
       unfolding head_fits unit op num seen
-      head_seen h same k = let f = rw same at k in rw (le-leb (get_or r 0 0) 7 a, le-leb 1 (get_or r 1 0) b, le-leb (get_or r 1 0) 7 d, ← e, le-leb 1 n h, ← f)
+      head_seen h same z = let (p, q) = op_known in let g = rw same at z in rw (le-leb (get_or r 0 0) 7 a, p, q, ← e, le-leb 1 n h, ← g)
 
 -- ---- the fields; u is the test whether the operation uses the field, b what the field's own test says
 
@@ -106,4 +111,4 @@ module _ (r : Rec) {z : Bool} (e : z ≡ blank (part r 24 4)) where
     folder_used g k = rw (← f, g, ← e, h, k)
 
 -- what the goals of this crate ask for
-pub ruleset ways = (unit_above, byte_used, number_none, number_seen, head_unit_lem, head_no_op, head_op_above, head_number, head_seen, object_used, object_unused, label_used, label_unused, mark_used, mark_unused, date_used, folder_zero, folder_unused, folder_used, four_zero, sixteen_zero)
+pub ruleset ways = (unit_above, byte_used, number_none, number_seen, head_unit_lem, head_no_op, head_number, head_seen, object_used, object_unused, label_used, label_unused, mark_used, mark_unused, date_used, folder_zero, folder_unused, folder_used, four_zero, sixteen_zero)

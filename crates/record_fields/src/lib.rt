@@ -6,7 +6,7 @@ ghost use Rattle.model.specs.Bytes.{blank, part};
 ghost use Rattle.model.specs.Record.{names, head_fits, object_fits, folder_fits, date_fits, label_fits, mark_fits};
 
 use byte_slice::{le16, le32};
-use record_uses::{uses_folder, uses_label, uses_mark, uses_object};
+use record_uses::{is_operation, uses_folder, uses_label, uses_mark, uses_object};
 
 // ---- unused fields
 
@@ -44,11 +44,9 @@ pub fn head_fits(rec: &[u8]) -> bool
     ensures { result ≡ head_fits rec.now }
 {
     let unit = rec[0];
-    let op = rec[1];
     let number = le16(rec, 2);
     unit <= 7
-        && 1 <= op
-        && op <= 7
+        && is_operation(rec[1])
         && 1 <= number
         && le16(rec, 4 + 2 * usize::from(unit)) == number - 1
 }

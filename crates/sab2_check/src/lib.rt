@@ -13,7 +13,7 @@ ghost use Rattle.sab2_check.specs.declared.FileFault.TheVariants.{Block};
 
 use base_check::check_base;
 use base_head::{head_of, lists_all};
-use log_check::{fresh_places, fresh_seens};
+use log_closure::Tables;
 use model::BLOCK_BYTES;
 use read_file_blocks::{blocks_fault_as, whole_blocks_to};
 use read_file_check::held_fault;
@@ -92,8 +92,7 @@ fn behind_fault(file: &[u8], n: usize, base: &[u8]) -> Result<(), Fault<u8>>
     let p = row_blocks(file);
     let at = 512 * p;
     let end = 512 * n;
-    let mut places = fresh_places();
-    let mut seens = fresh_seens();
+    let mut tables = Tables::fresh();
     held_fault(
         &file[0..512],
         &file[at..end],
@@ -101,8 +100,7 @@ fn behind_fault(file: &[u8], n: usize, base: &[u8]) -> Result<(), Fault<u8>>
         head.folded,
         head.list,
         p,
-        &mut places,
-        &mut seens,
+        &mut tables,
     )
 }
 

@@ -8,7 +8,7 @@ ghost use Rattle.sab_fold.specs.Given.{list_given};
 
 use sab_words::{count_word, narrow};
 
-// The list in a byte. Above 255 it is no list of units, and becomes that of none.
+// The list, which C gives in 32 bits, in a byte. Above 255 it is no list of units, and becomes that of none.
 fn list_given(list: u32) -> u8
     ensures { result ≡ list_given list }
 {

@@ -21,7 +21,7 @@ pub fn index(log: &[u8], base: &[u8], index: &mut [u8], work: &mut [u8]) -> u32
     answer_word(index_log::index_log(log, base, index, work))
 }
 
-// The folder asked, as one number. Where it is no identity, one that no entry has.
+// The folder asked, as one number; C gives unit and number in 32 bits each. Where it is no identity, one that no entry has.
 fn folder_asked(unit: u32, number: u32) -> u32
     ensures { result ≡ folder_asked unit number }
 {

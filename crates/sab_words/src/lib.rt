@@ -2,12 +2,12 @@
 #![tactic(auto)]
 
 ghost use Rattle.std.specs.Prelude.{◌≡◌, length};
-ghost use Rattle.refusal.specs.Refusals.{code_of, fault_code, fault_place};
+ghost use Rattle.refusal.specs.Refusals.{code_of};
 ghost use Rattle.sab_words.specs.Words.{packed, narrowed, head_of};
 ghost use Rattle.sab_words.specs.Answers.{count_of};
 
 use byte_slice::{put, put16, put32};
-use refusal::{Fault, Refusal, code};
+use refusal::{Refusal, code};
 use vector::{Vector, put_vector};
 
 // Number, place and count in one word.
@@ -38,23 +38,10 @@ pub fn count_word(answer: Result<u16, Refusal>) -> u32
 pub fn blocks_word(answer: Result<u8, Refusal>) -> u32
     ensures { result ≡ packed (code_of answer) 0 (count_of answer) }
 {
-    match answer {
-        Ok(blocks) => pack(0, 0, u16::from(blocks)),
-        Err(refusal) => pack(u8::from(refusal), 0, 0),
-    }
+    count_word(answer.map(u16::from))
 }
 
-// An answer that names a place, in one word.
-pub fn place_word(answer: Result<(), Fault<u8>>) -> u32
-    ensures { result ≡ packed (fault_code answer) (fault_place answer) 0 }
-{
-    match answer {
-        Ok(_) => pack(0, 0, 0),
-        Err(fault) => pack(u8::from(fault.refusal), fault.place, 0),
-    }
-}
-
-// The own unit in a byte. Above 7 all are alike, and so is the byte.
+// The own unit, which C gives in 32 bits, in a byte. Above 7 all are alike, and so is the byte.
 pub fn narrow(unit: u32) -> u8
     ensures { result ≡ narrowed unit }
 {

@@ -12,6 +12,7 @@ use Rattle.model.specs.Log.{records_of, sound_after, sound_log_on}
 use Rattle.byte_slice.proofs.Numbers.{bool_cases, and_true}
 use Rattle.base_model.specs.Base.{lists_all, base_vector, sound_base, held_on, sound_state}
 use Rattle.base_head.specs.Head.{BaseHead, head_of}
+use Rattle.log_closure.specs.declared.Tables.{Tables}
 use Rattle.log_closure.specs.Tables.{tables, Indexed}
 use Rattle.log_check.specs.declared.Layout.TheVariants.{Log}
 use Rattle.log_check.specs.Places.{laid_at}
@@ -27,9 +28,9 @@ module _ (log base : List ℕ) {p : Bool} (e : p ≡ sound_base base) where
     unfolding state_of sound_state
     base_refused = rw (← e, not-true p f)
 
-    pub base_unnoted : (places seens : List ℕ) → tables places seens ≡ note_of log base places seens
+    pub base_unnoted : (t : Tables) → t ≡ note_of log base t
     unfolding note_of
-    base_unnoted places seens = rw (← e, not-true p f)
+    base_unnoted t = rw (← e, not-true p f)
 
   module _ (f : not p ≡ false) where
     based : sound_base base ≡ true
@@ -83,9 +84,11 @@ module _ (log base : List ℕ) {p : Bool} (e : p ≡ sound_base base) where
         pub state_sound : not t ≡ false → stated true h held used ≡ state_of log base
         state_sound k = state_is (sym passes_is ∙ rw (y, ← g, not-false t k)) y
 
-      pub state_noted : tables places seens ≡ note_of log base places₀ seens₀
-      unfolding note_of
-      state_noted = rw based (ap (λ (x : Check). tables x.places x.seens) behind)
-
       pub state_holds : Indexed h.folded (laid_at Log log) used (records_of log) held places seens → Indexed (base_vector base) (laid_at Log log) used (records_of log) held places seens
       state_holds i = subst (λ (v : List ℕ). Indexed v (laid_at Log log) used (records_of log) held places seens) folded_is i
+
+    pub state_noted : (before after : Tables) (h : BaseHead) (s : Bool) (used : ℕ) (held : List ℕ) → h ≡ head_of base
+        → checked s used held after.places after.seens ≡ check_of h.folded log before.places before.seens → after ≡ note_of log base before
+    unfolding note_of
+    state_noted before after h s used held hd c =
+        rw based (ap (λ (x : Check). tables x.places x.seens) (behind h hd before.places before.seens s used held after.places after.seens c))

@@ -1,16 +1,16 @@
 // The tree of a state: that of its base, with the records of its log replayed from there on.
 #![tactic(auto)]
 
-ghost use Rattle.std.specs.Prelude.{◌≡◌, true, ◌<◌, get_or, length, replicate};
-ghost use Rattle.model.specs.Lengths.{log_size, base_size, tree_size};
-ghost use Rattle.model.specs.Bytes.{word};
-ghost use Rattle.model.specs.Log.{records_of};
-ghost use Rattle.base_model.specs.Base.{sound_state, held_on, tree_of};
+ghost use Rattle.std.specs.Prelude.{◌≡◌, ◌<◌, get_or, replicate};
+ghost use Rattle.model.specs.Lengths.{tree_size};
+ghost use Rattle.base_model.specs.Base.{tree_of};
+ghost use Rattle.state_check.specs.Stands.{Stands};
 ghost use Rattle.tree_maps.specs.Keys.{register_size};
 ghost use Rattle.tree_lookup.specs.Roles.{Works};
 ghost use Rattle.state_tree.specs.Small.{Small};
 
 use log_check::Layout;
+use state_check::State;
 use tree_table::Size;
 use vector::Vector;
 
@@ -24,21 +24,19 @@ pub fn small_counts(held: Vector)
     }
 }
 
-// The n records of the log of a sound state with its held vector, whose base has so many entries and asides, into a table and a register
-// of zeros.
+// The records of the log of a sound state, from the tree of its base on, into a table and a register of zeros.
 pub fn replay_state(
     log: &[u8],
-    n: usize,
     base: &[u8],
-    held: Vector,
-    size: Size,
+    state: State,
     table: &mut [u8],
     register: &mut [u16],
 ) -> Size
-    requires { (length log.now ≡ log_size) × (length base.now ≡ base_size) × (sound_state log.now base.now ≡ true) × (n ≡ length (records_of log.now)) × (held.counts ≡ held_on log.now base.now) × (size.entries ≡ word base.now 2) × (size.asides ≡ word base.now 4) × (table.old ≡ replicate tree_size 0) × (register.old ≡ replicate register_size 0) }
+    requires { Stands log.now base.now state × (table.old ≡ replicate tree_size 0) × (register.old ≡ replicate register_size 0) }
     ensures { Works table.new register.new result.entries result.asides (tree_of log.now base.now) }
 {
-    small_counts(held);
+    small_counts(state.held);
+    let size = state.head.size();
     base_load::load(base, size, table, register);
-    tree_replay::replay(log, Layout::Log, n, table, register, size)
+    tree_replay::replay(log, Layout::Log, state.used, table, register, size)
 }

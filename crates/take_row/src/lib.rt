@@ -7,7 +7,7 @@ ghost use Rattle.model.specs.Log.{records_of};
 ghost use Rattle.base_model.specs.Base.{base_vector, held_on, sound_state};
 ghost use Rattle.row_model.specs.Row.{row_fits, tried, try_all, row_taken, take_row_of};
 ghost use Rattle.refusal.specs.Refusals.{code_of};
-ghost use Rattle.log_closure.specs.Tables.{places_size, seens_size, Indexed};
+ghost use Rattle.log_closure.specs.Tables.{Indexed};
 ghost use Rattle.log_check.specs.declared.Layout.TheVariants.{Log};
 ghost use Rattle.log_check.specs.Places.{laid_at};
 ghost use Rattle.take_row_store.specs.Grown.{work_size};
@@ -15,6 +15,7 @@ ghost use Rattle.take_row_judge.specs.Stopped.{stop_code};
 ghost use Rattle.take_row.specs.Answer.{taken_of, stopped_of};
 
 use call_guard::open_into;
+use log_closure::Tables;
 use model::BLOCK_BYTES;
 use refusal::Refusal;
 use take_row_judge::RowJudged;
@@ -58,16 +59,15 @@ pub fn take_blocks(
     used: usize,
     held: Vector,
     work: &mut [u8],
-    places: &mut [u16],
-    seens: &mut [u16],
+    tables: &mut Tables,
 ) -> RowJudged
-    requires { (length row.now ≤ file_size) × (unit ≤ 7) × (length log.old ≡ log_size) × (length base.now ≡ base_size) × (sound_state log.old base.now ≡ true) × (list ≡ get_or base.now 0 0) × (folded.counts ≡ base_vector base.now) × (used ≡ length (records_of log.old)) × (length work.old ≡ work_size) × (length places.old ≡ places_size) × (length seens.old ≡ seens_size) × Indexed (base_vector base.now) (laid_at Log log.old) used (records_of log.old) held.counts places.old seens.old }
+    requires { (length row.now ≤ file_size) × (unit ≤ 7) × (length log.old ≡ log_size) × (length base.now ≡ base_size) × (sound_state log.old base.now ≡ true) × (list ≡ get_or base.now 0 0) × (folded.counts ≡ base_vector base.now) × (used ≡ length (records_of log.old)) × (length work.old ≡ work_size) × Indexed (base_vector base.now) (laid_at Log log.old) used (records_of log.old) held.counts tables.old.places tables.old.seens }
     ensures took { tried result.taken (stop_code result.stopped) log.new ≡ try_all archive unit log.old base.now row.now }
     ensures counted { (result.used ≡ length (records_of log.new)) × (result.held.counts ≡ held_on log.new base.now) }
 {
     byte_slice::put(work, 0, log);
     let t = take_row_judge::judge_row(
-        list, folded, base, row, archive, unit, log, used, held, work, places, seens,
+        list, folded, base, row, archive, unit, log, used, held, work, tables,
     );
     take_row_store::put_in(folded, log, used, work, t.used);
     t
@@ -85,17 +85,8 @@ pub fn take_row(
 ) -> Result<RowTaken, Refusal>
     ensures { row_taken (code_of result) 0 (taken_of result) (stopped_of result) log.new ≡ take_row_of archive unit log.old base.now row.now }
 {
-    let mut places = log_check::fresh_places();
-    let mut seens = log_check::fresh_seens();
-    let state = open_into(
-        log,
-        base,
-        unit,
-        true,
-        row_fits(row.len()),
-        &mut places,
-        &mut seens,
-    )?;
+    let mut tables = Tables::fresh();
+    let state = open_into(log, base, unit, true, row_fits(row.len()), &mut tables)?;
     let mut work = fresh_work();
     let judged = take_blocks(
         state.head.list,
@@ -108,8 +99,7 @@ pub fn take_row(
         state.used,
         state.held,
         &mut work,
-        &mut places,
-        &mut seens,
+        &mut tables,
     );
     Ok(RowTaken {
         taken: judged.taken,

@@ -10,7 +10,7 @@ ghost use Rattle.model.specs.Log.{records_of, sound_log_on};
 ghost use Rattle.model.specs.Block.{count_in};
 ghost use Rattle.model.specs.File.{blocks_in};
 ghost use Rattle.refusal.specs.Refusals.{code_of};
-ghost use Rattle.log_closure.specs.Tables.{places_size, seens_size, Placed};
+ghost use Rattle.log_closure.specs.Tables.{Placed};
 ghost use Rattle.log_check.specs.declared.Layout.TheVariants.{Log};
 ghost use Rattle.log_check.specs.Places.{laid_at};
 ghost use Rattle.take_beside.specs.Judging.{Counted, step, held_by, take_by};
@@ -21,6 +21,7 @@ ghost use Rattle.take_row_judge.specs.Stopped.{stop_code};
 
 use base_head::is_listed;
 use byte_slice::put;
+use log_closure::Tables;
 use model::BLOCK_BYTES;
 use refusal::Refusal;
 use take_beside::{Counts, take_new};
@@ -50,18 +51,18 @@ fn held_fault(
     rec: &[u8],
     held: Vector,
     work: &[u8],
-    places: &[u16],
+    tables: &Tables,
 ) -> Result<(), Refusal>
-    requires { (length rec.now ≡ record_size) × (well_formed rec.now ≡ true) × (num rec.now ≤ get_or held.counts (unit rec.now) 0) × (length work.now ≡ work_size) × (length places.now ≡ places_size) × Placed folded.counts held.counts places.now }
-    ensures { code_of result ≡ held_by folded.counts (laid_at Log work.now) places.now rec.now }
+    requires { (length rec.now ≡ record_size) × (well_formed rec.now ≡ true) × (num rec.now ≤ get_or held.counts (unit rec.now) 0) × (length work.now ≡ work_size) × Placed folded.counts held.counts tables.now.places }
+    ensures { code_of result ≡ held_by folded.counts (laid_at Log work.now) tables.now.places rec.now }
 {
-    let u = record::unit_of(rec) as usize;
+    let u = usize::from(record::unit_of(rec));
     let c = record::number_of(rec);
     let f = folded.counts[u];
     if c <= f {
         return Ok(());
     }
-    let q = log_closure::position(places, u, c - f);
+    let q = tables.position(u, c - f);
     if !same_at(rec, q, work) {
         return Err(Refusal::OtherBytes);
     }
@@ -77,24 +78,23 @@ fn take_at(
     held: Vector,
     used: usize,
     work: &[u8],
-    places: &mut [u16],
-    seens: &mut [u16],
+    tables: &mut Tables,
 ) -> Result<Counts, Refusal>
-    requires { (length rec.now ≡ record_size) × (used ≤ log_places) × (length work.now ≡ work_size) × (length places.old ≡ places_size) × (length seens.old ≡ seens_size) × Placed folded.counts held.counts places.old × Counted folded.counts held.counts used }
-    ensures { step (code_of result) (held_after held.counts result) (used_after used result) places.new seens.new ≡ take_by list folded.counts (laid_at Log work.now) rec.now used held.counts used places.old seens.old }
+    requires { (length rec.now ≡ record_size) × (used ≤ log_places) × (length work.now ≡ work_size) × Placed folded.counts held.counts tables.old.places × Counted folded.counts held.counts used }
+    ensures { step (code_of result) (held_after held.counts result) (used_after used result) tables.new.places tables.new.seens ≡ take_by list folded.counts (laid_at Log work.now) rec.now used held.counts used tables.old.places tables.old.seens }
 {
     if !record::well_formed(rec) {
         return Err(Refusal::Malformed);
     }
-    let u = record::unit_of(rec) as usize;
+    let u = usize::from(record::unit_of(rec));
     if !is_listed(list, u) {
         return Err(Refusal::Unlisted);
     }
     let c = record::number_of(rec);
     if held.counts[u] < c {
-        return take_new(folded, rec, used, held, used, places, seens);
+        return take_new(folded, rec, used, held, used, tables);
     }
-    held_fault(folded, rec, held, work, places)?;
+    held_fault(folded, rec, held, work, tables)?;
     Ok(Counts { held, used })
 }
 
@@ -109,27 +109,17 @@ fn judge_into(
     v: Vector,
     m: usize,
     work: &mut [u8],
-    places: &mut [u16],
-    seens: &mut [u16],
+    tables: &mut Tables,
 ) -> Result<Counts, Refusal>
-    requires { (length b.now ≡ block_size) × (n ≡ count_in b.now) × (n ≤ 6) × (length work.old ≡ work_size) × (length places.old ≡ places_size) × (length seens.old ≡ seens_size) × Kept list folded.counts (records_of log.now) start work.old m v.counts places.old seens.old }
-    ensures { JudgedInto list folded.counts (records_of log.now) start b.now work.old m (code_of result) work.new (used_after m result) (held_after v.counts result) places.new seens.new }
+    requires { (length b.now ≡ block_size) × (n ≡ count_in b.now) × (n ≤ 6) × (length work.old ≡ work_size) × Kept list folded.counts (records_of log.now) start work.old m v.counts tables.old.places tables.old.seens }
+    ensures { JudgedInto list folded.counts (records_of log.now) start b.now work.old m (code_of result) work.new (used_after m result) (held_after v.counts result) tables.new.places tables.new.seens }
 {
     let mut held = v;
     let mut used = m;
     for j in 0..n {
         let at = 28 + 80 * j;
         put(work, 80 * used, &b[at..at + 80]);
-        let counts = take_at(
-            list,
-            folded,
-            &b[at..at + 80],
-            held,
-            used,
-            work,
-            places,
-            seens,
-        )?;
+        let counts = take_at(list, folded, &b[at..at + 80], held, used, work, tables)?;
         held = counts.held;
         used = counts.used;
     }
@@ -149,15 +139,14 @@ fn judge_one(
     v: Vector,
     m: usize,
     work: &mut [u8],
-    places: &mut [u16],
-    seens: &mut [u16],
+    tables: &mut Tables,
 ) -> Result<Counts, Refusal>
-    requires { (unit ≤ 7) × Footing list folded.counts base.now × (length work.old ≡ work_size) × (length places.old ≡ places_size) × (length seens.old ≡ seens_size) × Kept list folded.counts (records_of log.now) start work.old m v.counts places.old seens.old }
-    ensures { JudgedOne list folded.counts base.now (records_of log.now) start archive unit b.now work.old m (code_of result) work.new (used_after m result) (held_after v.counts result) places.new seens.new }
+    requires { (unit ≤ 7) × Footing list folded.counts base.now × (length work.old ≡ work_size) × Kept list folded.counts (records_of log.now) start work.old m v.counts tables.old.places tables.old.seens }
+    ensures { JudgedOne list folded.counts base.now (records_of log.now) start archive unit b.now work.old m (code_of result) work.new (used_after m result) (held_after v.counts result) tables.new.places tables.new.seens }
 {
     take_beside::given_fault(archive, b)?;
-    let n = block_read::count_in(b) as usize;
-    judge_into(list, folded, b, n, log, start, v, m, work, places, seens)
+    let n = usize::from(block_read::count_in(b));
+    judge_into(list, folded, b, n, log, start, v, m, work, tables)
 }
 
 // How many blocks a row has.
@@ -180,10 +169,9 @@ pub fn judge_row(
     start: usize,
     v: Vector,
     work: &mut [u8],
-    places: &mut [u16],
-    seens: &mut [u16],
+    tables: &mut Tables,
 ) -> RowJudged
-    requires { (length row.now ≤ file_size) × (unit ≤ 7) × Footing list folded.counts base.now × (length log.now ≡ log_size) × (sound_log_on folded.counts log.now ≡ true) × (length work.old ≡ work_size) × (length places.old ≡ places_size) × (length seens.old ≡ seens_size) × Kept list folded.counts (records_of log.now) start work.old start v.counts places.old seens.old }
+    requires { (length row.now ≤ file_size) × (unit ≤ 7) × Footing list folded.counts base.now × (length log.now ≡ log_size) × (sound_log_on folded.counts log.now ≡ true) × (length work.old ≡ work_size) × Kept list folded.counts (records_of log.now) start work.old start v.counts tables.old.places tables.old.seens }
     ensures { JudgedRow folded.counts base.now log.now start archive unit row.now result.taken (stop_code result.stopped) work.new result.used result.held.counts }
 {
     let n = blocks_in(row);
@@ -203,8 +191,7 @@ pub fn judge_row(
             held,
             used,
             work,
-            places,
-            seens,
+            tables,
         );
         match judged {
             Ok(counts) => {

@@ -13,7 +13,7 @@ use lib.ListN.{get_or, length, set, take, drop}
 use borrow.Author.Tests.{eq-eqb, eqb-true}
 use borrow.Rule.Slice.PartMut.{put_mid}
 use Rattle.model.specs.Bytes.{part}
-use Rattle.model.specs.Record.{Rec, object_of, folder_of, label_of}
+use Rattle.model.specs.Record.{Rec, op, object_of, folder_of, label_of}
 use Rattle.model.specs.Replay.{Entry, is_present, is_in, entry_of, changed, settled, stored, renamed, moved, removed}
 use Rattle.model.specs.Table.{entry_row, aside_row, entry_in}
 use Rattle.byte_slice.proofs.Numbers.{and_true}
@@ -332,9 +332,9 @@ module _ (b register : List ℕ) (n m : ℕ) (w : Holds b register n m) where
 
 -- ---- what a move names
 
-pub moved_object : (r : Rec) (k : ℕ) → Asks r → get_or r 1 0 ≡ 7 → k ≡ object_of r → InRange k
+pub moved_object : (r : Rec) (k : ℕ) → Asks r → op r ≡ 7 → k ≡ object_of r → InRange k
 moved_object r k a h e = object_range r k a (omega arith) e
 
-pub moved_folder : (r : Rec) → Asks r → get_or r 1 0 ≡ 7 → folder_of r < 524288
+pub moved_folder : (r : Rec) → Asks r → op r ≡ 7 → folder_of r < 524288
 moved_folder r a h =
     ⊎_elim (λ (q : folder_of r ≡ 0). omega arith) (λ (q : InRange (folder_of r)). let z = q.high in omega arith) (move_names r (folder_of r) a h refl)

@@ -1,8 +1,8 @@
 // What a record changes of an entry or an aside that stands in a table of rows, and in the register beside it.
 #![tactic(auto)]
 
-ghost use Rattle.std.specs.Prelude.{◌≡◌, true, ◌+◌, ◌*◌, ◌≤◌, ◌<◌, length, get_or, set};
-ghost use Rattle.model.specs.Record.{object_of, folder_of};
+ghost use Rattle.std.specs.Prelude.{◌≡◌, true, ◌+◌, ◌*◌, ◌≤◌, ◌<◌, length, set};
+ghost use Rattle.model.specs.Record.{op, object_of, folder_of};
 ghost use Rattle.model.specs.Replay.{is_present, stored, renamed, moved, removed, changed, settled};
 ghost use Rattle.model.specs.Table.{entry_in};
 ghost use Rattle.tree_table.specs.Rows.{entries_from, asides_from, tree_in};
@@ -15,7 +15,7 @@ use tree_table::Size;
 
 // A store: contents record, date and mark of the object's row.
 pub fn store(rec: &[u8], table: &mut [u8], register: &[u16], size: Size)
-    requires { Takes (tree_in table.old size.entries size.asides) rec.now × Holds table.old register.now size.entries size.asides × (2 < get_or rec.now 1 0) }
+    requires { Takes (tree_in table.old size.entries size.asides) rec.now × Holds table.old register.now size.entries size.asides × (2 < op rec.now) }
     ensures { Works table.new register.now size.entries size.asides (with_entries (tree_in table.old size.entries size.asides) (changed (stored rec.now) (object_of rec.now) (entries_from table.old 0 size.entries))) }
 {
     let Some(row) = tree_lookup::entry_of(table, register, size, tree_table::object_of(rec)) else {
@@ -27,7 +27,7 @@ pub fn store(rec: &[u8], table: &mut [u8], register: &[u16], size: Size)
 
 // A rename: place record and label of the object's row.
 pub fn rename(rec: &[u8], table: &mut [u8], register: &mut [u16], size: Size)
-    requires { Takes (tree_in table.old size.entries size.asides) rec.now × Holds table.old register.old size.entries size.asides × (nodes_in 4097 register.old < 1536) × (2 < get_or rec.now 1 0) }
+    requires { Takes (tree_in table.old size.entries size.asides) rec.now × Holds table.old register.old size.entries size.asides × (nodes_in 4097 register.old < 1536) × (2 < op rec.now) }
     ensures { Works table.new register.new size.entries size.asides (with_entries (tree_in table.old size.entries size.asides) (changed (renamed rec.now) (object_of rec.now) (entries_from table.old 0 size.entries))) × (nodes_in 4097 register.new ≤ nodes_in 4097 register.old + 1) × (register.new ≡ renamed_on rec.now (tree_in table.old size.entries size.asides) register.old) }
 {
     let Some(row) = tree_lookup::entry_of(table, register, size, tree_table::object_of(rec)) else {
@@ -68,7 +68,7 @@ fn shift_entry(rec: &[u8], table: &[u8], register: &mut [u16], size: Size, row: 
 
 // A move: folder, label and place record of the object's row.
 pub fn move_entry(rec: &[u8], table: &mut [u8], register: &mut [u16], size: Size)
-    requires { Takes (tree_in table.old size.entries size.asides) rec.now × Holds table.old register.old size.entries size.asides × Home (folder_of rec.now) (entries_from table.old 0 size.entries) × (nodes_in 4097 register.old < 1536) × (get_or rec.now 1 0 ≡ 7) }
+    requires { Takes (tree_in table.old size.entries size.asides) rec.now × Holds table.old register.old size.entries size.asides × Home (folder_of rec.now) (entries_from table.old 0 size.entries) × (nodes_in 4097 register.old < 1536) × (op rec.now ≡ 7) }
     ensures { Works table.new register.new size.entries size.asides (with_entries (tree_in table.old size.entries size.asides) (changed (moved rec.now) (object_of rec.now) (entries_from table.old 0 size.entries))) × (nodes_in 4097 register.new ≤ nodes_in 4097 register.old + 1) × (register.new ≡ moved_on rec.now (tree_in table.old size.entries size.asides) register.old) }
 {
     let Some(row) = tree_lookup::entry_of(table, register, size, tree_table::object_of(rec)) else {
@@ -89,7 +89,7 @@ fn remove_row(row: &mut [u8])
 
 // A remove: the object's row stays, with kind 0.
 pub fn remove(rec: &[u8], table: &mut [u8], register: &mut [u16], size: Size)
-    requires { Takes (tree_in table.old size.entries size.asides) rec.now × Holds table.old register.old size.entries size.asides × (2 < get_or rec.now 1 0) }
+    requires { Takes (tree_in table.old size.entries size.asides) rec.now × Holds table.old register.old size.entries size.asides × (2 < op rec.now) }
     ensures { Works table.new register.new size.entries size.asides (with_entries (tree_in table.old size.entries size.asides) (changed removed (object_of rec.now) (entries_from table.old 0 size.entries))) × (nodes_in 4097 register.new ≤ nodes_in 4097 register.old + 1) × (register.new ≡ removed_on rec.now (tree_in table.old size.entries size.asides) register.old) }
 {
     let Some(row) = tree_lookup::entry_of(table, register, size, tree_table::object_of(rec)) else {
@@ -112,7 +112,7 @@ fn settle_row(row: &mut [u8])
 
 // A settle: the aside that the object names is no longer open.
 pub fn settle(rec: &[u8], table: &mut [u8], register: &[u16], size: Size)
-    requires { Takes (tree_in table.old size.entries size.asides) rec.now × Holds table.old register.now size.entries size.asides × (2 < get_or rec.now 1 0) }
+    requires { Takes (tree_in table.old size.entries size.asides) rec.now × Holds table.old register.now size.entries size.asides × (2 < op rec.now) }
     ensures { Works table.new register.now size.entries size.asides (with_asides (tree_in table.old size.entries size.asides) (settled (object_of rec.now) (asides_from table.old 0 size.asides))) }
 {
     let role = tree_lookup::role_of(table, register, size, tree_table::object_of(rec));

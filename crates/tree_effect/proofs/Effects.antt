@@ -33,10 +33,10 @@ use Rattle.tree_effect.proofs.Additions.{works_make, works_aside}
 pub own_low : (t : Tree) (r : Rec) → Takes t r → self_of r < 524288
 own_low t r h = let q = h.own.high in omega arith
 
-pub folder_low : (t : Tree) (r : Rec) → Takes t r → get_or r 1 0 ≤ 2 → folder_of r < 524288
-unfolding op uses_folder
+pub folder_low : (t : Tree) (r : Rec) → Takes t r → op r ≤ 2 → folder_of r < 524288
+unfolding uses_folder
 folder_low t r h g =
-    ⊎_elim (λ (q : folder_of r ≡ 0). omega arith) (λ (q : InRange (folder_of r)). let z = q.high in omega arith) (h.asks.folder (rw (le-leb (get_or r 1 0) 2 g)))
+    ⊎_elim (λ (q : folder_of r ≡ 0). omega arith) (λ (q : InRange (folder_of r)). let z = q.high in omega arith) (h.asks.folder (rw (le-leb (op r) 2 g)))
 
 -- ---- a row more
 
@@ -127,13 +127,13 @@ module _ (b register : List ℕ) (n m : ℕ) (w : Holds b register n m) (r : Rec
 -- ---- the folder of a make and of a move
 
 module _ (r : Rec) (es : List Entry) (p : Placed r es) where
-  pub make_home : get_or r 1 0 ≤ 2 → Home (folder_of r) es
-  unfolding op uses_folder
-  make_home h = p.home (rw (le-leb (get_or r 1 0) 2 h))
+  pub make_home : op r ≤ 2 → Home (folder_of r) es
+  unfolding uses_folder
+  make_home h = p.home (rw (le-leb (op r) 2 h))
 
-  pub move_home : get_or r 1 0 ≡ 7 → Home (folder_of r) es
-  unfolding op uses_folder
-  move_home h = p.home (rw h)
+  pub move_home : 7 ≡ op r → Home (folder_of r) es
+  unfolding uses_folder
+  move_home h = p.home (rw (← h))
 
 -- ---- rows lie within the table
 
@@ -147,31 +147,26 @@ module _ (b register : List ℕ) (n m : ℕ) (w : Holds b register n m) where
 -- ---- any operation
 
 module _ (b b' register register' : List ℕ) (n m n' m' : ℕ) (r : Rec) where
-  pub effect_make : get_or r 1 0 ≤ 2 → Works b' register' n' m' (with_entries (tree_in b n m) (entries_from b 0 n ++ (new_entry r ∷ []))) → Works b' register' n' m' (effect r (tree_in b n m))
-  unfolding effect op with_entries tree_in
-  effect_make h v = rw (le-leb (get_or r 1 0) 2 h) v
+  pub effect_make : op r ≤ 2 → Works b' register' n' m' (with_entries (tree_in b n m) (entries_from b 0 n ++ (new_entry r ∷ []))) → Works b' register' n' m' (effect r (tree_in b n m))
+  unfolding effect with_entries tree_in
+  effect_make h v = rw (le-leb (op r) 2 h) v
 
-  pub effect_store : get_or r 1 0 ≡ 3 → Works b' register' n' m' (with_entries (tree_in b n m) (changed (stored r) (object_of r) (entries_from b 0 n))) → Works b' register' n' m' (effect r (tree_in b n m))
-  unfolding effect op with_entries tree_in
-  effect_store h v = rw h v
+  pub effect_store : 3 ≡ op r → Works b' register' n' m' (with_entries (tree_in b n m) (changed (stored r) (object_of r) (entries_from b 0 n))) → Works b' register' n' m' (effect r (tree_in b n m))
+  unfolding effect with_entries tree_in
+  effect_store h v = rw (← h) v
 
-  pub effect_remove : get_or r 1 0 ≡ 4 → Works b' register' n' m' (with_entries (tree_in b n m) (changed removed (object_of r) (entries_from b 0 n))) → Works b' register' n' m' (effect r (tree_in b n m))
-  unfolding effect op with_entries tree_in
-  effect_remove h v = rw h v
+  pub effect_remove : 4 ≡ op r → Works b' register' n' m' (with_entries (tree_in b n m) (changed removed (object_of r) (entries_from b 0 n))) → Works b' register' n' m' (effect r (tree_in b n m))
+  unfolding effect with_entries tree_in
+  effect_remove h v = rw (← h) v
 
-  pub effect_rename : get_or r 1 0 ≡ 5 → Works b' register' n' m' (with_entries (tree_in b n m) (changed (renamed r) (object_of r) (entries_from b 0 n))) → Works b' register' n' m' (effect r (tree_in b n m))
-  unfolding effect op with_entries tree_in
-  effect_rename h v = rw h v
+  pub effect_rename : 5 ≡ op r → Works b' register' n' m' (with_entries (tree_in b n m) (changed (renamed r) (object_of r) (entries_from b 0 n))) → Works b' register' n' m' (effect r (tree_in b n m))
+  unfolding effect with_entries tree_in
+  effect_rename h v = rw (← h) v
 
-  pub effect_settle : get_or r 1 0 ≡ 6 → Works b' register' n' m' (with_asides (tree_in b n m) (settled (object_of r) (asides_from b 0 m))) → Works b' register' n' m' (effect r (tree_in b n m))
-  unfolding effect op with_asides tree_in
-  effect_settle h v = rw h v
+  pub effect_settle : 6 ≡ op r → Works b' register' n' m' (with_asides (tree_in b n m) (settled (object_of r) (asides_from b 0 m))) → Works b' register' n' m' (effect r (tree_in b n m))
+  unfolding effect with_asides tree_in
+  effect_settle h v = rw (← h) v
 
-  pub effect_move : get_or r 1 0 ≡ 7 → Works b' register' n' m' (with_entries (tree_in b n m) (changed (moved r) (object_of r) (entries_from b 0 n))) → Works b' register' n' m' (effect r (tree_in b n m))
-  unfolding effect op with_entries tree_in
-  effect_move h v = rw h v
-
--- a record of none of the operations before is a move
-pub is_move : (t : Tree) (r : Rec) → Takes t r → 2 < get_or r 1 0 → (get_or r 1 0 ≡ 3 → ⊥) → (get_or r 1 0 ≡ 4 → ⊥) → (get_or r 1 0 ≡ 5 → ⊥) → (get_or r 1 0 ≡ 6 → ⊥) → get_or r 1 0 ≡ 7
-unfolding op
-is_move t r h g h3 h4 h5 h6 = let z = h.asks.to in omega arith
+  pub effect_move : 7 ≡ op r → Works b' register' n' m' (with_entries (tree_in b n m) (changed (moved r) (object_of r) (entries_from b 0 n))) → Works b' register' n' m' (effect r (tree_in b n m))
+  unfolding effect with_entries tree_in
+  effect_move h v = rw (← h) v

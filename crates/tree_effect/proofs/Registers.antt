@@ -3,7 +3,6 @@
 use Prim.Native.Nat.{ℕ, ◌+◌, ◌≤◌}
 use mathlib.Core.Path.{◌≡◌}
 use mathlib.Core.List.{List}
-use lib.ListN.{get_or}
 use borrow.Author.Tests.{le-leb}
 use Rattle.model.specs.Record.{Rec, op, self_of, folder_of, label_of}
 use Rattle.model.specs.Replay.{Tree}
@@ -24,27 +23,27 @@ module _ (b register : List ℕ) (n m : ℕ) (w : Holds b register n m) (r : Rec
 -- ---- any operation
 
 module _ (r : Rec) (t : Tree) (register l : List ℕ) where
-  pub make_turns : get_or r 1 0 ≤ 2 → l ≡ made_on r t register → l ≡ effect_on r t register
-  unfolding effect_on op
-  make_turns h x = rw (le-leb (get_or r 1 0) 2 h) x
+  pub make_turns : op r ≤ 2 → l ≡ made_on r t register → l ≡ effect_on r t register
+  unfolding effect_on
+  make_turns h x = rw (le-leb (op r) 2 h) x
 
-  pub remove_turns : get_or r 1 0 ≡ 4 → l ≡ removed_on r t register → l ≡ effect_on r t register
-  unfolding effect_on op
-  remove_turns h x = rw h x
+  pub remove_turns : 4 ≡ op r → l ≡ removed_on r t register → l ≡ effect_on r t register
+  unfolding effect_on
+  remove_turns h x = rw (← h) x
 
-  pub rename_turns : get_or r 1 0 ≡ 5 → l ≡ renamed_on r t register → l ≡ effect_on r t register
-  unfolding effect_on op
-  rename_turns h x = rw h x
+  pub rename_turns : 5 ≡ op r → l ≡ renamed_on r t register → l ≡ effect_on r t register
+  unfolding effect_on
+  rename_turns h x = rw (← h) x
 
-  pub move_turns : get_or r 1 0 ≡ 7 → l ≡ moved_on r t register → l ≡ effect_on r t register
-  unfolding effect_on op
-  move_turns h x = rw h x
+  pub move_turns : 7 ≡ op r → l ≡ moved_on r t register → l ≡ effect_on r t register
+  unfolding effect_on
+  move_turns h x = rw (← h) x
 
 module _ (r : Rec) (t : Tree) (register : List ℕ) where
-  pub store_turns : get_or r 1 0 ≡ 3 → register ≡ effect_on r t register
-  unfolding effect_on op
-  store_turns h = rw h
+  pub store_turns : 3 ≡ op r → register ≡ effect_on r t register
+  unfolding effect_on
+  store_turns h = rw (← h)
 
-  pub settle_turns : get_or r 1 0 ≡ 6 → register ≡ effect_on r t register
-  unfolding effect_on op
-  settle_turns h = rw h
+  pub settle_turns : 6 ≡ op r → register ≡ effect_on r t register
+  unfolding effect_on
+  settle_turns h = rw (← h)

@@ -1,8 +1,8 @@
 // What a record does to a table of rows, and to the register beside it.
 #![tactic(auto)]
 
-ghost use Rattle.std.specs.Prelude.{◌≡◌, ◌⊎◌, ◌++◌, ◌∷◌, [], ◌+◌, ◌≤◌, ◌<◌, length, get_or};
-ghost use Rattle.model.specs.Record.{self_of, folder_of, label_of};
+ghost use Rattle.std.specs.Prelude.{◌≡◌, ◌⊎◌, ◌++◌, ◌∷◌, [], ◌+◌, ◌≤◌, ◌<◌, length};
+ghost use Rattle.model.specs.Record.{op, self_of, folder_of, label_of};
 ghost use Rattle.model.specs.Replay.{new_entry, effect as effect_of};
 ghost use Rattle.refusal.specs.Refusals.{number_of};
 ghost use Rattle.tree_table.specs.Rows.{entries_from, asides_from, tree_in, new_aside, InRange};
@@ -12,6 +12,7 @@ ghost use Rattle.tree_lookup.specs.Roles.{Home, Works, Holds};
 ghost use Rattle.tree_amend.specs.Effects.{with_entries, with_asides, Placed, Takes};
 ghost use Rattle.tree_amend.specs.Registers.{made_on, effect_on, aside_on};
 
+use record_uses::Operation;
 use tree_judge::Aside;
 use tree_table::Size;
 
@@ -28,7 +29,7 @@ fn enter_entry(rec: &[u8], table: &[u8], register: &mut [u16], size: Size, h: us
 
 // A make: a row for the new entry, its role, its folder's count and its label, whose chain is given.
 pub fn add_entry(rec: &[u8], table: &mut [u8], register: &mut [u16], size: Size, h: usize) -> Size
-    requires { Takes (tree_in table.old size.entries size.asides) rec.now × Holds table.old register.old size.entries size.asides × Home (folder_of rec.now) (entries_from table.old 0 size.entries) × (size.entries < 1024) × (size.entries + size.asides < 1536) × (nodes_in 4097 register.old < 1536) × (get_or rec.now 1 0 ≤ 2) × (h ≡ hash_of (folder_of rec.now) (label_of rec.now)) × (h < 1021) }
+    requires { Takes (tree_in table.old size.entries size.asides) rec.now × Holds table.old register.old size.entries size.asides × Home (folder_of rec.now) (entries_from table.old 0 size.entries) × (size.entries < 1024) × (size.entries + size.asides < 1536) × (nodes_in 4097 register.old < 1536) × (op rec.now ≤ 2) × (h ≡ hash_of (folder_of rec.now) (label_of rec.now)) × (h < 1021) }
     ensures { Works table.new register.new result.entries result.asides (with_entries (tree_in table.old size.entries size.asides) (entries_from table.old 0 size.entries ++ (new_entry rec.now ∷ []))) × (nodes_in 4097 register.new ≤ nodes_in 4097 register.old + 1) × (register.new ≡ made_on rec.now (tree_in table.old size.entries size.asides) register.old) }
 {
     enter_entry(rec, table, register, size, h);
@@ -71,17 +72,16 @@ pub fn effect(rec: &[u8], table: &mut [u8], register: &mut [u16], size: Size) ->
     requires { Takes (tree_in table.old size.entries size.asides) rec.now × Holds table.old register.old size.entries size.asides × Placed rec.now (entries_from table.old 0 size.entries) × (size.entries < 1024) × (size.entries + size.asides < 1536) × (nodes_in 4097 register.old < 1536) }
     ensures { Works table.new register.new result.entries result.asides (effect_of rec.now (tree_in table.old size.entries size.asides)) × (nodes_in 4097 register.new ≤ nodes_in 4097 register.old + 1) × (register.new ≡ effect_on rec.now (tree_in table.old size.entries size.asides) register.old) }
 {
-    let op = rec[1];
-    if op <= 2 {
-        let h = tree_judge::label_chain(rec);
-        return add_entry(rec, table, register, size, h);
-    }
-    match op {
-        3 => tree_amend::store(rec, table, register, size),
-        4 => tree_amend::remove(rec, table, register, size),
-        5 => tree_amend::rename(rec, table, register, size),
-        6 => tree_amend::settle(rec, table, register, size),
-        _ => tree_amend::move_entry(rec, table, register, size),
+    match tree_table::operation_of(rec) {
+        Operation::MakeFolder | Operation::MakeTrace => {
+            let h = tree_judge::label_chain(rec);
+            return add_entry(rec, table, register, size, h);
+        }
+        Operation::Store => tree_amend::store(rec, table, register, size),
+        Operation::Remove => tree_amend::remove(rec, table, register, size),
+        Operation::Rename => tree_amend::rename(rec, table, register, size),
+        Operation::Settle => tree_amend::settle(rec, table, register, size),
+        Operation::Move => tree_amend::move_entry(rec, table, register, size),
     }
     size
 }

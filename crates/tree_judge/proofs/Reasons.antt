@@ -10,10 +10,13 @@ use mathlib.Core.Option.{Option, none, some}
 use mathlib.Core.List.{List}
 use lib.Dec.{ltb, eqb}
 use lib.ListN.{get_or}
-use borrow.Author.Tests.{eq-eqb, ne_eqb, lt-ltb, le-ltb, le-leb, ltb-true, ltb-false}
+use borrow.Author.Tests.{eq-eqb, ne_eqb, lt-ltb, le-ltb, le-leb, ltb-true, ltb-false, not-true, not-false}
 use Rattle.model.specs.Record.{Rec, op, object_of, folder_of, label_of, uses_folder}
 use Rattle.model.specs.Replay.{Entry, Verdict, fits, aside, entry_of, holder_of, has_entries, stands_aside, unseen, free_label, and_then, is_folder, folder_stands, is_below, judge_place, judge_make, judge_store, judge_remove, judge_rename, judge_move, judge_settle, judge, reason_of}
 use Rattle.model.specs.Table.{entry_in}
+use Rattle.record_uses.specs.declared.Operation.{Operation}
+use Rattle.record_uses.specs.declared.Operation.TheVariants.{MakeFolder, MakeTrace}
+use Rattle.record_uses.specs.Operations.{number_of}
 use Rattle.tree_table.specs.Rows.{entries_from, asides_from, row_in, tree_in, InRange}
 use Rattle.tree_lookup.specs.Roles.{note_of, role_of, Holds}
 use Rattle.tree_maps.specs.Keys.{children_of, folder_at}
@@ -47,14 +50,14 @@ module _ (b : List ℕ) (n f : ℕ) where
     unfolding verdict_of folder_stands is_folder
     folder_absent h = rw (ne_eqb f 0 z, ← o, row-none b n row h)
 
-    pub folder_trace : row < n → (x k : ℕ) → x ≡ (entry_in b (4 + 72 * row)).kind → (x ≡ 1 → ⊥) → k ≡ (entry_in b (4 + 72 * row)).made → verdict_of 14 k ≡ folder_stands f (entries_from b 0 n)
-    unfolding verdict_of folder_stands is_folder
-    folder_trace h x k p q s =
-        rw (ne_eqb f 0 z, ← o, row_some b n row h, ne_eqb (entry_in b (4 + 72 * row)).kind 1 (λ (y : (entry_in b (4 + 72 * row)).kind ≡ 1). q (p ∙ y)), s)
+    module _ (h : row < n) (x : Bool) (p : x ≡ eqb (entry_in b (4 + 72 * row)).kind 1) where
+      pub folder_trace : (k : ℕ) → not x ≡ true → k ≡ (entry_in b (4 + 72 * row)).made → verdict_of 14 k ≡ folder_stands f (entries_from b 0 n)
+      unfolding verdict_of folder_stands is_folder
+      folder_trace k q s = rw (ne_eqb f 0 z, ← o, row_some b n row h, ← p, not-true x q, s)
 
-    pub folder_found : row < n → (x : ℕ) → x ≡ (entry_in b (4 + 72 * row)).kind → x ≡ 1 → verdict_of 0 0 ≡ folder_stands f (entries_from b 0 n)
-    unfolding verdict_of folder_stands is_folder
-    folder_found h x p q = rw (ne_eqb f 0 z, ← o, row_some b n row h, eq-eqb (entry_in b (4 + 72 * row)).kind 1 (sym p ∙ q))
+      pub folder_found : not x ≡ false → verdict_of 0 0 ≡ folder_stands f (entries_from b 0 n)
+      unfolding verdict_of folder_stands is_folder
+      folder_found q = rw (ne_eqb f 0 z, ← o, row_some b n row h, ← p, not-false x q)
 
 -- a verdict that is a reason stops, one that fits goes on
 module _ (n k : ℕ) (x : Verdict) (e : verdict_of n k ≡ x) where
@@ -85,9 +88,9 @@ then_goes n k f es e h v = rw (stands_zero f es (sym (verdict_numbers n k (folde
 
 -- ---- make
 
-pub make_names : (r : Rec) (f : ℕ) → Asks r → get_or r 1 0 ≤ 2 → f ≡ folder_of r → (f ≡ 0) ⊎ InRange f
-unfolding op uses_folder
-make_names r f a h e = rw e (a.folder (rw (le-leb (get_or r 1 0) 2 h)))
+pub make_names : (r : Rec) (f : ℕ) → Asks r → op r ≤ 2 → f ≡ folder_of r → (f ≡ 0) ⊎ InRange f
+unfolding uses_folder
+make_names r f a h e = rw e (a.folder (rw (le-leb (op r) 2 h)))
 
 module _ (r : Rec) (es : List Entry) (f : ℕ) (e : f ≡ folder_of r) (n k : ℕ) (s : verdict_of n k ≡ folder_stands f es) where
   pub make_stops : (n ≡ 0 → ⊥) → verdict_of n k ≡ judge_make r es
@@ -105,20 +108,18 @@ module _ (r : Rec) (b : List ℕ) (n row : ℕ) where
   unfolding verdict_of judge_store
   store_absent h = rw (row-none b n row h)
 
-  pub store_folder : row < n → (x k : ℕ) → k ≡ (entry_in b (4 + 72 * row)).made → x ≡ (entry_in b (4 + 72 * row)).kind → x ≡ 1 → verdict_of 14 k ≡ judge_store r (row_in b n row)
+  pub store_folder : row < n → (x : Bool) (k : ℕ) → k ≡ (entry_in b (4 + 72 * row)).made → x ≡ eqb (entry_in b (4 + 72 * row)).kind 1 → x ≡ true → verdict_of 14 k ≡ judge_store r (row_in b n row)
   unfolding verdict_of judge_store
-  store_folder h x k s p q = rw (row_some b n row h, eq-eqb (entry_in b (4 + 72 * row)).kind 1 (sym p ∙ q), s)
+  store_folder h x k s p q = rw (row_some b n row h, ← p, q, s)
 
-  module _ (h : row < n) (x k y : ℕ) (s : k ≡ (entry_in b (4 + 72 * row)).made) (p : x ≡ (entry_in b (4 + 72 * row)).kind) (q : x ≡ 1 → ⊥) (c : y ≡ (entry_in b (4 + 72 * row)).contents) (t : Bool) (u : t ≡ unseen r y) where
+  module _ (h : row < n) (x : Bool) (k y : ℕ) (s : k ≡ (entry_in b (4 + 72 * row)).made) (p : x ≡ eqb (entry_in b (4 + 72 * row)).kind 1) (q : x ≡ false) (c : y ≡ (entry_in b (4 + 72 * row)).contents) (t : Bool) (u : t ≡ unseen r y) where
     pub store_unseen : t ≡ true → verdict_of 17 k ≡ judge_store r (row_in b n row)
     unfolding verdict_of judge_store
-    store_unseen g =
-        rw (row_some b n row h, ne_eqb (entry_in b (4 + 72 * row)).kind 1 (λ (z : (entry_in b (4 + 72 * row)).kind ≡ 1). q (p ∙ z)), ← c, ← u, g, s)
+    store_unseen g = rw (row_some b n row h, ← p, q, ← c, ← u, g, s)
 
     pub store_fits : t ≡ false → verdict_of 0 0 ≡ judge_store r (row_in b n row)
     unfolding verdict_of judge_store
-    store_fits g =
-        rw (row_some b n row h, ne_eqb (entry_in b (4 + 72 * row)).kind 1 (λ (z : (entry_in b (4 + 72 * row)).kind ≡ 1). q (p ∙ z)), ← c, ← u, g)
+    store_fits g = rw (row_some b n row h, ← p, q, ← c, ← u, g)
 
   pub remove_absent : (es : List Entry) → n ≤ row → verdict_of 12 0 ≡ judge_remove r es (row_in b n row)
   unfolding verdict_of judge_remove
@@ -164,8 +165,8 @@ module _ (r : Rec) (b : List ℕ) (n row : ℕ) where
 
 -- ---- move of the entry in a row
 
-pub move_names : (r : Rec) (f : ℕ) → Asks r → get_or r 1 0 ≡ 7 → f ≡ folder_of r → (f ≡ 0) ⊎ InRange f
-unfolding op uses_folder
+pub move_names : (r : Rec) (f : ℕ) → Asks r → op r ≡ 7 → f ≡ folder_of r → (f ≡ 0) ⊎ InRange f
+unfolding uses_folder
 move_names r f a h e = rw e (a.folder (rw h))
 
 module _ (r : Rec) (b : List ℕ) (n row : ℕ) (es : List Entry) where
@@ -199,13 +200,13 @@ module _ (r : Rec) (b : List ℕ) (n row : ℕ) (es : List Entry) where
         move_label v d a = a ∙ rw (← placed, ← p, ← e, ← i, d)
 
 module _ (e : Entry) (l : List ℕ) (row : ℕ) where
-  pub full_no : (x : ℕ) → x ≡ e.kind → (x ≡ 1 → ⊥) → false ≡ full_by l row e
+  pub full_no : {x : Bool} → x ≡ eqb e.kind 1 → x ≡ false → x ≡ full_by l row e
   unfolding full_by
-  full_no x p q = rw (ne_eqb e.kind 1 (λ (z : e.kind ≡ 1). q (p ∙ z)))
+  full_no p q = rw (← p, q)
 
-  pub full_if : (x c : ℕ) → x ≡ e.kind → x ≡ 1 → c ≡ get_or l (8194 + (row + 1)) 0 → not (eqb c 0) ≡ full_by l row e
+  pub full_if : {x : Bool} (c : ℕ) → x ≡ eqb e.kind 1 → x ≡ true → c ≡ get_or l (8194 + (row + 1)) 0 → not (eqb c 0) ≡ full_by l row e
   unfolding full_by
-  full_if x c p q u = rw (eq-eqb e.kind 1 (sym p ∙ q), u)
+  full_if c p q u = rw (← p, q, u)
 
 -- ---- settle
 
@@ -231,38 +232,37 @@ stands_role b register n m w k = go (ltb 1024 role) refl
 
 -- ---- any operation
 
-pub object_range : (r : Rec) (k : ℕ) → Asks r → 2 < get_or r 1 0 → k ≡ object_of r → InRange k
-unfolding op
+pub object_range : (r : Rec) (k : ℕ) → Asks r → 2 < op r → k ≡ object_of r → InRange k
 object_range r k a h e = rw e (a.object h)
 
+-- a make has one of the first two numbers
+pub is_make : (r : Rec) (o : Operation) → number_of o ≡ op r → (o ≡ MakeFolder) ⊎ (o ≡ MakeTrace) → op r ≤ 2
+is_make r o e h =
+    ⊎_elim (λ (z : o ≡ MakeFolder). let f = rw z at e in omega arith) (λ (z : o ≡ MakeTrace). let f = rw z at e in omega arith) h
+
 module _ (r : Rec) (b : List ℕ) (n m : ℕ) (v : Verdict) where
-  pub judged_make : get_or r 1 0 ≤ 2 → v ≡ judge_make r (entries_from b 0 n) → v ≡ judge r (tree_in b n m)
-  unfolding judge op tree_in
-  judged_make h e = rw (le-leb (get_or r 1 0) 2 h) e
+  pub judged_make : op r ≤ 2 → v ≡ judge_make r (entries_from b 0 n) → v ≡ judge r (tree_in b n m)
+  unfolding judge tree_in
+  judged_make h e = rw (le-leb (op r) 2 h) e
 
-  module _ (k row : ℕ) (p : k ≡ object_of r) (o : row_in b n row ≡ entry_of k (entries_from b 0 n)) where
-    pub judged_store : get_or r 1 0 ≡ 3 → v ≡ judge_store r (row_in b n row) → v ≡ judge r (tree_in b n m)
-    unfolding judge op tree_in
-    judged_store h e = rw (h, ← p, ← o) e
+  module _ (row : ℕ) (o : row_in b n row ≡ entry_of (object_of r) (entries_from b 0 n)) where
+    pub judged_store : 3 ≡ op r → v ≡ judge_store r (row_in b n row) → v ≡ judge r (tree_in b n m)
+    unfolding judge tree_in
+    judged_store h e = rw (← h, ← o) e
 
-    pub judged_remove : get_or r 1 0 ≡ 4 → v ≡ judge_remove r (entries_from b 0 n) (row_in b n row) → v ≡ judge r (tree_in b n m)
-    unfolding judge op tree_in
-    judged_remove h e = rw (h, ← p, ← o) e
+    pub judged_remove : 4 ≡ op r → v ≡ judge_remove r (entries_from b 0 n) (row_in b n row) → v ≡ judge r (tree_in b n m)
+    unfolding judge tree_in
+    judged_remove h e = rw (← h, ← o) e
 
-    pub judged_rename : get_or r 1 0 ≡ 5 → v ≡ judge_rename r (entries_from b 0 n) (row_in b n row) → v ≡ judge r (tree_in b n m)
-    unfolding judge op tree_in
-    judged_rename h e = rw (h, ← p, ← o) e
+    pub judged_rename : 5 ≡ op r → v ≡ judge_rename r (entries_from b 0 n) (row_in b n row) → v ≡ judge r (tree_in b n m)
+    unfolding judge tree_in
+    judged_rename h e = rw (← h, ← o) e
 
-    pub judged_move : get_or r 1 0 ≡ 7 → v ≡ judge_move r (entries_from b 0 n) (row_in b n row) → v ≡ judge r (tree_in b n m)
-    unfolding judge op tree_in
-    judged_move h e = rw (h, ← p, ← o) e
+    pub judged_move : 7 ≡ op r → v ≡ judge_move r (entries_from b 0 n) (row_in b n row) → v ≡ judge r (tree_in b n m)
+    unfolding judge tree_in
+    judged_move h e = rw (← h, ← o) e
 
-  pub judged_settle : (register : List ℕ) (k : ℕ) → Holds b register n m → k ≡ object_of r → get_or r 1 0 ≡ 6
+  pub judged_settle : (register : List ℕ) (k : ℕ) → Holds b register n m → k ≡ object_of r → 6 ≡ op r
       → v ≡ cond (ltb 1024 (role_of k (tree_in b n m))) fits (aside 18 0) → v ≡ judge r (tree_in b n m)
-  unfolding judge op tree_in judge_settle
-  judged_settle register k w p h e = rw (h, ← p, stands_role b register n m w k) e
-
--- a record of none of the operations before is a move
-pub is_move : (r : Rec) → Asks r → 2 < get_or r 1 0 → (get_or r 1 0 ≡ 3 → ⊥) → (get_or r 1 0 ≡ 4 → ⊥) → (get_or r 1 0 ≡ 5 → ⊥) → (get_or r 1 0 ≡ 6 → ⊥) → get_or r 1 0 ≡ 7
-unfolding op
-is_move r a h h3 h4 h5 h6 = let z = a.to in omega arith
+  unfolding judge tree_in judge_settle
+  judged_settle register k w p h e = rw (← h, ← p, stands_role b register n m w k) e

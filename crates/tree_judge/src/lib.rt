@@ -1,9 +1,9 @@
 // A record is judged: it fits, or stands aside under the first reason that holds.
 #![tactic(auto)]
 
-ghost use Rattle.std.specs.Prelude.{◌≡◌, cond, ◌||◌, ◌⊎◌, ◌+◌, ◌*◌, ◌≤◌, ◌<◌, ltb, length, get_or, IfSome};
-ghost use Rattle.model.specs.Record.{label_of, folder_of};
-ghost use Rattle.model.specs.Replay.{fits, aside, unseen, holder_of, free_label, folder_stands, judge_make, judge_store, judge_remove, judge_rename, judge_move, judge as judge_of};
+ghost use Rattle.std.specs.Prelude.{◌≡◌, cond, ◌||◌, ◌⊎◌, ◌+◌, ◌*◌, ◌≤◌, ◌<◌, ltb, length, IfSome};
+ghost use Rattle.model.specs.Record.{op, object_of, label_of, folder_of};
+ghost use Rattle.model.specs.Replay.{fits, aside, unseen, entry_of, holder_of, free_label, folder_stands, judge_make, judge_store, judge_remove, judge_rename, judge_move, judge as judge_of};
 ghost use Rattle.model.specs.Table.{entry_in};
 ghost use Rattle.tree_table.specs.Rows.{entries_from, row_in, tree_in, InRange};
 ghost use Rattle.tree_lookup.specs.Roles.{role_of, Holds};
@@ -12,6 +12,7 @@ ghost use Rattle.tree_maps.specs.Keys.{register_size, hash_of};
 ghost use Rattle.tree_judge.specs.Judged.{verdict_of, full_by, Asks};
 ghost use Rattle.tree_judge.specs.Asides.{aside_code, aside_marked};
 
+use record_uses::Operation;
 use refusal::Refusal;
 use tree_table::Size;
 
@@ -90,7 +91,7 @@ pub fn folder_stands(table: &[u8], register: &[u16], size: Size, f: u32) -> Resu
             marked: 0,
         });
     };
-    if tree_table::kind_at(table, row) != 1 {
+    if !tree_table::is_folder(table, row) {
         return Err(Aside {
             reason: Refusal::WrongKind,
             marked: tree_table::made_at(table, row),
@@ -107,7 +108,7 @@ pub fn judge_make_at(
     size: Size,
     h: usize,
 ) -> Result<(), Aside>
-    requires { Asks rec.now × (get_or rec.now 1 0 ≤ 2) × Holds table.now register.now size.entries size.asides × (h ≡ hash_of (folder_of rec.now) (label_of rec.now)) × (h < 1021) }
+    requires { Asks rec.now × (op rec.now ≤ 2) × Holds table.now register.now size.entries size.asides × (h ≡ hash_of (folder_of rec.now) (label_of rec.now)) × (h < 1021) }
     ensures { verdict_of (aside_code result) (aside_marked result) ≡ judge_make rec.now (entries_from table.now 0 size.entries) }
 {
     let f = tree_table::folder_of(rec);
@@ -117,15 +118,24 @@ pub fn judge_make_at(
 
 // The same, its chain worked out.
 pub fn judge_make(rec: &[u8], table: &[u8], register: &[u16], size: Size) -> Result<(), Aside>
-    requires { Asks rec.now × (get_or rec.now 1 0 ≤ 2) × Holds table.now register.now size.entries size.asides }
+    requires { Asks rec.now × (op rec.now ≤ 2) × Holds table.now register.now size.entries size.asides }
     ensures { verdict_of (aside_code result) (aside_marked result) ≡ judge_make rec.now (entries_from table.now 0 size.entries) }
 {
     let h = label_chain(rec);
     judge_make_at(rec, table, register, size, h)
 }
 
+// The row of the entry that is a record's object, unless it is absent.
+fn object_row(rec: &[u8], table: &[u8], register: &[u16], size: Size) -> Option<usize>
+    requires { Asks rec.now × (2 < op rec.now) × Holds table.now register.now size.entries size.asides }
+    ensures shows { row_in table.now size.entries (row_or size.entries result) ≡ entry_of (object_of rec.now) (entries_from table.now 0 size.entries) }
+    ensures within { IfSome result (λ row. row < size.entries) }
+{
+    tree_lookup::entry_of(table, register, size, tree_table::object_of(rec))
+}
+
 // A store on the entry in a row: 12 for no row, 14 for a folder, 17 for unseen contents.
-fn judge_store(rec: &[u8], table: &[u8], n: usize, row: Option<usize>) -> Result<(), Aside>
+pub fn judge_store(rec: &[u8], table: &[u8], n: usize, row: Option<usize>) -> Result<(), Aside>
     requires { (length rec.now ≡ 80) × (length table.now ≡ 86020) × (n ≤ 1024) × IfSome row (λ i. i < n) }
     ensures { verdict_of (aside_code result) (aside_marked result) ≡ judge_store rec.now (row_in table.now n (row_or n row)) }
 {
@@ -136,7 +146,7 @@ fn judge_store(rec: &[u8], table: &[u8], n: usize, row: Option<usize>) -> Result
         });
     };
     let made = tree_table::made_at(table, row);
-    if tree_table::kind_at(table, row) == 1 {
+    if tree_table::is_folder(table, row) {
         return Err(Aside {
             reason: Refusal::WrongKind,
             marked: made,
@@ -156,10 +166,7 @@ pub fn is_full(table: &[u8], register: &[u16], row: usize) -> bool
     requires { (length table.now ≡ 86020) × (length register.now ≡ register_size) × (row < 1024) }
     ensures { result ≡ full_by register.now row (entry_in table.now (4 + 72 * row)) }
 {
-    if tree_table::kind_at(table, row) != 1 {
-        return false;
-    }
-    tree_maps::children(register, row + 1) != 0
+    tree_table::is_folder(table, row) && tree_maps::children(register, row + 1) != 0
 }
 
 // The last contents or place record of the entry in a row is unseen.
@@ -174,7 +181,7 @@ pub fn is_changed(rec: &[u8], table: &[u8], row: usize) -> bool
 }
 
 // A remove of the entry in a row: 12 for no row, 16 for a folder with entries, 17 for unseen contents or place.
-fn judge_remove(
+pub fn judge_remove(
     rec: &[u8],
     table: &[u8],
     register: &[u16],
@@ -207,7 +214,7 @@ fn judge_remove(
 }
 
 // A rename of the entry in a row: 12 for no row, 17 for an unseen place, 15 for a label that another entry holds.
-fn judge_rename(
+pub fn judge_rename(
     rec: &[u8],
     table: &[u8],
     register: &[u16],
@@ -235,14 +242,14 @@ fn judge_rename(
 }
 
 // A move of the entry in a row: 12 for no row, 17 for an unseen place, 13 for an absent folder, 14 for a trace as folder, 25 for a folder at or below the entry, 15 for a label that another entry holds.
-fn judge_move(
+pub fn judge_move(
     rec: &[u8],
     table: &[u8],
     register: &[u16],
     size: Size,
     row: Option<usize>,
 ) -> Result<(), Aside>
-    requires { Asks rec.now × (get_or rec.now 1 0 ≡ 7) × Holds table.now register.now size.entries size.asides × IfSome row (λ i. i < size.entries) }
+    requires { Asks rec.now × (op rec.now ≡ 7) × Holds table.now register.now size.entries size.asides × IfSome row (λ i. i < size.entries) }
     ensures { verdict_of (aside_code result) (aside_marked result) ≡ judge_move rec.now (entries_from table.now 0 size.entries) (row_in table.now size.entries (row_or size.entries row)) }
 {
     let Some(row) = row else {
@@ -288,17 +295,24 @@ pub fn judge(rec: &[u8], table: &[u8], register: &[u16], size: Size) -> Result<(
     requires { Asks rec.now × Holds table.now register.now size.entries size.asides }
     ensures { verdict_of (aside_code result) (aside_marked result) ≡ judge_of rec.now (tree_in table.now size.entries size.asides) }
 {
-    let op = rec[1];
-    if op <= 2 {
-        return judge_make(rec, table, register, size);
-    }
-    let k = tree_table::object_of(rec);
-    let row = tree_lookup::entry_of(table, register, size, k);
-    match op {
-        3 => judge_store(rec, table, size.entries, row),
-        4 => judge_remove(rec, table, register, size, row),
-        5 => judge_rename(rec, table, register, size, row),
-        6 => judge_settle(table, register, size, k),
-        _ => judge_move(rec, table, register, size, row),
+    match tree_table::operation_of(rec) {
+        Operation::MakeFolder | Operation::MakeTrace => judge_make(rec, table, register, size),
+        Operation::Store => {
+            let row = object_row(rec, table, register, size);
+            judge_store(rec, table, size.entries, row)
+        }
+        Operation::Remove => {
+            let row = object_row(rec, table, register, size);
+            judge_remove(rec, table, register, size, row)
+        }
+        Operation::Rename => {
+            let row = object_row(rec, table, register, size);
+            judge_rename(rec, table, register, size, row)
+        }
+        Operation::Settle => judge_settle(table, register, size, tree_table::object_of(rec)),
+        Operation::Move => {
+            let row = object_row(rec, table, register, size);
+            judge_move(rec, table, register, size, row)
+        }
     }
 }

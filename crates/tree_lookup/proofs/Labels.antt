@@ -25,13 +25,13 @@ use Rattle.tree_lookup.proofs.Working.{blank_entry, row-none, row_some, works_ro
 
 -- ---- one row
 
-pub not_in : (e : Entry) (f x : ℕ) → x ≡ e.kind → x ≡ 0 → not (eqb x 0) ≡ is_in f e
-unfolding is_in is_present
-not_in e f x p q = rw (eq-eqb e.kind 0 (sym p ∙ q), eq-eqb x 0 q)
+pub not_in : (e : Entry) (f : ℕ) {t : Bool} → t ≡ is_present e → t ≡ false → t ≡ is_in f e
+unfolding is_in
+not_in e f p q = rw (← p, q)
 
-pub in_if : (e : Entry) (f x y : ℕ) → x ≡ e.kind → (x ≡ 0 → ⊥) → y ≡ e.inside → eqb y f ≡ is_in f e
-unfolding is_in is_present
-in_if e f x y p q r = rw (ne_eqb e.kind 0 (λ (z : e.kind ≡ 0). q (p ∙ z)), r)
+pub in_if : (e : Entry) (f y : ℕ) {t : Bool} → t ≡ is_present e → t ≡ true → y ≡ e.inside → eqb y f ≡ is_in f e
+unfolding is_in
+in_if e f y p q r = rw (← p, q, r)
 
 module _ (b : List ℕ) (i k f : ℕ) (label : List ℕ) (t : Bool) (h : t ≡ is_in f (entry_in b (4 + 72 * i))) where
   pub holds_not : not t ≡ true → false ≡ holds_at b k f label i

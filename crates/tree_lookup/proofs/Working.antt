@@ -5,11 +5,11 @@ use native.Mathlib.Nat.{add-zero, zero-add}
 use native.Mathlib.Omega.{arith}
 use mathlib.Core.Path.{◌≡◌, refl, sym, ap, ◌∙◌}
 use mathlib.Core.Logic.{◌⊎◌, inl, inr, ⊎_elim}
-use mathlib.Core.Bool.{false}
+use mathlib.Core.Bool.{Bool, true, false, not}
 use mathlib.Core.Option.{Option, none, some}
 use mathlib.Core.List.{List, [], ◌∷◌}
 use lib.ListN.{get_or, length}
-use borrow.Author.Tests.{eq-eqb, ne_eqb, lt-ltb, le-ltb}
+use borrow.Author.Tests.{lt-ltb, le-ltb, not-true, not-false}
 use Rattle.model.specs.Replay.{Entry, Aside, Tree, is_present, entry_of}
 use Rattle.model.specs.Table.{entry_in, aside_in, work_bytes}
 use Rattle.tree_table.specs.Rows.{entries_from, asides_from, tree_in, row_in, Proper, AllProper}
@@ -211,13 +211,9 @@ module _ (b register : List ℕ) (n m : ℕ) (w : Holds b register n m) (k role 
       entry_at k (entries_from b 0 n) j blank_entry w.lone r
       ∙ ap (λ (x : Entry). if_present x) (rw (zero-add j) at (entries_at b 0 n j blank_entry (omega arith)))
 
-  pub entry-removed : (role ≡ 0 → ⊥) → role ≤ n → (x : ℕ) → x ≡ (entry_in b (4 + 72 * (role - 1))).kind → x ≡ 0 → row_in b n n ≡ entry_of k (entries_from b 0 n)
-  unfolding is_present
-  entry-removed h g x q z = row-none b n n (omega arith) ∙ sym (found h g ∙ rw (eq-eqb (entry_in b (4 + 72 * (role - 1))).kind 0 (sym q ∙ z)))
+  module _ (h : role ≡ 0 → ⊥) (g : role ≤ n) {t : Bool} (q : t ≡ is_present (entry_in b (4 + 72 * (role - 1)))) where
+    pub entry-removed : not t ≡ true → row_in b n n ≡ entry_of k (entries_from b 0 n)
+    entry-removed z = row-none b n n (omega arith) ∙ sym (found h g ∙ rw (← q, not-true t z))
 
-  pub entry_found : (role ≡ 0 → ⊥) → role ≤ n → (x : ℕ) → x ≡ (entry_in b (4 + 72 * (role - 1))).kind → (x ≡ 0 → ⊥)
-      → row_in b n (role - 1) ≡ entry_of k (entries_from b 0 n)
-  unfolding is_present
-  entry_found h g x q z =
-      row_some b n (role - 1) (omega arith)
-      ∙ sym (found h g ∙ rw (ne_eqb (entry_in b (4 + 72 * (role - 1))).kind 0 (λ (y : (entry_in b (4 + 72 * (role - 1))).kind ≡ 0). z (q ∙ y))))
+    pub entry_found : not t ≡ false → row_in b n (role - 1) ≡ entry_of k (entries_from b 0 n)
+    entry_found z = row_some b n (role - 1) (omega arith) ∙ sym (found h g ∙ rw (← q, not-false t z))

@@ -71,7 +71,7 @@ pub fn entry_of(table: &[u8], register: &[u16], size: Size, k: u32) -> Option<us
     if size.entries < role {
         return None;
     }
-    if tree_table::kind_at(table, role - 1) == 0 {
+    if !tree_table::is_present(table, role - 1) {
         return None;
     }
     Some(role - 1)
@@ -82,7 +82,7 @@ pub fn is_in(table: &[u8], i: usize, f: u32) -> bool
     requires { (length table.now ≡ 86020) × (i < 1024) }
     ensures { result ≡ is_in f (entry_in table.now (4 + 72 * i)) }
 {
-    tree_table::kind_at(table, i) != 0 && tree_table::inside_at(table, i) == f
+    tree_table::is_present(table, i) && tree_table::inside_at(table, i) == f
 }
 
 // The entry in row i, which is not k, holds a label in the folder f.

@@ -4,7 +4,6 @@ use Prim.Native.Nat.{ℕ, ◌≤◌}
 use mathlib.Core.Path.{◌≡◌, sym, ◌∙◌}
 use mathlib.Core.Logic.{◌⊎◌}
 use mathlib.Core.List.{List, [], ◌∷◌, ◌++◌}
-use lib.ListN.{get_or}
 use Rattle.model.specs.Record.{Rec, op, self_of, folder_of}
 use Rattle.model.specs.Replay.{new_entry, judge, judge_make, step}
 use Rattle.tree_laws.proofs.Verdicts.{judge_make_lem}
@@ -19,9 +18,9 @@ use Rattle.tree_replay.specs.Registers.{step_on}
 use Rattle.tree_replay.proofs.Stepping.{mark_fits_lem, step-placed, step_acts, step_stands}
 use Rattle.tree_replay.proofs.Registers.{acts_on, stands_on}
 
-module _ (b register : List ℕ) (n m : ℕ) (r : Rec) (x k : ℕ) (e : verdict_of x k ≡ judge_make r (entries_from b 0 n)) (o : get_or r 1 0 ≤ 2) where
+module _ (b register : List ℕ) (n m : ℕ) (r : Rec) (x k : ℕ) (e : verdict_of x k ≡ judge_make r (entries_from b 0 n)) (o : op r ≤ 2) where
   judged : verdict_of x k ≡ judge r (tree_in b n m)
-  unfolding tree_in op
+  unfolding tree_in
   judged = e ∙ sym (judge_make_lem r (tree_in b n m) o)
 
   pub make_placed : x ≡ 0 → Home (folder_of r) (entries_from b 0 n)

@@ -1,7 +1,8 @@
 // Replay: records are taken into a tree table one after another.
 #![tactic(auto)]
 
-ghost use Rattle.std.specs.Prelude.{◌≡◌, true, ◌+◌, ◌≤◌, ◌<◌, length, get_or, replicate};
+ghost use Rattle.std.specs.Prelude.{◌≡◌, true, ◌+◌, ◌≤◌, ◌<◌, length, replicate};
+ghost use Rattle.model.specs.Record.{op};
 ghost use Rattle.model.specs.Log.{records_of, sound_log};
 ghost use Rattle.model.specs.Replay.{empty_tree, step as step_of, replay_from, replay as replayOf};
 ghost use Rattle.tree_table.specs.Rows.{tree_in};
@@ -15,6 +16,7 @@ ghost use Rattle.tree_replay.specs.Playable.{Playable};
 ghost use Rattle.tree_replay.specs.Registers.{step_on, replay_on};
 
 use log_check::Layout;
+use record_uses::Operation;
 use tree_table::Size;
 
 // A make: the chain of its label is worked out once, for its judgement and its effect.
@@ -25,7 +27,7 @@ fn make_at(
     entries: usize,
     asides: usize,
 ) -> Size
-    requires { Takes (tree_in table.old entries asides) rec.now × Holds table.old register.old entries asides × (entries < 1024) × (asides < 1024) × (entries + asides < 1536) × (nodes_in 4097 register.old < 1536) × (get_or rec.now 1 0 ≤ 2) }
+    requires { Takes (tree_in table.old entries asides) rec.now × Holds table.old register.old entries asides × (entries < 1024) × (asides < 1024) × (entries + asides < 1536) × (nodes_in 4097 register.old < 1536) × (op rec.now ≤ 2) }
     ensures { Works table.new register.new result.entries result.asides (step_of (tree_in table.old entries asides) rec.now) × (nodes_in 4097 register.new ≤ nodes_in 4097 register.old + 1) × (register.new ≡ step_on rec.now (tree_in table.old entries asides) register.old) }
 {
     let h = tree_judge::label_chain(rec);
@@ -48,7 +50,7 @@ fn step_at(
     requires { Takes (tree_in table.old entries asides) rec.now × Holds table.old register.old entries asides × (entries < 1024) × (asides < 1024) × (entries + asides < 1536) × (nodes_in 4097 register.old < 1536) }
     ensures { Works table.new register.new result.entries result.asides (step_of (tree_in table.old entries asides) rec.now) × (nodes_in 4097 register.new ≤ nodes_in 4097 register.old + 1) × (register.new ≡ step_on rec.now (tree_in table.old entries asides) register.old) }
 {
-    if rec[1] <= 2 {
+    if let Operation::MakeFolder | Operation::MakeTrace = tree_table::operation_of(rec) {
         return make_at(rec, table, register, entries, asides);
     }
     match tree_judge::judge(rec, table, register, Size { entries, asides }) {

@@ -1,17 +1,30 @@
 // Rows of the tree table in bytes: what a row holds, read field by field, and rows written.
 #![tactic(auto)]
 
-ghost use Rattle.std.specs.Prelude.{◌≡◌, ◌+◌, ◌*◌, ◌≤◌, ◌<◌, length};
+ghost use Rattle.std.specs.Prelude.{◌≡◌, ◌+◌, ◌*◌, ◌≤◌, ◌<◌, eqb, length};
 ghost use Rattle.model.specs.Bytes.{put_at};
-ghost use Rattle.model.specs.Record.{identity_at, self_of, object_of, folder_of};
+ghost use Rattle.model.specs.Record.{op, identity_at, self_of, object_of, folder_of};
+ghost use Rattle.model.specs.Replay.{is_present};
 ghost use Rattle.model.specs.Table.{identity_bytes, aside_row, entry_in};
+ghost use Rattle.record_uses.specs.Operations.{number_of};
 ghost use Rattle.tree_table.specs.Rows.{new_aside, new_row, stored_row, renamed_row, moved_row};
+
+use record_uses::Operation;
 
 // How many rows of entries and of asides a table has.
 #[derive(Clone, Copy, Debug, PartialEq, Eq)]
 pub struct Size {
     pub entries: usize,
     pub asides: usize,
+}
+
+// What a record of a known operation does.
+#[tactic(auto, unfolding(model::specs::Record::op))]
+pub fn operation_of(rec: &[u8]) -> Operation
+    requires { (length rec.now ≡ 80) × (1 ≤ op rec.now) × (op rec.now ≤ 7) }
+    ensures { number_of result ≡ op rec.now }
+{
+    Operation::numbered(rec[1])
 }
 
 // The identity in the four bytes at a place.
@@ -64,6 +77,23 @@ pub fn kind_at(table: &[u8], i: usize) -> u8
     table[4 + 72 * i]
 }
 
+// The entry in row i is a folder.
+pub fn is_folder(table: &[u8], i: usize) -> bool
+    requires { (length table.now ≡ 86020) × (i < 1024) }
+    ensures { result ≡ eqb (entry_in table.now (4 + 72 * i)).kind 1 }
+{
+    kind_at(table, i) == 1
+}
+
+// The entry in row i is present: it was not removed.
+#[tactic(auto, unfolding(model::specs::Replay::is_present))]
+pub fn is_present(table: &[u8], i: usize) -> bool
+    requires { (length table.now ≡ 86020) × (i < 1024) }
+    ensures { result ≡ is_present (entry_in table.now (4 + 72 * i)) }
+{
+    kind_at(table, i) != 0
+}
+
 // The identity of the entry in row i.
 pub fn made_at(table: &[u8], i: usize) -> u32
     requires { (length table.now ≡ 86020) × (i < 1024) }
@@ -96,7 +126,7 @@ pub fn placing_at(table: &[u8], i: usize) -> u32
     identity_at(table, 4 + 72 * i + 16)
 }
 
-// The row of the entry that a make record makes.
+// The row of the entry that a make record makes: the number of the operation is that of the kind.
 pub fn fill_row(row: &mut [u8], rec: &[u8])
     requires { (length row.old ≡ 72) × (length rec.now ≡ 80) × (self_of rec.now < 524288) × (folder_of rec.now < 524288) }
     ensures { row.new ≡ new_row row.old rec.now }

@@ -9,17 +9,20 @@ ghost use Rattle.model.specs.Vector.{vector_bytes};
 ghost use Rattle.model.specs.Table.{table_bytes};
 ghost use Rattle.base_model.specs.Base.{base_vector, held_on, sound_state, tree_of};
 ghost use Rattle.row_model.specs.Row.{row_fits, tried, try_all, report_size, trial, reported, trial_lent, try_of};
-ghost use Rattle.log_closure.specs.Tables.{places_size, seens_size, Indexed};
+ghost use Rattle.log_closure.specs.Tables.{Indexed};
 ghost use Rattle.log_check.specs.declared.Layout.TheVariants.{Log};
 ghost use Rattle.log_check.specs.Places.{laid_at};
 ghost use Rattle.refusal.specs.Refusals.{code_of};
 ghost use Rattle.call_guard.specs.Opened.{open_of};
 ghost use Rattle.call_guard.specs.Told.{opening};
+ghost use Rattle.state_check.specs.Stands.{Stands};
 ghost use Rattle.take_row_judge.specs.Stopped.{stop_code};
 ghost use Rattle.state_tree.specs.Small.{Small};
 ghost use Rattle.try_row_report.specs.Listed.{notes_size, noted, listed_count, listed};
 
+use base_head::Head;
 use call_guard::open_into;
+use log_closure::Tables;
 use model::{LOG_BYTES, TREE_BYTES};
 use refusal::Refusal;
 use row_model::REPORT_BYTES;
@@ -28,7 +31,6 @@ use state_check::State;
 use take_row::{row_fits, take_blocks};
 use take_row_judge::RowJudged;
 use take_row_store::WORK_BYTES;
-use tree_table::Size;
 use try_row_report::NOTES;
 use vector::Vector;
 
@@ -54,15 +56,13 @@ fn open_trial(
     copy: &[u8],
     tree: &[u8],
     report: &[u8],
-    places: &mut [u16],
-    seens: &mut [u16],
+    tables: &mut Tables,
 ) -> Result<State, Refusal>
-    requires { (length places.old ≡ places_size) × (length seens.old ≡ seens_size) }
     ensures outright { opening result ≡ open_of unit log.now base.now (trial_lent copy.now tree.now report.now) (row_fits (length row.now)) }
-    ensures holds { IfOk result (λ state. Indexed (base_vector base.now) (laid_at Log log.now) state.used (records_of log.now) state.held.counts places.new seens.new) }
+    ensures holds { IfOk result (λ state. Indexed (base_vector base.now) (laid_at Log log.now) state.used (records_of log.now) state.held.counts tables.new.places tables.new.seens) }
 {
     let lent = lent_fits(copy, tree, report);
-    open_into(log, base, unit, lent, row_fits(row.len()), places, seens)
+    open_into(log, base, unit, lent, row_fits(row.len()), tables)
 }
 
 // The log is copied.
@@ -85,10 +85,9 @@ fn take_by(
     used: usize,
     held: Vector,
     tree: &mut [u8],
-    places: &mut [u16],
-    seens: &mut [u16],
+    tables: &mut Tables,
 ) -> RowJudged
-    requires { (length row.now ≤ file_size) × (unit ≤ 7) × (length copy.old ≡ log_size) × (length base.now ≡ base_size) × (sound_state copy.old base.now ≡ true) × (list ≡ get_or base.now 0 0) × (folded.counts ≡ base_vector base.now) × (used ≡ length (records_of copy.old)) × (length tree.old ≡ tree_size) × (length places.old ≡ places_size) × (length seens.old ≡ seens_size) × Indexed (base_vector base.now) (laid_at Log copy.old) used (records_of copy.old) held.counts places.old seens.old }
+    requires { (length row.now ≤ file_size) × (unit ≤ 7) × (length copy.old ≡ log_size) × (length base.now ≡ base_size) × (sound_state copy.old base.now ≡ true) × (list ≡ get_or base.now 0 0) × (folded.counts ≡ base_vector base.now) × (used ≡ length (records_of copy.old)) × (length tree.old ≡ tree_size) × Indexed (base_vector base.now) (laid_at Log copy.old) used (records_of copy.old) held.counts tables.old.places tables.old.seens }
     ensures took { tried result.taken (stop_code result.stopped) copy.new ≡ try_all archive unit copy.old base.now row.now }
     ensures counted { (result.used ≡ length (records_of copy.new)) × (result.held.counts ≡ held_on copy.new base.now) }
 {
@@ -103,8 +102,7 @@ fn take_by(
         used,
         held,
         &mut tree[0..WORK_BYTES],
-        places,
-        seens,
+        tables,
     )
 }
 
@@ -121,36 +119,27 @@ fn take_copy(
     held: Vector,
     copy: &mut [u8],
     tree: &mut [u8],
-    places: &mut [u16],
-    seens: &mut [u16],
+    tables: &mut Tables,
 ) -> RowJudged
-    requires { (length row.now ≤ file_size) × (unit ≤ 7) × (length log.now ≡ log_size) × (length base.now ≡ base_size) × (sound_state log.now base.now ≡ true) × (list ≡ get_or base.now 0 0) × (folded.counts ≡ base_vector base.now) × (used ≡ length (records_of log.now)) × (length copy.old ≡ log_size) × (length tree.old ≡ tree_size) × (length places.old ≡ places_size) × (length seens.old ≡ seens_size) × Indexed (base_vector base.now) (laid_at Log log.now) used (records_of log.now) held.counts places.old seens.old }
+    requires { (length row.now ≤ file_size) × (unit ≤ 7) × (length log.now ≡ log_size) × (length base.now ≡ base_size) × (sound_state log.now base.now ≡ true) × (list ≡ get_or base.now 0 0) × (folded.counts ≡ base_vector base.now) × (used ≡ length (records_of log.now)) × (length copy.old ≡ log_size) × (length tree.old ≡ tree_size) × Indexed (base_vector base.now) (laid_at Log log.now) used (records_of log.now) held.counts tables.old.places tables.old.seens }
     ensures took { tried result.taken (stop_code result.stopped) copy.new ≡ try_all archive unit log.now base.now row.now }
     ensures counted { (result.used ≡ length (records_of copy.new)) × (result.held.counts ≡ held_on copy.new base.now) }
 {
     copy_log(log, copy);
     take_by(
-        list, folded, base, copy, archive, unit, row, used, held, tree, places, seens,
+        list, folded, base, copy, archive, unit, row, used, held, tree, tables,
     )
 }
 
 // The disputed entries of the tree of a sound state are noted; their count is returned. The tree table holds this tree afterwards.
-fn note_before(
-    log: &[u8],
-    used: usize,
-    base: &[u8],
-    held: Vector,
-    size: Size,
-    tree: &mut [u8],
-    notes: &mut [u32],
-) -> usize
-    requires { (length log.now ≡ log_size) × (length base.now ≡ base_size) × (sound_state log.now base.now ≡ true) × (used ≡ length (records_of log.now)) × (held.counts ≡ held_on log.now base.now) × (size.entries ≡ word base.now 2) × (size.asides ≡ word base.now 4) × (length tree.old ≡ tree_size) × (length notes.old ≡ notes_size) }
+fn note_before(log: &[u8], base: &[u8], state: State, tree: &mut [u8], notes: &mut [u32]) -> usize
+    requires { Stands log.now base.now state × (length tree.old ≡ tree_size) × (length notes.old ≡ notes_size) }
     ensures few { result ≤ 1024 }
     ensures made { take result notes.new ≡ noted (table_bytes (tree_of log.now base.now)) (word (table_bytes (tree_of log.now base.now)) 0) }
-    ensures small { Small held.counts }
+    ensures small { Small state.held.counts }
 {
-    state_tree::small_counts(held);
-    lay_tree(log, used, base, held, size, tree);
+    state_tree::small_counts(state.held);
+    lay_tree(log, base, state, tree);
     try_row_report::note_disputed(tree, notes)
 }
 
@@ -158,42 +147,45 @@ fn note_before(
 fn report_by(
     copy: &[u8],
     base: &[u8],
-    size: Size,
+    head: Head,
     t: RowJudged,
     notes: &[u32],
     count: usize,
     tree: &mut [u8],
     report: &mut [u8],
 )
-    requires { (length copy.now ≡ log_size) × (length base.now ≡ base_size) × (sound_state copy.now base.now ≡ true) × (t.used ≡ length (records_of copy.now)) × (t.held.counts ≡ held_on copy.now base.now) × (size.entries ≡ word base.now 2) × (size.asides ≡ word base.now 4) × (count ≤ length notes.now) × (length tree.old ≡ tree_size) × (length report.old ≡ report_size) }
+    requires { Stands copy.now base.now (record { head = head; held = t.held; used = t.used }) × (count ≤ length notes.now) × (length tree.old ≡ tree_size) × (length report.old ≡ report_size) }
     ensures laid { tree.new ≡ table_bytes (tree_of copy.now base.now) }
     ensures told { report.new ≡ (t.taken ∷ stop_code t.stopped ∷ two (listed_count tree.new (take count notes.now) (word tree.new 0))) ++ (vector_bytes t.held.counts ++ padded 4096 (listed tree.new (take count notes.now) (word tree.new 0))) }
     ensures small { Small t.held.counts }
 {
     let held = t.held;
     state_tree::small_counts(held);
-    lay_tree(copy, t.used, base, held, size, tree);
+    let state = State {
+        head,
+        held,
+        used: t.used,
+    };
+    lay_tree(copy, base, state, tree);
     try_row_report::write_report(tree, notes, count, t.taken, t.stopped, held, report);
 }
 
 // The row was taken into the copy: the disputed entries of the tree before are noted, and the report is written.
 fn report_trial(
     log: &[u8],
-    used: usize,
     base: &[u8],
-    held: Vector,
-    size: Size,
+    state: State,
     copy: &[u8],
     t: RowJudged,
     tree: &mut [u8],
     report: &mut [u8],
 )
-    requires { (length log.now ≡ log_size) × (length base.now ≡ base_size) × (sound_state log.now base.now ≡ true) × (used ≡ length (records_of log.now)) × (held.counts ≡ held_on log.now base.now) × (size.entries ≡ word base.now 2) × (size.asides ≡ word base.now 4) × (length copy.now ≡ log_size) × (sound_state copy.now base.now ≡ true) × (t.used ≡ length (records_of copy.now)) × (t.held.counts ≡ held_on copy.now base.now) × (length tree.old ≡ tree_size) × (length report.old ≡ report_size) }
+    requires { Stands log.now base.now state × (length copy.now ≡ log_size) × (sound_state copy.now base.now ≡ true) × (t.used ≡ length (records_of copy.now)) × (t.held.counts ≡ held_on copy.now base.now) × (length tree.old ≡ tree_size) × (length report.old ≡ report_size) }
     ensures { trial 0 0 copy.now tree.new report.new ≡ reported log.now base.now (tried t.taken (stop_code t.stopped) copy.now) }
 {
     let mut notes = [0u32; NOTES];
-    let count = note_before(log, used, base, held, size, tree, &mut notes);
-    report_by(copy, base, size, t, &notes, count, tree, report);
+    let count = note_before(log, base, state, tree, &mut notes);
+    report_by(copy, base, state.head, t, &notes, count, tree, report);
 }
 
 // What taking a row would do: the copy as the log would be, its tree in the table, and the report. Checked in this order: 1, 21, 2, 19. Log
@@ -210,19 +202,8 @@ pub fn try_row(
 ) -> Result<(), Refusal>
     ensures { trial (code_of result) 0 copy.new tree.new report.new ≡ try_of archive unit log.now base.now row.now copy.old tree.old report.old }
 {
-    let mut places = log_check::fresh_places();
-    let mut seens = log_check::fresh_seens();
-    let state = open_trial(
-        log,
-        base,
-        unit,
-        row,
-        copy,
-        tree,
-        report,
-        &mut places,
-        &mut seens,
-    )?;
+    let mut tables = Tables::fresh();
+    let state = open_trial(log, base, unit, row, copy, tree, report, &mut tables)?;
     let t = take_copy(
         state.head.list,
         state.head.folded,
@@ -235,15 +216,8 @@ pub fn try_row(
         state.held,
         copy,
         tree,
-        &mut places,
-        &mut seens,
+        &mut tables,
     );
-    let size = Size {
-        entries: state.head.entries,
-        asides: state.head.asides,
-    };
-    report_trial(
-        log, state.used, base, state.held, size, copy, t, tree, report,
-    );
+    report_trial(log, base, state, copy, t, tree, report);
     Ok(())
 }

@@ -4,7 +4,6 @@
 ghost use Rattle.std.specs.Prelude.{◌≡◌, IfOk, length, replicate};
 ghost use Rattle.base_model.specs.Base.{empty_base};
 ghost use Rattle.plan_model.specs.Plan.{round};
-ghost use Rattle.refusal.specs.Refusals.{fault_code, fault_place};
 ghost use Rattle.plan_feed.specs.Going.{fed, Going};
 
 use input::Broken;
@@ -19,7 +18,7 @@ fn read_plan<R: Read>(
     work: &mut [u8],
 ) -> Result<Fed, Broken>
     requires { (logs.old ≡ replicate 327680 0) × (base.now ≡ empty_base) × (length work.old ≡ 86020) }
-    ensures { IfOk result (λ f. Going (fed (fault_code f.judged) (fault_place f.judged) f.blocks f.archive (round logs.new f.tally.made f.tally.skipped))) }
+    ensures { IfOk result (λ f. Going (fed f.number f.place f.blocks f.archive (round logs.new f.tally.made f.tally.skipped))) }
 {
     let mut block = [0u8; 512];
     let mut f = plan_feed::begin();
@@ -35,7 +34,7 @@ fn read_plan<R: Read>(
 
 // What is printed, at once. Whether all of it could be written.
 fn report(out: &impl Print, f: Fed, logs: &[u8]) -> bool
-    requires { Going (fed (fault_code f.judged) (fault_place f.judged) f.blocks f.archive (round logs.now f.tally.made f.tally.skipped)) }
+    requires { Going (fed f.number f.place f.blocks f.archive (round logs.now f.tally.made f.tally.skipped)) }
 {
     let mut text = [0u8; 1024];
     let n = plan_feed::finish(f, logs, &mut text);

@@ -1,9 +1,7 @@
 -- The ways out of writing a file: a refusal, 29 for folded records, and success, over plain values.
 -- Assumes nothing.
 use Prim.Native.Nat.{ℕ}
-use native.Mathlib.Omega.{arith}
 use mathlib.Core.Path.{◌≡◌, refl, sym, ap, ◌∙◌}
-use mathlib.Core.Logic.{⊎_elim}
 use mathlib.Core.Bool.{Bool, true, false, not, ◌&&◌}
 use mathlib.Core.List.{List, [], ◌∷◌}
 use lib.Pointwise.{pointwise}
@@ -11,38 +9,17 @@ use lib.Dec.{eqb}
 use lib.ListN.{length, replicate}
 use borrow.Author.Tests.{not-true, not-false}
 use Rattle.model.specs.Bytes.{blank, padded}
-use Rattle.model.specs.Vector.{covers}
 use Rattle.model.specs.Log.{vector_of, no_counts, records_of, sound_log}
 use Rattle.model.specs.File.{block_count, file_of}
 use Rattle.base_model.specs.Base.{base_vector}
 use Rattle.call_model.specs.Outcome.{outcome, written, write_of}
-use Rattle.byte_slice.proofs.Numbers.{bool_cases}
-use Rattle.byte_slice.proofs.Compare.{blank-eq, eq-blank}
-use Rattle.vector.proofs.Dominance.{covers_refl, covers_antisym, all_covers}
-use Rattle.log_laws.proofs.Counts.{no_counts_lem}
+use Rattle.byte_slice.proofs.Compare.{blank-eq}
 use Rattle.log_laws.proofs.Tests.{vector_on-none}
 use Rattle.base_head.specs.Head.{headed}
 use Rattle.call_guard.specs.Opened.{opened, open_of}
 use Rattle.call_guard.proofs.Opening.{open_sound, open_held, open_folded, call_refused, call_passes}
 
 -- ---- a vector of zeros
-
--- zeros cover a vector of zeros, and no other
-pub zeros_cover : (z v : List ℕ) (t : Bool) → z ≡ replicate 8 0 → length v ≡ 8 → t ≡ covers z v → t ≡ blank v
-zeros_cover z v t e n c =
-    ⊎_elim
-    (λ (d : covers z v ≡ true). c ∙ (d ∙ sym (eq-blank v 8 (zeros_only v n (rw e at d)))))
-    (λ (d : covers z v ≡ false).
-    ⊎_elim
-    (λ (b : blank v ≡ true).
-    let w : v ≡ replicate 8 0 = rw n at (blank-eq v b) in
-    c ∙ (rw (e, w) (covers_refl no_counts) ∙ sym b))
-    (λ (b : blank v ≡ false). c ∙ (d ∙ sym b))
-    (bool_cases (blank v)))
-    (bool_cases (covers z v))
-  where
-    zeros_only : (v : List ℕ) → length v ≡ 8 → covers (replicate 8 0) v ≡ true → v ≡ replicate 8 0
-    zeros_only v n d = sym (covers_antisym no_counts v refl n d (all_covers v no_counts (λ u h. omega (arith, no_counts_lem u))))
 
 pub zeros_blank : (v : List ℕ) → pointwise eqb v (replicate (length v) 0) ≡ blank v
 unfolding blank

@@ -5,9 +5,8 @@ ghost use Rattle.std.specs.Prelude.{◌≡◌, true, ◌*◌, ◌≤◌, length}
 ghost use Rattle.model.specs.Lengths.{log_size, base_size, log_places, base_places};
 ghost use Rattle.model.specs.Bytes.{word, padded, put_at};
 ghost use Rattle.model.specs.Vector.{blocks_for};
-ghost use Rattle.model.specs.Log.{records_of, sound_log_on, vector_on};
+ghost use Rattle.model.specs.Log.{records_of, sound_log_on};
 ghost use Rattle.model.specs.File.{header_of};
-ghost use Rattle.base_model.specs.Base.{base_vector};
 ghost use Rattle.call_model.specs.Outcome.{outcome};
 ghost use Rattle.run_model.specs.Runs.{letters2, run_block, run_to};
 ghost use Rattle.sab2_model.specs.Rows.{row_count, base_rows};
@@ -15,12 +14,14 @@ ghost use Rattle.sab2_model.specs.Sab2.{sab2_of, sab2_blocks};
 ghost use Rattle.sab2_model.specs.Calls.{sab2_size, write_sab2_of};
 ghost use Rattle.refusal.specs.Refusals.{code_of};
 ghost use Rattle.write_file.specs.Told.{blocks_of};
+ghost use Rattle.state_check.specs.Stands.{Stands};
 
 use block_write::{Block, block_as};
 use call_guard::open;
 use refusal::Refusal;
 use sab2_model::SAB2_BYTES;
 use sab2_rows::{gather_rows, row_count};
+use state_check::State;
 use vector::Vector;
 use write_file_blocks::{clear_behind, count_at, run_block, write_at};
 
@@ -89,26 +90,31 @@ fn write_records(
 }
 
 // Rows, then records, then zeros; the count of blocks is returned.
-fn write_state(
-    log: &[u8],
-    base: &[u8],
-    folded: Vector,
-    entries: usize,
-    asides: usize,
-    used: usize,
-    held: Vector,
-    archive: u32,
-    unit: u8,
-    file: &mut [u8],
-) -> u8
-    requires { (length log.now ≡ log_size) × (length base.now ≡ base_size) × (sound_log_on folded.counts log.now ≡ true) × (entries ≡ word base.now 2) × (asides ≡ word base.now 4)
-        × (entries ≤ base_places) × (asides ≤ base_places) × (used ≡ length (records_of log.now)) × (used ≤ log_places) × (held.counts ≡ vector_on (base_vector base.now) (records_of log.now))
-        × (length file.old ≡ sab2_size) }
+fn write_state(log: &[u8], base: &[u8], state: State, archive: u32, unit: u8, file: &mut [u8]) -> u8
+    requires { Stands log.now base.now state × (sound_log_on state.head.folded.counts log.now ≡ true) × (state.head.entries ≤ base_places) × (state.head.asides ≤ base_places) × (state.used ≤ log_places) × (length file.old ≡ sab2_size) }
     ensures counted { result ≡ sab2_blocks base.now (records_of log.now) }
     ensures written { file.new ≡ padded sab2_size (sab2_of archive unit base.now (records_of log.now)) }
 {
-    let p = write_rows(base, entries, asides, held, archive, unit, file);
-    let n = write_records(folded, log, used, held, archive, unit, p, file);
+    let head = state.head;
+    let p = write_rows(
+        base,
+        head.entries,
+        head.asides,
+        state.held,
+        archive,
+        unit,
+        file,
+    );
+    let n = write_records(
+        head.folded,
+        log,
+        state.used,
+        state.held,
+        archive,
+        unit,
+        p,
+        file,
+    );
     clear_behind(file, p + n);
     (p + n) as u8
 }
@@ -125,17 +131,5 @@ pub fn write_sab2(
     ensures { outcome (code_of result) 0 log.now file.new (blocks_of result) ≡ write_sab2_of archive unit log.now base.now file.old }
 {
     let state = open(log, base, unit, file.len() == SAB2_BYTES, true)?;
-    let head = state.head;
-    Ok(write_state(
-        log,
-        base,
-        head.folded,
-        head.entries,
-        head.asides,
-        state.used,
-        state.held,
-        archive,
-        unit,
-        file,
-    ))
+    Ok(write_state(log, base, state, archive, unit, file))
 }

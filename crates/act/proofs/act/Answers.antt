@@ -1,7 +1,7 @@
 -- One act of the own unit: its record is put behind those of the log, or it is refused and the log is left.
 use Rattle.std.proofs.lemmas.Result.{err_from_is_err_and}
 use Rattle.refusal.proofs.Refusals.{not_zero}
-use Rattle.call_guard.proofs.Opening.{open_long, open_based, open_state, open_used, open_held, open_list, open_entries, open_asides}
+use Rattle.call_guard.proofs.Opening.{open_stands, open_list}
 use Rattle.act.proofs.Acting.{guard_refused, guard_kept, low_unit, wish_long, work_long, act-done, work_done}
 use Rattle.act.proofs.act.Goals as goal
 
@@ -16,7 +16,7 @@ returns-in_err-state-clause-worked c = search (guard_kept, not_zero, c.in_err-st
 pub act_on-requires : goal.act_on-requires
 act_on-requires c =
     let o = c.in_ok-state.ensures in
-    (search (open_long, o), search (open_based, o), search (open_state, o), search (open_used, o), search (open_held, o), search (open_list, o), search (open_entries, o), search (open_asides, o), search (low_unit, o), search (wish_long, o), search (work_long, o))
+    (search (open_stands, o), search (open_list, o), search (low_unit, o), search (wish_long, o), search (work_long, o))
 
 pub returns-clause-acted : goal.returns-clause-acted
 returns-clause-acted c = search (act-done, c.in_ok-state.ensures)

@@ -12,7 +12,7 @@ pub returns-in_err-check_early-clause-worked : goal.returns-in_err-check_early-c
 returns-in_err-check_early-clause-worked c = search (early_kept, not_zero, c.in_err-check_early.ensures)
 
 pub reason-requires : goal.reason-requires
-reason-requires c = (search, search, search, search, search, search, search, search (stamped_formed, c.in_ok-check_early.ensures), search)
+reason-requires c = (search, search (stamped_formed, c.in_ok-check_early.ensures), search)
 
 pub returns-in_err-reason-clause-acted : goal.returns-in_err-reason-clause-acted
 returns-in_err-reason-clause-acted c =

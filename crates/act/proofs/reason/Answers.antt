@@ -4,4 +4,4 @@ use Rattle.act.proofs.Acting.{cleared}
 use Rattle.act.proofs.reason.Goals as goal
 
 pub reason_behind-requires : goal.reason_behind-requires
-reason_behind-requires c = (search, search, search, search, search, search, search, search, search (cleared, c.fill.ensures.after (λ y e. e)), refl)
+reason_behind-requires c = (search, search, search (cleared, c.fill.ensures.after (λ y e. e)), refl)

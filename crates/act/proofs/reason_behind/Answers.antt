@@ -4,7 +4,7 @@ use Rattle.act.proofs.Acting.{reason_laid, laid}
 use Rattle.act.proofs.reason_behind.Goals as goal
 
 pub replay_state-laid-requires : goal.replay_state-laid-requires
-replay_state-laid-requires c = (search, search, search, search, search, search, search, search, search)
+replay_state-laid-requires c = (search, search, search)
 
 pub reason_on-requires : goal.reason_on-requires
 reason_on-requires c = (search, search (works_holds))

@@ -9,8 +9,8 @@ returns-then-f-eq0 c = (search (up_root), omega arith)
 pub returns-in_default : goal.returns-in_default
 returns-in_default c = (search (up_none, c.in_default.ensures.place), omega arith)
 
-pub returns-then-kind_at-ne1 : goal.returns-then-kind_at-ne1
-returns-then-kind_at-ne1 c = (search (up_other, c.in-Some.ensures.place), omega arith)
+pub returns-then-not-is_folder : goal.returns-then-not-is_folder
+returns-then-not-is_folder c = (search (up_other, c.in-Some.ensures.place), omega arith)
 
 pub returns : goal.returns
 returns c = (search (up_folder, c.in-Some.ensures.place), omega (arith, c.in-Some.ensures.within))

@@ -1,9 +1,9 @@
 -- Records are folded by a given list, which is stored also where none is.
 use Rattle.std.proofs.lemmas.Result.{err_from_is_err_and}
 use Rattle.refusal.proofs.Refusals.{not_zero}
-use Rattle.fold.proofs.Folding.{refused_work, not_listed, not_listed_work, done, done_work, guard_stands, guard_unit, guard_few, fits_own}
+use Rattle.fold.proofs.Folding.{refused_work, not_listed, not_listed_work, done, done_work, guard_unit, guard_few, fits_own}
 use Rattle.call_model.specs.Fold.{fold_of}
-use Rattle.call_guard.proofs.Opening.{call_refused, open_buffer}
+use Rattle.call_guard.proofs.Opening.{call_refused, open_stands, open_folded, open_buffer}
 use Rattle.fold.proofs.fold.Goals as goal
 
 pub returns-in_err-state-clause-folded : goal.returns-in_err-state-clause-folded
@@ -27,7 +27,7 @@ returns-then-not-list_fits-clause-worked c = search (not_listed_work, c.in_ok-st
 pub fold_state-n-requires : goal.fold_state-n-requires
 fold_state-n-requires c =
     let e = c.in_ok-state.ensures in
-    (search (guard_stands, e), search (guard_unit, e), search (fits_own), search (open_buffer, e))
+    (search (open_stands, e), search (open_folded, e), search (guard_unit, e), search (fits_own), search (open_buffer, e))
 
 pub overflow_cast-result : goal.overflow_cast-result
 overflow_cast-result c = record { fits = search (guard_few, c.in_ok-state.ensures) }

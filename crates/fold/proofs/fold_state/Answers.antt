@@ -12,7 +12,7 @@ pub drop_front-requires : goal.drop_front-requires
 drop_front-requires c = (search, search (log_sound), search, search (few_used), search)
 
 pub returns-clause-based : goal.returns-clause-based
-returns-clause-based c = base_written c.requires.0 _ _ _ _ _ _ c.run_in-f.ensures.laid c.run_in-f.ensures.run.0 _ _ c.counted-v.ensures c.write_base.ensures
+returns-clause-based c = base_written c.requires.0 _ _ _ _ _ _ c.run_in-f.ensures.laid c.run_in-f.ensures.run.0 _ _ c.requires.1 c.counted-v.ensures c.write_base.ensures
 
 pub returns-clause-worked : goal.returns-clause-worked
 returns-clause-worked c = search (work_left_lem)

@@ -1,26 +1,10 @@
 -- All records that a vector lacks are laid one behind another; their count is returned.
-use Rattle.hand_out_pick.proofs.Gathered.{gathered, unit_lent, starts_log, starts_few, starts_laid, skips_count, skips_laid, adds_count, adds_laid, whole-count, whole_laid}
-use Rattle.model.specs.Log.{lacking}
-use mathlib.Core.Path.{refl}
-use borrow.Author.Rules.{rules}
+use Rattle.hand_out_pick.proofs.Gathered.{whole-count, whole_laid}
 use native.Mathlib.Omega.{arith}
 use Rattle.hand_out_pick.proofs.gather_all.Goals as goal
 
-pub loop-i-init : goal.loop-i-init
-unfolding gathered lacking
-loop-i-init c = (search (starts_few), omega arith, search (starts_log), refl, refl, search (starts_laid))
-
-pub lacks-requires : goal.lacks-requires
-lacks-requires c = (search rules, search (unit_lent))
-
-pub loop-i-preserved-then-not-lacks : goal.loop-i-preserved-then-not-lacks
-loop-i-preserved-then-not-lacks c = (omega arith, omega arith, omega arith, omega arith, search (skips_count), search (skips_laid))
-
-pub loop-i-preserved : goal.loop-i-preserved
-loop-i-preserved c = (omega arith, omega arith, omega arith, omega arith, search (adds_count), search (adds_laid))
-
 pub returns-clause-counted : goal.returns-clause-counted
-returns-clause-counted c = (search (whole-count), omega arith)
+returns-clause-counted c = (whole-count _ _ c.gather_most.ensures.counted.0, omega arith)
 
 pub returns-clause-laid : goal.returns-clause-laid
-returns-clause-laid c = search (whole_laid)
+returns-clause-laid c = whole_laid _ _ _ c.gather_most.ensures.laid

@@ -1,17 +1,19 @@
 -- A record that fits does to the index of the tree in a table what it does to the tree.
 use Rattle.tree_lookup.proofs.Working.{works_long}
-use Rattle.index_act.proofs.Changes.{asked_folder, moved_folder, folder_low, entry_low, own_low, asked_object, change_make, change_remove, change_rename, change_move, remove-absent, rename-absent, move-absent, change_none}
+use Rattle.tree_judge.proofs.Reasons.{is_make}
+use Rattle.index_act.proofs.Changes.{asked_folder, moved_folder, folder_low, entry_low, own_low, change_make, change_remove, change_rename, change_move, remove-absent, rename-absent, move-absent, change_none}
 use borrow.Author.Rules.{rules}
 use Rattle.index_act.proofs.change_index.Goals as goal
 
 pub put_in-requires : goal.put_in-requires
-put_in-requires c = (search rules, search (asked_folder), search rules, search (own_low))
+put_in-requires c =
+    let make = is_make _ _ c.operation_of.ensures c.in-MakeFolder.is in
+    (search rules, search (asked_folder, make), search rules, search (own_low))
 
-pub returns-then-op-le2 : goal.returns-then-op-le2
-returns-then-op-le2 c = search (change_make)
-
-pub entry_of-requires : goal.entry_of-requires
-entry_of-requires c = (search, search (asked_object))
+pub returns-in-MakeFolder : goal.returns-in-MakeFolder
+returns-in-MakeFolder c =
+    let make = is_make _ _ c.operation_of.ensures c.in-MakeFolder.is in
+    search (change_make, make)
 
 pub remove_from-requires : goal.remove_from-requires
 remove_from-requires c = (search (works_long), search rules, search rules)
@@ -21,9 +23,6 @@ returns-in-Some c = search (change_remove, c.in-Some.ensures.shows, c.in-Some.en
 
 pub returns-in_default : goal.returns-in_default
 returns-in_default c = search (remove-absent, c.in_default.ensures.shows)
-
-pub entry_of-requires-then-op-eq5 : goal.entry_of-requires-then-op-eq5
-entry_of-requires-then-op-eq5 c = (search, search (asked_object))
 
 pub inside_at-requires : goal.inside_at-requires
 inside_at-requires c = (search (works_long), search rules)
@@ -39,9 +38,6 @@ returns-in-Some-entry_of c = search (change_rename, c.in-Some-entry_of.ensures.s
 pub returns-in_default-entry_of : goal.returns-in_default-entry_of
 returns-in_default-entry_of c = search (rename-absent, c.in_default-entry_of.ensures.shows)
 
-pub entry_of-requires-then-op-eq7 : goal.entry_of-requires-then-op-eq7
-entry_of-requires-then-op-eq7 c = (search, search (asked_object))
-
 pub move_to-requires-in-Some-entry_of-2 : goal.move_to-requires-in-Some-entry_of-2
 move_to-requires-in-Some-entry_of-2 c =
     (search rules, search (works_long), search rules, search (entry_low, c.in-Some-entry_of-2.ensures.within), search (moved_folder), search)
@@ -52,5 +48,5 @@ returns-in-Some-entry_of-2 c = search (change_move, c.in-Some-entry_of-2.ensures
 pub returns-in_default-entry_of-2 : goal.returns-in_default-entry_of-2
 returns-in_default-entry_of-2 c = search (move-absent, c.in_default-entry_of-2.ensures.shows)
 
-pub returns-else-op-eq7 : goal.returns-else-op-eq7
-returns-else-op-eq7 c = search (change_none)
+pub returns-in-Settle : goal.returns-in-Settle
+returns-in-Settle c = search (change_none)

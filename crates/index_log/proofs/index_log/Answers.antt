@@ -1,7 +1,7 @@
 -- The lent index becomes that of the lent state, and the memory to work in the table of its tree.
 use Rattle.std.proofs.lemmas.Result.{err_from_is_err_and}
 use Rattle.refusal.proofs.Refusals.{not_zero}
-use Rattle.call_guard.proofs.Opening.{open_long, open_based, open_state, open_used, open_held, open_entries, open_asides}
+use Rattle.call_guard.proofs.Opening.{open_stands}
 use Rattle.index_log.proofs.Indexing.{not_indexed, work_left_lem, index_there, work_there, indexed, work_filled}
 use Rattle.index_log.proofs.index_log.Goals as goal
 
@@ -16,7 +16,7 @@ returns-in_err-state-clause-work c = search (work_left_lem, not_zero, c.in_err-s
 pub lay_index-requires : goal.lay_index-requires
 lay_index-requires c =
     let o = c.in_ok-state.ensures in
-    (search (open_long, o), search (open_based, o), search (open_state, o), search (open_used, o), search (open_held, o), search (open_entries, o), search (open_asides, o), search (index_there, o), search (work_there, o))
+    (search (open_stands, o), search (index_there, o), search (work_there, o))
 
 pub returns-clause-answer : goal.returns-clause-answer
 returns-clause-answer c = search (indexed, c.in_ok-state.ensures)

@@ -1,5 +1,4 @@
--- The index of the tree of a sound state, with n records in its log, its held vector and the number of entries and asides of
--- its base.
+-- The index of the tree of a sound state.
 use Rattle.index_log.proofs.Indexing.{table_within_lem, index_laid}
 use borrow.Author.Rules.{rules}
 use Rattle.index_log.proofs.lay_index.Goals as goal

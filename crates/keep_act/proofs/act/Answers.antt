@@ -2,7 +2,7 @@
 -- refused and both are left.
 use Rattle.std.proofs.lemmas.Result.{err_from_is_err_and}
 use Rattle.refusal.proofs.Refusals.{not_zero}
-use Rattle.call_guard.proofs.Opening.{open_long, open_based, open_state, open_used, open_held, open_list, open_entries, open_asides}
+use Rattle.call_guard.proofs.Opening.{open_stands, open_list}
 use Rattle.act.proofs.Acting.{low_unit, wish_long, work_long}
 use Rattle.keep_act.proofs.Acted.{index_wrong, work_wrong, index_fit, guard_stops, work_left_lem, guard_passed, work_kept}
 use Rattle.keep_act.proofs.act.Goals as goal
@@ -24,7 +24,7 @@ returns-in_err-state-clause-worked c = search (work_left_lem, not_zero, c.in_err
 pub act_on-requires : goal.act_on-requires
 act_on-requires c =
     let o = c.in_ok-state.ensures in
-    (search (open_long, o), search (open_based, o), search (open_state, o), search (open_used, o), search (open_held, o), search (open_list, o), search (open_entries, o), search (open_asides, o), search (index_fit), search (low_unit, o), search (wish_long, o), search (work_long, o))
+    (search (open_stands, o), search (open_list, o), search (index_fit), search (low_unit, o), search (wish_long, o), search (work_long, o))
 
 pub returns-clause-acted : goal.returns-clause-acted
 returns-clause-acted c = search (guard_passed, c.in_ok-state.ensures)

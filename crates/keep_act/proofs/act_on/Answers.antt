@@ -17,7 +17,7 @@ returns-in_err-check_early-clause-worked c = search (early_kept, not_zero, c.in_
 pub change-requires : goal.change-requires
 change-requires c =
     let e = c.in_ok-check_early.ensures in
-    (search, search, search, search, search, search, search, search (stamped_formed, e), search (own_range, e), search, search)
+    (search, search (stamped_formed, e), search (own_range, e), search, search)
 
 pub returns-in_err-change-clause-acted : goal.returns-in_err-change-clause-acted
 returns-in_err-change-clause-acted c =

@@ -5,7 +5,7 @@ use Rattle.keep_act.proofs.Acted.{laid_within, index_laid}
 use Rattle.keep_act.proofs.change_behind.Goals as goal
 
 pub replay_state-laid-requires : goal.replay_state-laid-requires
-replay_state-laid-requires c = (search, search, search, search, search, search, search, search, search)
+replay_state-laid-requires c = (search, search, search)
 
 pub change_on-requires : goal.change_on-requires
 change_on-requires c = (search, search, search (works_holds), search (laid_within), search)

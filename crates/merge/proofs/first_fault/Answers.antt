@@ -9,7 +9,7 @@ pub returns-then-not-whole_blocks-clause-outright : goal.returns-then-not-whole_
 returns-then-not-whole_blocks-clause-outright c = search (not_whole)
 
 pub file_fault_into-requires : goal.file_fault_into-requires
-file_fault_into-requires c = (search (whole), search (some_block), search (few_blocks), search rules, search rules)
+file_fault_into-requires c = (search (whole), search (some_block), search (few_blocks))
 
 pub returns-clause-outright : goal.returns-clause-outright
 returns-clause-outright c = search (whole-checked)

@@ -14,7 +14,7 @@ pub returns-in_err-blocks_fault-clause-leaves : goal.returns-in_err-blocks_fault
 returns-in_err-blocks_fault-clause-leaves c = search (unread_left, not_zero, c.in_err-blocks_fault.ensures)
 
 pub held_fault-requires : goal.held_fault-requires
-held_fault-requires c = (search rules, search rules, search rules, search rules, search rules, search rules, search (few_counted, c.in_ok-blocks_fault.ensures, rules), search rules, search rules)
+held_fault-requires c = (search rules, search rules, search rules, search rules, search rules, search rules, search (few_counted, c.in_ok-blocks_fault.ensures, rules))
 
 pub returns-clause-outright : goal.returns-clause-outright
 returns-clause-outright c = search (held-told, c.in_ok-blocks_fault.ensures, rules)

@@ -10,7 +10,7 @@ pub slice_bounds-held_fault-start-2 : goal.slice_bounds-held_fault-start-2
 slice_bounds-held_fault-start-2 c = search (part_order)
 
 pub held_fault-requires : goal.held_fault-requires
-held_fault-requires c = (search rules, search (part_length), search rules, search rules, search (rows_inside_file), search (few_in_front), search (part_few), search rules, search rules)
+held_fault-requires c = (search rules, search (part_length), search rules, search rules, search (rows_inside_file), search (few_in_front), search (part_few))
 
 pub returns : goal.returns
 returns c = search (held-behind)

@@ -1,8 +1,7 @@
--- The tree of a sound state, with n records in its log, its held vector and the number of entries and asides of its base, is
--- laid in a lent table, which may hold anything before.
+-- The tree of a sound state is laid in a lent table, which may hold anything before.
 use mathlib.Core.Path.{refl}
 use Rattle.show_tree.proofs.Shown.{zeroed}
 use Rattle.show_tree.proofs.lay_tree.Goals as goal
 
 pub fill_tree-requires : goal.fill_tree-requires
-fill_tree-requires c = (search, search, search, search, search, search, search, search (zeroed, c.fill.ensures.after (λ y e. e)), refl)
+fill_tree-requires c = (search, search (zeroed, c.fill.ensures.after (λ y e. e)), refl)

@@ -2,7 +2,7 @@
 use Rattle.std.proofs.lemmas.Result.{err_from_is_err_and}
 use Rattle.refusal.proofs.Refusals.{not_zero}
 use Rattle.call_model.specs.Outcome.{show_of}
-use Rattle.call_guard.proofs.Opening.{open_long, open_based, open_state, open_used, open_held, open_entries, open_asides, open_buffer, call_refused}
+use Rattle.call_guard.proofs.Opening.{open_stands, open_buffer, call_refused}
 use Rattle.show_tree.proofs.Shown.{shown}
 use Rattle.show_tree.proofs.show_tree.Goals as goal
 
@@ -15,7 +15,7 @@ returns-in_err-state c =
 pub lay_tree-requires : goal.lay_tree-requires
 lay_tree-requires c =
     let e = c.in_ok-state.ensures in
-    (search (open_long, e), search (open_based, e), search (open_state, e), search (open_used, e), search (open_held, e), search (open_entries, e), search (open_asides, e), search (open_buffer, e))
+    (search (open_stands, e), search (open_buffer, e))
 
 pub returns : goal.returns
 returns c = search (shown, c.in_ok-state.ensures)

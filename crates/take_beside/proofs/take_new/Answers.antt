@@ -1,5 +1,5 @@
 -- A well-formed record whose identity is not held is refused, or held at the position p.
-use Rattle.std.proofs.Common.{rules}
+use Rattle.std.proofs.Common.{◌∙◌, rules}
 use Rattle.refusal.proofs.Refusals.{not_zero}
 use Rattle.log_admit.proofs.Faults.{unit_small}
 use Rattle.take_beside.proofs.Checks.{new_refuses, new_least, new_most, new_above, new_behind, new_notes}
@@ -9,17 +9,18 @@ pub returns-in_err-new_fault : goal.returns-in_err-new_fault
 returns-in_err-new_fault c = search (new_refuses, not_zero, rules)
 
 pub bounds-base-u : goal.bounds-base-u
-bounds-base-u c = search unit_small
+bounds-base-u c = let u = c.from-u.ensures ∙ c.unit_of.ensures in search unit_small
 
 pub counted-more-requires : goal.counted-more-requires
-counted-more-requires c = (search unit_small, search (new_above, c.in_ok-new_fault.ensures))
+counted-more-requires c = let u = c.from-u.ensures ∙ c.unit_of.ensures in (search unit_small, search (new_above, c.in_ok-new_fault.ensures))
 
 pub overflow_sub-n : goal.overflow_sub-n
-overflow_sub-n c = search (new_behind, c.in_ok-new_fault.ensures)
+overflow_sub-n c = let u = c.from-u.ensures ∙ c.unit_of.ensures in search (new_behind, c.in_ok-new_fault.ensures)
 
 pub note-requires : goal.note-requires
 note-requires c =
-    (search unit_small, search (new_least, c.in_ok-new_fault.ensures), search (new_most, c.in_ok-new_fault.ensures), search rules, search rules, search rules)
+    let u = c.from-u.ensures ∙ c.unit_of.ensures in
+    (search unit_small, search (new_least, c.in_ok-new_fault.ensures), search (new_most, c.in_ok-new_fault.ensures), search rules)
 
 pub returns : goal.returns
-returns c = search (new_notes, c.in_ok-new_fault.ensures)
+returns c = let u = c.from-u.ensures ∙ c.unit_of.ensures in search (new_notes, c.in_ok-new_fault.ensures)

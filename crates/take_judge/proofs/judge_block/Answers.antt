@@ -6,10 +6,10 @@ use Rattle.take_judge.proofs.Going.{going_starts, going_few, going_placed, going
 use Rattle.take_judge.proofs.judge_block.Goals as goal
 
 pub loop-j-init : goal.loop-j-init
-loop-j-init c = (search rules, search rules, search left_starts, search going_starts)
+loop-j-init c = (search left_starts, search going_starts)
 
 pub take_record-requires : goal.take_record-requires
-take_record-requires c = (search rules, search rules, search going_few, search rules, search rules, search rules, search rules, search going_placed, search going_counted)
+take_record-requires c = (search rules, search rules, search going_few, search rules, search rules, search going_placed, search going_counted)
 
 pub returns-in_err-counts-clause-outright : goal.returns-in_err-counts-clause-outright
 returns-in_err-counts-clause-outright c =
@@ -22,7 +22,7 @@ returns-in_err-counts-clause-gives c =
     rw (p.1, p.2) (search (going_stops, not_zero, c.in_err-counts.ensures))
 
 pub loop-j-preserved : goal.loop-j-preserved
-loop-j-preserved c = (search rules, search rules, search (left-next, c.in_ok-counts.ensures), search (going_next, c.in_ok-counts.ensures))
+loop-j-preserved c = (search (left-next, c.in_ok-counts.ensures), search (going_next, c.in_ok-counts.ensures))
 
 pub returns-clause-outright : goal.returns-clause-outright
 returns-clause-outright c = search left_ends

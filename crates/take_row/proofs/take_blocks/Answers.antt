@@ -4,7 +4,7 @@ use borrow.Author.Rules.{rules}
 use Rattle.take_row.proofs.take_blocks.Goals as goal
 
 pub judge_row-t-requires : goal.judge_row-t-requires
-judge_row-t-requires c = (search rules, search rules, search (row_foot), search rules, search (row_sound), search rules, search rules, search rules, search (row_kept_lem))
+judge_row-t-requires c = (search rules, search rules, search (row_foot), search rules, search (row_sound), search rules, search (row_kept_lem))
 
 pub put_in-requires : goal.put_in-requires
 put_in-requires c = (search rules, search (row_sound), search rules, search (judged_grown))

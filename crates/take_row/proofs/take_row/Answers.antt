@@ -24,8 +24,6 @@ take_blocks-judged-requires c =
       search (open_folded, opened),
       search (open_used, opened),
       search rules,
-      search rules,
-      search rules,
       c.in_ok-state.ensures.holds,
     )
 

@@ -7,4 +7,4 @@ use Rattle.take_row_judge.proofs.Running.{Running}
 use Rattle.take_row_judge.proofs.judge_into.Given as goal
 
 abbrev pub invariant-loop-j : goal.invariant-loop-j
-invariant-loop-j l = (length l.work ≡ 41440) × (length l.places ≡ 4096) × (length l.seens ≡ 4144) × (l.used ≤ 512) × Running l.list l.folded.counts (records_of l.log) l.start l.b l.n l.j l.initial.work l.m l.work l.used l.held.counts l.places l.seens
+invariant-loop-j l = (length l.work ≡ 41440) × (l.used ≤ 512) × Running l.list l.folded.counts (records_of l.log) l.start l.b l.n l.j l.initial.work l.m l.work l.used l.held.counts l.tables.places l.tables.seens

@@ -7,7 +7,7 @@ use Rattle.take_row_judge.proofs.Judged.{row_starts, row_gives}
 use Rattle.take_row_judge.proofs.judge_row.Goals as goal
 
 pub loop-k-init : goal.loop-k-init
-loop-k-init c = (search rules, search rules, search rules, search rules, search rules, search (row_starts, turns_start))
+loop-k-init c = (search rules, search rules, search rules, search (row_starts, turns_start))
 
 pub slice_bounds-judge_one-end : goal.slice_bounds-judge_one-end
 slice_bounds-judge_one-end c = search (block_inside)
@@ -25,7 +25,7 @@ pub loop-k-preserved : goal.loop-k-preserved
 loop-k-preserved c =
     let judged = c.in-Ok.ensures in
     let answers = judged.answers in
-    (search rules, search rules, search rules, search rules, judged.kept refl, search (turn_goes, block_is, answers))
+    (search rules, search rules, judged.kept refl, search (turn_goes, block_is, answers))
 
 pub returns : goal.returns
 returns c = search (row_gives, turns_end)

@@ -1,8 +1,6 @@
 -- A record that stands aside: a row for it, and its role.
-use Rattle.tree_effect.proofs.Effects.{aside_added, name_chains, name_room, role_kept, next_note_end}
+use Rattle.tree_effect.proofs.Effects.{aside_added, role_kept, next_note_end}
 use Rattle.tree_effect.proofs.Registers.{aside_register}
-use native.Mathlib.Omega.{arith}
-use borrow.Author.Rules.{rules}
 use Rattle.tree_effect.proofs.stand_aside.Goals as goal
 
 pub slice_bounds-fill_aside-end : goal.slice_bounds-fill_aside-end

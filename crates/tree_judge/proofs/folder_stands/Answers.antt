@@ -11,14 +11,14 @@ returns-then-f-eq0 c = search (folder_root)
 pub returns-in_default : goal.returns-in_default
 returns-in_default c = search (folder_absent, c.in_default.ensures.shows, rules)
 
-pub kind_at-requires : goal.kind_at-requires
-kind_at-requires c = (search (works_long), omega (arith, c.in-Some.ensures.within))
+pub is_folder-requires : goal.is_folder-requires
+is_folder-requires c = (search (works_long), omega (arith, c.in-Some.ensures.within))
 
 pub made_at-requires : goal.made_at-requires
 made_at-requires c = (search (works_long), omega (arith, c.in-Some.ensures.within))
 
-pub returns-then-kind_at-ne1 : goal.returns-then-kind_at-ne1
-returns-then-kind_at-ne1 c = search (folder_trace, c.in-Some.ensures.shows, c.in-Some.ensures.within)
+pub returns-then-not-is_folder : goal.returns-then-not-is_folder
+returns-then-not-is_folder c = search (folder_trace, c.in-Some.ensures.shows, c.in-Some.ensures.within)
 
 pub returns : goal.returns
 returns c = search (folder_found, c.in-Some.ensures.shows, c.in-Some.ensures.within)

@@ -2,8 +2,8 @@
 use Rattle.tree_judge.proofs.Reasons.{full_no, full_if}
 use Rattle.tree_judge.proofs.is_full.Goals as goal
 
-pub returns-then-kind_at-ne1 : goal.returns-then-kind_at-ne1
-returns-then-kind_at-ne1 c = search (full_no)
+pub returns-else-is_folder : goal.returns-else-is_folder
+returns-else-is_folder c = search (full_no)
 
-pub returns : goal.returns
-returns c = search (full_if)
+pub returns-then-is_folder : goal.returns-then-is_folder
+returns-then-is_folder c = search (full_if)

@@ -6,8 +6,8 @@ use Rattle.tree_judge.proofs.judge_store.Goals as goal
 pub returns-in_default : goal.returns-in_default
 returns-in_default c = rw c.in_default.is (search (store_absent, rules))
 
-pub returns-then-kind_at-eq1 : goal.returns-then-kind_at-eq1
-returns-then-kind_at-eq1 c = rw c.in-Some.is (search (store_folder, rw c.in-Some.is at c.requires.3))
+pub returns-then-is_folder : goal.returns-then-is_folder
+returns-then-is_folder c = rw c.in-Some.is (search (store_folder, rw c.in-Some.is at c.requires.3))
 
 pub returns-then-is_unseen : goal.returns-then-is_unseen
 returns-then-is_unseen c = rw c.in-Some.is (search (store_unseen, rw c.in-Some.is at c.requires.3))

@@ -13,11 +13,11 @@ returns-then-role-eq0 c = record { row = search (rules, row_among_lem, entry_no_
 pub returns-then-size-role : goal.returns-then-size-role
 returns-then-size-role c = record { row = search (rules, row_among_lem, entry-aside); shows = search (entry-aside); within = search rules }
 
-pub kind_at-requires : goal.kind_at-requires
-kind_at-requires c = (search (works_long), omega arith)
+pub is_present-requires : goal.is_present-requires
+is_present-requires c = (search (works_long), omega arith)
 
-pub returns-then-kind_at-eq0 : goal.returns-then-kind_at-eq0
-returns-then-kind_at-eq0 c = record { row = search (rules, row_among_lem, entry-removed); shows = search (entry-removed); within = search rules }
+pub returns-then-not-is_present : goal.returns-then-not-is_present
+returns-then-not-is_present c = record { row = search (rules, row_among_lem, entry-removed); shows = search (entry-removed); within = search rules }
 
 pub returns : goal.returns
 returns c = record { row = search (row_within, row_among_lem, entry_found); shows = search (entry_found); within = omega arith }

@@ -2,8 +2,8 @@
 use Rattle.tree_lookup.proofs.Labels.{not_in, in_if}
 use Rattle.tree_lookup.proofs.is_in.Goals as goal
 
-pub returns-else-kind_at-ne0 : goal.returns-else-kind_at-ne0
-returns-else-kind_at-ne0 c = search (not_in)
+pub returns-else-is_present : goal.returns-else-is_present
+returns-else-is_present c = search (not_in)
 
-pub returns-then-kind_at-ne0 : goal.returns-then-kind_at-ne0
-returns-then-kind_at-ne0 c = search (in_if)
+pub returns-then-is_present : goal.returns-then-is_present
+returns-then-is_present c = search (in_if)

@@ -1,5 +1,5 @@
 -- The first n records of a log or a file, from the tree that a table holds on.
-use Rattle.tree_replay.proofs.Playing.{turn_entries, turn_asides, turn_both, turn_holds, turn_takes, turn_goes, turn_inside, play_starts}
+use Rattle.tree_replay.proofs.Playing.{turn_entries, turn_asides, turn_both, turn_holds, turn_takes, turn_goes, play_starts}
 use mathlib.Core.Path.{refl}
 use Rattle.tree_replay.proofs.Registers.{starts_on, goes_on_lem}
 use borrow.Author.Rules.{rules}

@@ -4,10 +4,26 @@ use borrow.Author.Rules.{rules}
 use Rattle.try_row.proofs.report_trial.Goals as goal
 
 pub note_before-count-requires : goal.note_before-count-requires
-note_before-count-requires c = (search, search, search, search, search, search, search, search, search rules)
+note_before-count-requires c = (search, search, search rules)
 
 pub report_by-requires : goal.report_by-requires
-report_by-requires c = (search, search, search, search, search, search, search, search (notes_within), search rules, search)
+report_by-requires c =
+    let k = c.requires.0.known in (
+      record {
+        known = record {
+          long = search;
+          based = k.based;
+          sound = search;
+          held_is = search;
+          entries_are = k.entries_are;
+          asides_are = k.asides_are;
+        };
+        used_is = search;
+      },
+      search (notes_within),
+      search rules,
+      search,
+    )
 
 pub returns : goal.returns
 returns c = search (all_reported)

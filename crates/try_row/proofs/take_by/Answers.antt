@@ -3,4 +3,4 @@ use borrow.Author.Rules.{rules}
 use Rattle.try_row.proofs.take_by.Goals as goal
 
 pub take_blocks-requires : goal.take_blocks-requires
-take_blocks-requires c = (search rules, search rules, search rules, search rules, search rules, search rules, search rules, search rules, search rules, search rules, search rules, search rules)
+take_blocks-requires c = (search rules, search rules, search rules, search rules, search rules, search rules, search rules, search rules, search rules, search rules)

@@ -15,8 +15,6 @@ take_by-requires c =
       search rules,
       copy_used _ _ is _ (search rules),
       search rules,
-      search rules,
-      search rules,
       copy_indexed _ _ is _ _ _ _ _ (search rules),
     )
 

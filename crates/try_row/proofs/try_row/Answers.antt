@@ -1,9 +1,8 @@
 -- What taking a row would do: the copy as the log would be, its tree in the table, and the report.
 use mathlib.Core.Path.{refl, ◌∙◌}
-use Rattle.std.proofs.Common.{rules}
 use Rattle.std.proofs.lemmas.Result.{err_from_is_err_and}
 use Rattle.refusal.proofs.Refusals.{not_zero}
-use Rattle.call_guard.proofs.Opening.{open_long, open_based, open_unit, open_state, open_used, open_held, open_list, open_folded, open_entries, open_asides}
+use Rattle.call_guard.proofs.Opening.{open_long, open_based, open_unit, open_state, open_used, open_list, open_folded, open_stands}
 use Rattle.try_row.proofs.Tried.{try_refused, try_passes, try_short, try_copy, try_tree, try_report, tried-long, tried_sound}
 use Rattle.try_row.proofs.try_row.Goals as goal
 
@@ -25,8 +24,6 @@ take_copy-t-requires c =
       open_used _ _ _ _ _ e refl,
       try_copy _ _ _ _ _ _ _ e refl,
       try_tree _ _ _ _ _ _ _ e refl,
-      search rules,
-      search rules,
       c.in_ok-state.ensures.holds,
     )
 
@@ -41,13 +38,7 @@ report_trial-requires c =
     let based = open_based _ _ _ _ _ e refl in
     let sound = open_state _ _ _ _ _ e refl in
     let unit = open_unit _ _ _ _ _ e refl in (
-      long,
-      based,
-      sound,
-      open_used _ _ _ _ _ e refl,
-      open_held _ _ _ _ _ e refl,
-      open_entries _ _ _ _ _ e refl,
-      open_asides _ _ _ _ _ e refl,
+      open_stands _ _ _ _ _ _ e,
       tried-long _ _ _ _ _ _ _ _ unit long based sound q,
       tried_sound _ _ _ _ _ _ _ _ unit long based sound q,
       c.take_copy-t.ensures.counted.0,

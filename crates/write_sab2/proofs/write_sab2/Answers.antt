@@ -1,7 +1,7 @@
 -- List, base and log are written into the lent file as SAB2, with zeros behind the last block.
 use Rattle.std.proofs.lemmas.Result.{err_from_is_err_and}
 use Rattle.refusal.proofs.Refusals.{not_zero}
-use Rattle.call_guard.proofs.Opening.{open_long, open_based, open_used, open_held, open_entries, open_asides, open_buffer}
+use Rattle.call_guard.proofs.Opening.{open_stands, open_buffer}
 use Rattle.write_sab2.proofs.Ways.{write_refused, all_written, state_sound, few_entries, few_asides, used_few}
 use borrow.Author.Rules.{rules}
 use Rattle.write_sab2.proofs.write_sab2.Goals as goal
@@ -14,16 +14,11 @@ returns-in_err-state c =
 pub write_state-requires : goal.write_state-requires
 write_state-requires c =
     let e = c.in_ok-state.ensures in (
-      search (open_long, e, rules),
-      search (open_based, e, rules),
+      search (open_stands, e, rules),
       search (state_sound, e, rules),
-      search (open_entries, e, rules),
-      search (open_asides, e, rules),
       search (few_entries, e, rules),
       search (few_asides, e, rules),
-      search (open_used, e, rules),
       search (used_few, e, rules),
-      search (open_held, e, rules),
       search (open_buffer, e, rules),
     )
 
