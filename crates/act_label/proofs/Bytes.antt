@@ -92,16 +92,20 @@ stand_is t (suc n) h =
     go true false true true e = refl
 
 -- 7 for a text that is not printable, 24 for one with a stroke
-pub text_number_lem : (t : List ℕ) → text_number t (length t) ≡ first_of (cond (printable t) 0 7) (cond (has_stroke t) 24 0)
+pub text_number_lem : (t : List ℕ) (n : ℕ) → n ≤ length t → text_number t n ≡ first_of (cond (printable (take n t)) 0 7) (cond (has_stroke (take n t)) 24 0)
 unfolding text_number
-text_number_lem t =
-    let all : take (length t) t ≡ t = take_all (length t) t (omega arith) in
-    rw (stand_is t (length t) (omega arith), plain_is t (length t) (omega arith), all) (go (printable t) (has_stroke t))
+text_number_lem t n h = rw (stand_is t n h, plain_is t n h) (go (printable (take n t)) (has_stroke (take n t)))
   where
     go : (p s : Bool) → cond (p && not s) 0 (cond p 24 7) ≡ first_of (cond p 0 7) (cond s 24 0)
     go true true = refl
     go true false = refl
     go false s = refl
+
+-- the same of the whole text
+pub whole_text : (t : List ℕ) → text_number t (length t) ≡ first_of (cond (printable t) 0 7) (cond (has_stroke t) 24 0)
+whole_text t =
+    let all : take (length t) t ≡ t = take_all (length t) t (omega arith) in
+    rw all at (text_number_lem t (length t) (omega arith))
 
 -- ---- what the loop of `check_text` is asked
 
@@ -114,19 +118,19 @@ module _ (t : List ℕ) (i : ℕ) {yes : Bool} (y : yes ≡ may_stand (get_or t 
   unfolding plain_to
   plain_next e = rw (add-one i, e, y)
 
-module _ (t : List ℕ) (i : ℕ) (u : i ≤ length t) (v : length t ≤ i) {stand : Bool} (a : stand ≡ stand_to t i) where
-  same_end : i ≡ length t
+module _ (t : List ℕ) (i n : ℕ) (u : i ≤ n) (v : n ≤ i) {stand : Bool} (a : stand ≡ stand_to t i) where
+  same_end : i ≡ n
   same_end = omega arith
 
-  pub all_stand : stand ≡ true → 0 ≡ text_number t (length t)
+  pub all_stand : stand ≡ true → 0 ≡ text_number t n
   unfolding text_number
   all_stand k = rw (← same_end, ← a, k)
 
   module _ (k : stand ≡ false) {plain : Bool} (b : plain ≡ plain_to t i) where
-    pub some_stroke : plain ≡ true → 24 ≡ text_number t (length t)
+    pub some_stroke : plain ≡ true → 24 ≡ text_number t n
     unfolding text_number
     some_stroke m = rw (← same_end, ← a, k, ← b, m)
 
-    pub other_byte : plain ≡ false → 7 ≡ text_number t (length t)
+    pub other_byte : plain ≡ false → 7 ≡ text_number t n
     unfolding text_number
     other_byte m = rw (← same_end, ← a, k, ← b, m)

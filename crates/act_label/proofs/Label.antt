@@ -14,7 +14,7 @@ use Rattle.model.specs.Record.{Rec, op, label_of, text_length, printable, is_lab
 use Rattle.byte_slice.proofs.Numbers.{and_true, and_right, test_false, not_both}
 use Rattle.log_laws.proofs.Formed.{blank_no_stroke}
 use Rattle.act_label.specs.Label.{text_number, label_number, field_number}
-use Rattle.act_label.proofs.Bytes.{stroke_append, text_number_lem}
+use Rattle.act_label.proofs.Bytes.{stroke_append, whole_text}
 
 -- ---- labels
 
@@ -85,7 +85,7 @@ module _ (t : List ℕ) {n : ℕ} (e : n ≡ text_length t) (within : n ≤ leng
         by_the_table h k =
             let z : blank (drop n t) ≡ true = rest_is ∙ not-false b h in
             let p : Parts t = record { some_text = rw (← e) some; first = f; last = rw (← e) g; zeros = rw (← e) z } in
-            k ∙ text_number_lem (take n t) ∙ rw (by_text t p, ← e, stroke_in_text t n z)
+            k ∙ whole_text (take n t) ∙ rw (by_text t p, ← e, stroke_in_text t n z)
 
 -- ---- `field_number`
 

@@ -39,7 +39,7 @@ fn keep_asides(base: &mut [u8], table: &[u8], m: usize)
     requires { (length base.old ≡ base_size) × (length table.now ≡ tree_size) × (m ≤ base_places) }
     ensures { base.new ≡ put_at base.old 36888 (part table.now 73732 (12 * m)) }
 {
-    put(base, 36888, &table[73732..73732 + 12 * m]);
+    byte_copy::put(base, 36888, &table[73732..73732 + 12 * m]);
 }
 
 // The head: the list, the counts of the rows, the vector.

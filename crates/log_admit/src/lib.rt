@@ -5,10 +5,10 @@ ghost use Rattle.std.specs.Prelude.{◌≡◌, true, suc, ◌+◌, ◌<◌, eqb,
 ghost use Rattle.model.specs.Record.{seen_vector, well_formed};
 ghost use Rattle.model.specs.Log.{rank};
 ghost use Rattle.refusal.specs.Refusals.{code_of};
-ghost use Rattle.log_closure.specs.Tables.{join_fault, fault_by, Placed, Spare, noted, admit_of};
+ghost use Rattle.log_closure.specs.Tables.{places_size, seens_size, join_fault, fault_by, Placed, Spare, noted, admit_of};
 ghost use Rattle.log_admit.specs.Known.{known_after};
 
-use log_closure::Tables;
+use log_closure::{all_covered, is_closed, note};
 use refusal::Refusal;
 use vector::Vector;
 
@@ -33,10 +33,11 @@ pub fn join_fault(
     rec: &[u8],
     s: Vector,
     held: Vector,
-    tables: &Tables,
+    places: &[u16],
+    seens: &[u16],
 ) -> Result<(), Refusal>
-    requires { (length rec.now ≡ 80) × (well_formed rec.now ≡ true) × (s.counts ≡ seen_vector rec.now) × Placed base.counts held.counts tables.now.places }
-    ensures { code_of result ≡ join_fault base.counts held.counts tables.now.places tables.now.seens rec.now }
+    requires { (length rec.now ≡ 80) × (well_formed rec.now ≡ true) × (s.counts ≡ seen_vector rec.now) × (length places.now ≡ places_size) × (length seens.now ≡ seens_size) × Placed base.counts held.counts places.now }
+    ensures { code_of result ≡ join_fault base.counts held.counts places.now seens.now rec.now }
 {
     let u = usize::from(record::unit_of(rec));
     if !is_next(record::number_of(rec), held.counts[u]) {
@@ -45,10 +46,10 @@ pub fn join_fault(
     if !vector::covers(held, s) {
         return Err(Refusal::NotNext);
     }
-    if tables.all_covered(base, s) {
+    if all_covered(base, places, seens, s) {
         return Ok(());
     }
-    if !tables.is_closed(base, s) {
+    if !is_closed(base, places, seens, s) {
         return Err(Refusal::NotClosed);
     }
     Ok(())
@@ -62,10 +63,11 @@ pub fn record_fault(
     s: Vector,
     k: u32,
     b: Before,
-    tables: &Tables,
+    places: &[u16],
+    seens: &[u16],
 ) -> Result<(), Refusal>
-    requires { (length rec.now ≡ 80) × (s.counts ≡ seen_vector rec.now) × (k ≡ rank rec.now) × Placed base.counts b.held.counts tables.now.places }
-    ensures { code_of result ≡ fault_by base.counts b.floor b.held.counts tables.now.places tables.now.seens rec.now }
+    requires { (length rec.now ≡ 80) × (s.counts ≡ seen_vector rec.now) × (k ≡ rank rec.now) × (length places.now ≡ places_size) × (length seens.now ≡ seens_size) × Placed base.counts b.held.counts places.now }
+    ensures { code_of result ≡ fault_by base.counts b.floor b.held.counts places.now seens.now rec.now }
 {
     if !record::well_formed(rec) {
         return Err(Refusal::Malformed);
@@ -73,7 +75,7 @@ pub fn record_fault(
     if k < b.floor {
         return Err(Refusal::BadFile);
     }
-    join_fault(base, rec, s, b.held, tables)
+    join_fault(base, rec, s, b.held, places, seens)
 }
 
 // One record more of a unit, whose number n is above its count: so the count is below 65,535.
@@ -90,18 +92,19 @@ pub fn admit(
     rec: &[u8],
     p: usize,
     b: Before,
-    tables: &mut Tables,
+    places: &mut [u16],
+    seens: &mut [u16],
 ) -> Result<Before, Refusal>
-    requires { (length rec.now ≡ 80) × (p < 518) × Placed base.counts b.held.counts tables.old.places × Spare base.counts b.held.counts }
-    ensures { noted (code_of result) (known_after b result).held.counts (known_after b result).floor tables.new.places tables.new.seens ≡ admit_of base.counts rec.now p b.held.counts b.floor tables.old.places tables.old.seens }
+    requires { (length rec.now ≡ 80) × (p < 518) × (length places.old ≡ places_size) × (length seens.old ≡ seens_size) × Placed base.counts b.held.counts places.old × Spare base.counts b.held.counts }
+    ensures { noted (code_of result) (known_after b result).held.counts (known_after b result).floor places.new seens.new ≡ admit_of base.counts rec.now p b.held.counts b.floor places.old seens.old }
 {
     let s = record::seen_vector(rec);
     let k = record::rank_of(rec);
-    record_fault(base, rec, s, k, b, tables)?;
+    record_fault(base, rec, s, k, b, places, seens)?;
     let u = usize::from(record::unit_of(rec));
     let n = record::number_of(rec);
     let f = base.counts[u];
     let held = counted(b.held, u, n);
-    tables.note(u, n - f, p, s);
+    note(u, n - f, p, s, places, seens);
     Ok(Before { held, floor: k + 1 })
 }

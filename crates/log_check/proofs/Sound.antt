@@ -5,18 +5,19 @@ use native.Mathlib.Nat.{zero-add, add-zero}
 use native.Mathlib.Omega.{arith}
 use mathlib.Core.Path.{◌≡◌, refl, sym, ap, ◌∙◌, subst}
 use mathlib.Core.Logic.{⊎_elim}
-use mathlib.Core.Bool.{Bool, true, false, cond, false≢true}
+use mathlib.Core.Bool.{Bool, true, false, cond, not, false≢true}
 use mathlib.Core.List.{List, [], ◌∷◌}
 use lib.Dec.{eqb}
 use lib.ListN.{length, take, drop, length-drop}
 use lib.Seq.{drop-drop, take_all}
-use borrow.Author.Tests.{eq-eqb, ne_eqb}
+use borrow.Author.Tests.{eq-eqb, ne_eqb, not-false}
 use Rattle.model.specs.Bytes.{blank, part}
 use Rattle.model.specs.Record.{Rec}
-use Rattle.model.specs.Log.{no_counts, record_fault, sound_after, records_in, records_of, sound_log_on, sound_log}
-use Rattle.byte_slice.proofs.Numbers.{cond_cases, eq_or_ne}
+use Rattle.model.specs.Log.{vector_of, no_counts, record_fault, sound_after, records_in, records_of, sound_log_on, sound_log}
+use Rattle.byte_slice.proofs.Numbers.{cond_cases, eq_or_ne, and_true}
 use Rattle.byte_slice.proofs.Parts.{part_is}
 use Rattle.encoding_laws.proofs.Logs.{sound_few}
+use Rattle.log_laws.proofs.Tests.{vector_on-none}
 use Rattle.log_closure.specs.Tables.{Indexed}
 use Rattle.log_check.specs.declared.Layout.TheVariants.{Log}
 use Rattle.log_check.specs.Places.{offset_of, laid_at, Laid}
@@ -155,3 +156,12 @@ module _ (base b places₀ seens₀ places seens : List ℕ) where
 pub plain_sound : (b : List ℕ) → sound_log_on no_counts b ≡ sound_log b
 unfolding sound_log
 plain_sound b = refl
+
+-- what is known of a log that was checked and found sound
+module _ (b : List ℕ) {s : Bool} (judged : s ≡ sound_log b) (holds : not s ≡ false) where
+  pub known_sound : sound_log b ≡ true
+  known_sound = sym judged ∙ not-false s holds
+
+  pub known_held : {h : List ℕ} → h ≡ held_of no_counts b → h ≡ vector_of (records_of b)
+  unfolding held_of sound_log sound_log_on
+  known_held e = e ∙ rw (and_true (sound_after no_counts [] (records_of b)) (blank (drop (80 * length (records_of b)) b)) known_sound).0 (vector_on-none (records_of b))

@@ -6,7 +6,7 @@ ghost use Rattle.model.specs.Lengths.{log_size, log_places};
 ghost use Rattle.model.specs.Bytes.{blank};
 ghost use Rattle.model.specs.Log.{records_of, sound_log_on};
 ghost use Rattle.refusal.specs.Refusals.{fault_code, fault_place};
-ghost use Rattle.log_closure.specs.Tables.{Indexed};
+ghost use Rattle.log_closure.specs.Tables.{places_size, seens_size, Indexed};
 ghost use Rattle.log_check.specs.declared.Layout.TheVariants.{Log};
 ghost use Rattle.log_check.specs.Places.{offset_of, laid_at, Laid};
 ghost use Rattle.log_check.specs.InOrder.{scan_of, ScanGives, held_of, check_of};
@@ -50,20 +50,20 @@ pub fn scan(
     bytes: &[u8],
     layout: Layout,
     n: usize,
-    tables: &mut Tables,
+    places: &mut [u16],
+    seens: &mut [u16],
 ) -> Result<Vector, Fault<usize>>
-    requires { (n ≤ log_places) × Laid layout bytes.now n }
-    ensures outright { scan_told result tables.new.places tables.new.seens ≡ scan_of base.counts (laid_at layout bytes.now) n tables.old.places tables.old.seens }
-    ensures gives { ScanGives base.counts (laid_at layout bytes.now) n (fault_code result) (fault_place result) (held_in result) tables.new.places tables.new.seens }
+    requires { (n ≤ log_places) × Laid layout bytes.now n × (length places.old ≡ places_size) × (length seens.old ≡ seens_size) }
+    ensures outright { scan_told result places.new seens.new ≡ scan_of base.counts (laid_at layout bytes.now) n places.old seens.old }
+    ensures gives { ScanGives base.counts (laid_at layout bytes.now) n (fault_code result) (fault_place result) (held_in result) places.new seens.new }
 {
-    tables.sized();
     let mut b = Before {
         held: base,
         floor: 0,
     };
     for i in 0..n {
         let at = offset(layout, i);
-        match log_admit::admit(base, &bytes[at..at + 80], i, b, tables) {
+        match log_admit::admit(base, &bytes[at..at + 80], i, b, places, seens) {
             Ok(next) => b = next,
             Err(refusal) => return Err(Fault { refusal, place: i }),
         }
@@ -104,7 +104,14 @@ pub fn check_into(base: Vector, log: &[u8], tables: &mut Tables) -> Result<Check
     ensures holds { IfOk result (λ told. Indexed base.counts (laid_at Log log.now) told.used (records_of log.now) told.held.counts tables.new.places tables.new.seens) }
 {
     let n = used(log);
-    let Ok(held) = scan(base, log, Layout::Log, n, tables) else {
+    let Ok(held) = scan(
+        base,
+        log,
+        Layout::Log,
+        n,
+        &mut tables.places,
+        &mut tables.seens,
+    ) else {
         return Err(Checked {
             used: n,
             held: vector::zero_vector(),

@@ -95,5 +95,9 @@ pub record Indexed (base : List ℕ) (at : ℕ → Rec) (top : ℕ) (m : List Re
 abbrev pub places_size : ℕ
 places_size = 4096
 
+-- a row of eight for each position
+abbrev pub seens_size : ℕ
+seens_size = 4144
+
 abbrev pub tables : List ℕ → List ℕ → Tables
 tables places seens = record { places = places; seens = seens }

@@ -5,12 +5,11 @@ ghost use Rattle.std.specs.Prelude.{◌≡◌, true, cond, ◌+◌, ◌*◌, ◌
 ghost use Rattle.model.specs.Lengths.{log_size, log_places};
 ghost use Rattle.model.specs.Log.{vector_of, records_of, sound_log};
 ghost use Rattle.order_model.specs.Order.{name_at, names_from, name_count, names_given, names_all};
-ghost use Rattle.log_closure.specs.Tables.{places_size, position_of};
 ghost use Rattle.order_laws.specs.Marking.{mark_slot, is_new, marks_all};
 ghost use Rattle.order_names.specs.Named.{marks_size, Few, place_named, Named};
 
 use byte_slice::le16;
-use log_closure::slot;
+use log_closure::{position, slot};
 use vector::Vector;
 
 // A mark for each unit and number.
@@ -88,14 +87,6 @@ pub fn names_all(log: &[u8], list: &[u8], n: usize, held: Vector) -> bool
     }
     let mut marks = [0u8; MARKS];
     mark_names(list, n, held, &mut marks)
-}
-
-// The position of the record of unit u with the number c, by a table of positions that stands alone.
-fn position(places: &[u16], u: usize, c: u16) -> usize
-    requires { (length places.now ≡ places_size) × (u < 8) × (1 ≤ c) × (c ≤ 512) }
-    ensures { result ≡ position_of places.now u c }
-{
-    usize::from(places[slot(u, c)])
 }
 
 // Where the record that the name at place i names stands in a log, by the table of positions.

@@ -7,14 +7,16 @@ use mathlib.Core.Bool.{Bool, true, false}
 use mathlib.Core.List.{List}
 use lib.ListN.{length, take, drop, replicate, length-take}
 use borrow.Author.Tests.{eq-eqb, ne_eqb}
-use Rattle.model.specs.Bytes.{same_bytes, part}
+use Rattle.model.specs.Bytes.{same_bytes, part, put_at}
 use Rattle.model.specs.File.{block_at, Fault, fault}
 use Rattle.base_model.specs.Base.{empty_base}
 use Rattle.call_model.specs.Read.{ReadBack, not_read, read_of}
 use Rattle.run_model.specs.Runs.{letters2}
 use Rattle.sab2_model.specs.Sab2.{row_blocks, sab2_base, record_part, sab2_counted, sab2_records, checked_sab2, is_sab2}
 use Rattle.sab2_model.specs.Calls.{read_sab2, read_either, read_either_of}
+use Rattle.byte_slice.proofs.PutAt.{put_whole}
 use Rattle.sab2_laws.proofs.Forms.{short_begins, sab1_read, sab2_fault_lem}
+use Rattle.sab2_laws.proofs.Rewritten.{base_long}
 use Rattle.sab2_check.proofs.Behind.{first_block, part_is}
 use Rattle.read_file_check.specs.Outcome.{read_back_of}
 use Rattle.read_file.specs.From.{read_from}
@@ -59,11 +61,12 @@ module _ (log base f : List ℕ) (two : is_sab2 f ≡ true) where
       unfolding fault
       no_fault z = sym (ap (λ (x : Fault). x.number) e) ∙ z
 
-      pub file_read : {a u k : ℕ} {v o b s : List ℕ} → m ≡ 0 → s ≡ sab2_base f → b ≡ s → read_back_of 0 0 a u k v o empty_base ≡ read_from (block_at f 0) (record_part f) empty_base
+      pub file_read : {a u k : ℕ} {v o b s : List ℕ} → m ≡ 0 → s ≡ sab2_base f → b ≡ put_at base 0 s → read_back_of 0 0 a u k v o empty_base ≡ read_from (block_at f 0) (record_part f) empty_base
           → read_back_of 0 0 a u k v o b ≡ read_either_of log base f
       unfolding read_either_of read_either read_sab2 read_from fault sab2_counted sab2_records
       file_read {a} {u} {k} {v} {o} {b} {s} z sb eb r =
-          let bb : b ≡ sab2_base f = eb ∙ sb in
+          let n : length s ≡ length base = ap (λ (x : List ℕ). length x) sb ∙ (base_long f (no_fault z) ∙ sym h) in
+          let bb : b ≡ sab2_base f = eb ∙ (put_whole base s n ∙ sb) in
           let moved : read_back_of 0 0 a u k v o b ≡ read_from (block_at f 0) (record_part f) b =
           ap (λ (y : ReadBack). read_back_of y.number y.place y.archive y.sender y.records y.vector y.log b) r in
           moved ∙ rw (bb, eq-eqb (length log) 40960 l, eq-eqb (length base) 43032 h, sab2_fault_lem f two, ← e, z, two)

@@ -62,7 +62,7 @@ fn read_sab2(
         return Err(BAD_BUFFER);
     }
     checked_sab2(file, beside)?;
-    base.copy_from_slice(beside);
+    byte_copy::put(base, 0, beside);
     Ok(load_behind(log, file))
 }
 

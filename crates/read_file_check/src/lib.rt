@@ -95,7 +95,14 @@ fn records_fault(
 {
     let total = records_counted(part, n);
     let m = total.min(LOG_PLACES);
-    let scanned = scan(folded, part, Layout::File, m, tables);
+    let scanned = scan(
+        folded,
+        part,
+        Layout::File,
+        m,
+        &mut tables.places,
+        &mut tables.seens,
+    );
     if let Some(u) = first_unlisted(part, list, asked_to(scanned, m)) {
         return Err(Fault {
             refusal: Refusal::Unlisted,

@@ -36,7 +36,10 @@ fn main(rt: HostRuntime) {
     if broken {
         let _ = rt.eprint("readout: standard input could not be read\n");
     }
-    let n = read.unwrap_or(0);
+    let n = match read {
+        Ok(n) => n,
+        Err(broken) => broken.count,
+    };
     if !report(&rt, broken, &file[0..n]) {
         let _ = rt.eprint("readout: cannot write\n");
     }

@@ -85,7 +85,7 @@ fn load_row(file: &[u8], entries: usize, asides: usize, i: usize, base: &mut [u8
     let p = row_part(entries, asides, i);
     let from = 512 * (i / 6) + (28 + 80 * (i % 6));
     let end = from + p.len;
-    put(base, p.at, &file[from..end]);
+    byte_copy::put(base, p.at, &file[from..end]);
     is_blank(&file[end..from + 80])
 }
 

@@ -6,7 +6,7 @@ ghost use Rattle.model.specs.Lengths.{log_size};
 ghost use Rattle.model.specs.Log.{records_of, sound_log_on};
 ghost use Rattle.call_model.specs.Outcome.{outcome, or_refused, takes_all, took_all, take_of};
 ghost use Rattle.model.specs.Block.{block_records, given_fault};
-ghost use Rattle.log_closure.specs.Tables.{Indexed};
+ghost use Rattle.log_closure.specs.Tables.{places_size, seens_size, Indexed};
 ghost use Rattle.log_check.specs.declared.Layout.TheVariants.{Log};
 ghost use Rattle.log_check.specs.Places.{laid_at};
 ghost use Rattle.refusal.specs.Refusals.{code_of};
@@ -28,15 +28,16 @@ pub fn take_block(
     b: &[u8],
     used: usize,
     held: Vector,
-    tables: &mut Tables,
+    places: &mut [u16],
+    seens: &mut [u16],
 ) -> Result<(), Refusal>
-    requires { (length log.old ≡ log_size) × (sound_log_on folded.counts log.old ≡ true) × (used ≡ length (records_of log.old)) × Indexed folded.counts (laid_at Log log.old) used (records_of log.old) held.counts tables.old.places tables.old.seens }
+    requires { (length log.old ≡ log_size) × (sound_log_on folded.counts log.old ≡ true) × (used ≡ length (records_of log.old)) × (length places.old ≡ places_size) × (length seens.old ≡ seens_size) × Indexed folded.counts (laid_at Log log.old) used (records_of log.old) held.counts places.old seens.old }
     ensures took { outcome (code_of result) 0 log.new [] 0 ≡ or_refused (given_fault archive b.now) log.old [] (took_all log.old (takes_all list folded.counts (records_of log.old) (block_records b.now))) }
-    ensures tables { judgement (code_of result) tables.new.places tables.new.seens ≡ judge_given list folded.counts (given_fault archive b.now) log.old b.now held.counts used tables.old.places tables.old.seens }
+    ensures tables { judgement (code_of result) places.new seens.new ≡ judge_given list folded.counts (given_fault archive b.now) log.old b.now held.counts used places.old seens.old }
 {
     take_beside::given_fault(archive, b)?;
     let n = usize::from(block_read::count_in(b));
-    take_judge::judge_block(list, folded, b, n, log, held, used, tables)?;
+    take_judge::judge_block(list, folded, b, n, log, held, used, places, seens)?;
     take_store::store(list, folded, log, b, n, Counts { held, used });
     Ok(())
 }
@@ -56,6 +57,7 @@ pub fn take(log: &mut [u8], base: &[u8], archive: u32, unit: u8, b: &[u8]) -> Re
         b,
         state.used,
         state.held,
-        &mut tables,
+        &mut tables.places,
+        &mut tables.seens,
     )
 }

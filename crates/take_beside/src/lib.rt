@@ -7,12 +7,12 @@ ghost use Rattle.model.specs.Numbers.{not_next};
 ghost use Rattle.model.specs.Bytes.{same_bytes};
 ghost use Rattle.model.specs.Record.{seen_vector, well_formed};
 ghost use Rattle.model.specs.Block.{given_fault};
-ghost use Rattle.log_closure.specs.Tables.{Placed};
+ghost use Rattle.log_closure.specs.Tables.{places_size, seens_size, Placed};
 ghost use Rattle.refusal.specs.Refusals.{code_of};
 ghost use Rattle.take_beside.specs.Judging.{Counted, held_at, step, new_by, new_step};
 ghost use Rattle.take_beside.specs.Counts.{held_after, used_after};
 
-use log_closure::Tables;
+use log_closure::note;
 use model::{BLOCK_BYTES, LOG_PLACES};
 use refusal::Refusal;
 use vector::Vector;
@@ -65,12 +65,13 @@ pub fn new_fault(
     s: Vector,
     held: Vector,
     used: usize,
-    tables: &Tables,
+    places: &[u16],
+    seens: &[u16],
 ) -> Result<(), Refusal>
-    requires { (length rec.now ≡ record_size) × (well_formed rec.now ≡ true) × (s.counts ≡ seen_vector rec.now) × Placed base.counts held.counts tables.now.places }
-    ensures { code_of result ≡ new_by base.counts held.counts used tables.now.places tables.now.seens rec.now }
+    requires { (length rec.now ≡ record_size) × (well_formed rec.now ≡ true) × (s.counts ≡ seen_vector rec.now) × (length places.now ≡ places_size) × (length seens.now ≡ seens_size) × Placed base.counts held.counts places.now }
+    ensures { code_of result ≡ new_by base.counts held.counts used places.now seens.now rec.now }
 {
-    let joins = log_admit::join_fault(base, rec, s, held, tables);
+    let joins = log_admit::join_fault(base, rec, s, held, places, seens);
     if is_not_next(joins) {
         return joins;
     }
@@ -91,18 +92,19 @@ pub fn take_new(
     p: usize,
     held: Vector,
     used: usize,
-    tables: &mut Tables,
+    places: &mut [u16],
+    seens: &mut [u16],
 ) -> Result<Counts, Refusal>
-    requires { (length rec.now ≡ record_size) × (well_formed rec.now ≡ true) × (p < 518) × (used ≤ log_places) × Placed base.counts held.counts tables.old.places × Counted base.counts held.counts used }
-    ensures { step (code_of result) (held_after held.counts result) (used_after used result) tables.new.places tables.new.seens ≡ new_step base.counts rec.now p held.counts used tables.old.places tables.old.seens }
+    requires { (length rec.now ≡ record_size) × (well_formed rec.now ≡ true) × (p < 518) × (used ≤ log_places) × (length places.old ≡ places_size) × (length seens.old ≡ seens_size) × Placed base.counts held.counts places.old × Counted base.counts held.counts used }
+    ensures { step (code_of result) (held_after held.counts result) (used_after used result) places.new seens.new ≡ new_step base.counts rec.now p held.counts used places.old seens.old }
 {
     let s = record::seen_vector(rec);
-    new_fault(base, rec, s, held, used, tables)?;
+    new_fault(base, rec, s, held, used, places, seens)?;
     let u = usize::from(record::unit_of(rec));
     let n = record::number_of(rec);
     let f = base.counts[u];
     let more = log_admit::counted(held, u, n);
-    tables.note(u, n - f, p, s);
+    note(u, n - f, p, s, places, seens);
     Ok(Counts {
         held: more,
         used: used + 1,

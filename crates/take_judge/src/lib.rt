@@ -6,7 +6,7 @@ ghost use Rattle.model.specs.Lengths.{record_size, block_size, log_size, log_pla
 ghost use Rattle.model.specs.Record.{unit, num, well_formed};
 ghost use Rattle.model.specs.Log.{records_of};
 ghost use Rattle.model.specs.Block.{count_in};
-ghost use Rattle.log_closure.specs.Tables.{Placed, Indexed};
+ghost use Rattle.log_closure.specs.Tables.{places_size, seens_size, Placed, Indexed};
 ghost use Rattle.log_check.specs.declared.Layout.TheVariants.{Log};
 ghost use Rattle.log_check.specs.Places.{laid_at};
 ghost use Rattle.refusal.specs.Refusals.{code_of};
@@ -14,7 +14,7 @@ ghost use Rattle.take_beside.specs.Judging.{Counted, held_at, step, held_by, tak
 ghost use Rattle.take_beside.specs.Counts.{held_after, used_after};
 
 use base_head::is_listed;
-use log_closure::Tables;
+use log_closure::position;
 use refusal::Refusal;
 use take_beside::{Counts, same_held, take_new};
 use vector::Vector;
@@ -26,10 +26,10 @@ fn held_fault(
     held: Vector,
     log: &[u8],
     b: &[u8],
-    tables: &Tables,
+    places: &[u16],
 ) -> Result<(), Refusal>
-    requires { (length rec.now ≡ record_size) × (well_formed rec.now ≡ true) × (num rec.now ≤ get_or held.counts (unit rec.now) 0) × (length log.now ≡ log_size) × (length b.now ≡ block_size) × Placed base.counts held.counts tables.now.places }
-    ensures { code_of result ≡ held_by base.counts (held_at log.now b.now) tables.now.places rec.now }
+    requires { (length rec.now ≡ record_size) × (well_formed rec.now ≡ true) × (num rec.now ≤ get_or held.counts (unit rec.now) 0) × (length log.now ≡ log_size) × (length b.now ≡ block_size) × (length places.now ≡ places_size) × Placed base.counts held.counts places.now }
+    ensures { code_of result ≡ held_by base.counts (held_at log.now b.now) places.now rec.now }
 {
     let u = usize::from(record::unit_of(rec));
     let c = record::number_of(rec);
@@ -37,7 +37,7 @@ fn held_fault(
     if c <= f {
         return Ok(());
     }
-    let q = tables.position(u, c - f);
+    let q = position(places, u, c - f);
     if !same_held(rec, q, log, b) {
         return Err(Refusal::OtherBytes);
     }
@@ -55,10 +55,11 @@ pub fn take_record(
     used: usize,
     log: &[u8],
     b: &[u8],
-    tables: &mut Tables,
+    places: &mut [u16],
+    seens: &mut [u16],
 ) -> Result<Counts, Refusal>
-    requires { (length rec.now ≡ record_size) × (p < 518) × (used ≤ log_places) × (length log.now ≡ log_size) × (length b.now ≡ block_size) × Placed base.counts held.counts tables.old.places × Counted base.counts held.counts used }
-    ensures { step (code_of result) (held_after held.counts result) (used_after used result) tables.new.places tables.new.seens ≡ take_by list base.counts (held_at log.now b.now) rec.now p held.counts used tables.old.places tables.old.seens }
+    requires { (length rec.now ≡ record_size) × (p < 518) × (used ≤ log_places) × (length log.now ≡ log_size) × (length b.now ≡ block_size) × (length places.old ≡ places_size) × (length seens.old ≡ seens_size) × Placed base.counts held.counts places.old × Counted base.counts held.counts used }
+    ensures { step (code_of result) (held_after held.counts result) (used_after used result) places.new seens.new ≡ take_by list base.counts (held_at log.now b.now) rec.now p held.counts used places.old seens.old }
 {
     if !record::well_formed(rec) {
         return Err(Refusal::Malformed);
@@ -69,9 +70,9 @@ pub fn take_record(
     }
     let c = record::number_of(rec);
     if held.counts[u] < c {
-        return take_new(base, rec, p, held, used, tables);
+        return take_new(base, rec, p, held, used, places, seens);
     }
-    held_fault(base, rec, held, log, b, tables)?;
+    held_fault(base, rec, held, log, b, places)?;
     Ok(Counts { held, used })
 }
 
@@ -84,10 +85,11 @@ pub fn judge_block(
     log: &[u8],
     v: Vector,
     m: usize,
-    tables: &mut Tables,
+    places: &mut [u16],
+    seens: &mut [u16],
 ) -> Result<(), Refusal>
-    requires { (length b.now ≡ block_size) × (n ≡ count_in b.now) × (n ≤ 6) × (length log.now ≡ log_size) × (m ≡ length (records_of log.now)) × Indexed base.counts (laid_at Log log.now) m (records_of log.now) v.counts tables.old.places tables.old.seens }
-    ensures outright { judgement (code_of result) tables.new.places tables.new.seens ≡ judge_of list base.counts log.now b.now n v.counts m tables.old.places tables.old.seens }
+    requires { (length b.now ≡ block_size) × (n ≡ count_in b.now) × (n ≤ 6) × (length log.now ≡ log_size) × (m ≡ length (records_of log.now)) × (length places.old ≡ places_size) × (length seens.old ≡ seens_size) × Indexed base.counts (laid_at Log log.now) m (records_of log.now) v.counts places.old seens.old }
+    ensures outright { judgement (code_of result) places.new seens.new ≡ judge_of list base.counts log.now b.now n v.counts m places.old seens.old }
     ensures gives { JudgeGives list base.counts (records_of log.now) b.now n (code_of result) }
 {
     let mut held = v;
@@ -103,7 +105,8 @@ pub fn judge_block(
             used,
             log,
             b,
-            tables,
+            places,
+            seens,
         )?;
         held = counts.held;
         used = counts.used;

@@ -65,7 +65,7 @@ pub fn take_blocks(
     ensures took { tried result.taken (stop_code result.stopped) log.new ≡ try_all archive unit log.old base.now row.now }
     ensures counted { (result.used ≡ length (records_of log.new)) × (result.held.counts ≡ held_on log.new base.now) }
 {
-    byte_slice::put(work, 0, log);
+    byte_copy::put(work, 0, log);
     let t = take_row_judge::judge_row(
         list, folded, base, row, archive, unit, log, used, held, work, tables,
     );

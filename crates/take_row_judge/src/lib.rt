@@ -92,7 +92,15 @@ fn take_at(
     }
     let c = record::number_of(rec);
     if held.counts[u] < c {
-        return take_new(folded, rec, used, held, used, tables);
+        return take_new(
+            folded,
+            rec,
+            used,
+            held,
+            used,
+            &mut tables.places,
+            &mut tables.seens,
+        );
     }
     held_fault(folded, rec, held, work, tables)?;
     Ok(Counts { held, used })

@@ -4,7 +4,6 @@
 ghost use Rattle.std.specs.Prelude.{◌≡◌, ◌⊎◌, ◌++◌, ◌∷◌, [], ◌+◌, ◌≤◌, ◌<◌, length};
 ghost use Rattle.model.specs.Record.{op, self_of, folder_of, label_of};
 ghost use Rattle.model.specs.Replay.{new_entry, effect as effect_of};
-ghost use Rattle.refusal.specs.Refusals.{number_of};
 ghost use Rattle.tree_table.specs.Rows.{entries_from, asides_from, tree_in, new_aside, InRange};
 ghost use Rattle.hash_chains.specs.Chains.{nodes_in};
 ghost use Rattle.tree_maps.specs.Keys.{hash_of};
@@ -13,7 +12,6 @@ ghost use Rattle.tree_amend.specs.Effects.{with_entries, with_asides, Placed, Ta
 ghost use Rattle.tree_amend.specs.Registers.{made_on, effect_on, aside_on};
 
 use record_uses::Operation;
-use tree_judge::Aside;
 use tree_table::Size;
 
 // The register of a make: the role of the new entry, its folder's count and its label, whose chain is given.
@@ -44,22 +42,18 @@ pub fn add_entry(rec: &[u8], table: &mut [u8], register: &mut [u16], size: Size,
 // A record that stands aside: a row for it, and its role.
 pub fn stand_aside(
     rec: &[u8],
-    aside: Aside,
+    reason: u8,
+    marked: u32,
     table: &mut [u8],
     register: &mut [u16],
     size: Size,
 ) -> Size
-    requires { Takes (tree_in table.old size.entries size.asides) rec.now × Holds table.old register.old size.entries size.asides × (size.asides < 1024) × (size.entries + size.asides < 1536) × ((aside.marked ≡ 0) ⊎ InRange aside.marked) }
-    ensures { Works table.new register.new result.entries result.asides (with_asides (tree_in table.old size.entries size.asides) (asides_from table.old 0 size.asides ++ (new_aside (self_of rec.now) (number_of aside.reason) aside.marked ∷ []))) × (nodes_in 4097 register.new ≤ nodes_in 4097 register.old + 1) × (register.new ≡ aside_on rec.now (tree_in table.old size.entries size.asides) register.old) }
+    requires { Takes (tree_in table.old size.entries size.asides) rec.now × Holds table.old register.old size.entries size.asides × (size.asides < 1024) × (size.entries + size.asides < 1536) × ((marked ≡ 0) ⊎ InRange marked) }
+    ensures { Works table.new register.new result.entries result.asides (with_asides (tree_in table.old size.entries size.asides) (asides_from table.old 0 size.asides ++ (new_aside (self_of rec.now) reason marked ∷ []))) × (nodes_in 4097 register.new ≤ nodes_in 4097 register.old + 1) × (register.new ≡ aside_on rec.now (tree_in table.old size.entries size.asides) register.old) }
 {
     let who = tree_table::self_of(rec);
     let at = 73732 + 12 * size.asides;
-    tree_table::fill_aside(
-        &mut table[at..at + 12],
-        who,
-        u8::from(aside.reason),
-        aside.marked,
-    );
+    tree_table::fill_aside(&mut table[at..at + 12], who, reason, marked);
     tree_maps::name(register, who, 1025 + size.asides);
     Size {
         entries: size.entries,

@@ -1,7 +1,7 @@
 // A record is judged: it fits, or stands aside under the first reason that holds.
 #![tactic(auto)]
 
-ghost use Rattle.std.specs.Prelude.{◌≡◌, cond, ◌||◌, ◌⊎◌, ◌+◌, ◌*◌, ◌≤◌, ◌<◌, ltb, length, IfSome};
+ghost use Rattle.std.specs.Prelude.{◌≡◌, cond, ◌||◌, ◌⊎◌, ◌+◌, ◌*◌, ◌≤◌, ◌<◌, ltb, length, IfSome, IfNone};
 ghost use Rattle.model.specs.Record.{op, object_of, label_of, folder_of};
 ghost use Rattle.model.specs.Replay.{fits, aside, unseen, entry_of, holder_of, free_label, folder_stands, judge_make, judge_store, judge_remove, judge_rename, judge_move, judge as judge_of};
 ghost use Rattle.model.specs.Table.{entry_in};
@@ -134,12 +134,24 @@ fn object_row(rec: &[u8], table: &[u8], register: &[u16], size: Size) -> Option<
     tree_lookup::entry_of(table, register, size, tree_table::object_of(rec))
 }
 
+// The row, if it is one of n: a row at or above n is none.
+fn row_below(row: Option<usize>, n: usize) -> Option<usize>
+    ensures within { IfSome result (λ i. i < n) }
+    ensures kept { IfSome result (λ i. row_or n row ≡ i) }
+    ensures absent { IfNone result (n ≤ row_or n row) }
+{
+    match row {
+        Some(i) if i < n => Some(i),
+        _ => None,
+    }
+}
+
 // A store on the entry in a row: 12 for no row, 14 for a folder, 17 for unseen contents.
 pub fn judge_store(rec: &[u8], table: &[u8], n: usize, row: Option<usize>) -> Result<(), Aside>
-    requires { (length rec.now ≡ 80) × (length table.now ≡ 86020) × (n ≤ 1024) × IfSome row (λ i. i < n) }
+    requires { (length rec.now ≡ 80) × (length table.now ≡ 86020) × (n ≤ 1024) }
     ensures { verdict_of (aside_code result) (aside_marked result) ≡ judge_store rec.now (row_in table.now n (row_or n row)) }
 {
-    let Some(row) = row else {
+    let Some(row) = row_below(row, n) else {
         return Err(Aside {
             reason: Refusal::NoObject,
             marked: 0,
@@ -188,10 +200,10 @@ pub fn judge_remove(
     size: Size,
     row: Option<usize>,
 ) -> Result<(), Aside>
-    requires { (length rec.now ≡ 80) × Holds table.now register.now size.entries size.asides × IfSome row (λ i. i < size.entries) }
+    requires { (length rec.now ≡ 80) × Holds table.now register.now size.entries size.asides }
     ensures { verdict_of (aside_code result) (aside_marked result) ≡ judge_remove rec.now (entries_from table.now 0 size.entries) (row_in table.now size.entries (row_or size.entries row)) }
 {
-    let Some(row) = row else {
+    let Some(row) = row_below(row, size.entries) else {
         return Err(Aside {
             reason: Refusal::NoObject,
             marked: 0,
@@ -221,10 +233,10 @@ pub fn judge_rename(
     size: Size,
     row: Option<usize>,
 ) -> Result<(), Aside>
-    requires { (length rec.now ≡ 80) × Holds table.now register.now size.entries size.asides × IfSome row (λ i. i < size.entries) }
+    requires { (length rec.now ≡ 80) × Holds table.now register.now size.entries size.asides }
     ensures { verdict_of (aside_code result) (aside_marked result) ≡ judge_rename rec.now (entries_from table.now 0 size.entries) (row_in table.now size.entries (row_or size.entries row)) }
 {
-    let Some(row) = row else {
+    let Some(row) = row_below(row, size.entries) else {
         return Err(Aside {
             reason: Refusal::NoObject,
             marked: 0,
@@ -249,10 +261,10 @@ pub fn judge_move(
     size: Size,
     row: Option<usize>,
 ) -> Result<(), Aside>
-    requires { Asks rec.now × (op rec.now ≡ 7) × Holds table.now register.now size.entries size.asides × IfSome row (λ i. i < size.entries) }
+    requires { Asks rec.now × (op rec.now ≡ 7) × Holds table.now register.now size.entries size.asides }
     ensures { verdict_of (aside_code result) (aside_marked result) ≡ judge_move rec.now (entries_from table.now 0 size.entries) (row_in table.now size.entries (row_or size.entries row)) }
 {
-    let Some(row) = row else {
+    let Some(row) = row_below(row, size.entries) else {
         return Err(Aside {
             reason: Refusal::NoObject,
             marked: 0,

@@ -12,7 +12,7 @@ use lib.ListN.{get_or, length}
 use borrow.Author.Tests.{lt-ltb, le-ltb, not-true, not-false}
 use Rattle.model.specs.Replay.{Entry, Aside, Tree, is_present, entry_of}
 use Rattle.model.specs.Table.{entry_in, aside_in, work_bytes}
-use Rattle.tree_table.specs.Rows.{entries_from, asides_from, tree_in, row_in, Proper, AllProper}
+use Rattle.tree_table.specs.Rows.{entries_from, asides_from, tree_in, row_in, InRange, Proper, AllProper}
 use Rattle.tree_table.proofs.Rows.{tree_back}
 use Rattle.tree_table.proofs.Writes.{flagged-long}
 use Rattle.byte_slice.proofs.Numbers.{lt_or_ge}
@@ -85,6 +85,16 @@ module _ (b register : List ℕ) (n m : ℕ) (t : Tree) (w : Works b register n 
   unfolding tree_in
   works_row i d h =
       sym (ap (λ (x : Tree). get_or x.entries i d) works_tree) ∙ (rw (zero-add i) at (entries_at b 0 n i d h))
+
+  pub works_range : (i : ℕ) → i < n → InRange (entry_in b (4 + 72 * i)).made
+  works_range i h =
+      let p = w.rows in
+      rw (← works_row i blank_entry h) (proper_at t.entries i blank_entry (omega arith) w.proper).range
+
+  pub works_note : (i : ℕ) (d : Aside) → i < m → get_or t.asides i d ≡ aside_in b (73732 + 12 * i)
+  unfolding tree_in
+  works_note i d h =
+      sym (ap (λ (x : Tree). get_or x.asides i d) works_tree) ∙ (rw (zero-add i) at (asides_at b 0 m i d h))
 
 -- ---- roles
 

@@ -34,7 +34,14 @@ fn make_at(
     match tree_judge::judge_make_at(rec, table, register, Size { entries, asides }, h) {
         Ok(()) => tree_effect::add_entry(rec, table, register, Size { entries, asides }, h),
         Err(aside) => {
-            tree_effect::stand_aside(rec, aside, table, register, Size { entries, asides })
+            tree_effect::stand_aside(
+                rec,
+                u8::from(aside.reason),
+                aside.marked,
+                table,
+                register,
+                Size { entries, asides },
+            )
         }
     }
 }
@@ -56,7 +63,14 @@ fn step_at(
     match tree_judge::judge(rec, table, register, Size { entries, asides }) {
         Ok(()) => tree_effect::effect(rec, table, register, Size { entries, asides }),
         Err(aside) => {
-            tree_effect::stand_aside(rec, aside, table, register, Size { entries, asides })
+            tree_effect::stand_aside(
+                rec,
+                u8::from(aside.reason),
+                aside.marked,
+                table,
+                register,
+                Size { entries, asides },
+            )
         }
     }
 }

@@ -70,7 +70,7 @@ fn copy_log(log: &[u8], copy: &mut [u8])
     requires { (length log.now ≡ log_size) × (length copy.old ≡ log_size) }
     ensures { copy.new ≡ log.now }
 {
-    byte_slice::put(copy, 0, log);
+    byte_copy::put(copy, 0, log);
 }
 
 // The row is taken into the log of a sound state whose records the tables have. The front of the tree table is the memory to judge it in.

@@ -1,4 +1,4 @@
--- The blocks of a written file: which records each holds, and the zeros behind them.
+-- The blocks of a written file: which records each holds, where each is written, and the zeros behind them.
 -- Assumes nothing.
 use Prim.Native.Nat.{ℕ, ◌+◌, ◌-◌, ◌*◌, ◌≤◌, ◌<◌, min}
 use native.Mathlib.Omega.{arith}
@@ -61,6 +61,12 @@ file_block_of a u k b h own e = let z : 0 + k ≡ k = omega arith in rw (own, z)
 pub sound_whole : (b v : List ℕ) → v ≡ replicate 8 0 → sound_log b ≡ true → sound_log_on v b ≡ true
 unfolding sound_log
 sound_whole b v e h = rw e h
+
+-- ---- writing into the file
+
+-- a part that was lent has come back with s in it
+pub placed : (d p s : List ℕ) (k : ℕ) → length s ≡ 512 → p ≡ s → put_mid (512 * k) (512 * k + 512 - 512 * k) d p ≡ put_at d (512 * k) s
+placed d p s k n e = rw e (mid_put (512 * k) 512 d s n)
 
 -- ---- zeros behind the blocks
 

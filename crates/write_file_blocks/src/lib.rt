@@ -8,7 +8,6 @@ ghost use Rattle.model.specs.File.{block_count, header_of, file_block};
 ghost use Rattle.run_model.specs.Runs.{run_block};
 
 use block_write::{Block, block_as};
-use byte_slice::put;
 use vector::{Vector, zero_vector};
 
 // How many blocks hold n records: six records a block, and one block for none.
@@ -71,7 +70,7 @@ pub fn write_at(file: &mut [u8], k: usize, b: Block)
     requires { 512 * k + 512 ≤ length file.old }
     ensures { file.new ≡ put_at file.old (512 * k) b.bytes }
 {
-    put(file, 512 * k, &b.bytes);
+    file[512 * k..512 * k + 512].copy_from_slice(&b.bytes);
 }
 
 // Zeros are written behind the first n blocks.

@@ -26,7 +26,7 @@ overflow_sub-n c =
 pub note-requires : goal.note-requires
 note-requires c =
     let u = c.from-u.ensures ∙ c.unit_of.ensures in
-    (search (unit_admitted, c.in_ok-record_fault.ensures), search (number_least, c.in_ok-record_fault.ensures), search (number_most, c.in_ok-record_fault.ensures), search rules)
+    (search (unit_admitted, c.in_ok-record_fault.ensures), search (number_least, c.in_ok-record_fault.ensures), search (number_most, c.in_ok-record_fault.ensures), search rules, search rules, search rules)
 
 pub returns : goal.returns
 returns c =

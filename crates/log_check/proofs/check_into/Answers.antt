@@ -5,7 +5,7 @@ use Rattle.log_check.proofs.Sound.{log_laid, records_indexed, fault-left, tail-l
 use Rattle.log_check.proofs.check_into.Goals as goal
 
 pub scan-requires : goal.scan-requires
-scan-requires c = (search rules, search (log_laid))
+scan-requires c = (search rules, search (log_laid), search rules, search rules)
 
 pub returns-in_default-clause-outright : goal.returns-in_default-clause-outright
 returns-in_default-clause-outright c = search (fault-left, not_zero, c.in_default.ensures.outright, c.in_default.ensures.gives)

@@ -12,7 +12,7 @@ pub slice_bounds-admit-end : goal.slice_bounds-admit-end
 slice_bounds-admit-end c = search (laid_inside)
 
 pub admit-requires : goal.admit-requires
-admit-requires c = (search rules, search rules, search (passed_placed), search (passed_spare))
+admit-requires c = (search rules, search rules, search rules, search rules, search (passed_placed), search (passed_spare))
 
 pub returns-in-Err-clause-outright : goal.returns-in-Err-clause-outright
 returns-in-Err-clause-outright c = search (scan_left, not_zero, c.in-Err.ensures)

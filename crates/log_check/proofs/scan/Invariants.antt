@@ -8,5 +8,5 @@ use Rattle.log_check.proofs.scan.Given as goal
 
 abbrev pub invariant-loop-i : goal.invariant-loop-i
 invariant-loop-i l = (first_fault l.base.counts (laid_at l.layout l.bytes) l.i (l.n - l.i) ≡ first_fault l.base.counts (laid_at l.layout l.bytes) 0 l.n)
-    × (scan_from l.base.counts (laid_at l.layout l.bytes) l.i (l.n - l.i) l.b.held.counts l.b.floor l.tables.places l.tables.seens ≡ scan_of l.base.counts (laid_at l.layout l.bytes) l.n l.initial.tables.places l.initial.tables.seens)
-    × Passed l.base.counts (laid_at l.layout l.bytes) l.i l.b.held.counts l.b.floor l.tables.places l.tables.seens
+    × (scan_from l.base.counts (laid_at l.layout l.bytes) l.i (l.n - l.i) l.b.held.counts l.b.floor l.places l.seens ≡ scan_of l.base.counts (laid_at l.layout l.bytes) l.n l.initial.places l.initial.seens)
+    × Passed l.base.counts (laid_at l.layout l.bytes) l.i l.b.held.counts l.b.floor l.places l.seens

@@ -5,7 +5,7 @@ use borrow.Author.Rules.{rules}
 use Rattle.read_file_check.proofs.records_fault.Goals as goal
 
 pub scan-scanned-requires : goal.scan-scanned-requires
-scan-scanned-requires c = (search rules, search (file_laid))
+scan-scanned-requires c = (search rules, search (file_laid), search rules, search rules)
 
 pub asked_to-requires : goal.asked_to-requires
 asked_to-requires c = search (small_at)

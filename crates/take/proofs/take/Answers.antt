@@ -12,7 +12,7 @@ returns-in_err-state c =
     rw (p.1, p.2) (search (take_refused, not_zero, c.in_err-state.ensures.outright))
 
 pub take_block-requires : goal.take_block-requires
-take_block-requires c = (search (open_long, c.in_ok-state.ensures.outright), search (told_sound, c.in_ok-state.ensures.outright), search (open_used, c.in_ok-state.ensures.outright), search (told_indexed, c.in_ok-state.ensures.outright, c.in_ok-state.ensures.holds))
+take_block-requires c = (search (open_long, c.in_ok-state.ensures.outright), search (told_sound, c.in_ok-state.ensures.outright), search (open_used, c.in_ok-state.ensures.outright), search rules, search rules, search (told_indexed, c.in_ok-state.ensures.outright, c.in_ok-state.ensures.holds))
 
 pub returns : goal.returns
 returns c = search (took, c.in_ok-state.ensures.outright)

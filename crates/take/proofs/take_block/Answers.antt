@@ -16,7 +16,7 @@ pub count_in-requires : goal.count_in-requires
 count_in-requires c = search (given_long, c.in_ok-given_fault.ensures)
 
 pub judge_block-requires : goal.judge_block-requires
-judge_block-requires c = let n = c.from-n.ensures ∙ c.count_in.ensures in (search (given_long, c.in_ok-given_fault.ensures), search rules, search (given_few, c.in_ok-given_fault.ensures), search rules, search rules, search rules)
+judge_block-requires c = let n = c.from-n.ensures ∙ c.count_in.ensures in (search (given_long, c.in_ok-given_fault.ensures), search rules, search (given_few, c.in_ok-given_fault.ensures), search rules, search rules, search rules, search rules, search rules)
 
 pub returns-in_err-judge_block-clause-took : goal.returns-in_err-judge_block-clause-took
 returns-in_err-judge_block-clause-took c =

@@ -20,7 +20,7 @@ overflow_sub-n c = let u = c.from-u.ensures ∙ c.unit_of.ensures in search (new
 pub note-requires : goal.note-requires
 note-requires c =
     let u = c.from-u.ensures ∙ c.unit_of.ensures in
-    (search unit_small, search (new_least, c.in_ok-new_fault.ensures), search (new_most, c.in_ok-new_fault.ensures), search rules)
+    (search unit_small, search (new_least, c.in_ok-new_fault.ensures), search (new_most, c.in_ok-new_fault.ensures), search rules, search rules, search rules)
 
 pub returns : goal.returns
 returns c = let u = c.from-u.ensures ∙ c.unit_of.ensures in search (new_notes, c.in_ok-new_fault.ensures)

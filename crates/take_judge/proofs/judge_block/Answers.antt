@@ -9,7 +9,7 @@ pub loop-j-init : goal.loop-j-init
 loop-j-init c = (search left_starts, search going_starts)
 
 pub take_record-requires : goal.take_record-requires
-take_record-requires c = (search rules, search rules, search going_few, search rules, search rules, search going_placed, search going_counted)
+take_record-requires c = (search rules, search rules, search going_few, search rules, search rules, search rules, search rules, search going_placed, search going_counted)
 
 pub returns-in_err-counts-clause-outright : goal.returns-in_err-counts-clause-outright
 returns-in_err-counts-clause-outright c =

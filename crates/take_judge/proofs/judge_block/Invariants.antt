@@ -6,5 +6,5 @@ use Rattle.take_judge.proofs.Going.{Going}
 use Rattle.take_judge.proofs.judge_block.Given as goal
 
 abbrev pub invariant-loop-j : goal.invariant-loop-j
-invariant-loop-j l = (judge_from l.list l.base.counts l.log l.b l.j (l.n - l.j) l.held.counts l.used l.tables.places l.tables.seens ≡ judge_from l.list l.base.counts l.log l.b 0 l.n l.initial.held.counts l.m l.initial.tables.places l.initial.tables.seens)
-    × Going l.list l.base.counts l.log l.b l.n l.j l.held.counts l.used l.tables.places l.tables.seens
+invariant-loop-j l = (judge_from l.list l.base.counts l.log l.b l.j (l.n - l.j) l.held.counts l.used l.places l.seens ≡ judge_from l.list l.base.counts l.log l.b 0 l.n l.initial.held.counts l.m l.initial.places l.initial.seens)
+    × Going l.list l.base.counts l.log l.b l.n l.j l.held.counts l.used l.places l.seens

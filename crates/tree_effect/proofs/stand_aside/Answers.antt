@@ -7,4 +7,4 @@ pub slice_bounds-fill_aside-end : goal.slice_bounds-fill_aside-end
 slice_bounds-fill_aside-end c = search (next_note_end)
 
 pub returns : goal.returns
-returns c = (rw (← c.from.ensures) (search (aside_added)), search (role_kept), search (aside_register))
+returns c = (search (aside_added), search (role_kept), search (aside_register))

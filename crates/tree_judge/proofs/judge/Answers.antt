@@ -12,7 +12,7 @@ pub returns-in-MakeFolder : goal.returns-in-MakeFolder
 returns-in-MakeFolder c = search (judged_make, is_make _ _ c.operation_of.ensures c.in-MakeFolder.is)
 
 pub judge_store-requires : goal.judge_store-requires
-judge_store-requires c = (search, search (works_long), omega arith, search)
+judge_store-requires c = (search, search (works_long), omega arith)
 
 pub returns-in-Store : goal.returns-in-Store
 returns-in-Store c = search (judged_store, c.in-Store.ensures)
@@ -27,7 +27,7 @@ pub returns-in-Settle : goal.returns-in-Settle
 returns-in-Settle c = search (judged_settle, c.in-Settle.ensures)
 
 pub judge_move-requires : goal.judge_move-requires
-judge_move-requires c = (search, sym c.in-Move.ensures, search, search)
+judge_move-requires c = (search, sym c.in-Move.ensures, search)
 
 pub returns-in-Move : goal.returns-in-Move
 returns-in-Move c = search (judged_move, c.in-Move.ensures)

@@ -8,25 +8,25 @@ use native.Mathlib.Omega.{arith}
 use Rattle.tree_judge.proofs.judge_move.Goals as goal
 
 pub returns-in_default : goal.returns-in_default
-returns-in_default c = rw c.in_default.is (search (move_absent, rules))
+returns-in_default c = search (move_absent, c.in_default.ensures.absent, rules)
 
 pub made_at-made-requires : goal.made_at-made-requires
-made_at-made-requires c = (search (works_long), omega (arith, rw c.in-Some.is at c.requires.3))
+made_at-made-requires c = (search (works_long), omega (arith, c.in-Some.ensures.within))
 
 pub placing_at-requires : goal.placing_at-requires
-placing_at-requires c = (search (works_long), omega (arith, rw c.in-Some.is at c.requires.3))
+placing_at-requires c = (search (works_long), omega (arith, c.in-Some.ensures.within))
 
 pub returns-then-is_unseen : goal.returns-then-is_unseen
-returns-then-is_unseen c = rw c.in-Some.is (search (move_unseen, rw c.in-Some.is at c.requires.3))
+returns-then-is_unseen c = rw c.in-Some.ensures.kept (search (move_unseen, c.in-Some.ensures.within))
 
 pub folder_stands-requires : goal.folder_stands-requires
 folder_stands-requires c = (search (move_names), search)
 
 pub returns-in_err-folder_stands : goal.returns-in_err-folder_stands
-returns-in_err-folder_stands c = rw c.in-Some.is (search (move_stops, rw c.in-Some.is at c.requires.3, not_zero, rules))
+returns-in_err-folder_stands c = rw c.in-Some.ensures.kept (search (move_stops, c.in-Some.ensures.within, not_zero, rules))
 
 pub returns-then-is_below : goal.returns-then-is_below
-returns-then-is_below c = rw c.in-Some.is (search (move_below, rw c.in-Some.is at c.requires.3, c.in_ok-folder_stands.ensures))
+returns-then-is_below c = rw c.in-Some.ensures.kept (search (move_below, c.in-Some.ensures.within, c.in_ok-folder_stands.ensures))
 
 pub returns : goal.returns
-returns c = rw c.in-Some.is (search (move_label, rw c.in-Some.is at c.requires.3, c.in_ok-folder_stands.ensures))
+returns c = rw c.in-Some.ensures.kept (search (move_label, c.in-Some.ensures.within, c.in_ok-folder_stands.ensures))

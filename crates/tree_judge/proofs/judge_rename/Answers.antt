@@ -6,19 +6,19 @@ use native.Mathlib.Omega.{arith}
 use Rattle.tree_judge.proofs.judge_rename.Goals as goal
 
 pub returns-in_default : goal.returns-in_default
-returns-in_default c = rw c.in_default.is (search (rename_absent, rules))
+returns-in_default c = search (rename_absent, c.in_default.ensures.absent, rules)
 
 pub made_at-made-requires : goal.made_at-made-requires
-made_at-made-requires c = (search (works_long), omega (arith, rw c.in-Some.is at c.requires.2))
+made_at-made-requires c = (search (works_long), omega (arith, c.in-Some.ensures.within))
 
 pub inside_at-inside-requires : goal.inside_at-inside-requires
-inside_at-inside-requires c = (search (works_long), omega (arith, rw c.in-Some.is at c.requires.2))
+inside_at-inside-requires c = (search (works_long), omega (arith, c.in-Some.ensures.within))
 
 pub placing_at-requires : goal.placing_at-requires
-placing_at-requires c = (search (works_long), omega (arith, rw c.in-Some.is at c.requires.2))
+placing_at-requires c = (search (works_long), omega (arith, c.in-Some.ensures.within))
 
 pub returns-then-is_unseen : goal.returns-then-is_unseen
-returns-then-is_unseen c = rw c.in-Some.is (search (rename_unseen, rw c.in-Some.is at c.requires.2))
+returns-then-is_unseen c = rw c.in-Some.ensures.kept (search (rename_unseen, c.in-Some.ensures.within))
 
 pub returns : goal.returns
-returns c = rw c.in-Some.is (search (rename_label, rw c.in-Some.is at c.requires.2))
+returns c = rw c.in-Some.ensures.kept (search (rename_label, c.in-Some.ensures.within))

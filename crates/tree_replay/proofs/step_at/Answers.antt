@@ -19,4 +19,4 @@ pub stand_aside-requires : goal.stand_aside-requires
 stand_aside-requires c = (search, search, search, search, search (mark_fits_lem, not_zero, c.in-Err.ensures))
 
 pub returns-in-Err : goal.returns-in-Err
-returns-in-Err c = (search (step_stands, not_zero, c.in-Err.ensures), omega arith, search (stands_on, not_zero, c.in-Err.ensures))
+returns-in-Err c = (search (step_stands, not_zero, c.in-Err.ensures, rw c.from.ensures at c.stand_aside.ensures.0), omega arith, search (stands_on, not_zero, c.in-Err.ensures))

@@ -2,7 +2,7 @@
 use mathlib.Core.Path.{refl}
 use Rattle.model.specs.Log.{all_to}
 use Rattle.log_closure.proofs.Closed.{units_next, unit_open, units_all}
-use Rattle.log_closure.proofs.Tables.all_covered.Goals as goal
+use Rattle.log_closure.proofs.all_covered.Goals as goal
 
 pub loop-u-init : goal.loop-u-init
 unfolding all_to

@@ -4,7 +4,7 @@ use Rattle.model.specs.Vector.{covers_to}
 use Rattle.model.specs.Log.{all_to}
 use Rattle.log_closure.proofs.Closed.{place_inside, row_next, none_counted, none_above, one_above, all_closed}
 use borrow.Author.Rules.{rules}
-use Rattle.log_closure.proofs.Tables.is_closed.Goals as goal
+use Rattle.log_closure.proofs.is_closed.Goals as goal
 
 pub units-init : goal.units-init
 unfolding all_to
